@@ -1,7 +1,10 @@
 //! What a line of a trace says.
 
+ghost use Rattle.std.specs.Prelude.{◌≡◌, IfOk};
+
 use crate::step::Step;
 use harp_base::{Call, Reply, ServerId};
+use std::alloc::{AllocError, Global};
 
 /// A call that stands in the book, with its reply. A read has the index 0 and the stamp 0.
 #[derive(Debug, Drop)]
@@ -15,6 +18,22 @@ pub struct BookEntry {
     pub stamp: u64,
     pub call: Call,
     pub reply: Reply,
+}
+
+impl BookEntry {
+    /// An equal entry.
+    pub fn copy(&self, alloc: Global) -> Result<BookEntry, AllocError>
+        ensures { IfOk result (λ copy. copy ≡ self.now) }
+    {
+        Ok(BookEntry {
+            index: self.index,
+            client: self.client,
+            number: self.number,
+            stamp: self.stamp,
+            call: self.call.copy(alloc)?,
+            reply: self.reply.copy(alloc)?,
+        })
+    }
 }
 
 /// Why an ask is refused.

@@ -1,0 +1,3 @@
+pub mod BookLemmas
+pub mod AnswerLemmas
+pub mod ClientLemmas

@@ -1,0 +1,3 @@
+//! What every run of a schedule keeps.
+
+pub fn every_run() {}
