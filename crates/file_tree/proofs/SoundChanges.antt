@@ -1,6 +1,6 @@
 -- Sound trees stay sound where an object changes, and where an object loses an entry.
 use Rattle.std.proofs.Common.{◌≡◌, ℕ, suc, ◌+◌, ◌<◌, ◌≤◌, ◌==◌, Bool, true, false, cond, List, [], length, get_or, set, Option, Some, None, refl, sym, ap, ◌∙◌, subst, arith, inl, inr}
-use Rattle.std.proofs.lemmas.Bool.{cases_eq, eqb-true, eqb-false, eq-eqb, ne_eqb, cond_both}
+use Rattle.std.proofs.lemmas.Bool.{cases_eq, eqb-true, eqb-false, eq-eqb, ne_eqb, cond_both, both_ways, false_from_ne_true}
 use Rattle.std.proofs.lemmas.List.{length-set, get_or-set_same, get_or-set_other}
 use Rattle.std.proofs.lemmas.List.Sums.{sum_by-set}
 use Rattle.harp_base.specs.declared.attr.Time.{Time}
@@ -133,6 +133,13 @@ gone_used : (tree : Tree) (x : ℕ) (o : Object) → place tree x ≡ Some o →
 unfolding used_blocks
 gone_used tree x o at = omega (arith, sum_by-set blocks_at tree x None None (place_within tree x o at))
 
+stays_used : (tree : Tree) (x : ℕ) (o new : Object) → place tree x ≡ Some o → new.body ≡ o.body → used_blocks (set tree x (Some new)) ≡ used_blocks tree
+unfolding used_blocks
+stays_used tree x o new at body =
+    let old : blocks_at (place tree x) ≡ blocks_at (Some o) = ap blocks_at at in
+    let same : blocks_at (Some new) ≡ blocks_at (Some o) = ap (λ (b : Body). blocks_of (size_of b)) body in
+    omega (arith, old, same, sum_by-set blocks_at tree x (Some new) None (place_within tree x o at))
+
 -- its last entry went
 gone : (tree : Tree) (entries : ℕ → ℕ) (x : ℕ) (o : Object) → IsNearly tree entries → ((k : ℕ) → names_of tree k + one x k ≡ entries k) → IsBare tree x
     → place tree x ≡ Some o → names_of tree x ≡ 0 → IsLost tree (set tree x None) x
@@ -174,3 +181,48 @@ gone tree entries x o is count bare at last =
       used = gone_used tree x o at;
       same_length = length-set tree x None;
     }
+
+-- it has entries left
+stays : (tree : Tree) (entries : ℕ → ℕ) (x : ℕ) (o : Object) (now : Time) → IsNearly tree entries → ((k : ℕ) → names_of tree k + one x k ≡ entries k)
+    → place tree x ≡ Some o → (names_of tree x ≡ 0 → ⊥) → IsLost tree (set tree x (Some (set_ctime now o))) x
+stays tree entries x o now is count at left =
+    let new = set_ctime now o in
+    let after = set tree x (Some new) in
+    let same : (k : ℕ) → names_of after k ≡ names_of tree k = names_of_set tree x o new at (λ k. refl) in
+    let file : is_directory o.body ≡ false = false_from_ne_true (is_directory o.body) (λ d.
+      let few = few_at x (place tree x) (entries x) (ap is_directory_at at ∙ d) (is.named x) in
+      omega (arith, few, count x, one_itself x, left)) in
+    let object : IsSoundObject (Some o) = subst IsSoundObject at (is.objects x) in
+    let base = nearly_set tree x o new entries is at refl object in
+    record {
+      nearly = record {
+        nothing_at_0 = base.nothing_at_0;
+        root = base.root;
+        objects = base.objects;
+        named = λ k. elim (cases_eq k x) [
+          | inl e ↦
+            let some : 1 ≤ names_of after k = omega (arith, same k, ap (names_of tree) e, left) in
+            file_at k (place after k) new (names_of after k) (ap (place after) e ∙ place_set tree x o new at) file some
+          | inr ne ↦
+            let count_same : entries k ≡ names_of after k = omega (arith, count k, one_other x k ne, same k) in
+            subst (IsNamed k (place after k)) count_same (base.named k)
+        ];
+      };
+      kept = λ dir k. names_at_set tree x o new at (λ m. refl) dir k;
+      directories = λ k d. (sym (kinds_set tree x o new at refl k) ∙ d,
+        λ (e : k ≡ x).
+          let here : is_directory_at (place after k) ≡ false = ap (λ (n : ℕ). is_directory_at (place after n)) e ∙ ap is_directory_at (place_set tree x o new at) ∙ file in
+          both_ways _ here d);
+      used = omega (arith, stays_used tree x o new at refl);
+      same_length = length-set tree x (Some new);
+    }
+
+-- an object that nothing is in loses an entry
+pub lost : (tree : Tree) (entries : ℕ → ℕ) (x : ℕ) (now : Time) → IsNearly tree entries → ((k : ℕ) → names_of tree k + one x k ≡ entries k) → IsBare tree x
+    → IsLost tree (lost_entry tree x now) x
+unfolding lost_entry
+lost tree entries x now is count bare =
+    let live = live_from x (place tree x) (entries x) (is.named x) (omega (arith, count x, one_itself x)) in
+    cond_both (names_of tree x == 0) (set tree x None) (change tree x (set_ctime now)) (λ (t : Tree). IsLost tree t x)
+      (λ e. gone tree entries x live.0 is count bare live.1 (eqb-true (names_of tree x) 0 e))
+      (λ e. rw (change_is tree x (set_ctime now) live.0 live.1) (stays tree entries x live.0 now is count live.1 (eqb-false (names_of tree x) 0 e)))
