@@ -14,7 +14,7 @@ use Rattle.file_tree.proofs.Kept.{live_place}
 use Rattle.file_tree.proofs.SlotLaws.{IsFound, found, no_entry}
 
 -- where a step succeeds, its value is as said
-pub Given : {A : Type 0} → Step A → (A → Type 0) → Type 0
+unfoldable pub Given : {A : Type 0} → Step A → (A → Type 0) → Type 0
 Given (Ok x) P = P x
 Given (Err s) P = Unit {0}
 
@@ -46,7 +46,7 @@ unfolding Given
 given_at (Ok y) P x g e = let same : y ≡ x = cc in subst P same g
 given_at (Err s) P x g e = absurd cc
 
-slots_are : (b : Body) (slots : Slots) → slots_in b ≡ Ok slots → b ≡ Directory slots
+pub slots_are : (b : Body) (slots : Slots) → slots_in b ≡ Ok slots → b ≡ Directory slots
 slots_are (Directory slots) other e = cc
 slots_are (Regular bytes) other e = absurd cc
 slots_are (Link text) other e = absurd cc
