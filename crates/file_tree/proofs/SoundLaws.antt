@@ -1,9 +1,11 @@
 -- The tree after any calls from the first one is sound.
-use Rattle.std.proofs.Common.{◌≡◌, ℕ, zero, suc, true, false, List, [], ◌∷◌, ◌++◌, fold, Option, Some, None, Ok, Err, refl, sym, subst, arith}
+use Rattle.std.proofs.Common.{◌≡◌, ℕ, zero, suc, true, false, List, [], ◌∷◌, ◌++◌, length, fold, Option, Some, None, Ok, Err, refl, sym, subst, arith}
 use Rattle.harp_base.specs.declared.call.Call.{Call}
 use Rattle.harp_base.specs.declared.call.Call.TheVariants as call
 use Rattle.harp_base.specs.Time.{time_of}
-use Rattle.file_tree.specs.Tree.{Tree, first_tree, place, names_of}
+use Rattle.file_tree.specs.Tree.{Tree, first_tree, place, names_of, is_directory_at}
+use Rattle.file_tree.specs.Rename.{is_above}
+use Rattle.file_tree.specs.Book.{Entry, tree_next, tree_after}
 use Rattle.file_tree.specs.Outcome.{Outcome}
 use Rattle.file_tree.specs.Calls.{settled, outcome}
 use Rattle.file_tree.specs.Sound.{IsSoundObject, IsNamed, IsSound}
@@ -36,3 +38,38 @@ outcome_sound tree (call.MkDir dir name attr) stamp is = settled_sound tree _ is
 outcome_sound tree (call.RmDir dir name) stamp is = settled_sound tree _ is (remove_dir_sound tree dir name (time_of stamp) is)
 outcome_sound tree (call.ReadDir dir cookie count) stamp is = rw (read_keeps tree (call.ReadDir dir cookie count) stamp refl) is
 outcome_sound tree (call.StatFs handle) stamp is = rw (read_keeps tree (call.StatFs handle) stamp refl) is
+
+first_objects : (number : ℕ) → IsSoundObject (place first_tree number)
+first_objects zero = tt
+first_objects (suc zero) = (omega arith, no_slots_sound)
+first_objects (suc (suc number)) = tt
+
+first_entries : (number : ℕ) → IsNamed number (place first_tree number) (names_of first_tree number)
+unfolding names_of
+first_entries zero = refl
+first_entries (suc zero) = refl
+first_entries (suc (suc number)) = refl
+
+first_reaches : (number : ℕ) → is_directory_at (place first_tree number) ≡ true → is_above (length first_tree) first_tree 1 number ≡ true
+unfolding is_above
+first_reaches zero d = absurd cc
+first_reaches (suc zero) d = refl
+first_reaches (suc (suc number)) d = absurd cc
+
+pub first_sound : IsSound first_tree
+first_sound = record {
+  limits = IsWithinLimits-first;
+  nothing_at_0 = refl;
+  root = refl;
+  objects = first_objects;
+  entries = first_entries;
+  reaches = first_reaches;
+}
+
+-- the tree after each list of entries is sound
+pub folded_sound : (tree : Tree) (entries : List Entry) → IsSound tree → IsSound (fold tree_next tree entries)
+folded_sound tree [] is = is
+folded_sound tree (e ∷ entries) is = folded_sound (tree_next tree e) entries (outcome_sound tree e.call e.stamp is)
+
+pub book_sound : (entries : List Entry) → IsSound (tree_after entries)
+book_sound entries = folded_sound first_tree entries first_sound
