@@ -8,7 +8,8 @@ use Rattle.harp_trace.specs.declared.step.Step.TheVariants as step
 use Rattle.harp_trace.specs.declared.line.Line.{Line}
 use Rattle.harp_trace.specs.declared.line.Line.TheVariants as line
 use Rattle.harp_trace.specs.Trace.{Trace, entry_of, entries, steps, step_under_way, AtEachPlace}
-use Rattle.file_tree.specs.Book.{Entry, IsBook, is_update}
+use Rattle.harp_base.specs.Update.{is_update}
+use Rattle.file_tree.specs.Book.{Entry, IsBook}
 
 -- an entered line has the next number, from 1
 abbrev pub IsNumbered : Trace → Line → Type 0

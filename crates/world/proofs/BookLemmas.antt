@@ -1,52 +1,38 @@
--- The book with one more entry.
-use Rattle.std.proofs.Common.{◌≡◌, ◌≢◌, ℕ, ◌+◌, ◌<◌, ◌≤◌, Bool, true, false, List, [], ◌∷◌, ◌++◌, ◌⊎◌, length, refl, sym, ap, ◌∙◌, arith, Option, Some, None, slice_set, get_or, set, length-append, length-set, inl, inr, subst}
-use Rattle.std.specs.Prelude.{fold, filter, map, ◌==◌, ◌&&◌}
-use Rattle.std.proofs.lemmas.List.Sums.{fold-append, length-filter, count_by-le-length}
-use Rattle.std.proofs.lemmas.List.Elements.{filter-append}
-use Rattle.std.proofs.lemmas.List.{append-nil, get_or-set_same, get_or-set_other}
+-- What the world keeps, where the book has one more entry.
+use Rattle.std.proofs.Common.{◌≡◌, ℕ, ◌+◌, ◌<◌, ◌≤◌, Bool, true, false, List, [], ◌∷◌, ◌++◌, length, refl, sym, ap, ◌∙◌, arith, Option, Some, None, slice_set, length-append, length-set, inl, inr, subst}
+use Rattle.std.specs.Prelude.{◌==◌, ◌&&◌}
+use Rattle.std.proofs.lemmas.List.Sums.{length-filter, count_by-le-length}
+use Rattle.std.proofs.lemmas.List.{get_or-set_same, get_or-set_other}
 use Rattle.std.proofs.Math.Bool.{and-false}
 use Rattle.std.proofs.lemmas.Bool.{eq-eqb}
 use Rattle.std.proofs.lemmas.Bool.Decides.{eqb_tells}
-use Rattle.harp_base.specs.declared.call.Call.{Call}
 use Rattle.harp_base.specs.Update.{is_update}
-use Rattle.file_tree.specs.Book.{Entry, tree_after, tree_next, updates}
-use Rattle.file_tree.specs.Tree.{Tree, first_tree}
+use Rattle.file_tree.specs.Book.{Entry, tree_after, last_of}
+use Rattle.file_tree.specs.Tree.{Tree}
+use Rattle.file_tree.proofs.BookLaws.{updates_push_update, updates_push_read, last_push}
 use Rattle.world.specs.declared.state.Kept.{Kept}
-use Rattle.world.specs.Answer.{committed, last_of, later_update}
+use Rattle.world.specs.Answer.{committed}
 use Rattle.world.specs.State.{Stands, kept, client_of}
 
-pub updates-add : (book : List Entry) (e : Entry) → is_update e.call ≡ true → updates (book ++ e ∷ []) ≡ updates book ++ e ∷ []
-updates-add book e h = simp (filter-append, h)
-
-pub updates-read : (book : List Entry) (e : Entry) → is_update e.call ≡ false → updates (book ++ e ∷ []) ≡ updates book
-updates-read book e h = simp (filter-append, h, append-nil)
-
 pub committed-add : (book : List Entry) (e : Entry) → is_update e.call ≡ true → committed (book ++ e ∷ []) ≡ committed book + 1
-committed-add book e h = rw (updates-add book e h, length-append) refl
+committed-add book e h = rw (updates_push_update book e h, length-append) refl
 
 pub committed-read : (book : List Entry) (e : Entry) → is_update e.call ≡ false → committed (book ++ e ∷ []) ≡ committed book
-committed-read book e h = ap length (updates-read book e h)
+committed-read book e h = ap length (updates_push_read book e h)
 
 pub committed-le : (book : List Entry) → committed book ≤ length book
 committed-le book = let test : Entry → Bool = λ e. is_update e.call in omega (arith, length-filter test book, count_by-le-length test book)
 
-pub tree_after-add : (book : List Entry) (e : Entry) → tree_after (book ++ e ∷ []) ≡ tree_next (tree_after book) e
-tree_after-add book e = fold-append tree_next first_tree book (e ∷ [])
-
-pub last_of-add : (client : ℕ) (book : List Entry) (e : Entry) → last_of client (book ++ e ∷ []) ≡ later_update client (last_of client book) e
-unfolding last_of
-last_of-add client book e = fold-append (later_update client) None book (e ∷ [])
-
 -- a read leaves each client's last update
 pub last_of-read : (client : ℕ) (book : List Entry) (e : Entry) → is_update e.call ≡ false → last_of client (book ++ e ∷ []) ≡ last_of client book
-last_of-read client book e h = rw (last_of-add client book e, h) refl
+last_of-read client book e h = rw (last_push client book e, h) refl
 
 -- an update is its client's last
 pub last_of-same : (book : List Entry) (e : Entry) → is_update e.call ≡ true → last_of e.client (book ++ e ∷ []) ≡ Some e
-last_of-same book e h = rw (last_of-add e.client book e, h, eq-eqb e.client e.client refl) refl
+last_of-same book e h = rw (last_push e.client book e, h, eq-eqb e.client e.client refl) refl
 
 pub last_of-other : (client : ℕ) (book : List Entry) (e : Entry) → (e.client == client) ≡ false → last_of client (book ++ e ∷ []) ≡ last_of client book
-last_of-other client book e h = rw (last_of-add client book e, h, and-false (is_update e.call)) refl
+last_of-other client book e h = rw (last_push client book e, h, and-false (is_update e.call)) refl
 
 pub stands-read : (tree : Tree) (clients : List (Option Kept)) (book : List Entry) (e : Entry) → is_update e.call ≡ false
     → Stands tree clients book → Stands (tree_after (book ++ e ∷ [])) clients (book ++ e ∷ [])

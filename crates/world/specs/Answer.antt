@@ -1,24 +1,17 @@
 -- The answer to an ask, given the book.
-use Rattle.std.specs.Prelude.{ℕ, ◌+◌, Bool, true, false, ◌&&◌, ◌==◌, nat_lt, List, [], ◌∷◌, length, Option, Some, None, fold, if◌then◌else◌}
+use Rattle.std.specs.Prelude.{ℕ, ◌+◌, Bool, ◌==◌, nat_lt, List, [], ◌∷◌, length, Option, Some, None, if◌then◌else◌}
 use Rattle.harp_base.specs.declared.call.Call.{Call}
 use Rattle.harp_base.specs.declared.server.ServerId.{ServerId}
 use Rattle.harp_base.specs.Update.{is_update}
 use Rattle.harp_trace.specs.declared.line.Line.{Line}
 use Rattle.harp_trace.specs.declared.line.Line.TheVariants as line
 use Rattle.harp_trace.specs.declared.line.Cause.TheVariants.{Old, BadClient}
-use Rattle.file_tree.specs.Book.{Entry, tree_after, updates}
+use Rattle.file_tree.specs.Book.{Entry, tree_after, updates, last_of}
 use Rattle.file_tree.specs.Calls.{outcome}
 
 -- how many updates are entered; each of them is committed
 abbrev pub committed : List Entry → ℕ
 committed book = length (updates book)
-
-abbrev pub later_update : ℕ → Option Entry → Entry → Option Entry
-later_update client kept e = if is_update e.call && (e.client == client) then Some e else kept
-
--- the last update of a client
-unfoldable pub last_of : ℕ → List Entry → Option Entry
-last_of client book = fold (later_update client) None book
 
 -- the entry that a call becomes: its reply is that of the tree after the book
 abbrev pub entering : List Entry → ℕ → ℕ → Call → ℕ → Entry

@@ -3,11 +3,11 @@ use Rattle.std.specs.Prelude.{◌≡◌, ℕ, ◌<◌, Bool, false, List, [], �
 use Rattle.harp_trace.specs.declared.line.BookEntry.{BookEntry}
 use Rattle.harp_trace.specs.declared.line.Line.{Line}
 use Rattle.harp_trace.specs.Trace.{entry_of, entries}
-use Rattle.file_tree.specs.Book.{Entry, tree_after}
+use Rattle.file_tree.specs.Book.{Entry, tree_after, last_of}
 use Rattle.file_tree.specs.Tree.{Tree, first_tree}
 use Rattle.world.specs.declared.state.Kept.{Kept}
 use Rattle.world.specs.declared.state.State.{State}
-use Rattle.world.specs.Answer.{committed, last_of}
+use Rattle.world.specs.Answer.{committed}
 
 -- the tree, the clients' last updates by client number, and the book. Once memory ran out the world is halted
 pub record WorldValue : Type 0 where

@@ -2,13 +2,11 @@ use Rattle.std.proofs.Common.{◌≡◌, ◌∙◌, refl, sym, ap, arith, length
 use Rattle.std.specs.Prelude.{map, replicate}
 use Rattle.std.proofs.lemmas.List.{length-replicate}
 use Rattle.harp_trace.specs.Trace.{entry_of}
-use Rattle.world.specs.Answer.{last_of}
 use Rattle.world.specs.State.{client_of, kept}
 use Rattle.world.proofs.ClientLemmas.{nothing_kept}
 use Rattle.world.proofs.world.World.new.Goals as goal
 
 pub invariant_of-result : goal.invariant_of-result
-unfolding last_of
 invariant_of-result c =
     let all : c.loop.counter ≡ 4096 = omega arith in
     λ _. record {
