@@ -1,13 +1,14 @@
 -- A faithful trace: its entered lines are a book, its answers are the book's, and each entry was asked for.
-use Rattle.std.specs.Prelude.{◌≡◌, ℕ, ◌+◌, true, false, [], ◌∷◌, ◌++◌, length, Option, Some, None, Contains}
+use Rattle.std.specs.Prelude.{Bool, ◌≡◌, ℕ, ◌+◌, true, false, [], ◌∷◌, ◌++◌, length, Option, Some, None, Contains}
 use Rattle.harp_base.specs.declared.call.Call.{Call}
 use Rattle.harp_base.specs.declared.reply.Reply.{Reply}
 use Rattle.harp_base.specs.declared.server.ServerId.{ServerId}
 use Rattle.harp_trace.specs.declared.step.Step.{Step}
 use Rattle.harp_trace.specs.declared.step.Step.TheVariants as step
+use Rattle.harp_trace.specs.declared.line.BookEntry.{BookEntry}
 use Rattle.harp_trace.specs.declared.line.Line.{Line}
 use Rattle.harp_trace.specs.declared.line.Line.TheVariants as line
-use Rattle.harp_trace.specs.Trace.{Trace, entry_of, entries, steps, step_under_way, AtEachPlace}
+use Rattle.harp_trace.specs.Trace.{Trace, entries, steps, step_under_way, AtEachPlace}
 use Rattle.harp_base.specs.Update.{is_update}
 use Rattle.file_tree.specs.Book.{Entry, IsBook}
 
@@ -33,21 +34,23 @@ pub record IsUpdateReply (before : Trace) (client number index : ℕ) (reply : R
 -- the line just before enters the read with this client, number, call and reply
 pub record IsReadReply (before : Trace) (client number : ℕ) (call : Call) (reply : Reply) : Type 0 where
   pub earlier : Trace
-  pub entry : Entry
-  pub stands : (place : ℕ) × (e : _) × (before ≡ earlier ++ line.Entered place e ∷ []) × (entry_of e ≡ entry)
+  pub place : ℕ
+  pub entry : BookEntry
+  pub stands : before ≡ earlier ++ line.Entered place entry ∷ []
   pub client_is : entry.client ≡ client
   pub number_is : entry.number ≡ number
   pub call_is : entry.call ≡ call
   pub reply_is : entry.reply ≡ reply
 
--- the reply of a read that is asked is that of the read just entered, every other that of an entered update
+-- the reply to an update is that of an entered update, the reply to a read that of the read just entered
+abbrev pub IsReplyTo : (updates : Bool) → Trace → ℕ → ℕ → ℕ → Call → Reply → Type 0
+IsReplyTo true before client number index call reply = IsUpdateReply before client number index reply
+IsReplyTo false before client number index call reply = IsReadReply before client number call reply
+
+-- an answer of a step that asks for no read is one to an update
 abbrev pub IsReplyIn : Option Step → Trace → ℕ → ℕ → ℕ → Reply → Type 0
 IsReplyIn None before client number index reply = IsUpdateReply before client number index reply
-IsReplyIn (Some (step.Ask server asker asked call)) before client number index reply =
-    elim (is_update call) [
-      | true ↦ IsUpdateReply before client number index reply
-      | false ↦ IsReadReply before client number call reply
-    ]
+IsReplyIn (Some (step.Ask server asker asked call)) before client number index reply = IsReplyTo (is_update call) before client number index call reply
 
 -- an answer is its call's reply in the book
 abbrev pub IsBookReply : Trace → Line → Type 0
