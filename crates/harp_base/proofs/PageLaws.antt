@@ -6,7 +6,7 @@ use Rattle.harp_base.specs.declared.field.FieldFault.TheVariants.{Short, BadTag,
 use Rattle.harp_base.specs.declared.reply.DirEntry.{DirEntry}
 use Rattle.harp_base.specs.Fields.{Read, Spells, Fails, GivesAs, ◌>>=◌, u16_at, u16_bytes}
 use Rattle.harp_base.specs.Replies.{EntryFits, EachFits, EntriesFit, entry_bytes, entry_at, each_bytes, each_at, entries_bytes, entries_at}
-use Rattle.harp_base.proofs.Codec.{IsBytes, IsCodec, bind_ok, ok_is, drop_past, Spells-then, u16_codec, u32_codec, counted_codec, made_codec}
+use Rattle.harp_base.proofs.Codec.{IsBytes, IsCodec, bind_ok, ok_is, drop_past, Spells-then, u16_codec, u32_codec, counted_codec, field_as_codec}
 use Rattle.harp_base.proofs.AttributeLaws.{then}
 
 -- ---- the loop that reads
@@ -50,7 +50,7 @@ each_end n done bytes at is = rw (is, append-nil done) refl
 entry_codec : IsCodec entry_at entry_bytes EntryFits
 unfolding entry_at entry_bytes
 entry_codec =
-    made_codec (λ x. record { fileid = x.0.0; name = x.0.1; cookie = x.1 }) _ _ _ (then (then u32_codec (counted_codec 255 (omega arith))) u32_codec) (λ e. ((e.fileid, e.name), e.cookie)) entry_bytes EntryFits
+    field_as_codec (λ x. record { fileid = x.0.0; name = x.0.1; cookie = x.1 }) _ _ _ (then (then u32_codec (counted_codec 255 (omega arith))) u32_codec) (λ e. ((e.fileid, e.name), e.cookie)) entry_bytes EntryFits
     (λ e. refl) (λ x f. (refl, (f.0.0, f.0.1, f.1))) (λ e f. (refl, ((f.0, f.1), f.2)))
 
 each_takes : (n : ℕ) (bytes : List ℕ) (at : ℕ) (x : List DirEntry × ℕ) → IsBytes bytes → each_at n bytes at ≡ Ok x → Spells bytes at (each_bytes x.0) x.1 × (length x.0 ≡ n) × EachFits x.0

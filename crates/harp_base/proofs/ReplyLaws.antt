@@ -6,16 +6,16 @@ use Rattle.harp_base.specs.declared.reply.Reply.{Reply}
 use Rattle.harp_base.specs.declared.reply.Reply.TheVariants as reply
 use Rattle.harp_base.specs.declared.reply_form.ReplyForm.{ReplyForm}
 use Rattle.harp_base.specs.declared.reply_form.ReplyForm.TheVariants as form
-use Rattle.harp_base.specs.Fields.{Read, Reader, Spells, made, tag_at, numbered, bytes_at, counted_bytes}
+use Rattle.harp_base.specs.Fields.{Read, Reader, Spells, field_as, tag_at, value_with_number, bytes_at, counted_bytes}
 use Rattle.harp_base.specs.Replies.{status_number, statuses, flag_number, flags, form_of, form_number, forms, reply_fields_of, reply_bytes, ReplyFits, reply_fields_at, reply_at}
-use Rattle.harp_base.proofs.Codec.{IsBytes, IsCodec, u32_codec, counted_codec, tag_codec, part_takes, nothing_takes, made_again, chosen_codec}
+use Rattle.harp_base.proofs.Codec.{IsBytes, IsCodec, u32_codec, counted_codec, tag_codec, part_takes, nothing_takes, field_as_again, fields_by_tag_codec}
 use Rattle.harp_base.proofs.AttributeLaws.{then, attr_codec}
 use Rattle.harp_base.proofs.PageLaws.{entries_codec}
 
 abbrev ok_reply : Reply → ℕ → Read Reply
 ok_reply r n = Ok (r, n)
 
-whole_status : (s : Status) → numbered status_number statuses (status_number s) ≡ Some s
+whole_status : (s : Status) → value_with_number status_number statuses (status_number s) ≡ Some s
 whole_status status.Perm = refl
 whole_status status.NoEnt = refl
 whole_status status.Io = refl
@@ -30,11 +30,11 @@ whole_status status.NameTooLong = refl
 whole_status status.NotEmpty = refl
 whole_status status.Stale = refl
 
-whole_flag : (b : Bool) → numbered flag_number flags (flag_number b) ≡ Some b
+whole_flag : (b : Bool) → value_with_number flag_number flags (flag_number b) ≡ Some b
 whole_flag false = refl
 whole_flag true = refl
 
-whole_form : (f : ReplyForm) → numbered form_number forms (form_number f) ≡ Some f
+whole_form : (f : ReplyForm) → value_with_number form_number forms (form_number f) ≡ Some f
 whole_form form.Refused = refl
 whole_form form.Done = refl
 whole_form form.Attr = refl
@@ -58,11 +58,11 @@ data_codec = counted_codec 8192 (omega arith)
 
 module _ {A : Type 0} {r : Reader A} {s : A → List ℕ} {F : A → Type 0} (codec : IsCodec r s F) where
   reply_takes : (f : A → Reply) (t : ReplyForm) → ((a : A) → F a → (reply_fields_of (f a) ≡ s a) × ReplyFits (f a) × (form_of (f a) ≡ t))
-      → (bytes : List ℕ) (at : ℕ) (x : Reply × ℕ) → IsBytes bytes → made f r bytes at ≡ Ok x → Spells bytes at (reply_fields_of x.0) x.1 × ReplyFits x.0 × (form_of x.0 ≡ t)
+      → (bytes : List ℕ) (at : ℕ) (x : Reply × ℕ) → IsBytes bytes → field_as f r bytes at ≡ Ok x → Spells bytes at (reply_fields_of x.0) x.1 × ReplyFits x.0 × (form_of x.0 ≡ t)
   reply_takes f t = part_takes codec f reply_fields_of ReplyFits form_of t
 
-  reply_again : (f : A → Reply) (a : A) → F a → (bytes : List ℕ) (at : ℕ) (rest : List ℕ) → drop at bytes ≡ s a ++ rest → made f r bytes at ≡ Ok (f a, at + length (s a))
-  reply_again f a fits bytes at rest e = made_again f r s F codec bytes at a rest fits e
+  reply_again : (f : A → Reply) (a : A) → F a → (bytes : List ℕ) (at : ℕ) (rest : List ℕ) → drop at bytes ≡ s a ++ rest → field_as f r bytes at ≡ Ok (f a, at + length (s a))
+  reply_again f a fits bytes at rest e = field_as_again f r s F codec bytes at a rest fits e
 
 fields_take : (t : ReplyForm) (bytes : List ℕ) (at : ℕ) (x : Reply × ℕ) → IsBytes bytes → reply_fields_at t bytes at ≡ Ok x → Spells bytes at (reply_fields_of x.0) x.1 × ReplyFits x.0 × (form_of x.0 ≡ t)
 unfolding reply_fields_at
@@ -92,4 +92,4 @@ fields_again (reply.Space t b c f a) bytes at rest fit e =
 
 pub reply_codec : IsCodec reply_at reply_bytes ReplyFits
 unfolding reply_at
-reply_codec = chosen_codec form_number forms reply_fields_at form_of reply_fields_of ReplyFits whole_form fields_take fields_again
+reply_codec = fields_by_tag_codec form_number forms reply_fields_at form_of reply_fields_of ReplyFits whole_form fields_take fields_again

@@ -7,7 +7,7 @@ use Rattle.harp_base.specs.declared.reply.Reply.{Reply}
 use Rattle.harp_base.specs.declared.reply.Reply.TheVariants as reply
 use Rattle.harp_base.specs.declared.reply_form.ReplyForm.{ReplyForm}
 use Rattle.harp_base.specs.declared.reply_form.ReplyForm.TheVariants as form
-use Rattle.harp_base.specs.Fields.{Reader, ◌>>=◌, ◌⊗◌, made, chosen, tag_at, u16_at, u32_at, bytes_at, u16_bytes, u32_bytes, counted_bytes}
+use Rattle.harp_base.specs.Fields.{Reader, ◌>>=◌, ◌⊗◌, field_as, fields_by_tag, tag_at, u16_at, u32_at, bytes_at, u16_bytes, u32_bytes, counted_bytes}
 use Rattle.harp_base.specs.Attributes.{AttrFits, attr_at, attr_bytes}
 
 -- ---- statuses
@@ -30,8 +30,8 @@ status_number status.Stale = 70
 
 abbrev pub statuses : List Status
 statuses =
-    status.Perm ∷ status.NoEnt ∷ status.Io ∷ status.NxIo ∷ status.Acces ∷ status.Exist ∷ status.NotDir ∷ status.IsDir ∷ status.FBig ∷ status.NoSpc ∷ status.NameTooLong ∷ status.NotEmpty ∷ status.Stale
-    ∷ []
+    status.Perm ∷ status.NoEnt ∷ status.Io ∷ status.NxIo ∷ status.Acces ∷ status.Exist ∷ status.NotDir ∷ status.IsDir
+    ∷ status.FBig ∷ status.NoSpc ∷ status.NameTooLong ∷ status.NotEmpty ∷ status.Stale ∷ []
 
 -- ---- pages
 
@@ -42,7 +42,7 @@ unfoldable pub entry_bytes : DirEntry → List ℕ
 entry_bytes e = u32_bytes e.fileid ++ counted_bytes e.name ++ u32_bytes e.cookie
 
 unfoldable pub entry_at : Reader DirEntry
-entry_at = made (λ x. record { fileid = x.0.0; name = x.0.1; cookie = x.1 }) (u32_at ⊗ bytes_at 255 ⊗ u32_at)
+entry_at = field_as (λ x. record { fileid = x.0.0; name = x.0.1; cookie = x.1 }) (u32_at ⊗ bytes_at 255 ⊗ u32_at)
 
 abbrev pub EachFits : List DirEntry → Type 0
 EachFits [] = Unit {0}
@@ -68,7 +68,7 @@ unfoldable pub entries_bytes : List DirEntry → List ℕ
 entries_bytes entries = u16_bytes (length entries) ++ each_bytes entries
 
 unfoldable pub entries_at : Reader (List DirEntry)
-entries_at = chosen u16_at each_at
+entries_at = fields_by_tag u16_at each_at
 
 abbrev pub flag_number : Bool → ℕ
 flag_number false = 0
@@ -128,15 +128,15 @@ ReplyFits (reply.Page entries eof) = EntriesFit entries
 ReplyFits (reply.Space transfer block blocks free available) = (transfer < 2 ^ 32) × (block < 2 ^ 32) × (blocks < 2 ^ 32) × (free < 2 ^ 32) × (available < 2 ^ 32)
 
 unfoldable pub reply_fields_at : ReplyForm → Reader Reply
-reply_fields_at form.Refused bytes at = made reply.Refused (tag_at status_number statuses) bytes at
+reply_fields_at form.Refused bytes at = field_as reply.Refused (tag_at status_number statuses) bytes at
 reply_fields_at form.Done bytes at = Ok (reply.Done, at)
-reply_fields_at form.Attr bytes at = made reply.Attr attr_at bytes at
-reply_fields_at form.Node bytes at = made (λ x. reply.Node x.0 x.1) (u32_at ⊗ attr_at) bytes at
-reply_fields_at form.Path bytes at = made reply.Path (bytes_at 1024) bytes at
-reply_fields_at form.Bytes bytes at = made (λ x. reply.Bytes x.0 x.1) (attr_at ⊗ bytes_at 8192) bytes at
-reply_fields_at form.Page bytes at = made (λ x. reply.Page x.0 x.1) (entries_at ⊗ tag_at flag_number flags) bytes at
-reply_fields_at form.Space bytes at = made (λ x. reply.Space x.0.0.0.0 x.0.0.0.1 x.0.0.1 x.0.1 x.1) (u32_at ⊗ u32_at ⊗ u32_at ⊗ u32_at ⊗ u32_at) bytes at
+reply_fields_at form.Attr bytes at = field_as reply.Attr attr_at bytes at
+reply_fields_at form.Node bytes at = field_as (λ x. reply.Node x.0 x.1) (u32_at ⊗ attr_at) bytes at
+reply_fields_at form.Path bytes at = field_as reply.Path (bytes_at 1024) bytes at
+reply_fields_at form.Bytes bytes at = field_as (λ x. reply.Bytes x.0 x.1) (attr_at ⊗ bytes_at 8192) bytes at
+reply_fields_at form.Page bytes at = field_as (λ x. reply.Page x.0 x.1) (entries_at ⊗ tag_at flag_number flags) bytes at
+reply_fields_at form.Space bytes at = field_as (λ x. reply.Space x.0.0.0.0 x.0.0.0.1 x.0.0.1 x.0.1 x.1) (u32_at ⊗ u32_at ⊗ u32_at ⊗ u32_at ⊗ u32_at) bytes at
 
 -- a reply: its form's number, and then the fields
 unfoldable pub reply_at : Reader Reply
-reply_at = chosen (tag_at form_number forms) reply_fields_at
+reply_at = fields_by_tag (tag_at form_number forms) reply_fields_at

@@ -1,7 +1,7 @@
 //! The forms of a reply, by their numbers.
 
 ghost use Rattle.std.specs.Prelude.{◌≡◌, ◌≤◌, length, IfOk};
-ghost use Rattle.harp_base.specs.Fields.{Gives, numbered, tag_at};
+ghost use Rattle.harp_base.specs.Fields.{Gives, value_with_number, tag_at};
 ghost use Rattle.harp_base.specs.Replies.{form_of, form_number, forms};
 
 use crate::field::{FieldFault, byte_at};
@@ -21,7 +21,7 @@ pub(crate) enum ReplyForm {
 
 impl ReplyForm {
     fn of(number: u8) -> Option<ReplyForm>
-        ensures { result ≡ numbered form_number forms number }
+        ensures { result ≡ value_with_number form_number forms number }
     {
         match number {
             0 => Some(ReplyForm::Refused),
