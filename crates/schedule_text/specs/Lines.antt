@@ -1,5 +1,5 @@
 -- The one spelling of each line of a trace, without its line end.
-use Rattle.std.specs.Prelude.{◌≡◌, ℕ, List, ◌∷◌, ◌++◌, codes, decimal}
+use Rattle.std.specs.Prelude.{ℕ, List, ◌++◌, codes, decimal}
 use Rattle.harp_base.specs.Server.{number_of}
 use Rattle.harp_trace.specs.declared.line.BookEntry.{BookEntry}
 use Rattle.harp_trace.specs.declared.line.Cause.{Cause}

@@ -8,7 +8,7 @@ use harp_base::{Attr, Kind, SetAttr, Time};
 use std::alloc::{AllocError, Global};
 
 /// The value that leaves a field of SETATTR.
-const LEFT: u32 = 4294967295;
+pub const LEFT: u32 = 4294967295;
 
 #[tactic(auto, unfolding(crate::specs::Text::time_text))]
 fn put_time(out: &mut Vec<u8>, t: &Time) -> Result<(), AllocError>
@@ -42,7 +42,7 @@ fn put_mode_field(alloc: Global, out: &mut Vec<u8>, n: u32) -> Result<(), AllocE
     }
 }
 
-fn is_left_time(t: &Time) -> bool
+pub fn is_left_time(t: &Time) -> bool
     ensures { result ≡ is_left_time t.now }
 {
     t.seconds == LEFT && t.micros == LEFT
