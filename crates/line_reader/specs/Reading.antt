@@ -23,3 +23,9 @@ abbrev pub GivesKnown : Option (List ℕ) → Option (List ℕ) → Next → Typ
 GivesKnown None after next = ⊤
 GivesKnown (Some text) None next = ⊥
 GivesKnown (Some text) (Some after) next = GivesNext text after next
+
+-- a line that is given has at most 20,000 bytes
+abbrev pub IsShort : Next → Type 0
+IsShort (Line line) = length line.items ≤ 20000
+IsShort TooLong = ⊤
+IsShort End = ⊤

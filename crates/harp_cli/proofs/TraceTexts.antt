@@ -1,0 +1,64 @@
+-- The texts of traces and of their parts.
+use Rattle.std.proofs.Common.{◌≡◌, ℕ, ◌+◌, ◌≤◌, List, [], ◌∷◌, ◌++◌, length, take, refl, sym, ap, ◌∙◌, subst, append_assoc, Option, Some, None, arith, inl, inr}
+use Rattle.std.specs.Prelude.{min}
+use Rattle.std.specs.Io.KnownBytes.{Appends}
+use Rattle.std.proofs.lemmas.List.{append-nil, take-append-le, take_all}
+use Rattle.std.proofs.Math.Seq.{take-append_seam, take-append-add}
+use Rattle.std.proofs.lemmas.Bool.{cases_lt}
+use Rattle.std.proofs.lemmas.Grind.{flat_map-append}
+use Rattle.harp_base.specs.Streams.{GrewByPart}
+use Rattle.harp_trace.specs.declared.step.Step.{Step}
+use Rattle.harp_trace.specs.declared.line.Line.{Line}
+use Rattle.harp_trace.specs.Trace.{Trace, entries}
+use Rattle.harp_trace.proofs.Places.{entries-append}
+use Rattle.schedule_text.specs.Lines.{line_text}
+use Rattle.file_tree.specs.Book.{Entry}
+use Rattle.world.specs.Run.{answer, step_lines, book_after, run_lines}
+use Rattle.harp_cli.specs.Play.{trace_text}
+
+pub trace_text-append : (xs ys : Trace) → trace_text (xs ++ ys) ≡ trace_text xs ++ trace_text ys
+unfolding trace_text
+trace_text-append xs ys = flat_map-append (λ l. line_text l ++ 10 ∷ []) xs ys
+
+pub trace_text-cons : (l : Line) (ls : Trace) → trace_text (l ∷ ls) ≡ (line_text l ++ 10 ∷ []) ++ trace_text ls
+unfolding trace_text
+trace_text-cons l ls = refl
+
+pub run_lines-append : (book : List Entry) (done later : List Step)
+    → run_lines book (done ++ later) ≡ run_lines book done ++ run_lines (book ++ entries (run_lines book done)) later
+unfolding run_lines
+run_lines-append book [] later = ap (λ b. run_lines b later) (sym (append-nil book))
+run_lines-append book (s ∷ done) later =
+    let next = book_after book s in
+    let book_is : next ++ entries (run_lines next done) ≡ book ++ entries (step_lines book s ++ run_lines next done) =
+      append_assoc book (entries (answer book s)) (entries (run_lines next done))
+        ∙ ap (λ es. book ++ es) (sym (entries-append (step_lines book s) (run_lines next done))) in
+    ap (λ ls. step_lines book s ++ ls) (run_lines-append next done later)
+      ∙ sym (append_assoc (step_lines book s) (run_lines next done) (run_lines (next ++ entries (run_lines next done)) later))
+      ∙ ap (λ b. (step_lines book s ++ run_lines next done) ++ run_lines b later) book_is
+
+-- what is appended in two writes
+pub appends-twice : (a b c : Option (List ℕ)) (x y : List ℕ) → Appends a b x → Appends b c y → Appends a c (x ++ y)
+appends-twice None b c x y p q = tt
+appends-twice (Some a) None c x y p q = absurd p
+appends-twice (Some a) (Some b) None x y p q = absurd q
+appends-twice (Some a) (Some b) (Some c) x y p q = q ∙ ap (λ s. s ++ y) p ∙ append_assoc a x y
+
+-- a first part of a text of two
+pub grew-first : (a b : Option (List ℕ)) (x y : List ℕ) → Appends a b x → GrewByPart a b (x ++ y)
+grew-first a b x y p =
+    let whole : x ≡ take (length x) (x ++ y) = sym (take-append_seam x y) in
+    (length x, subst (Appends a b) whole p)
+
+-- a first part of the second of two, after the first
+pub grew-second : (a b c : Option (List ℕ)) (x y : List ℕ) → Appends a b x → GrewByPart b c y → GrewByPart a c (x ++ y)
+grew-second a b c x y p q =
+    let whole : x ++ take q.0 y ≡ take (length x + q.0) (x ++ y) = sym (take-append-add x y q.0) in
+    (length x + q.0, subst (Appends a c) whole (appends-twice a b c x (take q.0 y) p q.1))
+
+-- a first part of the first of two
+pub grew-more : (a b : Option (List ℕ)) (x y : List ℕ) → GrewByPart a b x → GrewByPart a b (x ++ y)
+grew-more a b x y q = elim (cases_lt (length x) q.0) [
+  | inl past ↦ grew-first a b x y (subst (Appends a b) (take_all q.0 x (omega arith)) q.1)
+  | inr within ↦ (q.0, subst (Appends a b) (sym (take-append-le q.0 x y within)) q.1)
+]

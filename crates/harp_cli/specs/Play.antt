@@ -1,0 +1,72 @@
+-- The steps of a schedule's text, and the trace that is played of it.
+use Rattle.std.specs.Prelude.{◌≡◌, ℕ, ◌+◌, codes, map, String, string_bytes, nat_lt, List, [], ◌∷◌, ◌++◌, length, Option, Some, None, Result, Ok, Err, if◌then◌else◌}
+use Rattle.std.specs.Global.{Global}
+use Rattle.std.specs.List.{flat_map}
+use Rattle.harp_trace.specs.declared.step.Step.{Step}
+use Rattle.harp_trace.specs.declared.line.Line.{Line}
+use Rattle.harp_trace.specs.declared.line.Line.TheVariants as line
+use Rattle.harp_trace.specs.declared.line.LineFault.{LineFault}
+use Rattle.harp_trace.specs.declared.line.LineFault.TheVariants as fault
+use Rattle.harp_trace.specs.Trace.{Trace, entries}
+use Rattle.line_reader.specs.Lines.{lines_of}
+use Rattle.schedule_text.specs.declared.fault.TextFault.{TextFault}
+use Rattle.schedule_text.specs.declared.fault.TextFault.TheVariants as text
+use Rattle.schedule_text.specs.Lines.{line_text}
+use Rattle.schedule_text.specs.Reading.{meaning_of}
+use Rattle.world.specs.Run.{run_lines}
+
+abbrev pub step_or_fault : Result (Option Step) TextFault → Result (Option Step) LineFault
+step_or_fault (Ok step) = Ok step
+step_or_fault (Err (text.Grammar place)) = Err fault.Grammar
+step_or_fault (Err text.Unbuilt) = Err fault.Unbuilt
+step_or_fault (Err text.NoMemory) = Err fault.Grammar
+
+-- what the line with this number, from 1, gives: a step, nothing, or the fault for which it is refused
+unfoldable pub given_by : ℕ → List ℕ → Result (Option Step) LineFault
+given_by number line =
+    if nat_lt 50000 number then Err fault.TooMany
+    else (if nat_lt 20000 (length line) then Err fault.TooLong
+    else step_or_fault (meaning_of line))
+
+-- the steps that are read, and the number and the fault of the line that is refused, where there is one
+pub record Reading : Type 0 where
+  pub steps : List Step
+  pub refused : Option (ℕ × LineFault)
+
+abbrev pub read_on : ℕ → Result (Option Step) LineFault → Reading → Reading
+read_on number (Ok None) rest = rest
+read_on number (Ok (Some step)) rest = record { steps = step ∷ rest.steps; refused = rest.refused }
+read_on number (Err fault) rest = record { steps = []; refused = Some (number, fault) }
+
+-- the steps of these lines, of which the first has this number, up to the first refused line
+unfoldable pub reading_from : ℕ → List (List ℕ) → Reading
+reading_from number [] = record { steps = []; refused = None }
+reading_from number (line ∷ lines) = read_on number (given_by number line) (reading_from (number + 1) lines)
+
+abbrev pub reading : List ℕ → Reading
+reading text = reading_from 1 (lines_of text)
+
+-- the last line of a trace: how many lines were entered, or which line is refused
+abbrev pub last_line : ℕ → Option (ℕ × LineFault) → Line
+last_line entered None = line.End entered
+last_line entered (Some refused) = line.Bad refused.0 refused.1
+
+-- the lines of the run of these steps, and the last line
+abbrev pub trace_of_reading : Reading → Trace
+trace_of_reading r = run_lines [] r.steps ++ last_line (length (entries (run_lines [] r.steps))) r.refused ∷ []
+
+-- the trace of a schedule's text
+abbrev pub trace_of : List ℕ → Trace
+trace_of text = trace_of_reading (reading text)
+
+-- the text of a trace: each line with its line feed
+unfoldable pub trace_text : Trace → List ℕ
+trace_text trace = flat_map (λ l. line_text l ++ 10 ∷ []) trace
+
+-- the words are `play` alone
+abbrev pub IsPlay : List (String Global) → Type 0
+IsPlay words = map (λ w. string_bytes w) words ≡ codes "play" ∷ []
+
+-- how the program is called
+abbrev pub usage_text : List ℕ
+usage_text = codes "usage: harp play\n"

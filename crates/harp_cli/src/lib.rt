@@ -1,0 +1,10 @@
+//! The top call: the words of a command, and what is done on them.
+#![tactic(auto)]
+
+mod exit;
+mod play;
+mod text;
+mod top;
+
+pub use exit::Exit;
+pub use top::harp;

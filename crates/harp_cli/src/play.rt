@@ -1,0 +1,229 @@
+//! Playing a schedule: its steps are taken one after the other, and each step's lines are written before the next line is
+//! read.
+
+ghost use Rattle.std.specs.Prelude.{◌≡◌, ◌≢◌, ◌<◌, ◌≤◌, ◌+◌, ◌^◌, ◌∷◌, [], ℕ, List, Option, length, OnOk, OnErr, IfOk, IfErr, IfSome, MatchResult, Some, None, Ok, Err};
+ghost use Rattle.harp_base.specs.Streams.{Rose};
+ghost use Rattle.line_reader.specs.Reading.{text_left};
+ghost use Rattle.world.specs.State.{WorldValue, first_world};
+ghost use Rattle.harp_cli.specs.declared.exit.Exit.TheVariants as exit;
+ghost use Rattle.harp_cli.specs.Exit.{exit_of};
+ghost use Rattle.harp_cli.specs.Play.{given_by};
+ghost use Rattle.harp_cli.specs.Ends.{PlayEnds, IsWhole, HasCome, GoesOn, TurnGives, LineGives};
+
+use crate::exit::{Exit, Stop};
+use crate::text::{write_last, write_lines};
+use harp_base::{Sink, Source};
+use harp_trace::{Line, LineFault, Step};
+use line_reader::{LineReader, Next, ReadFault};
+use schedule_text::{TextFault, read_step};
+use std::alloc::Global;
+use world::{Refusal, World};
+
+/// The most lines of a schedule.
+const LINES: u64 = 50_000;
+
+/// What a line led to.
+#[derive(Clone, Copy, Debug, PartialEq, Eq)]
+pub enum Turn {
+    /// The next line is to be read.
+    GoesOn,
+    /// The last line was written, at the end of the input.
+    Ended,
+    /// The last line was written, of a line that is refused.
+    Refused,
+}
+
+/// Writes the last line at the end of the input.
+fn end<K: Sink>(alloc: Global, world: &World, sink: &mut K) -> Result<Turn, Stop>
+    ensures ends { (text : List ℕ) (number : ℕ) (before : Option (List ℕ))
+        → HasCome text number [] before (K.written sink.old) world.now
+        → MatchResult result (TurnGives text number [] before (K.written sink.new) world.now)
+            (λ stop. PlayEnds text before (K.written sink.new) world.now (exit_of stop)) }
+    ensures rose { result ≡ Err Stop.SinkFailed → Rose (K.faults sink.old) (K.faults sink.new) }
+    ensures count { K.faults sink.old ≤ K.faults sink.new }
+    ensures own { result ≡ Err Stop.SourceFailed → ⊥ }
+    ensures last { IfOk result (λ turn. turn ≢ Turn.GoesOn) }
+{
+    let last = Line::End {
+        entered: world.book().len() as u64,
+    };
+    match write_last(alloc, last, sink) {
+        Ok(()) => Ok(Turn::Ended),
+        Err(stop) => Err(stop),
+    }
+}
+
+/// Writes the last line, of a line of the schedule that is refused.
+fn refuse<K: Sink>(
+    alloc: Global,
+    number: u64,
+    fault: LineFault,
+    sink: &mut K,
+) -> Result<Turn, Stop>
+    ensures ends { (text line : List ℕ) (lines : List (List ℕ)) (before : Option (List ℕ)) (world : WorldValue)
+        → HasCome text number (line ∷ lines) before (K.written sink.old) world → given_by number line ≡ Err fault
+        → MatchResult result (TurnGives text number lines before (K.written sink.new) world)
+            (λ stop. PlayEnds text before (K.written sink.new) world (exit_of stop)) }
+    ensures rose { result ≡ Err Stop.SinkFailed → Rose (K.faults sink.old) (K.faults sink.new) }
+    ensures count { K.faults sink.old ≤ K.faults sink.new }
+    ensures own { result ≡ Err Stop.SourceFailed → ⊥ }
+    ensures last { IfOk result (λ turn. turn ≢ Turn.GoesOn) }
+{
+    let last = Line::Bad {
+        line: number,
+        fault,
+    };
+    match write_last(alloc, last, sink) {
+        Ok(()) => Ok(Turn::Refused),
+        Err(stop) => Err(stop),
+    }
+}
+
+/// Takes a step and writes its lines.
+fn take_step<K: Sink>(
+    alloc: Global,
+    step: Step,
+    world: &mut World,
+    sink: &mut K,
+) -> Result<Turn, Stop>
+    requires { length world.old.book < 2 ^ 40 }
+    ensures ends { (text line : List ℕ) (number : ℕ) (lines : List (List ℕ)) (before : Option (List ℕ))
+        → HasCome text number (line ∷ lines) before (K.written sink.old) world.old → given_by number line ≡ Ok (Some step)
+        → MatchResult result (TurnGives text number lines before (K.written sink.new) world.new)
+            (λ stop. PlayEnds text before (K.written sink.new) world.new (exit_of stop)) }
+    ensures grows { OnOk result (length world.new.book ≤ length world.old.book + 1) }
+    ensures rose { result ≡ Err Stop.SinkFailed → Rose (K.faults sink.old) (K.faults sink.new) }
+    ensures count { K.faults sink.old ≤ K.faults sink.new }
+    ensures own { result ≡ Err Stop.SourceFailed → ⊥ }
+{
+    match world.step(alloc, step) {
+        Ok(lines) => match write_lines(alloc, lines.as_slice(), sink) {
+            Ok(()) => Ok(Turn::GoesOn),
+            Err(stop) => Err(stop),
+        },
+        Err(Refusal::NoMemory) => Err(Stop::NoMemory),
+    }
+}
+
+/// Why a line with this number is refused that is too long: past the limit no line is looked at.
+fn fault_of_long_line(number: u64) -> LineFault
+    ensures { (line : List ℕ) → 20000 < length line → given_by number line ≡ Err result }
+{
+    if number > LINES {
+        LineFault::TooMany
+    } else {
+        LineFault::TooLong
+    }
+}
+
+/// Deals with a line that isn't too long.
+fn take_line<K: Sink>(
+    alloc: Global,
+    number: u64,
+    line: &[u8],
+    world: &mut World,
+    sink: &mut K,
+) -> Result<Turn, Stop>
+    requires short { length line.now ≤ 20000 }
+    requires few { length world.old.book < 2 ^ 40 }
+    ensures ends { (text : List ℕ) (lines : List (List ℕ)) (before : Option (List ℕ))
+        → HasCome text number (line.now ∷ lines) before (K.written sink.old) world.old
+        → MatchResult result (TurnGives text number lines before (K.written sink.new) world.new)
+            (λ stop. PlayEnds text before (K.written sink.new) world.new (exit_of stop)) }
+    ensures grows { OnOk result (length world.new.book ≤ length world.old.book + 1) }
+    ensures rose { result ≡ Err Stop.SinkFailed → Rose (K.faults sink.old) (K.faults sink.new) }
+    ensures count { K.faults sink.old ≤ K.faults sink.new }
+    ensures own { result ≡ Err Stop.SourceFailed → ⊥ }
+    ensures last { 50000 < number → IfOk result (λ turn. turn ≢ Turn.GoesOn) }
+{
+    if number > LINES {
+        return refuse(alloc, number, LineFault::TooMany, sink);
+    }
+    match read_step(alloc, line) {
+        Ok(None) => Ok(Turn::GoesOn),
+        Ok(Some(step)) => take_step(alloc, step, world, sink),
+        Err(TextFault::Grammar(_)) => refuse(alloc, number, LineFault::Grammar, sink),
+        Err(TextFault::Unbuilt) => refuse(alloc, number, LineFault::Unbuilt, sink),
+        Err(TextFault::NoMemory) => Err(Stop::NoMemory),
+    }
+}
+
+/// Reads the line with this number and deals with it. A line past the limit is refused.
+fn play_line<S: Source, K: Sink>(
+    alloc: Global,
+    number: u64,
+    reader: &mut LineReader,
+    world: &mut World,
+    source: &mut S,
+    sink: &mut K,
+) -> Result<Turn, Stop>
+    requires { length world.old.book < 2 ^ 40 }
+    ensures ends { (text : List ℕ) (before : Option (List ℕ))
+        → GoesOn text number (text_left reader.old (S.left source.old)) before (K.written sink.old) world.old
+        → MatchResult result (LineGives text number (text_left reader.new (S.left source.new)) before (K.written sink.new) world.new)
+            (λ stop. PlayEnds text before (K.written sink.new) world.new (exit_of stop)) }
+    ensures last { 50000 < number → IfOk result (λ turn. turn ≢ Turn.GoesOn) }
+    ensures grows { OnOk result (length world.new.book ≤ length world.old.book + 1) }
+    ensures source_rose { result ≡ Err Stop.SourceFailed → Rose (S.faults source.old) (S.faults source.new) }
+    ensures sink_rose { result ≡ Err Stop.SinkFailed → Rose (K.faults sink.old) (K.faults sink.new) }
+    ensures source_count { S.faults source.old ≤ S.faults source.new }
+    ensures sink_count { K.faults sink.old ≤ K.faults sink.new }
+{
+    match reader.next(alloc, source) {
+        Ok(Next::End) => end(alloc, world, sink),
+        Ok(Next::TooLong) => refuse(alloc, number, fault_of_long_line(number), sink),
+        Ok(Next::Line(line)) => take_line(alloc, number, line.as_slice(), world, sink),
+        Err(ReadFault::Failed) => Err(Stop::SourceFailed),
+        Err(ReadFault::NoMemory) => Err(Stop::NoMemory),
+    }
+}
+
+/// Plays the lines of a source, one after the other.
+fn play_lines<S: Source, K: Sink>(
+    alloc: Global,
+    world: &mut World,
+    source: &mut S,
+    sink: &mut K,
+) -> Result<Exit, Stop>
+    requires { world.old ≡ first_world }
+    ensures ends { (text : List ℕ) → S.left source.old ≡ Some text
+        → MatchResult result (PlayEnds text (K.written sink.old) (K.written sink.new) world.new)
+            (λ stop. PlayEnds text (K.written sink.old) (K.written sink.new) world.new (exit_of stop)) }
+    ensures whole { IfOk result IsWhole }
+    ensures source_rose { result ≡ Err Stop.SourceFailed → Rose (S.faults source.old) (S.faults source.new) }
+    ensures sink_rose { result ≡ Err Stop.SinkFailed → Rose (K.faults sink.old) (K.faults sink.new) }
+{
+    let mut reader = match LineReader::new(alloc) {
+        Ok(reader) => reader,
+        Err(_) => return Err(Stop::NoMemory),
+    };
+    let mut number = 1;
+    loop {
+        match play_line(alloc, number, &mut reader, world, source, sink) {
+            Ok(Turn::GoesOn) => number += 1,
+            Ok(Turn::Ended) => return Ok(Exit::Done),
+            Ok(Turn::Refused) => return Ok(Exit::RefusedLine),
+            Err(stop) => return Err(stop),
+        }
+    }
+}
+
+/// Plays the schedule of a source in a new world, and writes its trace to a sink.
+pub fn play<S: Source, K: Sink>(
+    alloc: Global,
+    world: &mut World,
+    source: &mut S,
+    sink: &mut K,
+) -> Exit
+    requires { world.old ≡ first_world }
+    ensures ends { (text : List ℕ) → S.left source.old ≡ Some text
+        → PlayEnds text (K.written sink.old) (K.written sink.new) world.new result }
+    ensures words { result ≢ Exit.RefusedWords }
+    ensures source_rose { result ≡ Exit.SourceFailed → Rose (S.faults source.old) (S.faults source.new) }
+    ensures sink_rose { result ≡ Exit.SinkFailed → Rose (K.faults sink.old) (K.faults sink.new) }
+{
+    match play_lines(alloc, world, source, sink) {
+        Ok(exit) => exit,
+        Err(stop) => Exit::from(stop),
+    }
+}
