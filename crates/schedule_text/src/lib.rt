@@ -15,3 +15,6 @@ mod writing;
 pub use fault::TextFault;
 pub use reading::read_step;
 pub use writing::{texts_are_lines, write_line, write_step};
+
+#[cfg(test)]
+mod tests;
