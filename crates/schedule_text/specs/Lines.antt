@@ -1,5 +1,6 @@
 -- The one spelling of each line of a trace, without its line end.
-use Rattle.std.specs.Prelude.{ℕ, List, ◌++◌, codes, decimal}
+use Rattle.std.specs.Prelude.{ℕ, ◌≢◌, List, ◌++◌, codes, decimal}
+use Rattle.std.specs.List.{AllByRecursion}
 use Rattle.harp_base.specs.Server.{number_of}
 use Rattle.harp_trace.specs.declared.line.BookEntry.{BookEntry}
 use Rattle.harp_trace.specs.declared.line.Cause.{Cause}
@@ -35,3 +36,7 @@ line_text (line.Refused server client number cause) =
     codes "refused" ++ spaced (decimal (number_of server)) ++ spaced (decimal client) ++ spaced (decimal number) ++ spaced (cause_text cause)
 line_text (line.Bad place fault) = codes "bad" ++ spaced (decimal place) ++ spaced (fault_text fault)
 line_text (line.End entered) = codes "end" ++ spaced (decimal entered)
+
+-- no byte ends a line
+abbrev pub IsOneLine : List ℕ → Type 0
+IsOneLine text = AllByRecursion (λ b. b ≢ 10) text

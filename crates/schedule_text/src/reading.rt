@@ -191,10 +191,20 @@ fn meaning_of(alloc: Global, line: &[u8]) -> Result<Option<Step>, TextFault>
     }
 }
 
-/// The step of a line of a schedule, without its line end; None for an empty line and for a comment.
+/// The step of a line of a schedule, without its line end. None is an empty line or a comment.
+///
+/// Unbuilt is a step, a call or a server of a later stage, whatever follows. Every other line that is no step is
+/// Grammar.
 pub fn read_step(alloc: Global, line: &[u8]) -> Result<Option<Step>, TextFault>
-    // What the line means, which is one thing.
+    // A line means one thing, and that is answered unless memory runs out.
     ensures exact { Gives (λ x. x) result (meaning_of line.now) }
+    // What a meaning says of the line.
+    ensures grammar { Explains line.now (meaning_of line.now) }
+
+    // What the line is says what is answered.
+    ensures only_step { (s : Step) → IsStepLine line.now s → Gives (λ x. x) result (Ok (Some s)) }
+    ensures only_blank { IsBlank line.now → Gives (λ x. x) result (Ok None) }
+    ensures only_unbuilt { IsUnbuilt line.now → Gives (λ x. x) result (Err Unbuilt) }
 {
     meaning_of(alloc, line)
 }

@@ -3,7 +3,9 @@
 ghost use Rattle.std.specs.Prelude.{◌≡◌, ◌++◌, ◌∷◌, [], codes, decimal, IfOk, OnOk, OnErr};
 ghost use Rattle.harp_base.specs.Server.{number_of};
 ghost use Rattle.schedule_text.specs.Text.{spaced, call_text, reply_text, ask_head, step_text};
-ghost use Rattle.schedule_text.specs.Lines.{cause_text, fault_text, entry_line, line_text};
+ghost use Rattle.schedule_text.specs.Lines.{cause_text, fault_text, entry_line, line_text, IsOneLine};
+ghost use Rattle.harp_trace.specs.declared.step.Step.{Step};
+ghost use Rattle.harp_trace.specs.declared.line.Line.{Line};
 
 use crate::put::put_number;
 use crate::write_call::put_call;
@@ -148,3 +150,9 @@ pub fn write_line(alloc: Global, line: &Line, into: &mut Bytes) -> Result<(), Al
     put_line(alloc, &mut text, line)?;
     into.extend(&text)
 }
+
+/// Texts have no line ends, so the lines that are written are the lines that are read.
+pub fn texts_are_lines()
+    ensures step { (s : Step) → IsOneLine (step_text s) }
+    ensures line { (l : Line) → IsOneLine (line_text l) }
+{}

@@ -1,0 +1,115 @@
+-- Words of a line, and the names that stand there.
+use Rattle.std.proofs.Common.{◌≡◌, ℕ, suc, ◌+◌, ◌≤◌, Bool, true, false, cond, eqb, ◌&&◌, List, [], ◌∷◌, ◌++◌, length, get_or, drop, refl, sym, ap, subst, ◌∙◌, arith}
+use Rattle.std.specs.Prelude.{nat_le, not, codes, Contains}
+use Rattle.std.specs.List.{prefix_len, take_while}
+use Rattle.std.specs.Str.{bytes_eq}
+use Rattle.std.proofs.lemmas.Bool.{eqb-true, eq-eqb, ne_eqb, and_parts, leb-true}
+use Rattle.std.proofs.lemmas.List.{take-append-drop, drop-drop}
+use Rattle.std.proofs.lemmas.List.Sums.{take_while-cons, AllPass-from_list_all}
+use Rattle.std.proofs.lemmas.List.Folds.{length-prefix_len, list_any-from_Any}
+use Rattle.std.proofs.lemmas.List.Elements.{All-contains}
+use Rattle.std.proofs.lemmas.Map.Views.{Contains-from_any}
+use Rattle.std.proofs.lemmas.Slice.Eq.{bytes_eq-Decides}
+use Rattle.schedule_text.specs.Grammar.{EndsWord}
+use Rattle.schedule_text.specs.Reading.{not_space, word_at, unbuilt_steps, unbuilt_calls, is_among}
+use Rattle.schedule_text.proofs.Places.{Spells}
+
+-- ---- where a word ends
+
+ends_here : (rest : List ℕ) → EndsWord (drop (prefix_len not_space rest) rest)
+ends_here [] = tt
+ends_here (b ∷ rest) = by (eqb b 32) refl (ends_here rest)
+  where
+    by : (space : Bool) → eqb b 32 ≡ space → EndsWord (drop (prefix_len not_space rest) rest) → EndsWord (drop (cond (not space) (1 + prefix_len not_space rest) 0) (b ∷ rest))
+    by true is more = eqb-true b 32 is
+    by false is more = subst (λ n. EndsWord (drop n (b ∷ rest))) {x = suc (prefix_len not_space rest)} (omega arith) more
+
+pub word_spells : (line : List ℕ) (at : ℕ) → Spells line at (word_at line at) (at + length (word_at line at))
+word_spells line at =
+    let rest = drop at line in
+    let n = prefix_len not_space rest in
+    let len : length (word_at line at) ≡ n = length-prefix_len not_space rest in
+    let behind : drop (at + length (word_at line at)) line ≡ drop n rest = ap (λ k. drop (at + k) line) len ∙ sym (drop-drop n at line) in
+    record { parts = sym (take-append-drop n rest) ∙ ap (λ (l : List ℕ). word_at line at ++ l) (sym behind); length_is = refl }
+
+pub word_ends : (line : List ℕ) (at : ℕ) → EndsWord (drop (at + length (word_at line at)) line)
+word_ends line at =
+    let rest = drop at line in
+    let n = prefix_len not_space rest in
+    let len : length (word_at line at) ≡ n = length-prefix_len not_space rest in
+    let behind : drop n rest ≡ drop (at + length (word_at line at)) line = drop-drop n at line ∙ ap (λ k. drop (at + k) line) (sym len) in
+    subst EndsWord behind (ends_here rest)
+
+-- ---- a word that stands
+
+-- letters alone
+abbrev letters : List ℕ → Bool
+letters [] = true
+letters (b ∷ bytes) = nat_le 97 b && letters bytes
+
+-- one letter at least, and letters alone
+abbrev pub is_name : List ℕ → Bool
+is_name [] = false
+is_name (b ∷ bytes) = nat_le 97 b && letters bytes
+
+none_left : (rest : List ℕ) → EndsWord rest → take_while not_space rest ≡ []
+none_left [] ends = refl
+none_left (b ∷ rest) ends = take_while-cons not_space b rest ∙ ap (λ (c : Bool). cond (not c) (b ∷ take_while not_space rest) []) (eq-eqb b 32 ends)
+
+letter : (b : ℕ) → nat_le 97 b ≡ true → 97 ≤ b
+letter b e = leb-true 97 b e
+
+letters_taken : (word rest : List ℕ) → letters word ≡ true → EndsWord rest → take_while not_space (word ++ rest) ≡ word
+letters_taken [] rest all ends = none_left rest ends
+letters_taken (b ∷ word) rest all ends =
+    let parts = and_parts (nat_le 97 b) (letters word) all in
+    let above = letter b parts.0 in
+    take_while-cons not_space b (word ++ rest) ∙ ap (λ (c : Bool). cond (not c) (b ∷ take_while not_space (word ++ rest)) []) (ne_eqb b 32 (λ e. omega arith))
+    ∙ ap (λ (l : List ℕ). b ∷ l) (letters_taken word rest parts.1 ends)
+
+name_letters : (word : List ℕ) → is_name word ≡ true → letters word ≡ true
+name_letters [] name = absurd cc
+name_letters (b ∷ word) name = name
+
+pub word_stands : (line : List ℕ) (at : ℕ) (word rest : List ℕ) → is_name word ≡ true → EndsWord rest → drop at line ≡ word ++ rest → word_at line at ≡ word
+word_stands line at word rest name ends e = ap (take_while not_space) e ∙ letters_taken word rest (name_letters word name) ends
+
+-- a name begins with a letter
+pub name_first : (word rest : List ℕ) → is_name word ≡ true → 97 ≤ get_or (word ++ rest) 0 0
+name_first [] rest name = absurd cc
+name_first (b ∷ word) rest name = letter b (and_parts (nat_le 97 b) (letters word) name).0
+
+-- ---- the lists of names
+
+pub same_word : (x y : List ℕ) → bytes_eq x y ≡ true → x ≡ y
+same_word x y e = (bytes_eq-Decides x y).0 e
+
+pub listed : (names : List (List ℕ)) (word : List ℕ) → is_among names word ≡ true → Contains names word
+listed names word e = Contains-from_any same_word word names e
+
+pub among : (names : List (List ℕ)) (word : List ℕ) → Contains names word → is_among names word ≡ true
+among names word c = list_any-from_Any (bytes_eq word) names (c.0, word, c.1, c.2, (bytes_eq-Decides word word).1 refl)
+
+-- a name that is none of the names that are built
+abbrev other_step : List ℕ → Bool
+other_step name = is_name name && not (bytes_eq name (codes "ask"))
+
+abbrev other_call : List ℕ → Bool
+other_call name = is_name name && (not (bytes_eq name (codes "mkdir")) && not (bytes_eq name (codes "lookup")))
+
+not_true : (b : Bool) → not b ≡ true → b ≡ false
+not_true true e = absurd cc
+not_true false e = refl
+
+pub unbuilt_step : (name : List ℕ) → Contains unbuilt_steps name → (is_name name ≡ true) × (bytes_eq name (codes "ask") ≡ false)
+unbuilt_step name c =
+    let all = All-contains (λ x. other_step x ≡ true) unbuilt_steps name (AllPass-from_list_all other_step unbuilt_steps refl) c in
+    let parts = and_parts (is_name name) (not (bytes_eq name (codes "ask"))) all in
+    (parts.0, not_true (bytes_eq name (codes "ask")) parts.1)
+
+pub unbuilt_call : (name : List ℕ) → Contains unbuilt_calls name → (is_name name ≡ true) × (bytes_eq name (codes "mkdir") ≡ false) × (bytes_eq name (codes "lookup") ≡ false)
+unbuilt_call name c =
+    let all = All-contains (λ x. other_call x ≡ true) unbuilt_calls name (AllPass-from_list_all other_call unbuilt_calls refl) c in
+    let parts = and_parts (is_name name) (not (bytes_eq name (codes "mkdir")) && not (bytes_eq name (codes "lookup"))) all in
+    let others = and_parts (not (bytes_eq name (codes "mkdir"))) (not (bytes_eq name (codes "lookup"))) parts.1 in
+    (parts.0, not_true (bytes_eq name (codes "mkdir")) others.0, not_true (bytes_eq name (codes "lookup")) others.1)

@@ -1,0 +1,158 @@
+use super::*;
+use harp_base::{Bounded, Bytes, DirEntry, Entries, Reply, ServerId};
+use harp_trace::{Cause, Line, LineFault};
+use std::alloc::Global;
+use std::test::Fail;
+
+/// What reading a line gives.
+#[derive(Clone, Copy, Debug, PartialEq, Eq)]
+enum Outcome {
+    Nothing,
+    Reads,
+    Unbuilt,
+    Grammar,
+}
+
+/// A line that is read as a step has to be written as itself.
+fn reading(alloc: Global, line: &[u8]) -> Result<Outcome, Fail> {
+    match read_step(alloc, line) {
+        Ok(None) => Ok(Outcome::Nothing),
+        Ok(Some(step)) => {
+            let mut text = Bytes::new(alloc);
+            write_step(alloc, &step, &mut text)?;
+            if text.as_slice() == line {
+                Ok(Outcome::Reads)
+            } else {
+                Err("written otherwise".into())
+            }
+        }
+        Err(TextFault::Unbuilt) => Ok(Outcome::Unbuilt),
+        Err(TextFault::Grammar(0)) => Ok(Outcome::Grammar),
+        Err(_) => Err("a place or no memory".into()),
+    }
+}
+
+/// Whether each line of a text gives this.
+fn all_give(alloc: Global, text: &[u8], want: Outcome) -> Result<bool, Fail> {
+    for line in text.split(|b| *b == b'\n') {
+        if reading(alloc, line)? != want {
+            return Ok(false);
+        }
+    }
+    Ok(true)
+}
+
+const STEPS: &[u8] = b"ask 0 7 1 mkdir 1 61 755
+ask 0 7 2 lookup 1 61
+ask 0 9 1 lookup 1 -
+ask 0 4294967295 999999999999999999 lookup 4294967295 2e2e
+ask 0 0 0 lookup 0 00ff
+ask 0 7 1 mkdir 1 61 -
+ask 0 7 1 mkdir 1 61 0
+ask 0 7 1 mkdir 1 61 7777
+ask 0 7 1 mkdir 1 61 -,0
+ask 0 7 1 mkdir 1 61 755,0,0,5,1:2
+ask 0 7 1 mkdir 1 61 -,-,-,-,4294967295:5,5:4294967295";
+
+const UNBUILT: &[u8] = b"tick 0
+pump
+noise  x
+ask 1 9 1 lookup 1 -
+ask 2 9 1
+ask 0 9 1 null x
+ask 0 9 1 statfs";
+
+const FAULTS: &[u8] = b" # x
+ask 3 9 1 lookup 1 -
+ask 0 4294967296 1 lookup 1 61
+ask 0 7 1000000000000000000 lookup 1 61
+ask 0 07 1 lookup 1 61
+ask 0 7 1 lookup 1 6
+ask 0 7 1 lookup 1 6A
+ask 0 7 1 lookup 1 -61
+ask 0 7 1 lookup 1 61 
+ask 0 7 1 lookup  1 61
+ask 0 7 1 mkdir 1 61
+ask 0 9 1
+asks 0 9 1
+ask 1 9 1x
+ask 0 9 1 nullx
+ticks 0
+ask 0 7 1 mkdir 1 61 755,-
+ask 0 7 1 mkdir 1 61 -,-,-,-,-,4294967295:4294967295
+ask 0 7 1 mkdir 1 61 755,4294967295
+ask 0 7 1 mkdir 1 61 0755
+ask 0 7 1 mkdir 1 61 10000
+ask 0 7 1 mkdir 1 61 758
+ask 0 7 1 mkdir 1 61 755,0,0,5,1:2,3:4,5";
+
+#[test]
+fn reads_lines(rt: HostRuntime) -> Result<(), Fail> {
+    let alloc = rt.alloc();
+    assert!(rt; all_give(alloc, STEPS, Outcome::Reads)?);
+    assert!(rt; all_give(alloc, UNBUILT, Outcome::Unbuilt)?);
+    assert!(rt; all_give(alloc, FAULTS, Outcome::Grammar)?);
+    assert!(rt; all_give(alloc, b"# x\n\n#", Outcome::Nothing)?);
+    Ok(())
+}
+
+/// The page of a directory, as its first entry alone.
+fn page(alloc: Global) -> Result<Reply, Fail> {
+    let mut items = Vec::new(alloc);
+    let name = Bounded::of(Vec::from_slice(alloc, b".")?).ok_or("a name is too long")?;
+    items.push(DirEntry {
+        fileid: 1,
+        name,
+        cookie: 1,
+    })?;
+    let entries = Entries::of(items).ok_or("too many entries")?;
+    Ok(Reply::Page {
+        entries,
+        eof: false,
+    })
+}
+
+/// Whether a line of a trace is written so.
+fn is_written(alloc: Global, line: &Line, want: &[u8]) -> Result<bool, Fail> {
+    let mut text = Bytes::new(alloc);
+    write_line(alloc, line, &mut text)?;
+    Ok(text.as_slice() == want)
+}
+
+fn is_page_written(alloc: Global) -> Result<bool, Fail> {
+    let line = Line::Answered {
+        server: ServerId::Zero,
+        client: 7,
+        number: 2,
+        index: 1,
+        reply: page(alloc)?,
+    };
+    is_written(alloc, &line, b"answered 0 7 2 1 dir 1:2e:1 more")
+}
+
+fn is_refusal_written(alloc: Global) -> Result<bool, Fail> {
+    let line = Line::Refused {
+        server: ServerId::Zero,
+        client: 4096,
+        number: 1,
+        cause: Cause::BadClient,
+    };
+    is_written(alloc, &line, b"refused 0 4096 1 bad-client")
+}
+
+fn is_fault_written(alloc: Global) -> Result<bool, Fail> {
+    let line = Line::Bad {
+        line: 50001,
+        fault: LineFault::TooMany,
+    };
+    is_written(alloc, &line, b"bad 50001 too-many")
+}
+
+#[test]
+fn writes_lines(rt: HostRuntime) -> Result<(), Fail> {
+    let alloc = rt.alloc();
+    assert!(rt; is_page_written(alloc)?);
+    assert!(rt; is_refusal_written(alloc)?);
+    assert!(rt; is_fault_written(alloc)?);
+    Ok(())
+}
