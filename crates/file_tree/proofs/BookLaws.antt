@@ -54,12 +54,12 @@ folded_updates : (tree : Tree) (entries : List Entry) → fold tree_next tree en
 folded_updates tree [] = refl
 folded_updates tree (e ∷ entries) = elim (cases_Bool (is_update e.call)) [
   | inl u ↦
-    let more : updates (e ∷ entries) ≡ e ∷ updates entries = rw u refl in
-    folded_updates (tree_next tree e) entries ∙ ap (fold tree_next tree) (sym more)
+      let more : updates (e ∷ entries) ≡ e ∷ updates entries = rw u refl in
+      folded_updates (tree_next tree e) entries ∙ ap (fold tree_next tree) (sym more)
   | inr u ↦
-    let same : updates (e ∷ entries) ≡ updates entries = rw u refl in
-    let kept : tree_next tree e ≡ tree = read_keeps tree e.call e.stamp u in
-    ap (λ (t : Tree). fold tree_next t entries) kept ∙ folded_updates tree entries ∙ ap (fold tree_next tree) (sym same)
+      let same : updates (e ∷ entries) ≡ updates entries = rw u refl in
+      let kept : tree_next tree e ≡ tree = read_keeps tree e.call e.stamp u in
+      ap (λ (t : Tree). fold tree_next t entries) kept ∙ folded_updates tree entries ∙ ap (fold tree_next tree) (sym same)
 ]
 
 pub tree_of_updates : (entries : List Entry) → tree_after entries ≡ tree_after (updates entries)

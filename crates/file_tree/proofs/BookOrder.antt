@@ -56,32 +56,32 @@ numbers_more : (earlier : List Entry) (e : Entry) → is_update e.call ≡ true 
     → AllByRecursion (λ x. x.client ≡ client → IsAtMost (last_of client (earlier ++ e ∷ [])) x.number) (updates earlier ++ e ∷ [])
 numbers_more earlier e u ends next client = elim (cases_eq e.client client) [
   | inl c ↦
-    let last = last_taken client earlier e u c in
-    rw last (all_push (λ x. x.client ≡ client → x.number ≤ e.number) (updates earlier) e
+      let last = last_taken client earlier e u c in
+      rw last (all_push (λ x. x.client ≡ client → x.number ≤ e.number) (updates earlier) e
       (all_both (λ x. x.client ≡ e.client → x.number < e.number) (λ x. x.client ≡ client → IsAtMost (last_of client earlier) x.number) (λ x. x.client ≡ client → x.number ≤ e.number)
-        (λ x p q same. omega (arith, p (same ∙ sym c))) (updates earlier) next.number (ends.numbers client))
+      (λ x p q same. omega (arith, p (same ∙ sym c))) (updates earlier) next.number (ends.numbers client))
       (λ same. omega arith))
   | inr ne ↦
-    let last = last_left client earlier e ne in
-    rw last (all_push (λ x. x.client ≡ client → IsAtMost (last_of client earlier) x.number) (updates earlier) e (ends.numbers client) (λ same. absurd (ne same)))
+      let last = last_left client earlier e ne in
+      rw last (all_push (λ x. x.client ≡ client → IsAtMost (last_of client earlier) x.number) (updates earlier) e (ends.numbers client) (λ same. absurd (ne same)))
 ]
 
 ends_more : (earlier : List Entry) (e : Entry) → EndsWithLast earlier → MayFollow earlier e → EndsWithLast (earlier ++ e ∷ [])
 ends_more earlier e ends f = elim (cases_Bool (is_update e.call)) [
   | inl u ↦
-    let next = order_of earlier e u f in
-    let stamp : last_stamp (earlier ++ e ∷ []) ≡ e.stamp = stamp_push earlier e ∙ rw u refl in
-    record {
-      numbers = λ client. rw (updates_push_update earlier e u) (numbers_more earlier e u ends next client);
-      stamps = rw (updates_push_update earlier e u, stamp)
-        (all_push (λ x. x.stamp ≤ e.stamp) (updates earlier) e next.stamp (omega arith));
-    }
+      let next = order_of earlier e u f in
+      let stamp : last_stamp (earlier ++ e ∷ []) ≡ e.stamp = stamp_push earlier e ∙ rw u refl in
+      record {
+        numbers = λ client. rw (updates_push_update earlier e u) (numbers_more earlier e u ends next client);
+        stamps = rw (updates_push_update earlier e u, stamp)
+            (all_push (λ x. x.stamp ≤ e.stamp) (updates earlier) e next.stamp (omega arith));
+      }
   | inr u ↦
-    let stamp : last_stamp (earlier ++ e ∷ []) ≡ last_stamp earlier = stamp_push earlier e ∙ rw u refl in
-    record {
-      numbers = λ client. let last = last_read client earlier e u in rw (updates_push_read earlier e u, last) (ends.numbers client);
-      stamps = rw (updates_push_read earlier e u, stamp) ends.stamps;
-    }
+      let stamp : last_stamp (earlier ++ e ∷ []) ≡ last_stamp earlier = stamp_push earlier e ∙ rw u refl in
+      record {
+        numbers = λ client. let last = last_read client earlier e u in rw (updates_push_read earlier e u, last) (ends.numbers client);
+        stamps = rw (updates_push_read earlier e u, stamp) ends.stamps;
+      }
 ]
 
 pub book_ends : (entries : List Entry) → IsBook entries → EndsWithLast entries
@@ -106,7 +106,7 @@ next_follows entries e book c =
         index = c.index;
         stamp = all_from (λ x. x.stamp ≤ last_stamp entries) (λ x. x.stamp ≤ e.stamp) (λ x p. omega (arith, p, c.stamp)) (updates entries) ends.stamps;
         number = all_from (λ x. x.client ≡ e.client → IsAtMost (last_of e.client entries) x.number) (λ x. x.client ≡ e.client → x.number < e.number)
-          (λ x p same. below (last_of e.client entries) x.number e.number (p same) c.number) (updates entries) (ends.numbers e.client);
+            (λ x p same. below (last_of e.client entries) x.number e.number (p same) c.number) (updates entries) (ends.numbers e.client);
       });
     }
 
@@ -117,34 +117,34 @@ last_among : (P : Entry → Type 0) (client : ℕ) (last : Option Entry) (entrie
 last_among P client last [] p all = p
 last_among P client last (e ∷ entries) p all = elim (cases_Bool (is_update e.call)) [
   | inl u ↦
-    let more : updates (e ∷ entries) ≡ e ∷ updates entries = rw u refl in
-    let parts : AllByRecursion P (e ∷ updates entries) = rw more at all in
-    elim (cases_eq e.client client) [
-      | inl c ↦
-        let taken : last_next client last e ≡ Some e = (let t = and_from _ _ u (eq-eqb e.client client c) in rw t refl) in
-        rw taken (last_among P client (Some e) entries (parts.0, c) parts.1)
-      | inr ne ↦
-        let left : last_next client last e ≡ last = (let t : (is_update e.call && (e.client == client)) ≡ false = and_right _ _ (ne_eqb e.client client ne) in rw t refl) in
-        rw left (last_among P client last entries p parts.1)
-    ]
+      let more : updates (e ∷ entries) ≡ e ∷ updates entries = rw u refl in
+      let parts : AllByRecursion P (e ∷ updates entries) = rw more at all in
+      elim (cases_eq e.client client) [
+        | inl c ↦
+            let taken : last_next client last e ≡ Some e = (let t = and_from _ _ u (eq-eqb e.client client c) in rw t refl) in
+            rw taken (last_among P client (Some e) entries (parts.0, c) parts.1)
+        | inr ne ↦
+            let left : last_next client last e ≡ last = (let t : (is_update e.call && (e.client == client)) ≡ false = and_right _ _ (ne_eqb e.client client ne) in rw t refl) in
+            rw left (last_among P client last entries p parts.1)
+      ]
   | inr u ↦
-    let same : updates (e ∷ entries) ≡ updates entries = rw u refl in
-    let left : last_next client last e ≡ last = (let t : (is_update e.call && (e.client == client)) ≡ false = and_left _ _ u in rw t refl) in
-    rw left (last_among P client last entries p (rw same at all))
+      let same : updates (e ∷ entries) ≡ updates entries = rw u refl in
+      let left : last_next client last e ≡ last = (let t : (is_update e.call && (e.client == client)) ≡ false = and_left _ _ u in rw t refl) in
+      rw left (last_among P client last entries p (rw same at all))
 ]
 
 stamp_among : (most stamp : ℕ) (entries : List Entry) → stamp ≤ most → AllByRecursion (λ x. x.stamp ≤ most) (updates entries) → fold stamp_next stamp entries ≤ most
 stamp_among most stamp [] le all = le
 stamp_among most stamp (e ∷ entries) le all = elim (cases_Bool (is_update e.call)) [
   | inl u ↦
-    let more : updates (e ∷ entries) ≡ e ∷ updates entries = rw u refl in
-    let parts : AllByRecursion (λ x. x.stamp ≤ most) (e ∷ updates entries) = rw more at all in
-    let taken : stamp_next stamp e ≡ e.stamp = rw u refl in
-    rw taken (stamp_among most e.stamp entries parts.0 parts.1)
+      let more : updates (e ∷ entries) ≡ e ∷ updates entries = rw u refl in
+      let parts : AllByRecursion (λ x. x.stamp ≤ most) (e ∷ updates entries) = rw more at all in
+      let taken : stamp_next stamp e ≡ e.stamp = rw u refl in
+      rw taken (stamp_among most e.stamp entries parts.0 parts.1)
   | inr u ↦
-    let same : updates (e ∷ entries) ≡ updates entries = rw u refl in
-    let left : stamp_next stamp e ≡ stamp = rw u refl in
-    rw left (stamp_among most stamp entries le (rw same at all))
+      let same : updates (e ∷ entries) ≡ updates entries = rw u refl in
+      let left : stamp_next stamp e ≡ stamp = rw u refl in
+      rw left (stamp_among most stamp entries le (rw same at all))
 ]
 
 some_weaker : (last : Option Entry) (client number : ℕ) → IfSome last (λ l. (l.client ≡ client → l.number < number) × (l.client ≡ client)) → IfSome last (λ l. l.number < number)
@@ -160,7 +160,7 @@ follows_next entries e u f =
       index = next.index;
       stamp = stamp_among e.stamp 0 entries (omega arith) next.stamp;
       number = some_weaker (last_of e.client entries) e.client e.number
-        (last_among (λ x. x.client ≡ e.client → x.number < e.number) e.client None entries tt next.number);
+          (last_among (λ x. x.client ≡ e.client → x.number < e.number) e.client None entries tt next.number);
     }
 
 pub update_follows : (entries : List Entry) (e : Entry) → IsBook entries → is_update e.call ≡ true → MayFollow entries e ↔ ComesNext entries e
@@ -179,15 +179,15 @@ AreNumbered entries = (k : ℕ) (d : Entry) → k < length (updates entries) →
 numbered_more : (earlier : List Entry) (e : Entry) → AreNumbered earlier → MayFollow earlier e → AreNumbered (earlier ++ e ∷ [])
 numbered_more earlier e h f k d lt = elim (cases_Bool (is_update e.call)) [
   | inl u ↦
-    let is = updates_push_update earlier e u in
-    let next = order_of earlier e u f in
-    let within : k < length (updates earlier ++ e ∷ []) = rw is at lt in
-    rw is (elim (cases_lt k (length (updates earlier))) [
-      | inl before ↦ ap (λ (x : Entry). x.index) (get_or_append_left (updates earlier) (e ∷ []) d k before) ∙ h k d before
-      | inr after ↦
-        let last : length (updates earlier) ≡ k = omega (arith, within, after, length_push (updates earlier) e) in
-        ap (λ (x : Entry). x.index) (get_or_push (updates earlier) e d k last) ∙ next.index ∙ omega (arith, last)
-    ])
+      let is = updates_push_update earlier e u in
+      let next = order_of earlier e u f in
+      let within : k < length (updates earlier ++ e ∷ []) = rw is at lt in
+      rw is (elim (cases_lt k (length (updates earlier))) [
+        | inl before ↦ ap (λ (x : Entry). x.index) (get_or_append_left (updates earlier) (e ∷ []) d k before) ∙ h k d before
+        | inr after ↦
+            let last : length (updates earlier) ≡ k = omega (arith, within, after, length_push (updates earlier) e) in
+            ap (λ (x : Entry). x.index) (get_or_push (updates earlier) e d k last) ∙ next.index ∙ omega (arith, last)
+      ])
   | inr u ↦ let is = updates_push_read earlier e u in rw is (h k d (rw is at lt))
 ]
 

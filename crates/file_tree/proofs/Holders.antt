@@ -74,8 +74,8 @@ pub parent_of-lt : (tree : Tree) (number : ℕ) → 1 < length tree → parent_o
 unfolding parent_of
 parent_of-lt tree number lt =
     cond_both (is_directory_at (place tree number)) _ 0 (λ (x : ℕ). x < length tree)
-      (λ e. cond_both (number == 1) 1 _ (λ (x : ℕ). x < length tree) (λ e. lt) (λ e. holder_from-lt 0 tree number 0 (length tree) (omega (arith, lt)) (omega arith)))
-      (λ e. omega (arith, lt))
+    (λ e. cond_both (number == 1) 1 _ (λ (x : ℕ). x < length tree) (λ e. lt) (λ e. holder_from-lt 0 tree number 0 (length tree) (omega (arith, lt)) (omega arith)))
+    (λ e. omega (arith, lt))
 
 entries_within : (number : ℕ) (b : Body) (entries : ℕ) → is_directory b ≡ true → (number ≡ 1 → ⊥) → HasEntries number b entries → entries ≡ 1
 entries_within number (Directory slots) entries d ne h = let t : (number == 1) ≡ false = ne_eqb number 1 ne in rw t at h

@@ -102,7 +102,7 @@ pub kinds_reslots : (old new : Tree) (dir : ℕ) (slots after : Slots) → Reslo
     → is_directory_at (place new k) ≡ is_directory_at (place old k)
 kinds_reslots old new dir slots after r k = elim (cases_eq k dir) [
   | inl e ↦
-    rw e (ap is_directory_at (own_place old new dir slots after r) ∙ ap is_directory r.body_after ∙ sym (was_directory old new dir slots after r))
+      rw e (ap is_directory_at (own_place old new dir slots after r) ∙ ap is_directory r.body_after ∙ sym (was_directory old new dir slots after r))
   | inr ne ↦ ap is_directory_at (other_place old new dir slots after r k ne)
 ]
 
@@ -144,12 +144,12 @@ pub nearly_set : (tree : Tree) (number : ℕ) (o new : Object) (entries : ℕ �
     → is_directory new.body ≡ is_directory o.body → IsSoundObject (Some new) → IsNearly (set tree number (Some new)) entries
 nearly_set tree number o new entries is at kind sound = record {
   nothing_at_0 =
-    let ne : 0 ≡ number → ⊥ = λ (e : 0 ≡ number). let none : place tree number ≡ None = rw (sym e) is.nothing_at_0 in absurd cc in
-    get_or-set_other tree number 0 (Some new) None ne ∙ is.nothing_at_0;
+      let ne : 0 ≡ number → ⊥ = λ (e : 0 ≡ number). let none : place tree number ≡ None = rw (sym e) is.nothing_at_0 in absurd cc in
+      get_or-set_other tree number 0 (Some new) None ne ∙ is.nothing_at_0;
   root = elim (cases_eq 1 number) [
     | inl e ↦
-      let d : is_directory_at (place tree number) ≡ true = rw (sym e) is.root in
-      rw e (ap is_directory_at (place_set tree number o new at) ∙ kind ∙ sym (ap is_directory_at at) ∙ d)
+        let d : is_directory_at (place tree number) ≡ true = rw (sym e) is.root in
+        rw e (ap is_directory_at (place_set tree number o new at) ∙ kind ∙ sym (ap is_directory_at at) ∙ d)
     | inr ne ↦ ap is_directory_at (get_or-set_other tree number 1 (Some new) None ne) ∙ is.root
   ];
   objects = λ k. elim (cases_eq k number) [
@@ -158,8 +158,8 @@ nearly_set tree number o new entries is at kind sound = record {
   ];
   named = λ k. elim (cases_eq k number) [
     | inl e ↦
-      let old : IsNamed k (Some o) (entries k) = subst (λ (x : Option Object). IsNamed k x (entries k)) (ap (λ (n : ℕ). place tree n) e ∙ at) (is.named k) in
-      subst (λ (x : Option Object). IsNamed k x (entries k)) (sym (ap (λ (n : ℕ). place (set tree number (Some new)) n) e ∙ place_set tree number o new at))
+        let old : IsNamed k (Some o) (entries k) = subst (λ (x : Option Object). IsNamed k x (entries k)) (ap (λ (n : ℕ). place tree n) e ∙ at) (is.named k) in
+        subst (λ (x : Option Object). IsNamed k x (entries k)) (sym (ap (λ (n : ℕ). place (set tree number (Some new)) n) e ∙ place_set tree number o new at))
         (same_entries k o.body new.body (entries k) (sym kind) old)
     | inr ne ↦ subst (λ (x : Option Object). IsNamed k x (entries k)) (sym (get_or-set_other tree number k (Some new) None ne)) (is.named k)
   ];

@@ -42,9 +42,9 @@ pub holders_reslots : (old new : Tree) (dir : ℕ) (slots after : Slots) → Res
     → (d : ℕ) → Holds old d m → Holds new d m
 holders_reslots old new dir slots after r m le d h = elim (cases_eq d dir) [
   | inl e ↦
-    let before : 1 ≤ names_at m (place old dir) = subst (λ (n : ℕ). Holds old n m) e h in
-    let here : Holds new dir m = omega (arith, before, own_names old new dir slots after r m, own_names_after old new dir slots after r m, le) in
-    subst (λ (n : ℕ). Holds new n m) (sym e) here
+      let before : 1 ≤ names_at m (place old dir) = subst (λ (n : ℕ). Holds old n m) e h in
+      let here : Holds new dir m = omega (arith, before, own_names old new dir slots after r m, own_names_after old new dir slots after r m, le) in
+      subst (λ (n : ℕ). Holds new n m) (sym e) here
   | inr ne ↦ let same = ap (names_at m) (other_place old new dir slots after r d ne) in omega (arith, h, same)
 ]
 
@@ -74,17 +74,17 @@ sound_removed tree dir o slots name x now is at body f bare =
     let apart : x.1 ≡ dir → ⊥ = λ (e : x.1 ≡ dir). let none = bare x.1 in let some : Holds tree x.1 x.1 = subst (λ (n : ℕ). Holds tree n x.1) (sym e) held in omega (arith, none, some) in
     let bare_then : IsBare cleared x.1 = λ (k : ℕ). ap (names_at k) (other_place tree cleared dir slots (set slots x.0 None) r x.1 apart) ∙ bare k in
     let l = lost cleared (names_of tree) x.1 now near
-      (λ k. omega (arith, names_reslots tree cleared dir slots (set slots x.0 None) r k, cleared_names slots name x k f)) bare_then in
+    (λ k. omega (arith, names_reslots tree cleared dir slots (set slots x.0 None) r k, cleared_names slots name x k f)) bare_then in
     let directory : (k : ℕ) → IsDirectory after k → IsDirectory tree k = λ (k : ℕ) (d : IsDirectory after k). sym (kinds_reslots tree cleared dir slots (set slots x.0 None) r k) ∙ (l.directories k d).0 in
     sound_from after (names_of after) l.nearly (λ k. refl)
-      (record {
-        few = omega (arith, l.same_length, length_reslots tree cleared dir slots (set slots x.0 None) r, is.limits.few);
-        room = omega (arith, l.used, used_reslots tree cleared dir slots (set slots x.0 None) r, length-set slots x.0 None, is.limits.room);
-      })
-      (λ k d.
-        others_climb tree after 0 x.1 is (zero_is_bare tree is.nothing_at_0) bare
-          (λ e m dm nz nx h.
-            let le : names_in m slots ≤ names_in m (set slots x.0 None) = omega (arith, cleared_names slots name x m f, one_other x.1 m nx) in
-            let between = holders_reslots tree cleared dir slots (set slots x.0 None) r m le e h in
-            rw (l.kept e m) between)
-          k (directory k d) (directory_not_0 tree k is.nothing_at_0 (directory k d)) (l.directories k d).1)
+    (record {
+      few = omega (arith, l.same_length, length_reslots tree cleared dir slots (set slots x.0 None) r, is.limits.few);
+      room = omega (arith, l.used, used_reslots tree cleared dir slots (set slots x.0 None) r, length-set slots x.0 None, is.limits.room);
+    })
+    (λ k d.
+    others_climb tree after 0 x.1 is (zero_is_bare tree is.nothing_at_0) bare
+    (λ e m dm nz nx h.
+    let le : names_in m slots ≤ names_in m (set slots x.0 None) = omega (arith, cleared_names slots name x m f, one_other x.1 m nx) in
+    let between = holders_reslots tree cleared dir slots (set slots x.0 None) r m le e h in
+    rw (l.kept e m) between)
+    k (directory k d) (directory_not_0 tree k is.nothing_at_0 (directory k d)) (l.directories k d).1)
