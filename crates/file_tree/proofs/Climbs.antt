@@ -1,6 +1,6 @@
 -- Going up from a directory to the root.
-use Rattle.std.proofs.Common.{◌≡◌, ℕ, zero, suc, ◌+◌, ◌<◌, ◌≤◌, ◌==◌, ◌||◌, Bool, true, false, cond, length, ◌⊎◌, refl, sym, ◌∙◌, arith, inl, inr}
-use Rattle.std.proofs.lemmas.Bool.{cases_eq, cases_Bool, eq-eqb, eqb-true, ne_eqb, cond_both, or_cases, or_left, or_right, or_parts, both_ways, false_from_ne_true, true_from_ne_false, eqb-false}
+use Rattle.std.proofs.Common.{◌≡◌, ℕ, zero, suc, ◌+◌, ◌<◌, ◌≤◌, ◌==◌, Bool, true, false, cond, length, ◌⊎◌, refl, sym, arith, inl, inr}
+use Rattle.std.proofs.lemmas.Bool.{cases_eq, cases_Bool, eq-eqb, eqb-true, cond_both, or_cases, or_left, or_right, or_parts, both_ways, false_from_ne_true, true_from_ne_false}
 use Rattle.file_tree.specs.Tree.{Tree, parent_of}
 use Rattle.file_tree.specs.Rename.{is_above}
 use Rattle.file_tree.proofs.Holders.{Holds, IsDirectory, AreNamed, holder_is_directory, parent_of-lt, parent_is, parent_holds}

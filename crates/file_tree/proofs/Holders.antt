@@ -1,6 +1,6 @@
 -- The object with a slot that names a number.
-use Rattle.std.proofs.Common.{◌≡◌, ℕ, zero, suc, ◌+◌, ◌<◌, ◌≤◌, ◌==◌, Bool, true, false, List, [], ◌∷◌, length, get_or, sum_by, Option, Some, None, refl, sym, ◌∙◌, arith, inl, inr}
-use Rattle.std.proofs.lemmas.Bool.{cases_lt, cases_eq, ne_eqb, eq-eqb, cond_both}
+use Rattle.std.proofs.Common.{◌≡◌, ℕ, zero, suc, ◌+◌, ◌<◌, ◌≤◌, ◌==◌, true, false, List, [], ◌∷◌, length, get_or, sum_by, Option, Some, None, refl, ◌∙◌, arith, inl, inr}
+use Rattle.std.proofs.lemmas.Bool.{cases_lt, ne_eqb, cond_both}
 use Rattle.std.proofs.lemmas.List.{get_or_past}
 use Rattle.std.proofs.lemmas.List.Sums.{sum_by-cons, get_or-le-sum_by}
 use Rattle.file_tree.specs.declared.object.Body.{Body}
@@ -106,3 +106,7 @@ pub parent_holds : (tree : Tree) (number : ℕ) → AreNamed tree → IsDirector
 parent_holds tree number named d ne =
     let r = some_holder tree number (omega (arith, directory_once tree number named d ne)) in
     rw (parent_is tree r.0 number named d ne r.1) r.1
+
+pub parent_of_root : (tree : Tree) → IsDirectory tree 1 → parent_of tree 1 ≡ 1
+unfolding parent_of
+parent_of_root tree d = rw d refl

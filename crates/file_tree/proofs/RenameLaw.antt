@@ -1,14 +1,12 @@
 -- A rename leaves a sound tree sound.
-use Rattle.std.proofs.Common.{◌≡◌, ℕ, ◌+◌, ◌*◌, ◌<◌, ◌≤◌, ◌==◌, ◌&&◌, Bool, true, false, not, List, [], ◌∷◌, length, Option, Some, None, Ok, Err, refl, sym, ap, ◌∙◌, subst, arith, inl, inr}
+use Rattle.std.proofs.Common.{◌≡◌, ℕ, ◌==◌, ◌&&◌, false, not, List, length, Option, Some, None, Ok, refl, inl, inr}
 use Rattle.std.proofs.lemmas.Bool.{cases_Bool, eqb-false, ne_eqb, not-false}
 use Rattle.harp_base.specs.declared.attr.Time.{Time}
 use Rattle.harp_base.specs.declared.reply.Status.TheVariants.{Perm, NoEnt, NotDir, IsDir, NotEmpty}
-use Rattle.file_tree.specs.declared.object.Slot.{Slot}
-use Rattle.file_tree.specs.declared.object.Object.{Object}
-use Rattle.file_tree.specs.Tree.{Tree, Slots, place, slots_of, entry, with_entry, is_directory_at}
-use Rattle.file_tree.specs.Steps.{Step, ◌>>=◌, refuse, some_or, live, slots_in, is_dots, check_name, entry_name, room}
-use Rattle.file_tree.specs.Outcome.{Outcome, change, slot_changed, reslotted, set_ctime, has_no_entry}
-use Rattle.file_tree.specs.Rename.{is_above, check_target, freed, moved_in, moved_over, moved_to, rename}
+use Rattle.file_tree.specs.Tree.{Tree, Slots, place, slots_of, entry, is_directory_at}
+use Rattle.file_tree.specs.Steps.{some_or, live, slots_in, is_dots, check_name, entry_name, room}
+use Rattle.file_tree.specs.Outcome.{has_no_entry}
+use Rattle.file_tree.specs.Rename.{is_above, check_target, moved_in, moved_to, rename}
 use Rattle.file_tree.specs.Sound.{IsSound}
 use Rattle.file_tree.proofs.Kept.{live_place}
 use Rattle.file_tree.proofs.SlotLaws.{IsFound, found, none_named}

@@ -1,6 +1,6 @@
 -- What a change of a directory's slots leaves, and what a tree has before its entries are right again.
-use Rattle.std.proofs.Common.{◌≡◌, ℕ, ◌+◌, ◌*◌, ◌<◌, ◌≤◌, ◌==◌, Bool, true, false, cond, List, [], ◌∷◌, ◌++◌, length, get_or, set, Option, Some, None, Ok, refl, sym, ap, ◌∙◌, subst, arith, inl, inr}
-use Rattle.std.proofs.lemmas.Bool.{cases_eq, eq-eqb, ne_eqb, cond_both, eqb-true}
+use Rattle.std.proofs.Common.{◌≡◌, ℕ, ◌+◌, ◌*◌, ◌<◌, true, length, set, Option, Some, None, refl, sym, ap, ◌∙◌, subst, arith, inl, inr}
+use Rattle.std.proofs.lemmas.Bool.{cases_eq}
 use Rattle.std.proofs.lemmas.List.{length-set, get_or-set_same, get_or-set_other}
 use Rattle.std.proofs.lemmas.List.Sums.{sum_by-set}
 use Rattle.harp_base.specs.declared.attr.Time.{Time}
@@ -9,12 +9,11 @@ use Rattle.file_tree.specs.declared.object.Body.TheVariants.{Regular, Directory,
 use Rattle.file_tree.specs.declared.object.Object.{Object}
 use Rattle.file_tree.specs.Tree.{Tree, Slots, place, slots_within, size_of, blocks_of, blocks_at, used_blocks, names_in, names_at, names_of, is_directory, is_directory_at}
 use Rattle.file_tree.specs.Plain.{IsWithinLimits}
-use Rattle.file_tree.specs.Outcome.{change, changed_at, reslotted, slot_changed, slot_replaced, set_ctime, lost_entry}
+use Rattle.file_tree.specs.Outcome.{change, changed_at, reslotted, slot_changed, slot_replaced}
 use Rattle.file_tree.specs.Sound.{IsSoundObject, AreSound, HasEntries, IsNamed, IsSound}
 use Rattle.file_tree.proofs.Kept.{place_within}
 use Rattle.file_tree.proofs.Holders.{IsDirectory, AreNamed}
 use Rattle.file_tree.proofs.Climbs.{Climbs, climbs_reach}
-use Rattle.file_tree.proofs.SlotLaws.{one}
 
 -- a directory's slots were changed, and its times maybe
 pub record Reslots (old new : Tree) (dir : ℕ) (slots after : Slots) : Type 0 where

@@ -1,30 +1,27 @@
 -- Each call leaves a sound tree sound.
-use Rattle.std.proofs.Common.{◌≡◌, ℕ, ◌+◌, ◌-◌, ◌*◌, ◌%◌, ◌<◌, ◌≤◌, ◌==◌, ◌&&◌, ◌||◌, min, max, Bool, true, false, not, cond, ltb, List, [], ◌∷◌, ◌++◌, length, take, replicate, count_by, Option, Some, None, Ok, Err, refl, sym, ap, ◌∙◌, subst, arith, inl, inr}
-use Rattle.std.proofs.lemmas.Bool.{ltb-false, cond_both, cases_Bool, eqb-true, eqb-false, ne_eqb, both_ways, not-false, false_from_ne_true}
+use Rattle.std.proofs.Common.{◌≡◌, ℕ, ◌+◌, ◌%◌, ◌<◌, ◌≤◌, ◌==◌, max, true, false, not, ltb, List, [], ◌∷◌, length, replicate, Option, Some, None, refl, sym, ap, subst, arith}
+use Rattle.std.proofs.lemmas.Bool.{ltb-false, cond_both, not-false}
 use Rattle.std.proofs.lemmas.List.{length-append, length-take, length-replicate}
 use Rattle.std.proofs.lemmas.List.Sums.{sum_by-cons}
-use Rattle.std.specs.Prelude.{IfSome}
 use Rattle.harp_base.specs.declared.attr.Time.{Time}
 use Rattle.harp_base.specs.declared.attr.SetAttr.{SetAttr}
-use Rattle.harp_base.specs.declared.reply.Reply.{Reply}
-use Rattle.harp_base.specs.declared.reply.Status.TheVariants.{Perm, NoEnt, NotDir, Exist, IsDir, FBig, NoSpc, NameTooLong, NotEmpty}
-use Rattle.file_tree.specs.declared.object.Slot.{Slot}
+use Rattle.harp_base.specs.declared.reply.Status.TheVariants.{Perm, NotDir, Exist, IsDir, FBig, NameTooLong, NotEmpty}
 use Rattle.file_tree.specs.declared.object.Body.{Body}
 use Rattle.file_tree.specs.declared.object.Body.TheVariants.{Regular, Directory, Link}
 use Rattle.file_tree.specs.declared.object.Object.{Object}
-use Rattle.file_tree.specs.Tree.{Tree, Slots, place, slots_of, slots_within, names_in, names_at, blocks_of, blocks_at, used_blocks, is_directory, is_directory_at, entry}
-use Rattle.file_tree.specs.Steps.{Step, ◌>>=◌, refuse, some_or, live, slots_in, bytes_in, directory, is_dots, check_name, entry_name, room, is_some}
-use Rattle.file_tree.specs.Outcome.{Outcome, LEAVE, LARGEST, given, given_mode, change, resized, written, rewritten, with_fields, with_size, set_fields, set_attr, write, has_entry, free_name, doomed, room_for, made, is_regular_at, create_again, create_new, create_at, create, make_dir, make_link, remove, remove_dir, has_no_entry, add_entry, link, set_ctime}
+use Rattle.file_tree.specs.Tree.{Tree, Slots, place, slots_of, slots_within, names_in, blocks_of, blocks_at, used_blocks, is_directory, is_directory_at, entry}
+use Rattle.file_tree.specs.Steps.{live, bytes_in, directory, entry_name, room}
+use Rattle.file_tree.specs.Outcome.{Outcome, LEAVE, LARGEST, given, given_mode, change, resized, written, rewritten, with_fields, with_size, set_fields, set_attr, write, has_entry, free_name, doomed, room_for, made, is_regular_at, create_again, create_new, create_at, create, make_dir, make_link, remove, remove_dir, has_no_entry, add_entry, link}
 use Rattle.file_tree.specs.Sound.{IsSoundObject, IsSoundBody, IsSound}
 use Rattle.file_tree.proofs.Kept.{live_place, place_within, IsWithinLimits-set, IsWithinLimits-same}
 use Rattle.file_tree.proofs.FileBytes.{length-written}
-use Rattle.file_tree.proofs.SlotLaws.{share, IsFound, none_named, no_entry, no_slots_sound}
+use Rattle.file_tree.proofs.SlotLaws.{share, none_named, no_entry, no_slots_sound}
 use Rattle.file_tree.proofs.Reslots.{change_is}
 use Rattle.file_tree.proofs.WaysUp.{IsBare, file_is_bare}
 use Rattle.file_tree.proofs.SoundChanges.{sound_set, sound_ctime}
 use Rattle.file_tree.proofs.SoundMoves.{sound_removed}
 use Rattle.file_tree.proofs.SoundMakes.{sound_made, sound_linked, IsSoundWith}
-use Rattle.file_tree.proofs.StepLaws.{Given, done, step, unless, either, given_at, bytes_are, IsDirectoryOf, directory_is, some_is, IsFree, free_name_is, doomed_is, room_is, HasRoom, room_for_is}
+use Rattle.file_tree.proofs.StepLaws.{Given, done, step, unless, either, given_at, bytes_are, IsDirectoryOf, directory_is, IsFree, free_name_is, doomed_is, room_is, room_for_is}
 
 -- a call that succeeds leaves a sound tree
 abbrev pub LeavesSound : Outcome → Type 0

@@ -1,5 +1,5 @@
 -- Sound trees stay sound where an object changes, and where an object loses an entry.
-use Rattle.std.proofs.Common.{◌≡◌, ℕ, suc, ◌+◌, ◌<◌, ◌≤◌, ◌==◌, Bool, true, false, cond, List, [], length, get_or, set, Option, Some, None, refl, sym, ap, ◌∙◌, subst, arith, inl, inr}
+use Rattle.std.proofs.Common.{◌≡◌, ℕ, ◌+◌, ◌≤◌, ◌==◌, true, false, length, set, Option, Some, None, refl, sym, ap, ◌∙◌, subst, arith, inl, inr}
 use Rattle.std.proofs.lemmas.Bool.{cases_eq, eqb-true, eqb-false, eq-eqb, ne_eqb, cond_both, both_ways, false_from_ne_true}
 use Rattle.std.proofs.lemmas.List.{length-set, get_or-set_same, get_or-set_other}
 use Rattle.std.proofs.lemmas.List.Sums.{sum_by-set}
@@ -12,8 +12,7 @@ use Rattle.file_tree.specs.Plain.{IsWithinLimits}
 use Rattle.file_tree.specs.Outcome.{change, set_ctime, lost_entry}
 use Rattle.file_tree.specs.Sound.{IsSoundObject, HasEntries, IsNamed, IsSound}
 use Rattle.file_tree.proofs.Kept.{place_within, IsWithinLimits-same}
-use Rattle.file_tree.proofs.Holders.{Holds, IsDirectory}
-use Rattle.file_tree.proofs.Climbs.{Climbs}
+use Rattle.file_tree.proofs.Holders.{IsDirectory}
 use Rattle.file_tree.proofs.SlotLaws.{one}
 use Rattle.file_tree.proofs.Reslots.{IsNearly, nearly, nearly_set, place_set, change_is, sound_from}
 use Rattle.file_tree.proofs.WaysUp.{IsBare, file_is_bare, others_climb}

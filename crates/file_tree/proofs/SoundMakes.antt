@@ -1,6 +1,6 @@
 -- Sound trees stay sound where an object or an entry is made.
-use Rattle.std.proofs.Common.{◌≡◌, ℕ, ◌+◌, ◌*◌, ◌<◌, ◌≤◌, ◌==◌, Bool, true, false, cond, List, [], ◌∷◌, ◌++◌, length, get_or, count_by, Option, Some, None, Ok, refl, sym, ap, ◌∙◌, subst, arith, inl, inr}
-use Rattle.std.proofs.lemmas.Bool.{cases_lt, cases_eq, ne_eqb, both_ways}
+use Rattle.std.proofs.Common.{◌≡◌, ℕ, ◌+◌, ◌*◌, ◌<◌, ◌≤◌, false, List, [], ◌∷◌, ◌++◌, length, count_by, Option, Some, None, Ok, refl, sym, ap, ◌∙◌, subst, arith, inl, inr}
+use Rattle.std.proofs.lemmas.Bool.{cases_lt, cases_eq, ne_eqb}
 use Rattle.std.proofs.lemmas.List.{length_push, get_or_past, get_or_push}
 use Rattle.std.proofs.lemmas.List.Sums.{sum_by_push}
 use Rattle.harp_base.specs.declared.attr.Time.{Time}
@@ -16,9 +16,9 @@ use Rattle.file_tree.proofs.Kept.{place_push, used_push}
 use Rattle.file_tree.proofs.Holders.{Holds, IsDirectory, holder_within}
 use Rattle.file_tree.proofs.Climbs.{Climbs, up}
 use Rattle.file_tree.proofs.SlotLaws.{one, names_entered, sound_entered}
-use Rattle.file_tree.proofs.Reslots.{Reslots, reslots_reslotted, length_reslots, own_names_after, names_reslots, used_reslots, kinds_reslots, root_within, directory_within, IsNearly, nearly, nearly_reslots, sound_from}
+use Rattle.file_tree.proofs.Reslots.{Reslots, reslots_reslotted, length_reslots, own_names_after, names_reslots, used_reslots, kinds_reslots, root_within, directory_within, IsNearly, nearly_reslots, sound_from}
 use Rattle.file_tree.proofs.WaysUp.{others_climb}
-use Rattle.file_tree.proofs.SoundChanges.{zero_is_bare, directory_not_0, one_itself, one_other, live_from, file_at, sound_ctime}
+use Rattle.file_tree.proofs.SoundChanges.{zero_is_bare, directory_not_0, one_itself, one_other, live_from, file_at}
 use Rattle.file_tree.proofs.SoundMoves.{sound_slots, holders_reslots, names_at-le}
 
 new_entries : (number : ℕ) (b : Body) → (number ≡ 1 → ⊥) → HasEntries number b 1

@@ -1,26 +1,20 @@
 -- Sound trees stay sound where entries are taken away and moved.
-use Rattle.std.proofs.Common.{◌≡◌, ℕ, ◌+◌, ◌*◌, ◌<◌, ◌≤◌, ◌==◌, ◌&&◌, Bool, true, false, cond, List, [], ◌∷◌, length, get_or, set, count_by, Option, Some, None, Ok, refl, sym, ap, ◌∙◌, subst, arith, inl, inr}
-use Rattle.std.proofs.lemmas.Bool.{cases_eq, cases_Bool, cases_lt, eqb-true, eqb-false, eq-eqb, ne_eqb, cond_both, both_ways}
-use Rattle.std.proofs.lemmas.List.{length-set, get_or_past, get_or-set_other}
+use Rattle.std.proofs.Common.{◌≡◌, ℕ, ◌+◌, ◌≤◌, List, length, get_or, set, Option, Some, None, refl, sym, ap, ◌∙◌, subst, arith, inl, inr}
+use Rattle.std.proofs.lemmas.Bool.{cases_eq, cases_lt}
+use Rattle.std.proofs.lemmas.List.{length-set, get_or_past}
 use Rattle.std.proofs.lemmas.List.Sums.{get_or-le-sum_by}
 use Rattle.harp_base.specs.declared.attr.Time.{Time}
-use Rattle.file_tree.specs.declared.object.Slot.{Slot}
 use Rattle.file_tree.specs.declared.object.Body.{Body}
-use Rattle.file_tree.specs.declared.object.Body.TheVariants.{Regular, Directory, Link}
+use Rattle.file_tree.specs.declared.object.Body.TheVariants.{Directory}
 use Rattle.file_tree.specs.declared.object.Object.{Object}
-use Rattle.file_tree.specs.Tree.{Tree, Slots, place, slots_within, blocks_of, blocks_at, used_blocks, names_in, names_at, names_of, is_directory, is_directory_at, with_entry}
-use Rattle.file_tree.specs.Steps.{entry_name}
-use Rattle.file_tree.specs.Plain.{IsWithinLimits}
-use Rattle.file_tree.specs.Outcome.{change, set_ctime, slot_changed, reslotted, lost_entry, removed}
-use Rattle.file_tree.specs.Rename.{is_above, freed, moved_over}
-use Rattle.file_tree.specs.Sound.{IsSoundObject, IsSoundBody, AreSound, has_name, IsNamed, IsSound}
-use Rattle.file_tree.proofs.Kept.{place_within}
+use Rattle.file_tree.specs.Tree.{Tree, Slots, place, slots_within, names_in, names_at, names_of}
+use Rattle.file_tree.specs.Outcome.{change, slot_changed, lost_entry, removed}
+use Rattle.file_tree.specs.Sound.{IsSoundObject, IsSoundBody, AreSound, IsSound}
 use Rattle.file_tree.proofs.Holders.{Holds, IsDirectory}
-use Rattle.file_tree.proofs.Climbs.{Climbs}
-use Rattle.file_tree.proofs.SlotLaws.{one, share, IsFound, names_set, names_entered, names_cleared, sound_cleared, sound_renamed, sound_entered}
-use Rattle.file_tree.proofs.Reslots.{Reslots, reslots_changed, reslots_reslotted, length_reslots, other_place, own_place, own_names, own_names_after, names_reslots, used_reslots, blocks_reslots, kinds_reslots, IsNearly, nearly, nearly_reslots, sound_from}
-use Rattle.file_tree.proofs.WaysUp.{IsBare, KeepsHolders, others_climb, moved_climb, file_is_bare}
-use Rattle.file_tree.proofs.SoundChanges.{zero_is_bare, directory_not_0, one_itself, one_other, live_from, IsLost, lost, sound_ctime}
+use Rattle.file_tree.proofs.SlotLaws.{one, share, IsFound, names_set, sound_cleared}
+use Rattle.file_tree.proofs.Reslots.{Reslots, reslots_changed, length_reslots, other_place, own_names, own_names_after, names_reslots, used_reslots, kinds_reslots, nearly, nearly_reslots, sound_from}
+use Rattle.file_tree.proofs.WaysUp.{IsBare, others_climb}
+use Rattle.file_tree.proofs.SoundChanges.{zero_is_bare, directory_not_0, one_itself, one_other, lost}
 
 sound_body : (x : Option Object) (o : Object) → x ≡ Some o → IsSoundObject x → IsSoundBody o.body
 sound_body None o e h = absurd cc

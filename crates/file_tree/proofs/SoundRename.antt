@@ -1,23 +1,23 @@
 -- Sound trees stay sound where an entry moves.
-use Rattle.std.proofs.Common.{◌≡◌, ℕ, ◌+◌, ◌*◌, ◌<◌, ◌≤◌, ◌==◌, ◌&&◌, Bool, true, false, cond, List, [], ◌∷◌, length, get_or, set, count_by, Option, Some, None, Ok, refl, sym, ap, ◌∙◌, subst, arith, inl, inr}
-use Rattle.std.proofs.lemmas.Bool.{cases_eq, cases_Bool, eqb-true, eqb-false, eq-eqb, ne_eqb, cond_both, both_ways, and_cases}
+use Rattle.std.proofs.Common.{◌≡◌, ℕ, ◌+◌, ◌*◌, ◌≤◌, ◌==◌, ◌&&◌, false, List, length, get_or, set, count_by, Some, None, Ok, refl, sym, ap, ◌∙◌, subst, arith, inl, inr}
+use Rattle.std.proofs.lemmas.Bool.{cases_eq, cases_Bool, eq-eqb, ne_eqb, cond_both, both_ways}
 use Rattle.std.proofs.lemmas.List.{length-set, get_or-set_other}
 use Rattle.harp_base.specs.declared.attr.Time.{Time}
 use Rattle.file_tree.specs.declared.object.Slot.{Slot}
 use Rattle.file_tree.specs.declared.object.Body.{Body}
 use Rattle.file_tree.specs.declared.object.Body.TheVariants.{Directory}
 use Rattle.file_tree.specs.declared.object.Object.{Object}
-use Rattle.file_tree.specs.Tree.{Tree, Slots, place, slots_within, size_of, blocks_of, blocks_at, used_blocks, names_in, names_at, names_of, is_directory, is_directory_at, with_entry}
+use Rattle.file_tree.specs.Tree.{Tree, Slots, place, size_of, blocks_of, blocks_at, used_blocks, names_in, names_at, names_of, is_directory, is_directory_at, with_entry}
 use Rattle.file_tree.specs.Steps.{entry_name}
 use Rattle.file_tree.specs.Outcome.{change, set_ctime, slot_changed, reslotted, lost_entry}
 use Rattle.file_tree.specs.Rename.{is_above, freed, moved_over}
-use Rattle.file_tree.specs.Sound.{AreSound, has_name, IsSound}
+use Rattle.file_tree.specs.Sound.{has_name, IsSound}
 use Rattle.file_tree.proofs.Holders.{Holds, IsDirectory}
 use Rattle.file_tree.proofs.Climbs.{Climbs}
 use Rattle.file_tree.proofs.SlotLaws.{one, IsFound, names_set, names_entered, names_cleared, sound_cleared, sound_renamed, sound_entered}
-use Rattle.file_tree.proofs.Reslots.{Reslots, reslots_changed, reslots_reslotted, length_reslots, other_place, own_place, own_names, own_names_after, names_reslots, used_reslots, blocks_reslots, kinds_reslots, was_directory, IsNearly, nearly, nearly_reslots, sound_from}
+use Rattle.file_tree.proofs.Reslots.{Reslots, reslots_changed, reslots_reslotted, length_reslots, other_place, own_place, own_names, own_names_after, names_reslots, used_reslots, kinds_reslots, nearly, nearly_reslots, sound_from}
 use Rattle.file_tree.proofs.WaysUp.{IsBare, KeepsHolders, others_climb, moved_climb, file_is_bare}
-use Rattle.file_tree.proofs.SoundChanges.{zero_is_bare, directory_not_0, one_itself, one_other, live_from, IsLost, lost, sound_ctime}
+use Rattle.file_tree.proofs.SoundChanges.{zero_is_bare, directory_not_0, one_itself, one_other, live_from, lost, sound_ctime}
 use Rattle.file_tree.proofs.SoundMoves.{sound_slots, share_found, cleared_names, holders_reslots, names_at-le, found_held}
 
 -- all directories but y climb in a tree where x got another holder: x is a file, or a directory that isn't above it
