@@ -1,16 +1,13 @@
 -- What several reads or writes do together.
-use Rattle.std.proofs.Common.{◌≡◌, ℕ, ◌+◌, ◌-◌, ◌≤◌, List, [], ◌∷◌, ◌++◌, length, take, drop, refl, sym, ◌∙◌, subst, arith, take-append-drop}
+use Rattle.std.proofs.Common.{◌≡◌, ℕ, ◌+◌, ◌-◌, ◌≤◌, List, [], ◌∷◌, ◌++◌, length, take, drop, refl, sym, ◌∙◌, subst, arith, take-append-drop, take-add}
 use Rattle.std.specs.Prelude.{Option}
-use Rattle.std.proofs.lemmas.List.{drop-take, take-take, take_rest, drop-drop}
+use Rattle.std.proofs.lemmas.List.{take_rest, drop-drop}
 use Rattle.std.specs.Io.KnownBytes.{Appends}
 use Rattle.std.proofs.KnownBytes.{Appends-trans}
 
-pub take-plus : (at n : ℕ) (bytes : List ℕ) → take (at + n) bytes ≡ take at bytes ++ take n (drop at bytes)
-take-plus at n bytes = sym (take-append-drop at (take (at + n) bytes)) ∙ rw (take-take at (at + n) bytes (omega arith), drop-take at n bytes) refl
-
 -- a first part grows by a part of the rest, as a slice gives it
 pub Appends-more : (a b c : Option (List ℕ)) (bytes : List ℕ) (at n : ℕ) → Appends a b (take at bytes) → Appends b c (take n (take (length bytes - at) (drop at bytes))) → Appends a c (take (at + n) bytes)
-Appends-more a b c bytes at n p q = subst (Appends a c) (sym (take-plus at n bytes)) (Appends-trans a b c _ _ p (rw take_rest at q))
+Appends-more a b c bytes at n p q = subst (Appends a c) (sym (take-add at n bytes)) (Appends-trans a b c _ _ p (rw take_rest at q))
 
 pub nothing_left : (xs : List ℕ) → length xs ≤ 0 → xs ≡ []
 nothing_left [] e = refl

@@ -26,6 +26,7 @@ impl Model for FailingCalls {
 }
 
 impl FailingCalls {
+    /// No call so far; those with these numbers are to fail.
     pub fn new(fails: Vec<u64>) -> FailingCalls
         ensures { result ≡ record { fails = fails.items; calls = 0; faults = 0 } }
     {

@@ -15,6 +15,7 @@ pub struct ReaderSource<R> {
 }
 
 impl<R> ReaderSource<R> {
+    /// A source over a reader, with no fault so far.
     pub fn new(reader: R) -> ReaderSource<R>
         ensures { read_faults result ≡ 0 }
     {
@@ -47,6 +48,7 @@ pub struct WriterSink<W> {
 }
 
 impl<W> WriterSink<W> {
+    /// A sink over a writer, with no fault so far.
     pub fn new(writer: W) -> WriterSink<W>
         ensures { write_faults result ≡ 0 }
     {
