@@ -1,10 +1,10 @@
 -- What a sound tree says of its entries and parents.
-use Rattle.std.proofs.Common.{◌≡◌, ℕ, ◌<◌, ◌≤◌, ◌==◌, Bool, true, false, List, length, Option, Some, None, Ok, refl, arith, inl, inr}
+use Rattle.std.proofs.Common.{◌≡◌, ℕ, true, List, Some, Ok, refl, arith, inl, inr}
 use Rattle.std.proofs.lemmas.Bool.{cases_eq}
 use Rattle.file_tree.specs.Tree.{Tree, Slots, place, names_of, entry, is_directory_at, parent_of}
 use Rattle.file_tree.specs.Steps.{directory, is_some}
 use Rattle.file_tree.specs.Sound.{IsSound}
-use Rattle.file_tree.proofs.Holders.{Holds, IsDirectory, holder_is_directory, parent_holds, parent_of_root}
+use Rattle.file_tree.proofs.Holders.{holder_is_directory, parent_holds, parent_of_root}
 use Rattle.file_tree.proofs.SlotLaws.{found}
 use Rattle.file_tree.proofs.SoundChanges.{live_from}
 use Rattle.file_tree.proofs.SoundMoves.{found_held, names_at-le}
