@@ -39,7 +39,7 @@ pub record EndsWithLast (entries : List Entry) : Type 0 where
   pub numbers : (client : ℕ) → AllByRecursion (λ x. x.client ≡ client → IsAtMost (last_of client entries) x.number) (updates entries)
   pub stamps : AllByRecursion (λ x. x.stamp ≤ last_stamp entries) (updates entries)
 
-order_of : (earlier : List Entry) (e : Entry) → is_update e.call ≡ true → MayFollow earlier e → IsNextUpdate (updates earlier) e
+pub order_of : (earlier : List Entry) (e : Entry) → is_update e.call ≡ true → MayFollow earlier e → IsNextUpdate (updates earlier) e
 order_of earlier e u f = MatchBool-at_true (IsNextUpdate (updates earlier) e) (IsRead e) u f.order
 
 last_taken : (client : ℕ) (entries : List Entry) (e : Entry) → is_update e.call ≡ true → e.client ≡ client → last_of client (entries ++ e ∷ []) ≡ Some e

@@ -9,7 +9,7 @@ ghost use Rattle.file_tree.specs.Tree.{Tree, Slots, first_tree, place, entry, is
 ghost use Rattle.file_tree.specs.Steps.{directory, is_some};
 ghost use Rattle.file_tree.specs.Calls.{outcome};
 ghost use Rattle.file_tree.specs.Sound.{IsSound};
-ghost use Rattle.file_tree.specs.Book.{Entry, tree_next, tree_after, updates, MayFollow, IsBook, IsRead, ComesNext, last_next, last_of, stamp_next, last_stamp};
+ghost use Rattle.file_tree.specs.Book.{Entry, tree_next, tree_after, updates, MayFollow, IsBook, IsRead, IsBefore, ComesNext, last_next, last_of, stamp_next, last_stamp};
 
 /// Trees: the first one is sound, and every call leaves a sound tree sound; a read and a refused call leave it as it
 /// is. So the tree after any entries is sound. In a sound tree an entry names a live object, and the parent of a
@@ -40,6 +40,9 @@ pub fn book_laws()
     ensures update_follows { (entries : List Entry) (e : Entry) → IsBook entries → is_update e.call ≡ true → MayFollow entries e ↔ ComesNext entries e }
     ensures read_follows { (entries : List Entry) (e : Entry) → is_update e.call ≡ false
         → MayFollow entries e ↔ ((e.reply ≡ (outcome (tree_after entries) e.call e.stamp).0) × IsRead e) }
+    ensures begins_with_books { (entries more : List Entry) → IsBook (entries ++ more) → IsBook entries }
+    ensures in_order { (entries : List Entry) → IsBook entries → (i j : ℕ) (d : Entry) → i < j → j < length (updates entries)
+        → IsBefore (slice_index_or (updates entries) i d) (slice_index_or (updates entries) j d) }
     ensures numbered { (entries : List Entry) → IsBook entries → (k : ℕ) (d : Entry) → k < length (updates entries)
         → (slice_index_or (updates entries) k d).index ≡ k + 1 }
 {}
