@@ -10,6 +10,10 @@ pub record Failing : Type 0 where
 abbrev pub raised : ℕ → ℕ
 raised count = min (count + 1) (2 ^ 64 - 1)
 
+-- before the first call
+abbrev pub before_calls : List ℕ → Failing
+before_calls fails = record { fails = fails; calls = 0; faults = 0 }
+
 -- the next call is one that fails
 abbrev pub FailsNext : Failing → Type 0
 FailsNext f = Any (λ n. n ≡ f.calls + 1) f.fails

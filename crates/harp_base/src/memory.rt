@@ -2,7 +2,7 @@
 
 ghost use Rattle.std.specs.Prelude.{◌≡◌, ◌≤◌, ◌++◌, [], ◌↔◌, min, length, take, drop, Any, IfOk, OnOk, OnErr, IsErr, IsTrue, IsFalse, Some, Ok, Err};
 ghost use Rattle.harp_base.specs.Streams.{Rose, Taken, Given};
-ghost use Rattle.harp_base.specs.Memory.{Failing, Reading, Writing, FailsNext, after_fault, after_success};
+ghost use Rattle.harp_base.specs.Memory.{FailsNext, before_calls, after_fault, after_success};
 
 use crate::bytes::Bytes;
 use crate::streams::{Failed, Sink, SinkFault, Source};
@@ -28,7 +28,7 @@ impl Model for FailingCalls {
 impl FailingCalls {
     /// No call so far; those with these numbers are to fail.
     pub fn new(fails: Vec<u64>) -> FailingCalls
-        ensures { result ≡ record { fails = fails.items; calls = 0; faults = 0 } }
+        ensures { result ≡ before_calls fails.items }
     {
         FailingCalls {
             fails,
@@ -94,7 +94,7 @@ impl MemSource {
     /// A source that gives these bytes; its calls with these numbers fail.
     pub fn new(left: Bytes, fails: Vec<u64>) -> MemSource
         ensures left { result.left ≡ left }
-        ensures failing { result.failing ≡ record { fails = fails.items; calls = 0; faults = 0 } }
+        ensures failing { result.failing ≡ before_calls fails.items }
     {
         MemSource {
             bytes: left.into_vec(),
@@ -154,7 +154,7 @@ impl MemSink {
     /// A sink with nothing written; its calls with these numbers fail.
     pub fn new(alloc: Global, fails: Vec<u64>) -> Result<MemSink, AllocError>
         ensures written { IfOk result (λ s. s.written ≡ []) }
-        ensures failing { IfOk result (λ s. s.failing ≡ record { fails = fails.items; calls = 0; faults = 0 }) }
+        ensures failing { IfOk result (λ s. s.failing ≡ before_calls fails.items) }
     {
         Ok(MemSink {
             bytes: Vec::with_capacity(alloc, ROOM)?,
@@ -177,15 +177,19 @@ impl Sink for MemSink {
 
     /// Takes the whole piece.
     fn write(&mut self, piece: &[u8]) -> Result<usize, SinkFault>
-        ensures given { IfOk result (λ n. Given (Some self.old.written) (Some self.new.written) piece.now n) }
+        ensures given { IfOk result
+            (λ n. Given (Some self.old.written) (Some self.new.written) piece.now n) }
         ensures kept { OnErr result (self.new.written ≡ self.old.written) }
-        ensures rose { result ≡ Err SinkFault.Failed → Rose self.old.failing.faults self.new.failing.faults }
+        ensures rose { result ≡ Err SinkFault.Failed
+            → Rose self.old.failing.faults self.new.failing.faults }
         ensures count { self.old.failing.faults ≤ self.new.failing.faults }
 
         ensures whole { IfOk result (λ n. n ≡ length piece.now) }
         ensures fails { (result ≡ Err SinkFault.Failed) ↔ FailsNext self.old.failing }
-        ensures failed { result ≡ Err SinkFault.Failed → self.new.failing ≡ after_fault self.old.failing }
-        ensures passed { (result ≡ Err SinkFault.Failed → ⊥) → self.new.failing ≡ after_success self.old.failing }
+        ensures failed { result ≡ Err SinkFault.Failed
+            → self.new.failing ≡ after_fault self.old.failing }
+        ensures passed { (result ≡ Err SinkFault.Failed → ⊥)
+            → self.new.failing ≡ after_success self.old.failing }
     {
         if self.failing.call_fails() {
             return Err(SinkFault::Failed);

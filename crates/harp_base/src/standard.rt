@@ -76,7 +76,8 @@ impl<W: Write> Sink for WriterSink<W> {
 
     fn write(&mut self, piece: &[u8]) -> Result<usize, SinkFault>
         ensures given { IfOk result (λ n. Given None None piece.now n) }
-        ensures rose { result ≡ Err SinkFault.Failed → Rose (write_faults self.old) (write_faults self.new) }
+        ensures rose { result ≡ Err SinkFault.Failed
+            → Rose (write_faults self.old) (write_faults self.new) }
         ensures count { write_faults self.old ≤ write_faults self.new }
 
         // Where the writer's bytes are known, they grew by what was written.
