@@ -1,0 +1,45 @@
+//! The program `harp`: its words, standard input and output, and the exit status.
+#![tactic(auto)]
+
+use harp_base::{ReaderSource, WriterSink};
+use harp_cli::{Exit, harp};
+use std::env;
+use std::io;
+use std::process::ExitCode;
+use std::rt::Env;
+use world::World;
+
+/// The words behind the program's name.
+fn words<R: Env + AllocGlobal>(rt: &R) -> io::Result<Vec<String>> {
+    let mut words = Vec::new(rt.alloc());
+    for word in env::args(rt)?.skip(1) {
+        words.push(word)?;
+    }
+    Ok(words)
+}
+
+fn main(rt: HostRuntime) -> ExitCode {
+    let alloc = rt.alloc();
+    let words = match words(&rt) {
+        Ok(words) => words,
+        Err(fault) if fault.kind() == io::ErrorKind::OutOfMemory => {
+            return ExitCode::from(Exit::NoMemory.status());
+        }
+        // A word that is no text is no command's, and neither are no words.
+        Err(_) => Vec::new(alloc),
+    };
+    let Ok(mut world) = World::new(alloc) else {
+        return ExitCode::from(Exit::NoMemory.status());
+    };
+    let mut source = ReaderSource::new(rt.reader());
+    let mut sink = WriterSink::new(io::writer(&rt));
+    let status = harp(
+        &rt,
+        alloc,
+        words.as_slice(),
+        &mut world,
+        &mut source,
+        &mut sink,
+    );
+    ExitCode::from(status)
+}
