@@ -3,10 +3,9 @@
 
 use harp_base::{ReaderSource, WriterSink};
 use harp_cli::{Exit, harp};
-use std::env;
-use std::io;
 use std::process::ExitCode;
 use std::rt::Env;
+use std::{env, io};
 use world::World;
 
 /// The words behind the program's name.

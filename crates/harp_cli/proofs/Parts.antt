@@ -32,7 +32,7 @@ rest_lines done r = run_lines (entries (run_lines [] done)) r.steps ++ last_line
 trace_of-parts : (done : List Step) (r : Reading) → trace_of_reading (record { steps = done ++ r.steps; refused = r.refused }) ≡ run_lines [] done ++ rest_lines done r
 trace_of-parts done r =
     ap (λ ls. ls ++ last_line (length (entries (run_lines [] (done ++ r.steps)))) r.refused ∷ []) (run_lines-append [] done r.steps)
-      ∙ append_assoc (run_lines [] done) (run_lines (entries (run_lines [] done)) r.steps) (last_line (length (entries (run_lines [] (done ++ r.steps)))) r.refused ∷ [])
+    ∙ append_assoc (run_lines [] done) (run_lines (entries (run_lines [] done)) r.steps) (last_line (length (entries (run_lines [] (done ++ r.steps)))) r.refused ∷ [])
 
 pub text-parts : (text : List ℕ) (done : List Step) (r : Reading) → (reading text).steps ≡ done ++ r.steps → (reading text).refused ≡ r.refused
     → trace_text (trace_of text) ≡ trace_text (run_lines [] done) ++ trace_text (rest_lines done r)
@@ -47,7 +47,7 @@ pub early : (text : List ℕ) (number : ℕ) (lines : List (List ℕ)) (before m
     → GrewByPart mid after next → EndsEarly text before after world
 early text number lines before mid after world next h more is grew = record {
   wrote = subst (GrewByPart before after) (sym (text-parts text h.done (reading_from number lines) h.steps_are h.refused_is))
-    (grew-second before mid after (trace_text (run_lines [] h.done)) (trace_text (rest_lines h.done (reading_from number lines))) h.wrote
+      (grew-second before mid after (trace_text (run_lines [] h.done)) (trace_text (rest_lines h.done (reading_from number lines))) h.wrote
       (subst (GrewByPart mid after) (sym is) (grew-more mid after next more grew)));
   done = h.done;
   later = (reading_from number lines).steps;
@@ -59,7 +59,7 @@ pub early-now : (text : List ℕ) (number : ℕ) (lines : List (List ℕ)) (befo
     → HasCome text number lines before mid world → EndsEarly text before mid world
 early-now text number lines before mid world h = record {
   wrote = subst (GrewByPart before mid) (sym (text-parts text h.done (reading_from number lines) h.steps_are h.refused_is))
-    (grew-first before mid (trace_text (run_lines [] h.done)) (trace_text (rest_lines h.done (reading_from number lines))) h.wrote);
+      (grew-first before mid (trace_text (run_lines [] h.done)) (trace_text (rest_lines h.done (reading_from number lines))) h.wrote);
   done = h.done;
   later = (reading_from number lines).steps;
   parts = h.steps_are;
@@ -87,8 +87,8 @@ pub ends-whole : (text : List ℕ) (number : ℕ) (lines : List (List ℕ)) (bef
     → Appends mid after (trace_text (last_line (length world.book) refused ∷ [])) → EndsWhole text before after world
 ends-whole text number lines before mid after world refused h is wrote = record {
   wrote = subst (Appends before after)
-    (sym (text-parts text h.done (reading_from number lines) h.steps_are h.refused_is ∙ ap (λ s. trace_text (run_lines [] h.done) ++ s) (last_text text number lines before mid world refused h is)))
-    (appends-twice before mid after (trace_text (run_lines [] h.done)) (trace_text (last_line (length world.book) refused ∷ [])) h.wrote wrote);
+      (sym (text-parts text h.done (reading_from number lines) h.steps_are h.refused_is ∙ ap (λ s. trace_text (run_lines [] h.done) ++ s) (last_text text number lines before mid world refused h is)))
+      (appends-twice before mid after (trace_text (run_lines [] h.done)) (trace_text (last_line (length world.book) refused ∷ [])) h.wrote wrote);
   left = subst (λ ss. IsLeftBy ss world) (sym (h.steps_are ∙ rw (is, append-nil h.done) refl)) h.left;
 }
 
@@ -97,7 +97,7 @@ pub ends-early : (text : List ℕ) (number : ℕ) (lines : List (List ℕ)) (bef
     → GrewByPart mid after (trace_text (last_line (length world.book) refused ∷ [])) → EndsEarly text before after world
 ends-early text number lines before mid after world refused h is grew =
     early text number lines before mid after world (trace_text (last_line (length world.book) refused ∷ [])) h []
-      (last_text text number lines before mid world refused h is ∙ sym (append-nil (trace_text (last_line (length world.book) refused ∷ [])))) grew
+    (last_text text number lines before mid world refused h is ∙ sym (append-nil (trace_text (last_line (length world.book) refused ∷ [])))) grew
 
 -- ---- the next line
 
@@ -159,7 +159,7 @@ steps-on text number line lines before mid after world next s ls h gives p wrote
       steps_are = h.steps_are ∙ rw same (sym (append_assoc h.done (s ∷ []) (reading_from (number + 1) lines).steps));
       refused_is = h.refused_is ∙ rw same refl;
       wrote = subst (Appends before after) (step_text_next h.done s world next ls h.left p)
-        (appends-twice before mid after (trace_text (run_lines [] h.done)) (trace_text ls) h.wrote wrote);
+          (appends-twice before mid after (trace_text (run_lines [] h.done)) (trace_text ls) h.wrote wrote);
       left = left-more h.done s world next ls h.left p;
     }
 
@@ -174,9 +174,9 @@ steps-early text number line lines before mid after world next s ls h gives p gr
     let refused : (reading text).refused ≡ r.refused = h.refused_is ∙ rw same refl in
     record {
       wrote = subst (GrewByPart before after) (sym (text-parts text (h.done ++ s ∷ []) r parts refused))
-        (grew-more before after (trace_text (run_lines [] (h.done ++ s ∷ []))) (trace_text (rest_lines (h.done ++ s ∷ []) r))
+          (grew-more before after (trace_text (run_lines [] (h.done ++ s ∷ []))) (trace_text (rest_lines (h.done ++ s ∷ []) r))
           (subst (GrewByPart before after) (step_text_next h.done s world next ls h.left p)
-            (grew-second before mid after (trace_text (run_lines [] h.done)) (trace_text ls) h.wrote grew)));
+          (grew-second before mid after (trace_text (run_lines [] h.done)) (trace_text ls) h.wrote grew)));
       done = h.done ++ s ∷ [];
       later = r.steps;
       parts = parts;

@@ -25,7 +25,7 @@ pub events : (text : List ℕ) → steps (trace_of text) ≡ (reading text).step
 events text = let r = reading text in
     let n = length (entries (run_lines [] r.steps)) in
     steps-append (run_lines [] r.steps) (last_line n r.refused ∷ []) ∙ ap (λ ss. steps (run_lines [] r.steps) ++ ss) (steps_last n r.refused)
-      ∙ append-nil (steps (run_lines [] r.steps)) ∙ steps-run [] r.steps
+    ∙ append-nil (steps (run_lines [] r.steps)) ∙ steps-run [] r.steps
 
 pub faithful : (text : List ℕ) → IsFaithful (trace_of text)
 faithful text = let r = reading text in

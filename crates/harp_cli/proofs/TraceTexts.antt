@@ -31,11 +31,11 @@ run_lines-append book [] later = ap (λ b. run_lines b later) (sym (append-nil b
 run_lines-append book (s ∷ done) later =
     let next = book_after book s in
     let book_is : next ++ entries (run_lines next done) ≡ book ++ entries (step_lines book s ++ run_lines next done) =
-      append_assoc book (entries (answer book s)) (entries (run_lines next done))
-        ∙ ap (λ es. book ++ es) (sym (entries-append (step_lines book s) (run_lines next done))) in
+    append_assoc book (entries (answer book s)) (entries (run_lines next done))
+    ∙ ap (λ es. book ++ es) (sym (entries-append (step_lines book s) (run_lines next done))) in
     ap (λ ls. step_lines book s ++ ls) (run_lines-append next done later)
-      ∙ sym (append_assoc (step_lines book s) (run_lines next done) (run_lines (next ++ entries (run_lines next done)) later))
-      ∙ ap (λ b. (step_lines book s ++ run_lines next done) ++ run_lines b later) book_is
+    ∙ sym (append_assoc (step_lines book s) (run_lines next done) (run_lines (next ++ entries (run_lines next done)) later))
+    ∙ ap (λ b. (step_lines book s ++ run_lines next done) ++ run_lines b later) book_is
 
 -- what is appended in two writes
 pub appends-twice : (a b c : Option (List ℕ)) (x y : List ℕ) → Appends a b x → Appends b c y → Appends a c (x ++ y)

@@ -8,3 +8,6 @@ mod top;
 
 pub use exit::Exit;
 pub use top::harp;
+
+#[cfg(test)]
+mod tests;

@@ -38,7 +38,7 @@ fn end<K: Sink>(alloc: Global, world: &World, sink: &mut K) -> Result<Turn, Stop
     ensures ends { (text : List ℕ) (number : ℕ) (before : Option (List ℕ))
         → HasCome text number [] before (K.written sink.old) world.now
         → MatchResult result (TurnGives text number [] before (K.written sink.new) world.now)
-            (λ stop. PlayEnds text before (K.written sink.new) world.now (exit_of stop)) }
+        (λ stop. PlayEnds text before (K.written sink.new) world.now (exit_of stop)) }
     ensures rose { result ≡ Err Stop.SinkFailed → Rose (K.faults sink.old) (K.faults sink.new) }
     ensures count { K.faults sink.old ≤ K.faults sink.new }
     ensures own { result ≡ Err Stop.SourceFailed → ⊥ }
@@ -54,16 +54,11 @@ fn end<K: Sink>(alloc: Global, world: &World, sink: &mut K) -> Result<Turn, Stop
 }
 
 /// Writes the last line, of a line of the schedule that is refused.
-fn refuse<K: Sink>(
-    alloc: Global,
-    number: u64,
-    fault: LineFault,
-    sink: &mut K,
-) -> Result<Turn, Stop>
+fn refuse<K: Sink>(alloc: Global, number: u64, fault: LineFault, sink: &mut K) -> Result<Turn, Stop>
     ensures ends { (text line : List ℕ) (lines : List (List ℕ)) (before : Option (List ℕ)) (world : WorldValue)
         → HasCome text number (line ∷ lines) before (K.written sink.old) world → given_by number line ≡ Err fault
         → MatchResult result (TurnGives text number lines before (K.written sink.new) world)
-            (λ stop. PlayEnds text before (K.written sink.new) world (exit_of stop)) }
+        (λ stop. PlayEnds text before (K.written sink.new) world (exit_of stop)) }
     ensures rose { result ≡ Err Stop.SinkFailed → Rose (K.faults sink.old) (K.faults sink.new) }
     ensures count { K.faults sink.old ≤ K.faults sink.new }
     ensures own { result ≡ Err Stop.SourceFailed → ⊥ }
@@ -90,7 +85,7 @@ fn take_step<K: Sink>(
     ensures ends { (text line : List ℕ) (number : ℕ) (lines : List (List ℕ)) (before : Option (List ℕ))
         → HasCome text number (line ∷ lines) before (K.written sink.old) world.old → given_by number line ≡ Ok (Some step)
         → MatchResult result (TurnGives text number lines before (K.written sink.new) world.new)
-            (λ stop. PlayEnds text before (K.written sink.new) world.new (exit_of stop)) }
+        (λ stop. PlayEnds text before (K.written sink.new) world.new (exit_of stop)) }
     ensures grows { OnOk result (length world.new.book ≤ length world.old.book + 1) }
     ensures rose { result ≡ Err Stop.SinkFailed → Rose (K.faults sink.old) (K.faults sink.new) }
     ensures count { K.faults sink.old ≤ K.faults sink.new }
@@ -129,7 +124,7 @@ fn take_line<K: Sink>(
     ensures ends { (text : List ℕ) (lines : List (List ℕ)) (before : Option (List ℕ))
         → HasCome text number (line.now ∷ lines) before (K.written sink.old) world.old
         → MatchResult result (TurnGives text number lines before (K.written sink.new) world.new)
-            (λ stop. PlayEnds text before (K.written sink.new) world.new (exit_of stop)) }
+        (λ stop. PlayEnds text before (K.written sink.new) world.new (exit_of stop)) }
     ensures grows { OnOk result (length world.new.book ≤ length world.old.book + 1) }
     ensures rose { result ≡ Err Stop.SinkFailed → Rose (K.faults sink.old) (K.faults sink.new) }
     ensures count { K.faults sink.old ≤ K.faults sink.new }
@@ -161,7 +156,7 @@ fn play_line<S: Source, K: Sink>(
     ensures ends { (text : List ℕ) (before : Option (List ℕ))
         → GoesOn text number (text_left reader.old (S.left source.old)) before (K.written sink.old) world.old
         → MatchResult result (LineGives text number (text_left reader.new (S.left source.new)) before (K.written sink.new) world.new)
-            (λ stop. PlayEnds text before (K.written sink.new) world.new (exit_of stop)) }
+        (λ stop. PlayEnds text before (K.written sink.new) world.new (exit_of stop)) }
     ensures last { 50000 < number → IfOk result (λ turn. turn ≢ Turn.GoesOn) }
     ensures grows { OnOk result (length world.new.book ≤ length world.old.book + 1) }
     ensures source_rose { result ≡ Err Stop.SourceFailed → Rose (S.faults source.old) (S.faults source.new) }
@@ -188,7 +183,7 @@ fn play_lines<S: Source, K: Sink>(
     requires { world.old ≡ first_world }
     ensures ends { (text : List ℕ) → S.left source.old ≡ Some text
         → MatchResult result (PlayEnds text (K.written sink.old) (K.written sink.new) world.new)
-            (λ stop. PlayEnds text (K.written sink.old) (K.written sink.new) world.new (exit_of stop)) }
+        (λ stop. PlayEnds text (K.written sink.old) (K.written sink.new) world.new (exit_of stop)) }
     ensures whole { IfOk result IsWhole }
     ensures source_rose { result ≡ Err Stop.SourceFailed → Rose (S.faults source.old) (S.faults source.new) }
     ensures sink_rose { result ≡ Err Stop.SinkFailed → Rose (K.faults sink.old) (K.faults sink.new) }

@@ -1,14 +1,11 @@
 -- Traces that are put together of parts.
-use Rattle.std.proofs.Common.{◌≡◌, ℕ, false, List, [], ◌∷◌, ◌++◌, sym, subst, append_assoc, None, fold}
+use Rattle.std.proofs.Common.{◌≡◌, [], ◌∷◌, ◌++◌, sym, subst, append_assoc, None, fold}
 use Rattle.std.specs.List.{AllByRecursion}
 use Rattle.std.proofs.lemmas.List.{append-nil}
 use Rattle.std.proofs.lemmas.List.Sums.{fold-append}
 use Rattle.std.proofs.lemmas.Grind.{flat_map-append}
-use Rattle.harp_trace.specs.declared.step.Step.{Step}
 use Rattle.harp_trace.specs.declared.line.Line.{Line}
-use Rattle.harp_trace.specs.declared.line.Line.TheVariants as line
-use Rattle.file_tree.specs.Book.{Entry}
-use Rattle.harp_trace.specs.Trace.{Trace, entered_by, entries, step_of_line, steps, later_step, step_under_way, is_last, AtPlacesAfter}
+use Rattle.harp_trace.specs.Trace.{Trace, entered_by, entries, step_of_line, steps, later_step, step_under_way, AtPlacesAfter}
 
 pub entries-append : (xs ys : Trace) → entries (xs ++ ys) ≡ entries xs ++ entries ys
 entries-append xs ys = flat_map-append entered_by xs ys

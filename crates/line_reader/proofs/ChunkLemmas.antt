@@ -1,5 +1,5 @@
 -- The bytes at hand.
-use Rattle.std.proofs.Common.{◌≡◌, ℕ, ◌+◌, ◌-◌, ◌<◌, ◌≤◌, suc, List, [], ◌∷◌, length, take, drop, get_or, refl, arith, drop-cons}
+use Rattle.std.proofs.Common.{◌≡◌, ℕ, ◌-◌, ◌<◌, ◌≤◌, suc, List, [], ◌∷◌, length, take, drop, get_or, refl, arith, drop-cons}
 use Rattle.std.specs.Prelude.{slice_range}
 use native.Mathlib.Numerals.{unary_clauses}
 

@@ -1,5 +1,5 @@
 -- What a reader of lines gives of a text.
-use Rattle.std.specs.Prelude.{◌≡◌, ℕ, ◌<◌, ◌≤◌, List, [], ◌∷◌, ◌++◌, length, Option, Some, None, ⊤}
+use Rattle.std.specs.Prelude.{◌≡◌, ℕ, ◌<◌, ◌≤◌, List, [], ◌∷◌, length, Option, Some, None, ⊤}
 use Rattle.std.specs.Io.KnownBytes.{prepend_known}
 use Rattle.line_reader.specs.declared.reader.Next.{Next}
 use Rattle.line_reader.specs.declared.reader.Next.TheVariants.{Line, TooLong, End}

@@ -1,5 +1,5 @@
 -- A call that was entered leaves a state that stands for the book with its entry.
-use Rattle.std.proofs.Common.{◌≡◌, ℕ, ◌+◌, ◌<◌, true, false, List, [], ◌∷◌, ◌++◌, length, refl, sym, ap, ◌∙◌, Option, Some, slice_set, subst}
+use Rattle.std.proofs.Common.{◌≡◌, ℕ, ◌+◌, ◌<◌, true, false, List, [], ◌∷◌, ◌++◌, sym, ap, ◌∙◌, Option, Some, slice_set, subst}
 use Rattle.harp_base.specs.declared.call.Call.{Call}
 use Rattle.harp_base.specs.declared.server.ServerId.{ServerId}
 use Rattle.harp_base.specs.Update.{is_update}
@@ -29,7 +29,7 @@ answers-read old new server client number call lines s reads tree clients update
       book_is = book;
       stands = record {
         stands = stands_at new.tree _ new.clients.items _ (book_of new) _ (tree ∙ ap tree_after book) (ap (λ v. v.items) clients) book
-          (stands-read old.tree old.clients.items (book_of old) e reads s.stands);
+            (stands-read old.tree old.clients.items (book_of old) e reads s.stands);
         updates_are = updates ∙ s.updates_are ∙ sym (ap committed book ∙ committed-read (book_of old) e reads);
       };
     }
@@ -52,7 +52,7 @@ answers-next old new server client number call lines s updates below h =
       book_is = h.book;
       stands = record {
         stands = stands_at new.tree _ new.clients.items _ (book_of new) _ (h.tree ∙ ap tree_after h.book) h.clients h.book
-          (stands-update old.tree old.clients.items (book_of old) e updates below s.stands);
+            (stands-update old.tree old.clients.items (book_of old) e updates below s.stands);
         updates_are = h.updates ∙ sym (ap committed h.book ∙ committed-add (book_of old) e updates);
       };
     }
@@ -62,4 +62,4 @@ pub answers-update : (old new : State) (server : ServerId) (client number : ℕ)
     → Answers old new lines (new_answer (book_of old) server client number call)
 answers-update old new server client number call lines s updates below h =
     answers-next old new server client number call lines s updates below
-      (subst (λ n. Entered old new server client number call lines (n + 1)) s.updates_are h)
+    (subst (λ n. Entered old new server client number call lines (n + 1)) s.updates_are h)

@@ -1,6 +1,6 @@
 -- What the world keeps, where the book has one more entry.
 use Rattle.std.proofs.Common.{◌≡◌, ℕ, ◌+◌, ◌<◌, ◌≤◌, Bool, true, false, List, [], ◌∷◌, ◌++◌, length, refl, sym, ap, ◌∙◌, arith, Option, Some, None, slice_set, length-append, length-set, inl, inr, subst}
-use Rattle.std.specs.Prelude.{◌==◌, ◌&&◌}
+use Rattle.std.specs.Prelude.{◌==◌}
 use Rattle.std.proofs.lemmas.List.Sums.{length-filter, count_by-le-length}
 use Rattle.std.proofs.lemmas.List.{get_or-set_same, get_or-set_other}
 use Rattle.std.proofs.Math.Bool.{and-false}
@@ -48,7 +48,7 @@ client_set : (clients : List (Option Kept)) (book : List Entry) (e : Entry) → 
     → (client : ℕ) → client_of (slice_set clients e.client (kept (Some e))) client ≡ kept (last_of client (book ++ e ∷ []))
 client_set clients book e h below places are client = elim (eqb_tells e.client client) [
   | inl t ↦ let P : ℕ → Type 0 = λ c. client_of (slice_set clients e.client (kept (Some e))) c ≡ kept (last_of c (book ++ e ∷ []))
-    in subst P t.1 (get_or-set_same clients e.client (kept (Some e)) None (omega arith) ∙ ap kept (sym (last_of-same book e h)))
+      in subst P t.1 (get_or-set_same clients e.client (kept (Some e)) None (omega arith) ∙ ap kept (sym (last_of-same book e h)))
   | inr t ↦ get_or-set_other clients e.client client (kept (Some e)) None (λ q. t.1 (sym q)) ∙ are client ∙ ap kept (sym (last_of-other client book e t.0))
 ]
 

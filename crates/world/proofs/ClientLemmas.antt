@@ -1,5 +1,5 @@
 -- The clients of a new world.
-use Rattle.std.proofs.Common.{◌≡◌, ℕ, ◌<◌, ◌≤◌, List, [], length, refl, sym, ap, ◌∙◌, arith, Option, Some, None, inl, inr, get_or}
+use Rattle.std.proofs.Common.{◌≡◌, ℕ, arith, Option, None, inl, inr, get_or}
 use Rattle.std.specs.Prelude.{replicate}
 use Rattle.std.proofs.lemmas.List.{get_or-replicate, get_or_past, length-replicate}
 use Rattle.std.proofs.lemmas.Bool.{cases_lt}

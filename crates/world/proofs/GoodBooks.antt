@@ -1,6 +1,6 @@
 -- The books of the world: each answer leaves a book one.
-use Rattle.std.proofs.Common.{◌≡◌, ℕ, ◌+◌, ◌<◌, ◌≤◌, ◌==◌, ◌&&◌, Bool, true, false, List, [], ◌∷◌, ◌++◌, length, Option, Some, None, refl, sym, ap, ◌∙◌, subst, arith, inl, inr}
-use Rattle.std.specs.Prelude.{Contains, IfSome}
+use Rattle.std.proofs.Common.{◌≡◌, ℕ, ◌+◌, ◌==◌, ◌&&◌, Bool, true, false, List, [], ◌∷◌, ◌++◌, Some, None, refl, sym, ◌∙◌, subst, arith, inl, inr}
+use Rattle.std.specs.Prelude.{Contains}
 use Rattle.std.proofs.lemmas.Bool.{cases_Bool, eqb-true, and_parts}
 use Rattle.std.proofs.lemmas.List.{append-nil}
 use Rattle.std.proofs.lemmas.List.Elements.{Contains-append_left, Contains-push}
@@ -11,11 +11,11 @@ use Rattle.harp_trace.specs.declared.line.Line.{Line}
 use Rattle.harp_trace.specs.declared.step.Step.{Step}
 use Rattle.harp_trace.specs.declared.step.Step.TheVariants as step
 use Rattle.harp_trace.specs.Trace.{entries}
-use Rattle.file_tree.specs.Book.{Entry, IsBook, MayFollow, last_of, last_next, last_stamp, stamp_next}
+use Rattle.file_tree.specs.Book.{Entry, IsBook, MayFollow, last_of, last_stamp, stamp_next}
 use Rattle.file_tree.proofs.BookLaws.{book_push, last_push, stamp_push}
 use Rattle.file_tree.proofs.BookOrder.{next_follows, read_follows}
 use Rattle.world.specs.Answer.{committed, entering, answer_to}
-use Rattle.world.specs.Run.{answer, book_after}
+use Rattle.world.specs.Run.{book_after}
 use Rattle.world.proofs.Cases.{Answered, refused, repeated, read, newly, answered}
 
 -- an entry of the book is an update of this client
@@ -42,14 +42,14 @@ kept_push : (book : List Entry) (e : Entry) → ((client : ℕ) (x : Entry) → 
     → (client : ℕ) (x : Entry) → last_of client (book ++ e ∷ []) ≡ Some x → IsUpdateOf client (book ++ e ∷ []) x
 kept_push book e kept client x is = elim (cases_Bool (is_update e.call && (e.client == client))) [
   | inl taken ↦
-    let both = and_parts (is_update e.call) (e.client == client) taken in
-    let same : Some e ≡ Some x = sym (last_push client book e ∙ rw taken refl) ∙ is in
-    let same_entry : e ≡ x = cc in
-    subst (λ y. IsUpdateOf client (book ++ e ∷ []) y) same_entry
+      let both = and_parts (is_update e.call) (e.client == client) taken in
+      let same : Some e ≡ Some x = sym (last_push client book e ∙ rw taken refl) ∙ is in
+      let same_entry : e ≡ x = cc in
+      subst (λ y. IsUpdateOf client (book ++ e ∷ []) y) same_entry
       (record { stands = Contains-push book e; updates = both.0; client_is = eqb-true e.client client both.1 })
   | inr left ↦
-    let before = kept client x (sym (last_push client book e ∙ rw left refl) ∙ is) in
-    record { stands = Contains-append_left book (e ∷ []) x before.stands; updates = before.updates; client_is = before.client_is }
+      let before = kept client x (sym (last_push client book e ∙ rw left refl) ∙ is) in
+      record { stands = Contains-append_left book (e ∷ []) x before.stands; updates = before.updates; client_is = before.client_is }
 ]
 
 pub good-entered : (book : List Entry) (client number : ℕ) (call : Call) (index : ℕ) → GoodBook book → MayFollow book (entering book client number call index)
@@ -71,7 +71,7 @@ good-answer book server client number call lines g (read r) =
 good-answer book server client number call lines g (newly u above) =
     let e = entering book client number call (committed book + 1) in
     good-entered book client number call (committed book + 1) g
-      (next_follows book e g.is_book (record { update = u; reply = refl; index = refl; stamp = omega (arith, g.stamp); number = above }))
+    (next_follows book e g.is_book (record { update = u; reply = refl; index = refl; stamp = omega (arith, g.stamp); number = above }))
 
 pub good-step : (book : List Entry) (s : Step) → GoodBook book → GoodBook (book_after book s)
 good-step book (step.Ask server client number call) g =

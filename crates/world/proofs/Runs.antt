@@ -1,9 +1,9 @@
 -- What holds of each place of a run's lines.
-use Rattle.std.proofs.Common.{◌≡◌, ℕ, ◌+◌, true, false, List, [], ◌∷◌, ◌++◌, length, Option, Some, None, refl, sym, ap, ◌∙◌, subst, append_assoc}
+use Rattle.std.proofs.Common.{◌≡◌, ℕ, ◌+◌, true, false, List, [], ◌∷◌, ◌++◌, length, Option, Some, refl, sym, ap, ◌∙◌, subst, append_assoc}
 use Rattle.std.specs.Prelude.{Contains}
 use Rattle.std.specs.List.{AllByRecursion}
 use Rattle.std.proofs.lemmas.List.{append-nil}
-use Rattle.std.proofs.lemmas.List.Elements.{Contains-append_left, Contains-push}
+use Rattle.std.proofs.lemmas.List.Elements.{Contains-push}
 use Rattle.harp_base.specs.declared.call.Call.{Call}
 use Rattle.harp_base.specs.declared.server.ServerId.{ServerId}
 use Rattle.harp_base.specs.Update.{is_update}
@@ -13,10 +13,10 @@ use Rattle.harp_trace.specs.declared.line.LineFault.{LineFault}
 use Rattle.harp_trace.specs.declared.step.Step.{Step}
 use Rattle.harp_trace.specs.declared.step.Step.TheVariants as step
 use Rattle.harp_trace.specs.Trace.{Trace, entries, steps, step_under_way, is_last, BeginsWithEvent, Ends, IsClosed, AtPlacesAfter}
-use Rattle.harp_trace.specs.Faithful.{IsNumbered, IsUpdateReply, IsReadReply, IsReplyIn, IsBookReply, WasAsked, IsFaithful}
+use Rattle.harp_trace.specs.Faithful.{IsNumbered, IsUpdateReply, IsReplyIn, IsBookReply, WasAsked, IsFaithful}
 use Rattle.harp_trace.proofs.Places.{entries-append, steps-append, step_under_way-append, places-append, all-append}
 use Rattle.file_tree.specs.Book.{Entry, IsBook}
-use Rattle.world.specs.Answer.{committed, entering, entered_line, entered_and_answered, answer_to}
+use Rattle.world.specs.Answer.{committed, entering, entered_line, answer_to}
 use Rattle.world.specs.Run.{answer, step_lines, book_after, run_lines}
 use Rattle.world.proofs.Cases.{Answered, refused, repeated, read, newly, answered}
 use Rattle.world.proofs.GoodBooks.{GoodBook, good-none, good-step}
@@ -29,7 +29,7 @@ unfolding run_lines
 run_places P ok before book [] is g = tt
 run_places P ok before book (s ∷ ss) is g =
     places-append P before (step_lines book s) (run_lines (book_after book s) ss) (ok before book s is g)
-      (run_places P ok (before ++ step_lines book s) (book_after book s) ss (entries-append before (step_lines book s) ∙ ap (λ b. b ++ entries (answer book s)) is) (good-step book s g))
+    (run_places P ok (before ++ step_lines book s) (book_after book s) ss (entries-append before (step_lines book s) ∙ ap (λ b. b ++ entries (answer book s)) is) (good-step book s g))
 
 -- ---- numbers
 
@@ -45,9 +45,11 @@ before_answer : (before : Trace) (s : Step) (book : List Entry) → entries befo
 before_answer before s book is = entries-append before (line.Event s ∷ []) ∙ append-nil (entries before) ∙ is
 
 numbered_step : (before : Trace) (book : List Entry) (s : Step) → entries before ≡ book → GoodBook book → AtPlacesAfter IsNumbered before (step_lines book s)
-numbered_step before book (step.Ask server client number call) is g =
-    (tt, numbered_answer (before ++ line.Event (step.Ask server client number call) ∷ []) book server client number call (answer_to book server client number call)
-      (before_answer before (step.Ask server client number call) book is) (answered book server client number call))
+numbered_step before book (step.Ask server client number call) is g = (
+  tt,
+  numbered_answer (before ++ line.Event (step.Ask server client number call) ∷ []) book server client number call (answer_to book server client number call)
+      (before_answer before (step.Ask server client number call) book is) (answered book server client number call),
+)
 
 -- ---- asked
 
@@ -93,44 +95,56 @@ reply_answer : (before : Trace) (book : List Entry) (server : ServerId) (client 
 reply_answer before book server client number call lines is g (refused cause) = (tt, tt)
 reply_answer before book server client number call lines is g (repeated e u last same) =
     let s = step.Ask server client number call in
-    let kept = g.kept client e last in
-    (update_reply (before ++ line.Event s ∷ []) server client number call e.index _ (under_way before s) u e
-      (record {
-        entry = e;
-        stands = subst (λ es. Contains es e) (sym (before_answer before s book is)) kept.stands;
-        updates = kept.updates;
-        client_is = kept.client_is;
-        number_is = sym same;
-        index_is = refl;
-        reply_is = refl;
-      }), tt)
+    let kept = g.kept client e last in (
+      update_reply (before ++ line.Event s ∷ []) server client number call e.index _ (under_way before s) u e
+          (record {
+            entry = e;
+            stands = subst (λ es. Contains es e) (sym (before_answer before s book is)) kept.stands;
+            updates = kept.updates;
+            client_is = kept.client_is;
+            number_is = sym same;
+            index_is = refl;
+            reply_is = refl;
+          }),
+      tt,
+    )
 reply_answer before book server client number call lines is g (read r) =
     let s = step.Ask server client number call in
     let e = entering book client number call 0 in
-    let now = still_under_way before s (length book + 1) e in
-    (tt, (rw (now, r) (record {
-      earlier = before ++ line.Event s ∷ [];
-      place = length book + 1;
-      entry = record { index = e.index; client = e.client; number = e.number; stamp = e.stamp; call = e.call; reply = e.reply };
-      stands = refl;
-      client_is = refl;
-      number_is = refl;
-      call_is = refl;
-      reply_is = refl;
-    }), tt))
+    let now = still_under_way before s (length book + 1) e in (
+      tt,
+      (
+        rw (now, r) (record {
+          earlier = before ++ line.Event s ∷ [];
+          place = length book + 1;
+          entry = record { index = e.index; client = e.client; number = e.number; stamp = e.stamp; call = e.call; reply = e.reply };
+          stands = refl;
+          client_is = refl;
+          number_is = refl;
+          call_is = refl;
+          reply_is = refl;
+        }),
+        tt,
+      ),
+    )
 reply_answer before book server client number call lines is g (newly u above) =
     let s = step.Ask server client number call in
-    let e = entering book client number call (committed book + 1) in
-    (tt, (update_reply ((before ++ line.Event s ∷ []) ++ entered_line (length book + 1) e ∷ []) server client number call e.index _ (still_under_way before s (length book + 1) e) u e
-      (record {
-        entry = e;
-        stands = just_entered (before ++ line.Event s ∷ []) (length book + 1) e;
-        updates = u;
-        client_is = refl;
-        number_is = refl;
-        index_is = refl;
-        reply_is = refl;
-      }), tt))
+    let e = entering book client number call (committed book + 1) in (
+      tt,
+      (
+        update_reply ((before ++ line.Event s ∷ []) ++ entered_line (length book + 1) e ∷ []) server client number call e.index _ (still_under_way before s (length book + 1) e) u e
+            (record {
+              entry = e;
+              stands = just_entered (before ++ line.Event s ∷ []) (length book + 1) e;
+              updates = u;
+              client_is = refl;
+              number_is = refl;
+              index_is = refl;
+              reply_is = refl;
+            }),
+        tt,
+      ),
+    )
 
 reply_step : (before : Trace) (book : List Entry) (s : Step) → entries before ≡ book → GoodBook book → AtPlacesAfter IsBookReply before (step_lines book s)
 reply_step before book (step.Ask server client number call) is g =
@@ -160,8 +174,8 @@ unfolding run_lines
 good-run book [] g = rw (append-nil book) g
 good-run book (s ∷ ss) g =
     subst GoodBook (append_assoc book (entries (answer book s)) (entries (run_lines (book_after book s) ss))
-      ∙ ap (λ es. book ++ es) (sym (entries-append (step_lines book s) (run_lines (book_after book s) ss))))
-      (good-run (book_after book s) ss (good-step book s g))
+    ∙ ap (λ es. book ++ es) (sym (entries-append (step_lines book s) (run_lines (book_after book s) ss))))
+    (good-run (book_after book s) ss (good-step book s g))
 
 open_answer : (book : List Entry) (server : ServerId) (client number : ℕ) (call : Call) (lines : List Line)
     → Answered book server client number call lines → AllByRecursion (λ l. is_last l ≡ false) lines
@@ -176,8 +190,8 @@ open_run book [] = tt
 open_run book (step.Ask server client number call ∷ ss) =
     let s = step.Ask server client number call in
     all-append (λ l. is_last l ≡ false) (step_lines book s) (run_lines (book_after book s) ss)
-      (refl, open_answer book server client number call (answer_to book server client number call) (answered book server client number call))
-      (open_run (book_after book s) ss)
+    (refl, open_answer book server client number call (answer_to book server client number call) (answered book server client number call))
+    (open_run (book_after book s) ss)
 
 begins_run : (book : List Entry) (ss : List Step) → BeginsWithEvent (run_lines book ss)
 unfolding run_lines
@@ -221,7 +235,7 @@ faithful-run ss end ends =
     record {
       numbered = with_last IsNumbered (λ b m f. tt) (λ b k. tt) run n end ends (run_places IsNumbered numbered_step [] [] ss refl good-none);
       book = subst IsBook (sym (entries-append run (end ∷ []) ∙ ap (λ es. entries run ++ es) (enters_none n end ends) ∙ append-nil (entries run)))
-        ((good-run [] ss good-none).is_book);
+          ((good-run [] ss good-none).is_book);
       answers = with_last IsBookReply (λ b m f. tt) (λ b k. tt) run n end ends (run_places IsBookReply reply_step [] [] ss refl good-none);
       asked = with_last WasAsked (λ b m f. tt) (λ b k. tt) run n end ends (run_places WasAsked asked_step [] [] ss refl good-none);
     }

@@ -1,5 +1,5 @@
 -- The answer to an ask, given the book.
-use Rattle.std.specs.Prelude.{ℕ, ◌+◌, Bool, ◌==◌, nat_lt, List, [], ◌∷◌, length, Option, Some, None, if◌then◌else◌}
+use Rattle.std.specs.Prelude.{ℕ, ◌+◌, ◌==◌, nat_lt, List, [], ◌∷◌, length, Option, Some, None, if◌then◌else◌}
 use Rattle.harp_base.specs.declared.call.Call.{Call}
 use Rattle.harp_base.specs.declared.server.ServerId.{ServerId}
 use Rattle.harp_base.specs.Update.{is_update}

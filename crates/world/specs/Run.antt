@@ -1,5 +1,5 @@
 -- The lines of a step, and of a whole run.
-use Rattle.std.specs.Prelude.{ℕ, List, [], ◌∷◌, ◌++◌}
+use Rattle.std.specs.Prelude.{List, [], ◌∷◌, ◌++◌}
 use Rattle.harp_trace.specs.declared.step.Step.{Step}
 use Rattle.harp_trace.specs.declared.step.Step.TheVariants as step
 use Rattle.harp_trace.specs.declared.line.Line.{Line}

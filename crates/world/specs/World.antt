@@ -1,5 +1,5 @@
 -- A step of the world.
-use Rattle.std.specs.Prelude.{◌≡◌, ℕ, ◌+◌, ◌≤◌, false, List, length}
+use Rattle.std.specs.Prelude.{◌≡◌, ◌+◌, ◌≤◌, false, List, length}
 use Rattle.harp_trace.specs.declared.step.Step.{Step}
 use Rattle.harp_trace.specs.declared.line.Line.{Line}
 use Rattle.world.specs.State.{WorldValue, Stands}

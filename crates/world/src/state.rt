@@ -86,8 +86,7 @@ fn entered_and_answered(
     ensures { IfOk result (λ lines. lines.items
         ≡ entered ∷ line.Answered asker.server asker.client asker.number index reply ∷ []) }
 {
-    Ok(vec![
-        in alloc;
+    Ok(vec![in alloc;
         entered,
         Line::Answered {
             server: asker.server,
@@ -95,7 +94,7 @@ fn entered_and_answered(
             number: asker.number,
             index,
             reply,
-        }
+        },
     ]?)
 }
 
@@ -165,14 +164,13 @@ fn refuse(alloc: Global, asker: Asker, cause: Cause) -> Result<Vec<Line>, AllocE
         client,
         number,
     } = asker;
-    Ok(vec![
-        in alloc;
+    Ok(vec![in alloc;
         Line::Refused {
             server,
             client,
             number,
             cause,
-        }
+        },
     ]?)
 }
 
@@ -180,15 +178,14 @@ fn repeat(alloc: Global, asker: Asker, kept: &Kept) -> Result<Vec<Line>, AllocEr
     ensures { IfOk result (λ lines. lines.items
         ≡ line.Answered asker.server asker.client asker.number kept.now.index kept.now.reply ∷ []) }
 {
-    Ok(vec![
-        in alloc;
+    Ok(vec![in alloc;
         Line::Answered {
             server: asker.server,
             client: asker.client,
             number: asker.number,
             index: kept.index,
             reply: kept.reply.copy(alloc)?,
-        }
+        },
     ]?)
 }
 
@@ -205,7 +202,7 @@ fn update(
     requires client { asker.client < 4096 }
     ensures { IfOk result (λ lines. Answers state.old state.new lines.items
         (update_answer (book_of state.old) asker.server asker.client asker.number call.now
-            (last_of asker.client (book_of state.old)))) }
+        (last_of asker.client (book_of state.old)))) }
 {
     match &state.clients[asker.client as usize] {
         None => update_newly(alloc, state, asker, call),

@@ -11,29 +11,29 @@ pub returns-in-Ok-End-clause-ends : goal.returns-in-Ok-End-clause-ends
 returns-in-Ok-End-clause-ends g c = λ text before h.
     let left = text_left c.next.new.self (g.S.Source.left c.next.new.source) in
     let come = end-comes text c.args.number (text_left c.args.reader.now (g.S.Source.left c.args.source.now)) left before (g.K.Sink.written c.args.sink.now) c.args.world.now h
-      (subst (λ n. GivesKnown (text_left c.args.reader.now (g.S.Source.left c.args.source.now)) left n) c.in-Ok-End.field-0-is c.in-Ok-End.ensures.ok) in
+    (subst (λ n. GivesKnown (text_left c.args.reader.now (g.S.Source.left c.args.source.now)) left n) c.in-Ok-End.field-0-is c.in-Ok-End.ensures.ok) in
     both _ _ _ _ c.end.result (c.end.ensures.ends text c.args.number before come) c.end.ensures.last
-      (λ t last gives. turn-last text c.args.number [] left before (g.K.Sink.written c.end.new.sink) c.args.world.now t last gives)
+    (λ t last gives. turn-last text c.args.number [] left before (g.K.Sink.written c.end.new.sink) c.args.world.now t last gives)
 
 pub returns-in-Ok-TooLong-clause-ends : goal.returns-in-Ok-TooLong-clause-ends
 returns-in-Ok-TooLong-clause-ends g c = λ text before h.
     let left = text_left c.next.new.self (g.S.Source.left c.next.new.source) in
     let come = long-comes text c.args.number (text_left c.args.reader.now (g.S.Source.left c.args.source.now)) left before (g.K.Sink.written c.args.sink.now) c.args.world.now h
-      (subst (λ n. GivesKnown (text_left c.args.reader.now (g.S.Source.left c.args.source.now)) left n) c.in-Ok-TooLong.field-0-is c.in-Ok-TooLong.ensures.ok) in
+    (subst (λ n. GivesKnown (text_left c.args.reader.now (g.S.Source.left c.args.source.now)) left n) c.in-Ok-TooLong.field-0-is c.in-Ok-TooLong.ensures.ok) in
     both _ _ _ _ c.refuse.result
-      (c.refuse.ensures.ends text come.line come.lines before c.args.world.now come.come (c.fault_of_long_line.ensures come.line come.long)) c.refuse.ensures.last
-      (λ t last gives. turn-last text c.args.number come.lines left before (g.K.Sink.written c.refuse.new.sink) c.args.world.now t last gives)
+    (c.refuse.ensures.ends text come.line come.lines before c.args.world.now come.come (c.fault_of_long_line.ensures come.line come.long)) c.refuse.ensures.last
+    (λ t last gives. turn-last text c.args.number come.lines left before (g.K.Sink.written c.refuse.new.sink) c.args.world.now t last gives)
 
 pub returns-in-Ok-Line-clause-ends : goal.returns-in-Ok-Line-clause-ends
 returns-in-Ok-Line-clause-ends g c = λ text before h.
     let left = text_left c.next.new.self (g.S.Source.left c.next.new.source) in
     let come = line-comes text c.args.number (text_left c.args.reader.now (g.S.Source.left c.args.source.now)) left before (g.K.Sink.written c.args.sink.now) c.args.world.now c.in-Ok-Line.line h
-      (subst (λ n. GivesKnown (text_left c.args.reader.now (g.S.Source.left c.args.source.now)) left n) c.in-Ok-Line.field-0-is c.in-Ok-Line.ensures.ok) in
+    (subst (λ n. GivesKnown (text_left c.args.reader.now (g.S.Source.left c.args.source.now)) left n) c.in-Ok-Line.field-0-is c.in-Ok-Line.ensures.ok) in
     MatchResult-weaker c.take_line.result
-      (c.take_line.ensures.ends text (lines_of come.rest) before
-        (subst (λ l. HasCome text c.args.number (l ∷ lines_of come.rest) before (g.K.Sink.written c.args.sink.now) c.args.world.now) (sym c.as_slice.ensures.value) come.come))
-      (λ t gives. turn-line text c.args.number come.rest left before (g.K.Sink.written c.take_line.new.sink) c.take_line.new.world come.left_is t gives)
-      (λ stop ends. ends)
+    (c.take_line.ensures.ends text (lines_of come.rest) before
+    (subst (λ l. HasCome text c.args.number (l ∷ lines_of come.rest) before (g.K.Sink.written c.args.sink.now) c.args.world.now) (sym c.as_slice.ensures.value) come.come))
+    (λ t gives. turn-line text c.args.number come.rest left before (g.K.Sink.written c.take_line.new.sink) c.take_line.new.world come.left_is t gives)
+    (λ stop ends. ends)
 
 pub returns-in-Err-Failed-clause-ends : goal.returns-in-Err-Failed-clause-ends
 returns-in-Err-Failed-clause-ends g c = λ text before h. failed text c.args.number _ before _ c.args.world.now h

@@ -24,7 +24,7 @@ loop-number-preserved g c = record {
   ];
   few = omega (arith, c.in-Ok-GoesOn.ensures.grows, c.loop-number.invariant.few);
   goes = λ text told.
-    subst (LineGives text c.loop-number.number (text_left c.play_line.new.reader (g.S.Source.left c.play_line.new.source)) (g.K.Sink.written c.args.sink.now)
+      subst (LineGives text c.loop-number.number (text_left c.play_line.new.reader (g.S.Source.left c.play_line.new.source)) (g.K.Sink.written c.args.sink.now)
       (g.K.Sink.written c.play_line.new.sink) c.play_line.new.world) c.in-Ok-GoesOn.field-0-is
       (c.in-Ok-GoesOn.ensures.ends text (g.K.Sink.written c.args.sink.now) (c.loop-number.invariant.goes text told));
   source_count = omega (arith, c.loop-number.invariant.source_count, c.in-Ok-GoesOn.ensures.source_count);
@@ -34,14 +34,14 @@ loop-number-preserved g c = record {
 pub returns-in-Ok-Ended-clause-ends : goal.returns-in-Ok-Ended-clause-ends
 returns-in-Ok-Ended-clause-ends g c = λ text told.
     subst (LineGives text c.loop-number.number (text_left c.play_line.new.reader (g.S.Source.left c.play_line.new.source)) (g.K.Sink.written c.args.sink.now)
-      (g.K.Sink.written c.play_line.new.sink) c.play_line.new.world) c.in-Ok-Ended.field-0-is
-      (c.in-Ok-Ended.ensures.ends text (g.K.Sink.written c.args.sink.now) (c.loop-number.invariant.goes text told))
+    (g.K.Sink.written c.play_line.new.sink) c.play_line.new.world) c.in-Ok-Ended.field-0-is
+    (c.in-Ok-Ended.ensures.ends text (g.K.Sink.written c.args.sink.now) (c.loop-number.invariant.goes text told))
 
 pub returns-in-Ok-Refused-clause-ends : goal.returns-in-Ok-Refused-clause-ends
 returns-in-Ok-Refused-clause-ends g c = λ text told.
     subst (LineGives text c.loop-number.number (text_left c.play_line.new.reader (g.S.Source.left c.play_line.new.source)) (g.K.Sink.written c.args.sink.now)
-      (g.K.Sink.written c.play_line.new.sink) c.play_line.new.world) c.in-Ok-Refused.field-0-is
-      (c.in-Ok-Refused.ensures.ends text (g.K.Sink.written c.args.sink.now) (c.loop-number.invariant.goes text told))
+    (g.K.Sink.written c.play_line.new.sink) c.play_line.new.world) c.in-Ok-Refused.field-0-is
+    (c.in-Ok-Refused.ensures.ends text (g.K.Sink.written c.args.sink.now) (c.loop-number.invariant.goes text told))
 
 pub returns-in-Err-play_line-clause-ends : goal.returns-in-Err-play_line-clause-ends
 returns-in-Err-play_line-clause-ends g c = λ text told.

@@ -15,24 +15,24 @@ meant e f m is fails = subst (λ x. Fails x m) is fails
 pub returns-in-Ok-None-clause-ends : goal.returns-in-Ok-None-clause-ends
 returns-in-Ok-None-clause-ends g c = λ text lines before h.
     passes text c.args.number c.args.line.now lines before (g.K.Sink.written c.args.sink.now) c.args.world.now h
-      (given-short c.args.number c.args.line.now (omega arith) c.requires.short ∙ ap step_or_fault c.in-Ok-None.ensures.exact ∙ ap Ok c.in-Ok-None.field-0-is)
+    (given-short c.args.number c.args.line.now (omega arith) c.requires.short ∙ ap step_or_fault c.in-Ok-None.ensures.exact ∙ ap Ok c.in-Ok-None.field-0-is)
 
 pub returns-in-Ok-Some-clause-ends : goal.returns-in-Ok-Some-clause-ends
 returns-in-Ok-Some-clause-ends g c = λ text lines before h.
     c.take_step.ensures.ends text c.args.line.now c.args.number lines before h
-      (given-short c.args.number c.args.line.now (omega arith) c.requires.short ∙ ap step_or_fault c.in-Ok-Some.ensures.exact ∙ ap Ok c.in-Ok-Some.field-0-is)
+    (given-short c.args.number c.args.line.now (omega arith) c.requires.short ∙ ap step_or_fault c.in-Ok-Some.ensures.exact ∙ ap Ok c.in-Ok-Some.field-0-is)
 
 pub returns-in-Err-Grammar-clause-ends : goal.returns-in-Err-Grammar-clause-ends
 returns-in-Err-Grammar-clause-ends g c = λ text lines before h.
     c.refuse-in-Err-Grammar.ensures.ends text c.args.line.now lines before c.args.world.now h
-      (given-short c.args.number c.args.line.now (omega arith) c.requires.short
-        ∙ ap step_or_fault (meant _ (text_fault.Grammar c.in-Err-Grammar.field-0-0) (meaning_of c.args.line.now) c.in-Err-Grammar.field-0-is c.in-Err-Grammar.ensures.exact))
+    (given-short c.args.number c.args.line.now (omega arith) c.requires.short
+    ∙ ap step_or_fault (meant _ (text_fault.Grammar c.in-Err-Grammar.field-0-0) (meaning_of c.args.line.now) c.in-Err-Grammar.field-0-is c.in-Err-Grammar.ensures.exact))
 
 pub returns-in-Err-Unbuilt-clause-ends : goal.returns-in-Err-Unbuilt-clause-ends
 returns-in-Err-Unbuilt-clause-ends g c = λ text lines before h.
     c.refuse-in-Err-Unbuilt.ensures.ends text c.args.line.now lines before c.args.world.now h
-      (given-short c.args.number c.args.line.now (omega arith) c.requires.short
-        ∙ ap step_or_fault (meant _ text_fault.Unbuilt (meaning_of c.args.line.now) c.in-Err-Unbuilt.field-0-is c.in-Err-Unbuilt.ensures.exact))
+    (given-short c.args.number c.args.line.now (omega arith) c.requires.short
+    ∙ ap step_or_fault (meant _ text_fault.Unbuilt (meaning_of c.args.line.now) c.in-Err-Unbuilt.field-0-is c.in-Err-Unbuilt.ensures.exact))
 
 pub returns-in-Err-NoMemory-clause-ends : goal.returns-in-Err-NoMemory-clause-ends
 returns-in-Err-NoMemory-clause-ends g c = λ text lines before h.

@@ -8,15 +8,15 @@ use Rattle.harp_cli.proofs.play.take_step.Goals as goal
 pub returns-in-Ok-write_lines-clause-ends : goal.returns-in-Ok-write_lines-clause-ends
 returns-in-Ok-write_lines-clause-ends g c = λ text line number lines before h gives.
     steps-on text number line lines before (g.K.Sink.written c.args.sink.now) (g.K.Sink.written c.write_lines.new.sink) c.args.world.now c.step.new.self c.args.step c.in-Ok.lines.items
-      h gives c.in-Ok.ensures.ok
-      (subst (λ ls. Appends (g.K.Sink.written c.args.sink.now) (g.K.Sink.written c.write_lines.new.sink) (trace_text ls)) c.as_slice.ensures.value c.in-Ok-write_lines.ensures.all)
+    h gives c.in-Ok.ensures.ok
+    (subst (λ ls. Appends (g.K.Sink.written c.args.sink.now) (g.K.Sink.written c.write_lines.new.sink) (trace_text ls)) c.as_slice.ensures.value c.in-Ok-write_lines.ensures.all)
 
 pub returns-in-Ok-clause-ends : goal.returns-in-Ok-clause-ends
 returns-in-Ok-clause-ends g c = λ text line number lines before h gives.
     stopped text before (g.K.Sink.written c.write_lines.new.sink) c.step.new.self c.in-Err.stop
-      (steps-early text number line lines before (g.K.Sink.written c.args.sink.now) (g.K.Sink.written c.write_lines.new.sink) c.args.world.now c.step.new.self c.args.step c.in-Ok.lines.items
-        h gives c.in-Ok.ensures.ok
-        (subst (λ ls. GrewByPart (g.K.Sink.written c.args.sink.now) (g.K.Sink.written c.write_lines.new.sink) (trace_text ls)) c.as_slice.ensures.value c.in-Err.ensures.part))
+    (steps-early text number line lines before (g.K.Sink.written c.args.sink.now) (g.K.Sink.written c.write_lines.new.sink) c.args.world.now c.step.new.self c.args.step c.in-Ok.lines.items
+    h gives c.in-Ok.ensures.ok
+    (subst (λ ls. GrewByPart (g.K.Sink.written c.args.sink.now) (g.K.Sink.written c.write_lines.new.sink) (trace_text ls)) c.as_slice.ensures.value c.in-Err.ensures.part))
 
 pub returns-clause-ends : goal.returns-clause-ends
 returns-clause-ends g c = λ text line number lines before h gives.

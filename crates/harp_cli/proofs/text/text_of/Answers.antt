@@ -13,13 +13,13 @@ moved : (made : List ℕ) (lines : Trace) (i : ℕ) (x : Line) (all : List ℕ) 
 moved made lines i x all below is h =
     let later = trace_text (drop (i + 1) lines) in
     let next : trace_text (drop i lines) ≡ (line_text x ++ 10 ∷ []) ++ later =
-      at_drop_more trace_text lines i x below ∙ ap (λ (y : Line). trace_text (y ∷ drop (i + 1) lines)) (sym is) ∙ trace_text-cons x (drop (i + 1) lines) in
+    at_drop_more trace_text lines i x below ∙ ap (λ (y : Line). trace_text (y ∷ drop (i + 1) lines)) (sym is) ∙ trace_text-cons x (drop (i + 1) lines) in
     ap (λ s. s ++ later) (append_assoc made (line_text x) (10 ∷ [])) ∙ append_assoc made (line_text x ++ 10 ∷ []) later ∙ ap (λ s. made ++ s) (sym next) ∙ h
 
 pub loop-line-preserved : goal.loop-line-preserved
 loop-line-preserved c =
     rw (c.in_ok-extend.ensures.ok, c.in_ok-write_line.ensures.ok)
-      (moved c.loop-line.text c.args.lines.now c.loop-line.line-index c.line-item.result _ c.loop-line-test.true c.line-item.is c.loop-line.invariant)
+    (moved c.loop-line.text c.args.lines.now c.loop-line.line-index c.line-item.result _ c.loop-line-test.true c.line-item.is c.loop-line.invariant)
 
 pub returns : goal.returns
 unfolding trace_text

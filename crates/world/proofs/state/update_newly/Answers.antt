@@ -16,11 +16,11 @@ returns c =
     let entered = c.in_ok-entered.ensures in
     let same_book : book_of c.keep.new.state ≡ book_of c.enter.new.state = ap (λ v. map entry_of v.items) c.keep.ensures.book in
     answers-update c.args.state.now c.keep.new.state c.args.asker.server c.args.asker.client c.args.asker.number c.args.call.now _ c.requires.stands c.requires.updates
-      c.requires.client
-      (record {
-        tree = c.keep.ensures.tree ∙ entered.tree ∙ ap tree_after (sym same_book);
-        clients = rw (c.keep.ensures.clients, entered.clients, c.in_ok-copy.ensures, entered.reply) refl;
-        updates = c.keep.ensures.updates;
-        book = same_book ∙ entered.book;
-        lines_are = c.in_ok-lines.ensures ∙ rw (entered.line, entered.reply) refl;
-      })
+    c.requires.client
+    (record {
+      tree = c.keep.ensures.tree ∙ entered.tree ∙ ap tree_after (sym same_book);
+      clients = rw (c.keep.ensures.clients, entered.clients, c.in_ok-copy.ensures, entered.reply) refl;
+      updates = c.keep.ensures.updates;
+      book = same_book ∙ entered.book;
+      lines_are = c.in_ok-lines.ensures ∙ rw (entered.line, entered.reply) refl;
+    })

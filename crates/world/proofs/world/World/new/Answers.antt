@@ -1,8 +1,5 @@
-use Rattle.std.proofs.Common.{◌≡◌, ◌∙◌, refl, sym, ap, arith, length, None}
-use Rattle.std.specs.Prelude.{map, replicate}
+use Rattle.std.proofs.Common.{◌≡◌, ◌∙◌, refl, ap, arith, length, None}
 use Rattle.std.proofs.lemmas.List.{length-replicate}
-use Rattle.harp_trace.specs.Trace.{entry_of}
-use Rattle.world.specs.State.{client_of, kept}
 use Rattle.world.proofs.ClientLemmas.{nothing_kept}
 use Rattle.world.proofs.world.World.new.Goals as goal
 
