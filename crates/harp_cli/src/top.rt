@@ -4,6 +4,8 @@ ghost use Rattle.std.specs.Prelude.{◌≡◌, ◌≢◌, ℕ, List, Option, Mat
 ghost use Rattle.harp_base.specs.Streams.{Rose};
 ghost use Rattle.harp_trace.specs.Trace.{steps, IsClosed};
 ghost use Rattle.harp_trace.specs.Faithful.{IsFaithful};
+ghost use Rattle.schedule_text.specs.Grammar.{Explains};
+ghost use Rattle.schedule_text.specs.Reading.{meaning_of};
 ghost use Rattle.world.specs.State.{first_world};
 ghost use Rattle.harp_cli.specs.declared.exit.Exit.{Exit};
 ghost use Rattle.harp_cli.specs.Exit.{status_of};
@@ -68,6 +70,8 @@ pub fn harp<R: Threads + Sync, S: Source, K: Sink>(
     ensures refused_words { result ≡ 2 → IsPlay words.now → ⊥ }
     ensures source_failed { result ≡ 3 → Rose (S.faults source.old) (S.faults source.new) }
     ensures sink_failed { result ≡ 4 → Rose (K.faults sink.old) (K.faults sink.new) }
+    // What each line of a text means, by the grammar of steps.
+    ensures meaning { (line : List ℕ) → Explains line (meaning_of line) }
     // What the trace of a text is.
     ensures closed { (text : List ℕ) → IsClosed (trace_of text) }
     ensures events { (text : List ℕ) → steps (trace_of text) ≡ (reading text).steps }

@@ -1,3 +1,4 @@
+use Rattle.schedule_text.proofs.MeaningLaws.{explained}
 use Rattle.harp_cli.proofs.TraceLaws.{closed, events, faithful}
 use Rattle.harp_cli.proofs.top.harp.Goals as goal
 
@@ -18,3 +19,9 @@ returns-in-None-clause-events g c = events
 
 pub returns-in-None-clause-faithful : goal.returns-in-None-clause-faithful
 returns-in-None-clause-faithful g c = faithful
+
+pub returns-in-Some-Play-clause-meaning : goal.returns-in-Some-Play-clause-meaning
+returns-in-Some-Play-clause-meaning g c = explained
+
+pub returns-in-None-clause-meaning : goal.returns-in-None-clause-meaning
+returns-in-None-clause-meaning g c = explained
