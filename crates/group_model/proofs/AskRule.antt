@@ -93,7 +93,7 @@ read_goes g q s h o client number c u list e = goes_if g q s (nat_le s.grant (g.
     goes_one g q s (Reading s.cp (read_entry s.cp list client number c)) h (tt, tt, (record {
       reply = ap (λ (t : Tree). (outcome t c 0).0) tree;
       order = subst (λ (b : Bool). MatchBool b (IsNextUpdate (updates g.book) (read_entry s.cp list client number c)) (IsRead (read_entry s.cp list client number c))) (sym u) (refl, refl);
-    }, u)) (read_kept g h.ok q s h.is s.cp (read_entry s.cp list client number c)))
+    }, u, count, later)) (read_kept g h.ok q s h.is s.cp (read_entry s.cp list client number c)))
 
 -- the answer to an ask
 pub asked : (g : Group Entry) (q : Place) (s : Server Entry) → Good g q s → (list : List Entry) → list ≡ take (top s) (g.page s.accepted).list → (client number : ℕ) (c : Call) → Goes g q s (on_ask q (g.clock q) list s client number c)

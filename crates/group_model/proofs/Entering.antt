@@ -9,6 +9,7 @@ use Rattle.group_model.specs.Ask.{append}
 use Rattle.group_model.specs.Effects.{booted, demoted_by, down, load_tests, loaded, saving}
 use Rattle.group_model.specs.Entered.{AnswerOk, AnswersOk, BodyWithin, Books, ServerWithin, UpdatesFrom, Within}
 use Rattle.group_model.specs.Facts.{Agree, Each, In, Ok}
+use Rattle.group_model.specs.Laws.{Grows}
 use Rattle.group_model.specs.Limits.{can_have, is_log, is_outside, limit, room}
 use Rattle.group_model.specs.Moves.{Accepting, Appending, Basing, Booting, Choosing, Committing, Demoting, Falling, Heeding, Joining, Move, Opening, Reading, Saving, Saying, Sending, act, moved, new_entries, said_after}
 use Rattle.group_model.specs.Places.{Place, all_of, at, is_p2, number, put}
@@ -16,7 +17,7 @@ use Rattle.group_model.specs.Replicate.{answers}
 use Rattle.group_model.specs.State.{Answered, Answers, Group, JoinMade, Lists, Packet, Page, Refuses, Saved, Say, Server, mark_of}
 use Rattle.group_model.proofs.Common.{each_at, by_if}
 use Rattle.group_model.proofs.Tests.{each_of, is_le}
-use Rattle.group_model.proofs.Grow.{Grows, puts, by_page, sure_grow, each_map}
+use Rattle.group_model.proofs.Grow.{puts, by_page, sure_grow, each_map}
 use Rattle.group_model.proofs.Quiet.{fine}
 use Rattle.group_model.proofs.More.{MoreMay}
 use Rattle.group_model.proofs.Low.{LowMay}
@@ -42,7 +43,7 @@ BesideMay g q s (Accepting plan role n) = length n.items ≤ room
 BesideMay g q s (Heeding items cp base) = length items - (base - s.base) ≤ room
 BesideMay g q s (Appending e) = (length s.items < room) × (length (g.page s.accepted).list < limit) × (is_update e.call ≡ true) × MayFollow (g.page s.accepted).list e
 BesideMay g q s (Demoting v) = v / 3 ≤ limit
-BesideMay g q s (Reading n e) = MayFollow g.book e × (is_update e.call ≡ false)
+BesideMay g q s (Reading n e) = MayFollow g.book e × (is_update e.call ≡ false) × (n ≡ length g.committed) × ((w : ℕ) → s.accepted < w → (g.page w).formed ≡ true → (g.page w).opened ≡ false)
 BesideMay g q s (Saying say) = SayMay g.page g.committed s.accepted say
 BesideMay g q s (Sending to m) = BodyWithin m
 BesideMay g q s m = ⊤

@@ -3,11 +3,12 @@ use Rattle.std.proofs.Common.{◌≡◌, ◌∙◌, ℕ, ◌+◌, ◌≤◌, Boo
 use Rattle.group_model.proofs.May.{opened, raised}
 use Rattle.group_model.specs.Choose.{longer}
 use Rattle.group_model.specs.Facts.{Ok}
+use Rattle.group_model.specs.Laws.{Grows, PageGrows}
 use Rattle.group_model.specs.Moves.{Accepting, Appending, Choosing, Committing, Heeding, Joining, Move, Opening, into_page, moved, raised_page}
 use Rattle.group_model.specs.Places.{Place, put}
 use Rattle.group_model.specs.State.{Group, JoinMade, Page, Server}
 use Rattle.group_model.proofs.Lists.{get_front}
-use Rattle.group_model.proofs.Grow.{Grows, PageGrows, page_same, grows_put}
+use Rattle.group_model.proofs.Grow.{page_same, grows_put}
 use Rattle.group_model.proofs.Quiet.{fine}
 use Rattle.group_model.proofs.Accepting.{flag_keeps}
 use Rattle.group_model.proofs.More.{MoreMay}

@@ -4,7 +4,7 @@ use Rattle.std.proofs.Common.{◌≡◌, ℕ, List, [], ◌∷◌, ◌++◌, Opt
 use Rattle.group_model.proofs.May.{MayAccept, MayAppend, MayChoose, MayCommit, MayHeed, MayJoin, committing_group, joined}
 use Rattle.group_model.specs.Effects.{NewLog}
 use Rattle.group_model.specs.Facts.{BodyOk, In, Low, More, Ok, ServerOk}
-use Rattle.group_model.specs.Laws.{Near}
+use Rattle.group_model.specs.Laws.{Grows, Near}
 use Rattle.group_model.specs.Moves.{Accepting, Appending, Choosing, Collecting, Committing, Heeding, Joining, Move, Sending, act, acts, book_after, moved, moved_by}
 use Rattle.group_model.specs.Places.{P0, P1, P2, Place, Trio, at, get}
 use Rattle.group_model.specs.State.{Collects, Duty, Group, Message, Plan, Report, Role, Server}
@@ -19,7 +19,6 @@ use Rattle.group_model.proofs.Committing.{commit_kept}
 use Rattle.group_model.proofs.More.{MoreMay, more_moved}
 use Rattle.group_model.proofs.Low.{LowMay, low_moved}
 use Rattle.group_model.proofs.Growth.{grows_same, grows_then, grows_moved}
-use Rattle.group_model.proofs.Grow.{Grows}
 use Rattle.group_model.proofs.Entering.{Beside, BesideMay, beside_moved}
 use Rattle.group_model.proofs.Quiet.{Fine, fine, one_server, send_kept, ok_beside}
 
@@ -46,7 +45,7 @@ abbrev pub May : Group Entry → Place → Server Entry → Move Entry → Type 
 May g q s m = MoreMay g q s m × LowMay g q s m × BesideMay g q s m
 
 -- each of the moves is made in a good group, and leads to one
-pub Goes : Group Entry → Place → Server Entry → List (Move Entry) → Type 0
+unfoldable pub Goes : Group Entry → Place → Server Entry → List (Move Entry) → Type 0
 Goes g q s [] = Good g q s
 Goes g q s (m ∷ ms) = Good g q s × May g q s m × Goes (moved g q s m) q (act q (g.clock q) s m) ms
 

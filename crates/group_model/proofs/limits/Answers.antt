@@ -1,0 +1,5 @@
+use Rattle.group_model.proofs.Safe.{run_whole}
+use Rattle.group_model.proofs.limits.Goals as goal
+
+pub returns : goal.returns
+returns c = record { within = λ size g w hs. (run_whole size hs g w).within }
