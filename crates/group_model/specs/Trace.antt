@@ -176,11 +176,15 @@ abbrev pub packet_lines : (List Entry → Entry → ℕ) → Group Entry → Gro
 packet_lines size g g' None = []
 packet_lines size g g' (Some p) = lines_of g g' p.to (step_of size g p.to (Comes p.from p.body))
 
+abbrev pub cut_lines : Group Entry → Group Entry → Option (Packet Entry) → List Line
+cut_lines g g' None = []
+cut_lines g g' (Some p) = lines_of g g' p.to []
+
 abbrev pub shows : (List Entry → Entry → ℕ) → Group Entry → Group Entry → Happening → List Line
 shows size g g' (At q d) = lines_of g g' q (step_of size g q (Does d))
 shows size g g' (Deliver n) = packet_lines size g g' (numbered g.packets n)
 shows size g g' (CutAt q d) = lines_of g g' q []
-shows size g g' (CutDeliver n) = []
+shows size g g' (CutDeliver n) = cut_lines g g' (numbered g.packets n)
 shows size g g' (Boot q) = lines_of g g' q []
 shows size g g' (Clock q t) = []
 shows size g g' (Advance d) = []
