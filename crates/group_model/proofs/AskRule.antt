@@ -1,6 +1,6 @@
 -- The answer to an ask keeps the facts.
-use Rattle.std.proofs.Common.{◌≡◌, ℕ, ◌+◌, ◌-◌, ◌*◌, ◌/◌, ◌%◌, ◌<◌, ◌≤◌, ◌||◌, Bool, true, false, List, [], ◌∷◌, ◌++◌, length, Option, None, Some, slice_get, take, refl, sym, ap, ◌∙◌, subst, arith, true≢false, ⊎_elim, le_refl, nat_lt, nat_le, ◌==◌, if◌then◌else◌}
-use Rattle.std.specs.Prelude.{⊤, MatchBool}
+use Rattle.std.proofs.Common.{◌≡◌, ℕ, ◌+◌, ◌-◌, ◌<◌, ◌≤◌, ◌||◌, Bool, true, false, List, [], ◌∷◌, ◌++◌, length, Option, None, Some, slice_get, take, refl, sym, ap, ◌∙◌, subst, arith, le_refl, nat_lt, nat_le, ◌==◌}
+use Rattle.std.specs.Prelude.{MatchBool}
 use Rattle.harp_base.specs.declared.call.Call.{Call}
 use Rattle.file_tree.specs.Tree.{Tree, first_tree}
 use Rattle.file_tree.specs.Calls.{outcome}
@@ -90,10 +90,19 @@ read_goes g q s h o client number c u list e = goes_if g q s (nat_le s.grant (g.
     let fronts : take s.cp list ≡ g.committed = ap (λ (x : List Entry). take s.cp x) e ∙ ap (λ (n : ℕ). take n (g.page s.accepted).list) count
     ∙ front_is (g.page s.accepted).list g.committed (subst (λ (n : ℕ). n ≤ length (g.page s.accepted).list) count log.sure.within) (λ k l. log.sure.same k (subst (λ (n : ℕ). k < n) (sym count) l)) in
     let tree : tree_after (take s.cp list) ≡ tree_after g.book = ap tree_after (fronts ∙ sym h.beside.books.updates) ∙ sym (tree_of_updates first_tree g.book) in
-    goes_one g q s (Reading s.cp (read_entry s.cp list client number c)) h (tt, tt, (record {
-      reply = ap (λ (t : Tree). (outcome t c 0).0) tree;
-      order = subst (λ (b : Bool). MatchBool b (IsNextUpdate (updates g.book) (read_entry s.cp list client number c)) (IsRead (read_entry s.cp list client number c))) (sym u) (refl, refl);
-    }, u, count, later)) (read_kept g h.ok q s h.is s.cp (read_entry s.cp list client number c)))
+    goes_one g q s (Reading s.cp (read_entry s.cp list client number c)) h (
+      tt,
+      tt,
+      (
+        record {
+          reply = ap (λ (t : Tree). (outcome t c 0).0) tree;
+          order = subst (λ (b : Bool). MatchBool b (IsNextUpdate (updates g.book) (read_entry s.cp list client number c)) (IsRead (read_entry s.cp list client number c))) (sym u) (refl, refl);
+        },
+        u,
+        count,
+        later,
+      ),
+    ) (read_kept g h.ok q s h.is s.cp (read_entry s.cp list client number c)))
 
 -- the answer to an ask
 pub asked : (g : Group Entry) (q : Place) (s : Server Entry) → Good g q s → (list : List Entry) → list ≡ take (top s) (g.page s.accepted).list → (client number : ℕ) (c : Call) → Goes g q s (on_ask q (g.clock q) list s client number c)

@@ -1,21 +1,14 @@
 -- Lists of updates, and the book that reads stand in beside them.
-use Rattle.std.proofs.Common.{◌≡◌, ◌⊎◌, ℕ, zero, suc, ◌+◌, ◌-◌, ◌<◌, ◌≤◌, Bool, true, false, List, [], ◌∷◌, ◌++◌, append_assoc, append-nil, length, Option, None, Some, slice_get, take, max, refl, sym, ap, ◌∙◌, subst, inl, inr, arith, true≢false, ⊎_elim, le_refl, le_of_eq, le_trans, lt_of_le_of_lt, le_of_lt, length-append, ◌==◌, if◌then◌else◌, nat_lt}
-use Rattle.std.specs.Prelude.{⊤, MatchBool, filter, fold}
+use Rattle.std.proofs.Common.{◌≡◌, ℕ, zero, suc, Bool, true, false, List, [], ◌∷◌, ◌++◌, append_assoc, append-nil, Some, slice_get, take, refl, sym, ap, ◌∙◌, subst, ⊎_elim}
+use Rattle.std.specs.Prelude.{MatchBool, fold}
 use Rattle.std.specs.List.{AllByRecursion}
 use Rattle.std.proofs.lemmas.Bool.{cases_Bool}
-use Rattle.std.proofs.lemmas.Option.{slice_get_within}
-use Rattle.std.proofs.lemmas.List.{length-take-le}
 use Rattle.std.proofs.lemmas.List.Elements.{filter-append}
-use Rattle.std.proofs.lemmas.List.Sums.{fold-append}
-use Rattle.harp_base.specs.declared.call.Call.{Call}
 use Rattle.file_tree.specs.Tree.{Tree, first_tree}
 use Rattle.file_tree.specs.Calls.{outcome}
-use Rattle.file_tree.specs.Book.{Entry, is_update, updates, tree_next, tree_after, MayFollow, MayFollowAll, IsNextUpdate, IsRead, IsBook}
+use Rattle.file_tree.specs.Book.{Entry, is_update, updates, tree_next, tree_after, MayFollow, MayFollowAll, IsNextUpdate, IsRead}
 use Rattle.file_tree.proofs.ReadLaw.{read_keeps}
-use Rattle.group_model.specs.Ask.{append}
 use Rattle.group_model.specs.Entered.{UpdatesFrom}
-use Rattle.group_model.proofs.Common.{by_if}
-use Rattle.group_model.proofs.Tests.{is_eq'}
 
 pub all_append : {X : Type 0} (P : X → Type 0) (xs ys : List X) → AllByRecursion P xs → AllByRecursion P ys → AllByRecursion P (xs ++ ys)
 all_append P [] ys a b = b
@@ -80,11 +73,16 @@ enter book c (e ∷ es) u h =
     let next : IsNextUpdate (updates book) e = subst (λ (l : List Entry). IsNextUpdate l e) (sym u) (next_is c e cc' h.0 h.1) in
     let tree : tree_after c ≡ tree_after book = ap tree_after (sym u) ∙ sym (tree_of_updates first_tree book) in
     let more : updates (book ++ e ∷ []) ≡ c ++ e ∷ [] = filter-append (λ x. is_update x.call) book (e ∷ []) ∙ ap (λ (l : List Entry). l ++ updates (e ∷ [])) u ∙ ap (λ (l : List Entry). c ++ l) (only_updates c (e ∷ []) (h.0, h.1, tt)) in
-    let rest = enter (book ++ e ∷ []) (c ++ e ∷ []) es more h.2 in
-    ((record {
-      reply = h.1.reply ∙ ap (λ (t : Tree). (outcome t e.call e.stamp).0) tree;
-      order = subst (λ (b : Bool). MatchBool b (IsNextUpdate (updates book) e) (IsRead e)) (sym h.0) next;
-    }, rest.0), ap updates (sym (joined_up book e es)) ∙ rest.1 ∙ joined_up c e es)
+    let rest = enter (book ++ e ∷ []) (c ++ e ∷ []) es more h.2 in (
+      (
+        record {
+          reply = h.1.reply ∙ ap (λ (t : Tree). (outcome t e.call e.stamp).0) tree;
+          order = subst (λ (b : Bool). MatchBool b (IsNextUpdate (updates book) e) (IsRead e)) (sym h.0) next;
+        },
+        rest.0,
+      ),
+      ap updates (sym (joined_up book e es)) ∙ rest.1 ∙ joined_up c e es,
+    )
   where
     twice : (xs : List Entry) → updates (updates xs) ≡ updates xs
     twice [] = refl

@@ -1,11 +1,10 @@
 -- The moves keep what is said of answers, of the book and of the limits.
-use Rattle.std.proofs.Common.{◌≡◌, ◌⊎◌, ℕ, zero, suc, ◌+◌, ◌-◌, ◌<◌, ◌≤◌, ◌/◌, ◌&&◌, Bool, true, false, List, [], ◌∷◌, ◌++◌, append-nil, length, Option, None, Some, slice_get, take, drop, max, min, refl, sym, ap, ◌∙◌, subst, arith, true≢false, ⊎_elim, le_refl, le_trans, lt_of_le_of_lt, zero-le, nat_lt, length-append, if◌then◌else◌}
+use Rattle.std.proofs.Common.{◌≡◌, ℕ, suc, ◌+◌, ◌-◌, ◌<◌, ◌≤◌, ◌/◌, ◌&&◌, Bool, true, false, List, [], ◌∷◌, ◌++◌, append-nil, length, Option, None, Some, take, refl, sym, ap, ◌∙◌, subst, arith, ⊎_elim, zero-le, nat_lt, length-append}
 use Rattle.std.specs.Prelude.{⊤}
 use Rattle.std.proofs.lemmas.Option.{slice_get_within}
-use Rattle.std.proofs.lemmas.List.{length-take, length-drop, length-take-le}
+use Rattle.std.proofs.lemmas.List.{length-take, length-drop}
 use Rattle.std.proofs.lemmas.List.Elements.{filter-append}
-use Rattle.file_tree.specs.Book.{Entry, is_update, updates, MayFollow, MayFollowAll, IsBook}
-use Rattle.group_model.specs.Ask.{append}
+use Rattle.file_tree.specs.Book.{Entry, is_update, updates, MayFollow, IsBook}
 use Rattle.group_model.specs.Effects.{booted, demoted_by, down, load_tests, loaded, saving}
 use Rattle.group_model.specs.Entered.{AnswerOk, AnswersOk, BodyWithin, Books, ServerWithin, UpdatesFrom, Within}
 use Rattle.group_model.specs.Facts.{Agree, Each, In, Ok}
@@ -13,16 +12,13 @@ use Rattle.group_model.specs.Laws.{Grows}
 use Rattle.group_model.specs.Limits.{can_have, is_log, is_outside, limit, room}
 use Rattle.group_model.specs.Moves.{Accepting, Appending, Basing, Booting, Choosing, Committing, Demoting, Falling, Heeding, Joining, Move, Opening, Reading, Saving, Saying, Sending, act, moved, new_entries, said_after}
 use Rattle.group_model.specs.Places.{Place, all_of, at, is_p2, number, put}
-use Rattle.group_model.specs.Replicate.{answers}
 use Rattle.group_model.specs.State.{Answered, Answers, Group, JoinMade, Lists, Packet, Page, Refuses, Saved, Say, Server, mark_of}
 use Rattle.group_model.proofs.Common.{each_at, by_if}
-use Rattle.group_model.proofs.Tests.{each_of, is_le}
-use Rattle.group_model.proofs.Grow.{puts, by_page, sure_grow, each_map}
-use Rattle.group_model.proofs.Quiet.{fine}
+use Rattle.group_model.proofs.Grow.{puts, by_page, sure_grow}
 use Rattle.group_model.proofs.More.{MoreMay}
 use Rattle.group_model.proofs.Low.{LowMay}
 use Rattle.group_model.proofs.Growth.{grows_moved}
-use Rattle.group_model.proofs.BookLists.{from_append, from_back, from_take, enter, book_append, only_updates, tree_of_updates}
+use Rattle.group_model.proofs.BookLists.{from_append, from_back, from_take, enter, book_append}
 
 -- the facts on what is entered and answered, and on the limits
 pub record Beside (g : Group Entry) : Type 0 where

@@ -1,6 +1,5 @@
 -- Form, pulling, accepting and serving keep the facts.
-use Rattle.std.proofs.Common.{◌≡◌, ℕ, suc, ◌+◌, ◌-◌, ◌*◌, ◌/◌, ◌%◌, ◌<◌, ◌≤◌, ◌||◌, Bool, true, false, List, [], ◌∷◌, ◌++◌, length, take, drop, refl, sym, ap, ◌∙◌, subst, arith, true≢false, ⊎_elim, le_of_eq, le_refl, nat_le, ◌==◌, if◌then◌else◌, length-append}
-use Rattle.std.specs.Prelude.{⊤}
+use Rattle.std.proofs.Common.{◌≡◌, ℕ, suc, ◌+◌, ◌-◌, ◌≤◌, ◌||◌, Bool, true, false, List, [], ◌∷◌, ◌++◌, length, take, drop, refl, sym, ap, ◌∙◌, subst, arith, true≢false, ⊎_elim, le_of_eq, le_refl, nat_le, ◌==◌, if◌then◌else◌, length-append}
 use Rattle.std.proofs.lemmas.List.{length-take}
 use Rattle.file_tree.specs.Book.{Entry}
 use Rattle.group_model.specs.Facts.{IsJoining, Part, Under}
@@ -8,7 +7,7 @@ use Rattle.group_model.specs.Form.{accept_moves, adopted, fits, form_moves, keep
 use Rattle.group_model.specs.Limits.{by_held, give_bytes, is_joins, is_pulls, room}
 use Rattle.group_model.specs.Misfits.{given_tests}
 use Rattle.group_model.specs.Moves.{Accepting, Pulling, Staging, act, moved}
-use Rattle.group_model.specs.Places.{Place, all_of, is_p2, partner, place, same}
+use Rattle.group_model.specs.Places.{Place, all_of, is_p2, partner, same}
 use Rattle.group_model.specs.Serving.{front, gives, held_tests, on_fetch, one_or_more, serving_accepted, serving_joined}
 use Rattle.group_model.specs.State.{Group, Held, Plan, Server, top}
 use Rattle.group_model.proofs.Lists.{part_drop, part_append, part_take}

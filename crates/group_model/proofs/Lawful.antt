@@ -1,10 +1,8 @@
 -- The laws follow from what every step keeps.
-use Rattle.std.proofs.Common.{◌≡◌, ◌⊎◌, ℕ, zero, suc, ◌+◌, ◌-◌, ◌<◌, ◌≤◌, Bool, true, false, List, [], ◌∷◌, ◌++◌, append_assoc, append-nil, length, Option, None, Some, slice_get, take, drop, refl, sym, ap, ◌∙◌, subst, inl, inr, arith, le_trans, lt_of_lt_of_le, lt_of_le_of_lt, ⊎_elim, le_refl, le_of_lt, if◌then◌else◌}
+use Rattle.std.proofs.Common.{◌≡◌, ◌⊎◌, ℕ, ◌+◌, ◌-◌, ◌<◌, ◌≤◌, Bool, true, false, List, [], ◌∷◌, ◌++◌, append_assoc, append-nil, length, Option, None, Some, slice_get, drop, refl, sym, ap, ◌∙◌, subst, inl, inr, arith, le_trans, lt_of_le_of_lt, ⊎_elim, le_of_lt, if◌then◌else◌}
 use Rattle.std.proofs.lemmas.List.{length-drop}
 use Rattle.std.proofs.lemmas.Bool.{cases_Bool}
-use Rattle.std.proofs.lemmas.Option.{slice_get_within}
-use Rattle.file_tree.specs.Book.{Entry, is_update, MayFollowAll}
-use Rattle.group_model.specs.Ask.{append}
+use Rattle.file_tree.specs.Book.{Entry, MayFollowAll}
 use Rattle.group_model.specs.Effects.{booted, down}
 use Rattle.group_model.specs.Entered.{AnswerOk, UpdatesFrom}
 use Rattle.group_model.specs.Facts.{LowBody, Ok, Part, Sure}
@@ -19,10 +17,10 @@ use Rattle.group_model.proofs.Grow.{each_map}
 use Rattle.group_model.proofs.Growth.{grows_same, grows_then}
 use Rattle.group_model.proofs.Entering.{front_is}
 use Rattle.group_model.proofs.Reading.{exclusive}
-use Rattle.group_model.proofs.Moving.{Good, Goes, May, goes_good, goes_grows, goes_one, at_self}
+use Rattle.group_model.proofs.Moving.{Goes, May, goes_grows, goes_one, at_self}
 use Rattle.group_model.proofs.Quiet.{boot_kept}
 use Rattle.group_model.proofs.Steps.{Known, falls}
-use Rattle.group_model.proofs.Safe.{good_of, happens_whole, input_goes, sent_known, run_whole}
+use Rattle.group_model.proofs.Safe.{good_of, happens_whole, input_goes, sent_known}
 
 -- what is sure in a view is within the start of each later one
 sure_starts : {E : Type 0} (g : Group E) → Ok g → (v w c : ℕ) → v < w → (g.page w).formed ≡ true → Sure g.page g.committed v c → c ≤ (g.page w).plan.start

@@ -1,6 +1,5 @@
 -- What each move asks of the group, and the groups that the larger moves leave.
-use Rattle.std.proofs.Common.{◌≡◌, ℕ, ◌+◌, ◌-◌, ◌<◌, ◌≤◌, true, List, [], ◌∷◌, ◌++◌, length, take, Option, None, Some, max}
-use Rattle.group_model.specs.Choose.{greatest, longer}
+use Rattle.std.proofs.Common.{◌≡◌, ℕ, ◌+◌, ◌<◌, ◌≤◌, true, List, [], ◌∷◌, ◌++◌, length, take, Option, Some, max}
 use Rattle.group_model.specs.Effects.{NewLog, accepting, heeding, joined_server, opening, report_of}
 use Rattle.group_model.specs.Facts.{IsActive, Part, Sure}
 use Rattle.group_model.specs.Moves.{entered, into_page, new_page, raised_page}
@@ -118,4 +117,3 @@ committing_group g q n = record g {
   server = at g.server q (record (g.server q) { cp = n });
   committed = entered g.committed (g.server q).base (g.server q).items n;
 }
-

@@ -1,14 +1,13 @@
 -- Each move of a server keeps the facts: the small steps' lemmas in the words of `mark`.
 use Rattle.file_tree.specs.Book.{Entry}
 use Rattle.std.proofs.Common.{◌≡◌, ℕ, List, [], ◌∷◌, ◌++◌, Option, Some, refl, subst}
-use Rattle.group_model.proofs.May.{MayAccept, MayAppend, MayChoose, MayCommit, MayHeed, MayJoin, committing_group, joined}
+use Rattle.group_model.proofs.May.{MayAccept, MayAppend, MayChoose, MayCommit, MayHeed, MayJoin, committing_group}
 use Rattle.group_model.specs.Effects.{NewLog}
 use Rattle.group_model.specs.Facts.{BodyOk, In, Low, More, Ok, ServerOk}
 use Rattle.group_model.specs.Laws.{Grows, Near}
 use Rattle.group_model.specs.Moves.{Accepting, Appending, Choosing, Collecting, Committing, Heeding, Joining, Move, Sending, act, acts, book_after, moved, moved_by}
 use Rattle.group_model.specs.Places.{P0, P1, P2, Place, Trio, at, get}
 use Rattle.group_model.specs.State.{Collects, Duty, Group, Message, Plan, Report, Role, Server}
-use Rattle.group_model.specs.Step.{near}
 use Rattle.group_model.proofs.Grow.{with_call}
 use Rattle.group_model.proofs.Choice.{choice_kept}
 use Rattle.group_model.proofs.Joining.{join_kept}
@@ -68,14 +67,18 @@ goes_done h = h
 pub goes_more : (g : Group Entry) (q : Place) (s : Server Entry) (m : Move Entry) (ms : List (Move Entry)) → Good g q s → May g q s m → Ok (moved g q s m)
     → (Good (moved g q s m) q (act q (g.clock q) s m) → Goes (moved g q s m) q (act q (g.clock q) s m) ms) → Goes g q s (m ∷ ms)
 unfolding Goes
-goes_more g q s m ms h r k next = (h, r, next (record {
-  ok = k;
-  is = at_self g.server q (act q (g.clock q) s m);
-  more = more_moved g h.ok h.more q s h.is m r.0 k;
-  low = low_moved g h.ok h.low q s h.is m r.1;
-  beside = beside_moved g h.ok h.beside q s h.is m r.0 r.1 r.2 k;
-  near = h.near;
-}))
+goes_more g q s m ms h r k next = (
+  h,
+  r,
+  next (record {
+    ok = k;
+    is = at_self g.server q (act q (g.clock q) s m);
+    more = more_moved g h.ok h.more q s h.is m r.0 k;
+    low = low_moved g h.ok h.low q s h.is m r.1;
+    beside = beside_moved g h.ok h.beside q s h.is m r.0 r.1 r.2 k;
+    near = h.near;
+  }),
+)
 
 -- one move
 pub goes_one : (g : Group Entry) (q : Place) (s : Server Entry) (m : Move Entry) → Good g q s → May g q s m → Ok (moved g q s m) → Goes g q s (m ∷ [])

@@ -1,6 +1,5 @@
 -- Opening, the base, and Formed keep the facts.
-use Rattle.std.proofs.Common.{◌≡◌, ℕ, ◌+◌, ◌-◌, ◌*◌, ◌/◌, ◌%◌, ◌<◌, ◌≤◌, ◌||◌, true, List, [], ◌∷◌, ◌++◌, Option, None, Some, min, refl, sym, ap, ◌∙◌, subst, arith, true≢false, ⊎_elim, le_of_eq, nat_le, ◌==◌, if◌then◌else◌}
-use Rattle.std.specs.Prelude.{⊤}
+use Rattle.std.proofs.Common.{◌≡◌, ℕ, ◌+◌, ◌≤◌, true, List, [], ◌∷◌, ◌++◌, Option, None, Some, min, refl, sym, ap, ◌∙◌, subst, arith, le_of_eq, nat_le}
 use Rattle.file_tree.specs.Book.{Entry}
 use Rattle.group_model.proofs.May.{MayOpen}
 use Rattle.group_model.specs.Effects.{opening}

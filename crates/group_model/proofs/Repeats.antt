@@ -1,6 +1,6 @@
 -- A client's last update and the last stamp of a list, and what they say of the next update.
-use Rattle.std.proofs.Common.{◌≡◌, ℕ, zero, suc, ◌+◌, ◌<◌, ◌≤◌, Bool, true, false, List, [], ◌∷◌, ◌++◌, append-nil, length, Option, None, Some, slice_get, take, max, refl, sym, ap, ◌∙◌, subst, arith, le_refl, le_trans, lt_of_le_of_lt, le_of_lt, ◌==◌, if◌then◌else◌}
-use Rattle.std.specs.Prelude.{⊤, MatchBool}
+use Rattle.std.proofs.Common.{◌≡◌, ℕ, suc, ◌+◌, ◌<◌, ◌≤◌, Bool, true, false, List, [], ◌∷◌, ◌++◌, append-nil, length, Option, None, Some, slice_get, take, max, refl, sym, ap, ◌∙◌, subst, arith, le_refl, lt_of_le_of_lt, le_of_lt, ◌==◌}
+use Rattle.std.specs.Prelude.{MatchBool}
 use Rattle.std.specs.List.{AllByRecursion}
 use Rattle.std.proofs.lemmas.Bool.Decides.{nat_tests}
 use Rattle.std.proofs.lemmas.Option.{slice_get_within}
@@ -8,9 +8,9 @@ use Rattle.std.proofs.lemmas.List.{length-take-le}
 use Rattle.std.proofs.lemmas.List.Elements.{filter-append}
 use Rattle.harp_base.specs.declared.call.Call.{Call}
 use Rattle.file_tree.specs.Book.{Entry, is_update, updates, MayFollow, IsNextUpdate, IsRead}
-use Rattle.group_model.specs.Ask.{append, last_of, last_stamp, later_of, later_stamp, new_entry}
+use Rattle.group_model.specs.Ask.{last_of, last_stamp, later_of, later_stamp, new_entry}
 use Rattle.group_model.specs.Entered.{UpdatesFrom}
-use Rattle.group_model.specs.Places.{number, place}
+use Rattle.group_model.specs.Places.{number}
 use Rattle.group_model.proofs.Common.{by_if}
 use Rattle.group_model.proofs.Tests.{is_eq'}
 use Rattle.group_model.proofs.BookLists.{all_append, all_front, all_back, all_more, joined_up, only_updates, from_at, from_take, next_is}

@@ -1,6 +1,5 @@
 -- Tick keeps the facts.
-use Rattle.std.proofs.Common.{◌≡◌, ℕ, suc, ◌+◌, ◌-◌, ◌*◌, ◌/◌, ◌%◌, ◌<◌, ◌≤◌, ◌||◌, List, [], ◌∷◌, ◌++◌, Option, None, Some, slice_get, take, drop, max, refl, sym, ap, ◌∙◌, subst, arith, true≢false, ⊎_elim, ◌==◌, if◌then◌else◌}
-use Rattle.std.specs.Prelude.{⊤}
+use Rattle.std.proofs.Common.{◌≡◌, ℕ, suc, ◌+◌, ◌-◌, List, [], ◌∷◌, ◌++◌, Option, None, Some, slice_get, take, drop, max, refl, sym, ap, ◌∙◌, subst, arith, ⊎_elim, if◌then◌else◌}
 use Rattle.file_tree.specs.Book.{Entry}
 use Rattle.group_model.specs.Entered.{ServerWithin}
 use Rattle.group_model.specs.Facts.{IsActive, Part}

@@ -1,5 +1,5 @@
 -- The answer to an ask, and appending.
-use Rattle.std.specs.Prelude.{ℕ, ◌+◌, ◌||◌, ◌==◌, nat_lt, nat_le, Bool, true, false, List, [], ◌∷◌, length, take, Option, None, Some, max, if◌then◌else◌}
+use Rattle.std.specs.Prelude.{ℕ, ◌+◌, ◌||◌, ◌==◌, nat_lt, nat_le, List, [], ◌∷◌, length, take, Option, None, Some, max, if◌then◌else◌}
 use Rattle.harp_base.specs.declared.call.Call.{Call}
 use Rattle.file_tree.specs.Calls.{outcome}
 use Rattle.file_tree.specs.Book.{Entry, is_update, tree_after}

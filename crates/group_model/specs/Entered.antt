@@ -1,5 +1,5 @@
 -- The facts on what is entered and answered, and on the limits. They stand on those of the pages and servers.
-use Rattle.std.specs.Prelude.{◌≡◌, ℕ, ◌-◌, ◌/◌, ◌<◌, ◌≤◌, true, List, [], ◌∷◌, ◌++◌, length, Option, Some, slice_get, ⊤}
+use Rattle.std.specs.Prelude.{◌≡◌, ℕ, ◌-◌, ◌/◌, ◌<◌, ◌≤◌, true, List, [], ◌∷◌, ◌++◌, length, Some, slice_get, ⊤}
 use Rattle.file_tree.specs.Book.{Entry, is_update, updates, MayFollow, IsBook}
 use Rattle.group_model.specs.Facts.{Each, In, Sure}
 use Rattle.group_model.specs.Limits.{limit, room}

@@ -1,5 +1,5 @@
 -- Form, pulling and accepting: how a storer takes its part in a formed view.
-use Rattle.std.specs.Prelude.{ℕ, ◌+◌, ◌-◌, ◌||◌, ◌==◌, nat_le, nat_lt, Bool, true, false, List, [], ◌∷◌, ◌++◌, length, take, drop, max, if◌then◌else◌}
+use Rattle.std.specs.Prelude.{ℕ, ◌+◌, ◌-◌, ◌||◌, ◌==◌, nat_le, Bool, true, false, List, [], ◌∷◌, ◌++◌, length, take, drop, max, if◌then◌else◌}
 use Rattle.group_model.specs.Effects.{NewLog}
 use Rattle.group_model.specs.Limits.{by_held, is_joins, is_log, is_pulls, limit, room}
 use Rattle.group_model.specs.Moves.{Accepting, Move, Pulling, Sending, Staging}

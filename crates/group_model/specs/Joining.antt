@@ -1,5 +1,5 @@
 -- Suspicion, invite, join and the coordinator's choice.
-use Rattle.std.specs.Prelude.{ℕ, ◌/◌, ◌==◌, nat_lt, nat_le, Bool, List, [], ◌∷◌, ◌++◌, Option, None, Some, if◌then◌else◌}
+use Rattle.std.specs.Prelude.{ℕ, ◌/◌, ◌==◌, nat_lt, Bool, List, [], ◌∷◌, ◌++◌, Option, None, Some, if◌then◌else◌}
 use Rattle.group_model.specs.Choose.{choose, greatest}
 use Rattle.group_model.specs.Effects.{report_of}
 use Rattle.group_model.specs.Form.{form_moves}

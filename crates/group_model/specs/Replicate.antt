@@ -1,5 +1,5 @@
 -- Event and beat, and acknowledgement.
-use Rattle.std.specs.Prelude.{ℕ, ◌+◌, ◌-◌, ◌==◌, nat_lt, Bool, List, [], ◌∷◌, ◌++◌, length, take, drop, if◌then◌else◌}
+use Rattle.std.specs.Prelude.{ℕ, ◌+◌, ◌-◌, ◌==◌, nat_lt, Bool, List, [], ◌∷◌, length, take, drop, if◌then◌else◌}
 use Rattle.group_model.specs.Limits.{is_active, is_open}
 use Rattle.group_model.specs.Moves.{Committing, Heeding, Move, Noting, Saying, Sending}
 use Rattle.group_model.specs.Places.{Place, all_of, partner, same}

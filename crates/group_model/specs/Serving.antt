@@ -1,5 +1,5 @@
 -- Serving a fetch.
-use Rattle.std.specs.Prelude.{ℕ, ◌+◌, ◌-◌, ◌==◌, nat_le, nat_lt, Bool, List, [], ◌∷◌, ◌++◌, length, take, drop, if◌then◌else◌}
+use Rattle.std.specs.Prelude.{ℕ, ◌+◌, ◌-◌, ◌==◌, nat_le, nat_lt, Bool, List, [], ◌∷◌, ◌++◌, take, drop, if◌then◌else◌}
 use Rattle.group_model.specs.Limits.{give_bytes, is_joining, is_log}
 use Rattle.group_model.specs.Moves.{Move, Sending}
 use Rattle.group_model.specs.Places.{Place, all_of}

@@ -1,9 +1,5 @@
 -- What a schedule shows, line by line: the entered calls, the answers and refusals, the sends, and the server's state where it changed.
 use Rattle.std.specs.Prelude.{ℕ, ◌+◌, ◌-◌, ◌*◌, ◌==◌, Bool, true, false, List, [], ◌∷◌, ◌++◌, length, take, drop, reverse, Option, None, Some, if◌then◌else◌}
-use Rattle.harp_base.specs.declared.attr.Time.{Time}
-use Rattle.harp_base.specs.declared.attr.SetAttr.{SetAttr}
-use Rattle.harp_base.specs.declared.attr.Attr.{Attr}
-use Rattle.harp_base.specs.declared.attr.Kind.TheVariants.{Directory}
 use Rattle.harp_base.specs.declared.call.Call.{Call}
 use Rattle.harp_base.specs.declared.reply.Reply.{Reply}
 use Rattle.file_tree.specs.Book.{Entry}
