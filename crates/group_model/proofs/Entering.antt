@@ -5,18 +5,21 @@ use Rattle.std.proofs.lemmas.Option.{slice_get_within}
 use Rattle.std.proofs.lemmas.List.{length-take, length-drop}
 use Rattle.std.proofs.lemmas.List.Elements.{filter-append}
 use Rattle.file_tree.specs.Book.{Entry, is_update, updates, MayFollow, IsBook}
+use Rattle.group_model.specs.Ask.{append}
 use Rattle.group_model.specs.Effects.{booted, demoted_by, down, load_tests, loaded, saving}
 use Rattle.group_model.specs.Entered.{AnswerOk, AnswersOk, BodyWithin, Books, ServerWithin, UpdatesFrom, Within}
-use Rattle.group_model.specs.Facts.{Agree, Each, In, Ok}
+use Rattle.group_model.specs.Facts.{Ok}
 use Rattle.group_model.specs.Laws.{Grows}
 use Rattle.group_model.specs.Limits.{can_have, is_log, is_outside, limit, room}
 use Rattle.group_model.specs.Moves.{Accepting, Appending, Basing, Booting, Choosing, Committing, Demoting, Falling, Heeding, Joining, Move, Opening, Reading, Saving, Saying, Sending, act, moved, new_entries, said_after}
 use Rattle.group_model.specs.Places.{Place, all_of, at, is_p2, number, put}
+use Rattle.group_model.specs.Replicate.{answers}
 use Rattle.group_model.specs.State.{Answered, Answers, Group, JoinMade, Lists, Packet, Page, Refuses, Saved, Say, Server, mark_of}
+use Rattle.group_model.specs.Words.{Agree, Each, In}
 use Rattle.group_model.proofs.Common.{each_at, by_if}
 use Rattle.group_model.proofs.Grow.{puts, by_page, sure_grow}
-use Rattle.group_model.proofs.More.{MoreMay}
-use Rattle.group_model.proofs.Low.{LowMay}
+use Rattle.group_model.proofs.Settled.{SettledMay}
+use Rattle.group_model.proofs.Bases.{BasesMay}
 use Rattle.group_model.proofs.Growth.{grows_moved}
 use Rattle.group_model.proofs.BookLists.{from_append, from_back, from_take, enter, book_append}
 
@@ -170,7 +173,7 @@ within_moved g q s e m h may = record {
   packet = packets_moved g q s m h may;
 }
 
-pub beside_moved : (g : Group Entry) → Ok g → Beside g → (q : Place) (s : Server Entry) → g.server q ≡ s → (m : Move Entry) → MoreMay g q s m → LowMay g q s m → BesideMay g q s m → Ok (moved g q s m) → Beside (moved g q s m)
+pub beside_moved : (g : Group Entry) → Ok g → Beside g → (q : Place) (s : Server Entry) → g.server q ≡ s → (m : Move Entry) → SettledMay g q s m → BasesMay g q s m → BesideMay g q s m → Ok (moved g q s m) → Beside (moved g q s m)
 beside_moved g ok h q s e m more low may ok' = record {
   answers = answers_moved g q s m (grows_moved g ok q s e m more low) h.answers may;
   books = books_moved g q s ok e m h.books may ok';

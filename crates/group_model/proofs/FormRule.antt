@@ -2,14 +2,14 @@
 use Rattle.std.proofs.Common.{◌≡◌, ℕ, suc, ◌+◌, ◌-◌, ◌≤◌, ◌||◌, Bool, true, false, List, [], ◌∷◌, ◌++◌, length, take, drop, refl, sym, ap, ◌∙◌, subst, arith, true≢false, ⊎_elim, le_of_eq, le_refl, nat_le, ◌==◌, if◌then◌else◌, length-append}
 use Rattle.std.proofs.lemmas.List.{length-take}
 use Rattle.file_tree.specs.Book.{Entry}
-use Rattle.group_model.specs.Facts.{IsJoining, Part, Under}
 use Rattle.group_model.specs.Form.{accept_moves, adopted, fits, form_moves, keeps, on_form, on_give, pull_tests, role_of, wanted}
 use Rattle.group_model.specs.Limits.{by_held, give_bytes, is_joins, is_pulls, room}
 use Rattle.group_model.specs.Misfits.{given_tests}
 use Rattle.group_model.specs.Moves.{Accepting, Pulling, Staging, act, moved}
-use Rattle.group_model.specs.Places.{Place, all_of, is_p2, partner, same}
+use Rattle.group_model.specs.Places.{Place, all_of, is_p2, partner, place, same}
 use Rattle.group_model.specs.Serving.{front, gives, held_tests, on_fetch, one_or_more, serving_accepted, serving_joined}
 use Rattle.group_model.specs.State.{Group, Held, Plan, Server, top}
+use Rattle.group_model.specs.Words.{IsJoining, Part, Under}
 use Rattle.group_model.proofs.Lists.{part_drop, part_append, part_take}
 use Rattle.group_model.proofs.Common.{by_if}
 use Rattle.group_model.proofs.Accepting.{same_is}
@@ -18,7 +18,7 @@ use Rattle.group_model.proofs.Tests.{each_of, all_true, one_of, is_le, is_lt, is
 use Rattle.group_model.proofs.Quiet.{pull_kept, stage_kept, log_is}
 use Rattle.group_model.proofs.Moving.{Good, its, Goes, goes_done, goes_more, accepting'}
 use Rattle.group_model.proofs.Adopting.{if_true, adopt_may, fits_is, keeps_held, source_from, source_part}
-use Rattle.group_model.proofs.Low.{lbs_of}
+use Rattle.group_model.proofs.Bases.{lbs_of}
 use Rattle.group_model.proofs.Sends.{goes_if, goes_send, goes_where, partner_lb}
 
 pub adopted_lb : (q : Place) (s : Server Entry) (plan : Plan) → is_p2 q ≡ false → s.lb ≤ (if is_p2 q then plan.base else s.lb)

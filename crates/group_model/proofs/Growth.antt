@@ -1,5 +1,7 @@
 -- Each move lets the history grow: pages keep their plan and origin, lists and the book are prolonged, flags stay.
 use Rattle.std.proofs.Common.{◌≡◌, ◌∙◌, ℕ, ◌≤◌, true, List, [], ◌∷◌, ◌++◌, refl, sym, subst, inr, arith, le_trans, true≢false, le_refl, zero-le, length-append}
+use Rattle.group_model.proofs.May.{opened, raised}
+use Rattle.group_model.specs.Choose.{longer}
 use Rattle.group_model.specs.Facts.{Ok}
 use Rattle.group_model.specs.Laws.{Grows, PageGrows}
 use Rattle.group_model.specs.Moves.{Accepting, Appending, Choosing, Committing, Heeding, Joining, Move, Opening, into_page, moved, raised_page}
@@ -9,8 +11,8 @@ use Rattle.group_model.proofs.Lists.{get_front}
 use Rattle.group_model.proofs.Grow.{page_same, grows_put}
 use Rattle.group_model.proofs.Quiet.{fine}
 use Rattle.group_model.proofs.Accepting.{flag_keeps}
-use Rattle.group_model.proofs.More.{MoreMay}
-use Rattle.group_model.proofs.Low.{LowMay}
+use Rattle.group_model.proofs.Settled.{SettledMay}
+use Rattle.group_model.proofs.Bases.{BasesMay}
 
 pub grows_same : {E : Type 0} (page : ℕ → Page E) (committed : List E) (joins : List JoinMade) → Grows page page committed committed joins joins
 grows_same page committed joins = record { each = λ v f. page_same (page v) f; longer = le_refl _; agree = λ k l. refl; more = λ j i. i }
@@ -60,7 +62,7 @@ appended_grows p e f = record {
   opened = λ h. h;
 }
 
-pub grows_moved : {E : Type 0} (g : Group E) → Ok g → (q : Place) (s : Server E) → g.server q ≡ s → (m : Move E) → MoreMay g q s m → LowMay g q s m
+pub grows_moved : {E : Type 0} (g : Group E) → Ok g → (q : Place) (s : Server E) → g.server q ≡ s → (m : Move E) → SettledMay g q s m → BasesMay g q s m
     → Grows g.page (moved g q s m).page g.committed (moved g q s m).committed g.joins (moved g q s m).joins
 grows_moved g ok q s e (Joining v duty) more low = record { each = λ v f. page_same (g.page v) f; longer = le_refl _; agree = λ k l. refl; more = λ j i. inr i }
 grows_moved g ok q s e (Choosing plan from) more low = grows_page g.page g.committed g.joins s.promised _ (λ f. absurd (true≢false (sym f ∙ more)))

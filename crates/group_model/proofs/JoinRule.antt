@@ -1,15 +1,16 @@
 -- Suspicion, invite, join and the choice keep the facts.
 use Rattle.std.proofs.Common.{◌≡◌, ℕ, ◌+◌, ◌*◌, ◌/◌, ◌%◌, ◌<◌, ◌≤◌, true, [], Option, None, Some, refl, sym, subst, inl, arith, nat_lt, ◌==◌}
 use Rattle.file_tree.specs.Book.{Entry}
+use Rattle.group_model.proofs.May.{chosen}
 use Rattle.group_model.specs.Choose.{choose, greatest}
 use Rattle.group_model.specs.Effects.{report_of}
-use Rattle.group_model.specs.Facts.{In}
 use Rattle.group_model.specs.Form.{form_moves}
 use Rattle.group_model.specs.Joining.{chosen_moves, joined_tests, on_invite, on_join, suspect, to_each}
 use Rattle.group_model.specs.Limits.{limit}
 use Rattle.group_model.specs.Moves.{Choosing, Collecting, Joining, act, moved}
 use Rattle.group_model.specs.Places.{P0, P1, P2, Place, Trio, all_of, coordinator, get, next_view, nobody, other_storers, others, with_at}
 use Rattle.group_model.specs.State.{Chose, Collects, Duty, Form, Group, Invite, NoDuty, Plan, Report, Server}
+use Rattle.group_model.specs.Words.{In}
 use Rattle.group_model.proofs.Common.{each_with}
 use Rattle.group_model.proofs.Tests.{each_of, is_lt, is_eq', joining_is}
 use Rattle.group_model.proofs.Moving.{Good, its, Goes, goes_done, goes_more, goes_one, choosing, calling, joining}

@@ -3,14 +3,17 @@ use Rattle.std.proofs.Common.{◌≡◌, ◌⊎◌, ℕ, ◌+◌, ◌-◌, ◌<�
 use Rattle.std.proofs.lemmas.List.{length-drop}
 use Rattle.std.proofs.lemmas.Bool.{cases_Bool}
 use Rattle.file_tree.specs.Book.{Entry, MayFollowAll}
+use Rattle.group_model.specs.Ask.{append}
+use Rattle.group_model.specs.Bases.{BasesBody}
 use Rattle.group_model.specs.Effects.{booted, down}
 use Rattle.group_model.specs.Entered.{AnswerOk, UpdatesFrom}
-use Rattle.group_model.specs.Facts.{LowBody, Ok, Part, Sure}
+use Rattle.group_model.specs.Facts.{Ok}
 use Rattle.group_model.specs.Laws.{AllSaidRightly, AreRecords, BaseUnder, BasesOnBothDisks, CommittedSurvives, EveryLaterView, Grows, Growth, OneBook, ReadsAlone, SaidRightly, StandsFor, TwoOutcomes, Whole}
 use Rattle.group_model.specs.Moves.{Booting, Choosing, Committing, Falling, Move, Opening, Reading, Saying, act, answered_after, book_after, moved, moved_by, new_entries, said_after}
 use Rattle.group_model.specs.Places.{Place, all_of, number}
 use Rattle.group_model.specs.State.{Answered, Answers, Beat, Event, Group, Lists, Message, Packet, Page, Refuses, Say, Server, mark_of}
 use Rattle.group_model.specs.Step.{Advance, At, Boot, Clock, Comes, Crash, CutAt, CutDeliver, Deed, Deliver, Does, Happening, Input, clock_tests, cut_delivered, cut_steps, delivered, happens, numbered, run, step_of, steps, writes_any}
+use Rattle.group_model.specs.Words.{Part, Sure}
 use Rattle.group_model.proofs.Common.{by_if, sure_up}
 use Rattle.group_model.proofs.Lists.{get_drop}
 use Rattle.group_model.proofs.Grow.{each_map}
@@ -54,7 +57,7 @@ follows_all earlier (x ∷ xs) h = (h.1, follows_all (earlier ++ x ∷ []) xs h.
 pub one_book : (g : Group Entry) → Whole g → OneBook g
 one_book g h = record { book = h.books.book; updates = h.books.updates; lists = λ w f. follows_all [] (g.page w).list (h.books.list w f) }
 
-base_under : (lbs : Place → ℕ) (page : ℕ → Page Entry) (m : Message Entry) → LowBody lbs page m → BaseUnder lbs m
+base_under : (lbs : Place → ℕ) (page : ℕ → Page Entry) (m : Message Entry) → BasesBody lbs page m → BaseUnder lbs m
 base_under lbs page (Event v index cp base e) h = h
 base_under lbs page (Beat v cp base) h = h
 base_under lbs page m h = tt
@@ -65,7 +68,7 @@ bases_on_both_disks g h = record {
   saved = λ q. (h.low.server q).saved;
   page = h.low.page;
   join = h.low.join;
-  packet = each_map (λ (p : Packet Entry). LowBody (λ x. (g.server x).lb) g.page p.body) (λ (p : Packet Entry). BaseUnder (λ x. (g.server x).lb) p.body) (λ p. base_under (λ x. (g.server x).lb) g.page p.body) g.packets h.low.packet;
+  packet = each_map (λ (p : Packet Entry). BasesBody (λ x. (g.server x).lb) g.page p.body) (λ (p : Packet Entry). BaseUnder (λ x. (g.server x).lb) p.body) (λ p. base_under (λ x. (g.server x).lb) g.page p.body) g.packets h.low.packet;
 }
 
 records_are : (base : ℕ) (items list : List Entry) → Part base items list → base + length items ≤ length list → AreRecords base items list

@@ -1,10 +1,11 @@
 -- What each move asks of the group, and the groups that the larger moves leave.
 use Rattle.std.proofs.Common.{◌≡◌, ℕ, ◌+◌, ◌<◌, ◌≤◌, true, List, [], ◌∷◌, ◌++◌, length, take, Option, Some, max}
+use Rattle.group_model.specs.Choose.{greatest, longer}
 use Rattle.group_model.specs.Effects.{NewLog, accepting, heeding, joined_server, opening, report_of}
-use Rattle.group_model.specs.Facts.{IsActive, Part, Sure}
 use Rattle.group_model.specs.Moves.{entered, into_page, new_page, raised_page}
 use Rattle.group_model.specs.Places.{IsIn, Place, Trio, at, coordinator, get, leader, partner, put}
 use Rattle.group_model.specs.State.{Chose, Collects, Duty, Group, Log, Open, Outside, Plan, Report, Role, Server, Waits}
+use Rattle.group_model.specs.Words.{IsActive, Part, Sure}
 
 -- The choice of the coordinator c, from the joins that it was told: `from` is the greatest accepted view
 pub record MayChoose {E : Type 0} (g : Group E) (s : Server E) (reports : Trio (Option Report)) (plan : Plan) (from : ℕ) : Type 0 where

@@ -1,13 +1,17 @@
 -- Each move of a server keeps the facts: the small steps' lemmas in the words of `mark`.
 use Rattle.file_tree.specs.Book.{Entry}
 use Rattle.std.proofs.Common.{◌≡◌, ℕ, List, [], ◌∷◌, ◌++◌, Option, Some, refl, subst}
-use Rattle.group_model.proofs.May.{MayAccept, MayAppend, MayChoose, MayCommit, MayHeed, MayJoin, committing_group}
+use Rattle.group_model.proofs.May.{MayAccept, MayAppend, MayChoose, MayCommit, MayHeed, MayJoin, committing_group, joined}
+use Rattle.group_model.specs.Bases.{Bases}
 use Rattle.group_model.specs.Effects.{NewLog}
-use Rattle.group_model.specs.Facts.{BodyOk, In, Low, More, Ok, ServerOk}
+use Rattle.group_model.specs.Facts.{BodyOk, Ok, ServerOk}
 use Rattle.group_model.specs.Laws.{Grows, Near}
 use Rattle.group_model.specs.Moves.{Accepting, Appending, Choosing, Collecting, Committing, Heeding, Joining, Move, Sending, act, acts, book_after, moved, moved_by}
 use Rattle.group_model.specs.Places.{P0, P1, P2, Place, Trio, at, get}
+use Rattle.group_model.specs.Settled.{Settled}
 use Rattle.group_model.specs.State.{Collects, Duty, Group, Message, Plan, Report, Role, Server}
+use Rattle.group_model.specs.Step.{near}
+use Rattle.group_model.specs.Words.{In}
 use Rattle.group_model.proofs.Grow.{with_call}
 use Rattle.group_model.proofs.Choice.{choice_kept}
 use Rattle.group_model.proofs.Joining.{join_kept}
@@ -15,8 +19,8 @@ use Rattle.group_model.proofs.Accepting.{accept_kept}
 use Rattle.group_model.proofs.Opening.{heed_kept}
 use Rattle.group_model.proofs.Appending.{append_kept}
 use Rattle.group_model.proofs.Committing.{commit_kept}
-use Rattle.group_model.proofs.More.{MoreMay, more_moved}
-use Rattle.group_model.proofs.Low.{LowMay, low_moved}
+use Rattle.group_model.proofs.Settled.{SettledMay, settled_moved}
+use Rattle.group_model.proofs.Bases.{BasesMay, bases_moved}
 use Rattle.group_model.proofs.Growth.{grows_same, grows_then, grows_moved}
 use Rattle.group_model.proofs.Entering.{Beside, BesideMay, beside_moved}
 use Rattle.group_model.proofs.Quiet.{Fine, fine, one_server, send_kept, ok_beside}
@@ -30,8 +34,8 @@ at_self f P2 x = refl
 pub record Good (g : Group Entry) (q : Place) (s : Server Entry) : Type 0 where
   pub ok : Ok g
   pub is : g.server q ≡ s
-  pub more : More g
-  pub low : Low g
+  pub more : Settled g
+  pub low : Bases g
   pub beside : Beside g
   pub near : Near g.clock
 
@@ -41,7 +45,7 @@ its {g = g} {q = q} {s = s} h = fine g h.ok q s h.is
 
 -- what each move asks beside what makes its facts
 abbrev pub May : Group Entry → Place → Server Entry → Move Entry → Type 0
-May g q s m = MoreMay g q s m × LowMay g q s m × BesideMay g q s m
+May g q s m = SettledMay g q s m × BasesMay g q s m × BesideMay g q s m
 
 -- each of the moves is made in a good group, and leads to one
 unfoldable pub Goes : Group Entry → Place → Server Entry → List (Move Entry) → Type 0
@@ -73,8 +77,8 @@ goes_more g q s m ms h r k next = (
   next (record {
     ok = k;
     is = at_self g.server q (act q (g.clock q) s m);
-    more = more_moved g h.ok h.more q s h.is m r.0 k;
-    low = low_moved g h.ok h.low q s h.is m r.1;
+    more = settled_moved g h.ok h.more q s h.is m r.0 k;
+    low = bases_moved g h.ok h.low q s h.is m r.1;
     beside = beside_moved g h.ok h.beside q s h.is m r.0 r.1 r.2 k;
     near = h.near;
   }),

@@ -1,11 +1,14 @@
 -- The named facts follow from what every step keeps.
 use Rattle.std.proofs.Common.{◌≡◌, ℕ, ◌+◌, ◌≤◌, true, List, [], ◌∷◌, length, subst, le_trans, lt_of_lt_of_le, ⊎_elim}
 use Rattle.file_tree.specs.Book.{Entry}
-use Rattle.group_model.specs.Facts.{BodyOk, Each, Holds, In, More, Ok, PacketOk}
+use Rattle.group_model.proofs.May.{accepted, joined, opened}
+use Rattle.group_model.specs.Facts.{BodyOk, Ok, PacketOk}
 use Rattle.group_model.specs.Laws.{Whole}
 use Rattle.group_model.specs.NamedFacts.{AcceptedBelowPromised, CarriesEntries, CommitAgrees, CommitsAgreeWithTheBook, DemotesRightly, DemotionFollowsTwoDataServers, HeldTwiceSurvives, HoldsStart, HorizonsCoverPromises, NamedFacts, PromiseKnown, SaidTwice, StorerHoldsTheStart, StorersJoined}
 use Rattle.group_model.specs.Places.{Place}
+use Rattle.group_model.specs.Settled.{Settled}
 use Rattle.group_model.specs.State.{Ack, Beat, Demote, Event, Give, Group, JoinMade, Message, Page, top}
+use Rattle.group_model.specs.Words.{Each, Holds, In}
 use Rattle.group_model.proofs.Common.{share}
 use Rattle.group_model.proofs.Committing.{book_agrees}
 use Rattle.group_model.proofs.Grow.{each_map}
@@ -80,7 +83,7 @@ storer_holds_the_start g ok = record {
   join = λ j i l. holds_start _ j.from _ ((ok.join j i).holds l);
 }
 
-commits_agree : {E : Type 0} (g : Group E) → Ok g → More g → CommitsAgreeWithTheBook g
+commits_agree : {E : Type 0} (g : Group E) → Ok g → Settled g → CommitsAgreeWithTheBook g
 commits_agree g ok more = record {
   server = λ q l. ((ok.server q).logs.log l).sure;
   mark = λ q. (ok.server q).logs.lb_sure;

@@ -3,11 +3,12 @@ use Rattle.std.proofs.Common.{◌≡◌, ℕ, ◌+◌, ◌≤◌, true, List, []
 use Rattle.file_tree.specs.Book.{Entry}
 use Rattle.group_model.proofs.May.{MayOpen}
 use Rattle.group_model.specs.Effects.{opening}
-use Rattle.group_model.specs.Facts.{IsActive, Ok}
+use Rattle.group_model.specs.Facts.{Ok}
 use Rattle.group_model.specs.Moves.{Move, Opening, Sending, act, acts, moved, moved_by, raised_page}
 use Rattle.group_model.specs.Open.{and_then, base_tests, formed_tests, on_formed, open_heard, open_moves, open_tests, rebase, try_open}
 use Rattle.group_model.specs.Places.{P1, P2, Place, S01, all_of, at, get, is_s01, leader, partner, put}
 use Rattle.group_model.specs.State.{Beat, Demote, Group, Page, Plan, Server, Waits, top}
+use Rattle.group_model.specs.Words.{IsActive}
 use Rattle.group_model.proofs.Common.{by_if}
 use Rattle.group_model.proofs.Common.{put_same as put_is}
 use Rattle.group_model.proofs.Accepting.{same_is}
@@ -15,7 +16,7 @@ use Rattle.group_model.proofs.Opening.{open_kept}
 use Rattle.group_model.proofs.Tests.{each_of, is_le, is_lt, is_eq', waits_is, open_is, s01_is}
 use Rattle.group_model.proofs.Quiet.{hear_kept, base_kept}
 use Rattle.group_model.proofs.Moving.{Good, its, Goes, goes_done, goes_more, goes_one, committing, merge, at_self}
-use Rattle.group_model.proofs.Low.{lbs_of}
+use Rattle.group_model.proofs.Bases.{lbs_of}
 use Rattle.group_model.proofs.Sends.{at_page, beat_goes, both, goes_next, goes_send, goes_where, its_low}
 
 -- opening: the leader opens

@@ -3,15 +3,17 @@ use Rattle.std.proofs.Common.{◌≡◌, ℕ, zero, suc, ◌+◌, ◌-◌, ◌<�
 use Rattle.std.proofs.lemmas.Option.{slice_get_within}
 use Rattle.std.proofs.lemmas.List.{length-take, length-drop}
 use Rattle.file_tree.specs.Book.{Entry}
+use Rattle.group_model.proofs.May.{opened}
+use Rattle.group_model.specs.Choose.{longer}
 use Rattle.group_model.specs.Effects.{taken}
 use Rattle.group_model.specs.Entered.{AnswerOk}
-use Rattle.group_model.specs.Facts.{IsActive, Part, Sure, Under}
 use Rattle.group_model.specs.Limits.{room}
 use Rattle.group_model.specs.Misfits.{led_tests}
 use Rattle.group_model.specs.Moves.{Committing, Heeding, Noting, act, moved, raised_page}
-use Rattle.group_model.specs.Places.{P1, Place, S01, all_of, partner, same}
+use Rattle.group_model.specs.Places.{P1, Place, S01, all_of, partner, place, same}
 use Rattle.group_model.specs.Replicate.{ack_tests, answers, in_view_tests, is_in_view, on_ack, on_event}
 use Rattle.group_model.specs.State.{Answers, Group, Log, Page, Plan, Server, top}
+use Rattle.group_model.specs.Words.{IsActive, Part, Sure, Under}
 use Rattle.group_model.proofs.Lists.{part_append, get_take, get_drop}
 use Rattle.group_model.proofs.Common.{by_if, sure_less}
 use Rattle.group_model.proofs.Common.{put_same as put_is}
@@ -20,7 +22,7 @@ use Rattle.group_model.proofs.Tests.{each_of, is_le, is_lt, is_eq', open_is, act
 use Rattle.group_model.proofs.Quiet.{note_kept}
 use Rattle.group_model.proofs.Moving.{Good, its, Goes, goes_done, goes_more, heeding', committing}
 use Rattle.group_model.proofs.Adopting.{if_true}
-use Rattle.group_model.proofs.Low.{lbs_of}
+use Rattle.group_model.proofs.Bases.{lbs_of}
 use Rattle.group_model.proofs.Sends.{Steady, goes_send, goes_where, partner_lb, steady_goes, steady_none, steady_say}
 
 -- event and beat

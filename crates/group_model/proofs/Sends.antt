@@ -1,22 +1,26 @@
 -- Messages and answers: moves that leave the server as it is.
 use Rattle.std.proofs.Common.{◌≡◌, ◌≤◌, Bool, true, false, List, [], ◌∷◌, ◌++◌, append_assoc, append-nil, min, sym, ap, ◌∙◌, subst, inl, arith, le_of_eq, if◌then◌else◌}
 use Rattle.file_tree.specs.Book.{Entry}
+use Rattle.group_model.specs.Ask.{append}
+use Rattle.group_model.specs.Bases.{BasesAt, BasesBody}
 use Rattle.group_model.specs.Entered.{BodyWithin}
-use Rattle.group_model.specs.Facts.{BodyOk, IsActive, LowAt, LowBody, MoreAt, MoreBody, Under}
+use Rattle.group_model.specs.Facts.{BodyOk}
 use Rattle.group_model.specs.Joining.{to_each}
 use Rattle.group_model.specs.Moves.{Move, Saying, Sending, acts, moved, moved_by}
 use Rattle.group_model.specs.Open.{and_then}
 use Rattle.group_model.specs.Places.{P0, P1, Place, S01, leader, partner}
+use Rattle.group_model.specs.Settled.{SettledAt, SettledBody}
 use Rattle.group_model.specs.State.{Beat, Group, Message, Open, Plan, Say, Server}
+use Rattle.group_model.specs.Words.{IsActive, Under}
 use Rattle.group_model.proofs.Common.{by_if}
 use Rattle.group_model.proofs.Quiet.{say_kept}
 use Rattle.group_model.proofs.Entering.{SayMay}
 use Rattle.group_model.proofs.Moving.{Good, its, Goes, goes_done, goes_more, goes_one, goes_then, sending}
-use Rattle.group_model.proofs.Low.{lbs_of}
+use Rattle.group_model.proofs.Bases.{lbs_of}
 
 -- what a message asks beside
 abbrev pub BodyMay : Group Entry → Message Entry → Type 0
-BodyMay g m = MoreBody g.page m × LowBody (lbs_of g.server) g.page m × BodyWithin m
+BodyMay g m = SettledBody g.page m × BasesBody (lbs_of g.server) g.page m × BodyWithin m
 
 -- a message, and then the other moves
 pub goes_send : (g : Group Entry) (q : Place) (s : Server Entry) (to : Place) (m : Message Entry) (ms : List (Move Entry)) → Good g q s → BodyOk g.page g.joins g.committed q to m → BodyMay g m
@@ -45,11 +49,11 @@ at_page g q s h a = (its h).modes.plan a
 
 -- an open leader's CP is at least its view's start
 pub settled : (g : Group Entry) (q : Place) (s : Server Entry) → Good g q s → s.mode ≡ Open → (g.page s.accepted).plan.start ≤ s.cp
-settled g q s h o = (subst (λ s. MoreAt g.page g.committed s) h.is (h.more.server q)).settled (inl o)
+settled g q s h o = (subst (λ s. SettledAt g.page g.committed s) h.is (h.more.server q)).settled (inl o)
 
 -- what is said of a server's bases
-pub its_low : {g : Group Entry} {q : Place} {s : Server Entry} → Good g q s → LowAt (lbs_of g.server) g.page s
-its_low {g = g} {q = q} h = subst (λ s. LowAt (lbs_of g.server) g.page s) h.is (h.low.server q)
+pub its_low : {g : Group Entry} {q : Place} {s : Server Entry} → Good g q s → BasesAt (lbs_of g.server) g.page s
+its_low {g = g} {q = q} h = subst (λ s. BasesAt (lbs_of g.server) g.page s) h.is (h.low.server q)
 
 pub own_base : (g : Group Entry) (q : Place) (s : Server Entry) → Good g q s → IsActive s.mode → Under (lbs_of g.server) s.base
 own_base g q s h a = (its_low h).log ((its h).modes.active a).0

@@ -2,12 +2,12 @@
 use Rattle.std.proofs.Common.{◌≡◌, ℕ, suc, ◌+◌, ◌-◌, List, [], ◌∷◌, ◌++◌, Option, None, Some, slice_get, take, drop, max, refl, sym, ap, ◌∙◌, subst, arith, ⊎_elim, if◌then◌else◌}
 use Rattle.file_tree.specs.Book.{Entry}
 use Rattle.group_model.specs.Entered.{ServerWithin}
-use Rattle.group_model.specs.Facts.{IsActive, Part}
 use Rattle.group_model.specs.Limits.{is_open, is_pulls}
 use Rattle.group_model.specs.Open.{try_open}
 use Rattle.group_model.specs.Places.{P0, P1, P2, Place, all_of, get, partner}
 use Rattle.group_model.specs.State.{Chose, Collects, Duty, Event, Form, Group, Invite, NoDuty, Open, Plan, Report, Server}
 use Rattle.group_model.specs.Tick.{again, again_tests, beats, duties, duty_tests, events, invite_again, tick}
+use Rattle.group_model.specs.Words.{IsActive, Part}
 use Rattle.group_model.proofs.Lists.{part_drop, part_take}
 use Rattle.group_model.proofs.Accepting.{same_is}
 use Rattle.group_model.proofs.Raising.{leader_not_partner}

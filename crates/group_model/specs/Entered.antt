@@ -1,10 +1,10 @@
 -- The facts on what is entered and answered, and on the limits. They stand on those of the pages and servers.
 use Rattle.std.specs.Prelude.{◌≡◌, ℕ, ◌-◌, ◌/◌, ◌<◌, ◌≤◌, true, List, [], ◌∷◌, ◌++◌, length, Some, slice_get, ⊤}
 use Rattle.file_tree.specs.Book.{Entry, is_update, updates, MayFollow, IsBook}
-use Rattle.group_model.specs.Facts.{Each, In, Sure}
 use Rattle.group_model.specs.Limits.{limit, room}
 use Rattle.group_model.specs.Places.{Place}
 use Rattle.group_model.specs.State.{Answered, Group, Invite, Message, Packet, Page, Saved, Server}
+use Rattle.group_model.specs.Words.{Each, In, Sure}
 
 -- An answered update stands in the book at its index, and what the view's list begins with up to it is committed
 pub record AnswerOk {E : Type 0} (page : ℕ → Page E) (committed : List E) (a : Answered E) : Type 0 where

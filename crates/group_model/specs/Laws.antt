@@ -2,12 +2,17 @@
 use Rattle.std.specs.Prelude.{◌≡◌, ℕ, ◌+◌, ◌-◌, ◌<◌, ◌≤◌, ◌⊎◌, true, false, List, [], ◌∷◌, ◌++◌, length, take, drop, Some, slice_get, ⊤}
 use Rattle.file_tree.specs.Calls.{outcome}
 use Rattle.file_tree.specs.Book.{Entry, is_update, updates, tree_after, IsBook}
+use Rattle.group_model.specs.Bases.{Bases}
+use Rattle.group_model.specs.Choose.{longer}
 use Rattle.group_model.specs.Entered.{AnswersOk, Books, Within}
-use Rattle.group_model.specs.Facts.{Agree, Each, In, Low, More, Ok, Under}
+use Rattle.group_model.specs.Facts.{Ok}
 use Rattle.group_model.specs.Moves.{Choosing, Move, Reading, Saying, act, moved}
 use Rattle.group_model.specs.Places.{Place}
+use Rattle.group_model.specs.Replicate.{answers}
+use Rattle.group_model.specs.Settled.{Settled}
 use Rattle.group_model.specs.State.{Answered, Answers, Beat, Event, Group, JoinMade, Log, Message, Open, Outside, Packet, Page, Pulls, Saved, Server, top}
-use Rattle.group_model.specs.Step.{At, Crash, Happening, happens, run}
+use Rattle.group_model.specs.Step.{At, Crash, Happening, happens, near, run}
+use Rattle.group_model.specs.Words.{Agree, Each, In, Under}
 
 -- the clocks are at most 50 apart
 abbrev pub Near : (Place → ℕ) → Type 0
@@ -16,8 +21,8 @@ Near clock = (x y : Place) → clock x ≤ clock y + 50
 -- All that every step keeps
 pub record Whole (g : Group Entry) : Type 0 where
   pub ok : Ok g
-  pub more : More g
-  pub low : Low g
+  pub more : Settled g
+  pub low : Bases g
   pub answers : AnswersOk g
   pub books : Books g
   pub within : Within g

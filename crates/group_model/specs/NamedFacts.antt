@@ -1,8 +1,8 @@
 -- The facts of the induction by their names. Each follows from what every step keeps.
 use Rattle.std.specs.Prelude.{◌≡◌, ℕ, ◌+◌, ◌-◌, ◌<◌, ◌≤◌, ◌⊎◌, true, false, List, length, Some, slice_get, ⊤}
-use Rattle.group_model.specs.Facts.{Agree, Each, In, Into, IsActive, Part, Promised, Sure, Tells}
 use Rattle.group_model.specs.Places.{IsIn, P2, Place, S01, leader, partner}
 use Rattle.group_model.specs.State.{Ack, Beat, Demote, Empty, Event, Give, Group, JoinMade, Log, Message, Open, Outside, Packet, Page, Report, Saved, top}
+use Rattle.group_model.specs.Words.{Agree, Each, In, Into, IsActive, Part, Promised, Sure, Tells}
 
 -- A server's accepted view is at most its promised one and was formed; it is active in its promised view alone; a held server is a
 -- storer of its accepted view; each view starts from a lower one
