@@ -58,14 +58,15 @@ read_entry cp list client number c = record {
 abbrev pub refuse : ℕ → ℕ → Cause → List (Move Entry)
 refuse client number cause = Saying (Refuses client number cause) ∷ []
 
--- A new update is refused where the log is full, else it goes to the log and in an Event, with CP and base, to the partner
+-- A new update is refused where the log is full, else it goes to the log and in an Event, with CP and base, to the
+-- partner
 abbrev pub append : Server Entry → Entry → List (Move Entry)
 append s e =
     if nat_le room (length s.items) || nat_le limit (top s) then refuse e.client e.number LogFull
     else Appending e ∷ Sending (partner s.plan.storers) (Event s.accepted (top s + 1) s.cp s.base e) ∷ []
 
--- An update at an open leader, by its client's last one. The same number again is answered with the kept reply where it is committed,
--- and later with the commit where it isn't; a lower number is old
+-- An update at an open leader, by its client's last one. The same number again is answered with the kept reply where
+-- it is committed, and later with the commit where it isn't; a lower number is old
 abbrev pub update_moves : Server Entry → Entry → Option Entry → List (Move Entry)
 update_moves s e None = append s e
 update_moves s e (Some last) =

@@ -8,7 +8,8 @@ use Rattle.group_model.specs.Words.{Each, In, Under}
 pub record BasesAt {E : Type 0} (lbs : Place → ℕ) (page : ℕ → Page E) (s : Server E) : Type 0 where
   pub log : s.held ≡ Log → Under lbs s.base
   pub saved : (v : Saved E) → s.saved ≡ Some v → Under lbs v.base
-  -- Further: what a leader beside server 1 was told of its LB, by an Ack or a Formed, is at most that LB; so its base may move there
+  -- Further: what a leader beside server 1 was told of its LB, by an Ack or a Formed, is at most that LB; so its base
+  -- may move there
   pub acked : s.mode ≡ Open → s.plan.storers ≡ S01 → s.told_lb ≤ lbs P1
   pub heard : (x : Place) (lb : ℕ) → get s.heard x ≡ Some lb → (page s.promised).plan.storers ≡ S01 → lb ≤ lbs P1
 

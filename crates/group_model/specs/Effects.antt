@@ -117,7 +117,14 @@ down m = record {
 abbrev pub saving : {E : Type 0} → Place → Server E → Option (Saved E) → Server E
 saving q s None =
     if is_log s.held
-    then record s { lb = if is_p2 q then s.lb else s.ap; saved = Some (record { base = s.base; cp = s.cp; items = s.items }) }
+    then record s {
+      lb = if is_p2 q then s.lb else s.ap;
+      saved = Some (record {
+        base = s.base;
+        cp = s.cp;
+        items = s.items;
+      });
+    }
     else s
 saving q s (Some v) = s
 
@@ -142,11 +149,18 @@ empty_log lb = record { base = 0; lb = lb; ap = 0; cp = 0; items = [] }
 
 -- a held data server starts with AP = LB from the mark, a held witness with LB = AP = base
 abbrev pub saved_log : {E : Type 0} → Place → ℕ → Saved E → NewLog E
-saved_log q lb v = record { base = v.base; lb = if is_p2 q then v.base else lb; ap = if is_p2 q then v.base else lb; cp = v.cp; items = v.items }
+saved_log q lb v = record {
+  base = v.base;
+  lb = if is_p2 q then v.base else lb;
+  ap = if is_p2 q then v.base else lb;
+  cp = v.cp;
+  items = v.items;
+}
 
 -- the saved log is one: its numbers stand in their order, and it has no more records than a log
 abbrev pub load_tests : {E : Type 0} → ℕ → Saved E → List Bool
-load_tests lb v = nat_le v.base lb ∷ nat_le lb v.cp ∷ nat_le v.cp (v.base + length v.items) ∷ nat_le (length v.items) room ∷ []
+load_tests lb v = nat_le v.base lb ∷ nat_le lb v.cp ∷ nat_le v.cp (v.base + length v.items)
+    ∷ nat_le (length v.items) room ∷ []
 
 abbrev pub loaded : {E : Type 0} → Place → ℕ → Mark E → Option (Saved E) → Server E
 loaded q clock m None = resting clock m Lost (lost_log m.lb)
@@ -155,10 +169,11 @@ loaded q clock m (Some v) =
     then resting clock m Log (saved_log q m.lb v)
     else resting clock m Lost (lost_log m.lb)
 
--- Boot, from the mark and the clock alone: empty at server 2 with the role outside, held where the mark has a saved log and
--- a role that a choice can give, else lost
+-- Boot, from the mark and the clock alone: empty at server 2 with the role outside, held where the mark has a saved
+-- log and a role that a choice can give, else lost
 abbrev pub booted : {E : Type 0} → Place → ℕ → Mark E → Server E
-booted q clock m = if is_p2 q && is_outside m.role then resting clock m Empty (empty_log m.lb) else loaded q clock m m.saved
+booted q clock m = if is_p2 q && is_outside m.role then resting clock m Empty (empty_log m.lb)
+    else loaded q clock m m.saved
 
 -- the mark of a disk that has none
 abbrev pub first_role : Place → Role
@@ -167,11 +182,28 @@ first_role P1 = Follows P0
 first_role P2 = Outside
 
 abbrev pub first_mark : (E : Type 0) → Place → Mark E
-first_mark E q = record { promised = 0; accepted = 0; role = first_role q; lb = 0; saved = Some (record { base = 0; cp = 0; items = [] }) }
+first_mark E q = record {
+  promised = 0;
+  accepted = 0;
+  role = first_role q;
+  lb = 0;
+  saved = Some (record { base = 0; cp = 0; items = [] });
+}
 
--- Demotion at a server that promised a higher view: it drops its log, and its part in that view goes on. Else it rests
+-- Demotion at a server that promised a higher view: it drops its log, and its part in that view goes on. Else it
+-- rests
 abbrev pub demoted_by : {E : Type 0} → Bool → Server E → ℕ → Server E
-demoted_by true s v = record s { accepted = v; role = Outside; saved = None; held = Empty; base = 0; ap = 0; cp = 0; items = []; served = 0 }
+demoted_by true s v = record s {
+  accepted = v;
+  role = Outside;
+  saved = None;
+  held = Empty;
+  base = 0;
+  ap = 0;
+  cp = 0;
+  items = [];
+  served = 0;
+}
 demoted_by false s v = record (down (record { promised = v; accepted = v; role = Outside; lb = s.lb; saved = None })) {
   up = s.up;
   held = Empty;

@@ -30,31 +30,37 @@ pub record Whole (g : Group Entry) : Type 0 where
 
 -- A law holds after each list of happenings, from each group that meets the facts, whatever the sizes of records
 abbrev pub Always : (Group Entry → Type 0) → Type 0
-Always Law = (size : List Entry → Entry → ℕ) (g : Group Entry) → Whole g → (happenings : List Happening) → Law (run size g happenings)
+Always Law = (size : List Entry → Entry → ℕ) (g : Group Entry) → Whole g → (happenings : List Happening)
+    → Law (run size g happenings)
 
--- EVERY LATER VIEW. An update that was answered with index n in view V stands in the book at n, the view's list begins with the book's
--- first n, and so does the list of each view formed above V, within its start
+-- EVERY LATER VIEW. An update that was answered with index n in view V stands in the book at n, the view's list
+-- begins with the book's first n, and so does the list of each view formed above V, within its start
 pub record LaterViewsHave (g : Group Entry) (a : Answered Entry) : Type 0 where
   pub formed : (g.page a.view).formed ≡ true
   pub in_book : slice_get g.committed (a.index - 1) ≡ Some a.entry
   pub here : Agree a.index (g.page a.view).list g.committed
-  pub later : (w : ℕ) → a.view < w → (g.page w).formed ≡ true → (a.index ≤ (g.page w).plan.start) × Agree a.index (g.page w).list g.committed
+  pub later : (w : ℕ) → a.view < w → (g.page w).formed ≡ true → (a.index ≤ (g.page w).plan.start)
+      × Agree a.index (g.page w).list g.committed
 
 abbrev pub EveryLaterView : Group Entry → Type 0
 EveryLaterView g = (a : Answered Entry) → In g.answered a → LaterViewsHave g a
 
 -- What a held server has as committed stands in the same way
 abbrev pub CommittedSurvives : Group Entry → Type 0
-CommittedSurvives g = (q : Place) → (g.server q).held ≡ Log → Agree (g.server q).cp (g.page (g.server q).accepted).list g.committed
-    × ((w : ℕ) → (g.server q).accepted < w → (g.page w).formed ≡ true → ((g.server q).cp ≤ (g.page w).plan.start) × Agree (g.server q).cp (g.page w).list g.committed)
+CommittedSurvives g = (q : Place) → (g.server q).held ≡ Log
+    → Agree (g.server q).cp (g.page (g.server q).accepted).list g.committed
+    × ((w : ℕ) → (g.server q).accepted < w → (g.page w).formed ≡ true → ((g.server q).cp ≤ (g.page w).plan.start)
+    × Agree (g.server q).cp (g.page w).list g.committed)
 
--- EXCLUSIVE READING. An open leader whose clock is below its partner's promise is the last that opened a view, and has the whole book as
--- committed
+-- EXCLUSIVE READING. An open leader whose clock is below its partner's promise is the last that opened a view, and
+-- has the whole book as committed
 abbrev pub ReadsAlone : Group Entry → Type 0
 ReadsAlone g = (q : Place) → (g.server q).mode ≡ Open → g.clock q < (g.server q).grant
-    → ((w : ℕ) → (g.server q).accepted < w → (g.page w).formed ≡ true → (g.page w).opened ≡ false) × ((g.server q).cp ≡ length g.committed)
+    → ((w : ℕ) → (g.server q).accepted < w → (g.page w).formed ≡ true → (g.page w).opened ≡ false)
+    × ((g.server q).cp ≡ length g.committed)
 
--- THE BOOK IS ONE BOOK: indices, stamps, client numbers, and each reply by the outcome on the tree of the updates before it
+-- THE BOOK IS ONE BOOK: indices, stamps, client numbers, and each reply by the outcome on the tree of the updates
+-- before it
 pub record OneBook (g : Group Entry) : Type 0 where
   pub book : IsBook g.book
   pub updates : updates g.book ≡ g.committed
@@ -66,7 +72,8 @@ BaseUnder lbs (Event v index cp base e) = Under lbs base
 BaseUnder lbs (Beat v cp base) = Under lbs base
 BaseUnder lbs m = ⊤
 
--- EVERY BASE IS ON BOTH DISKS: of a log, a saved log, a page, a held join or a message, it is at most the LB in the marks of servers 0 and 1
+-- EVERY BASE IS ON BOTH DISKS: of a log, a saved log, a page, a held join or a message, it is at most the LB in the
+-- marks of servers 0 and 1
 pub record BasesOnBothDisks (g : Group Entry) : Type 0 where
   pub log : (q : Place) → (g.server q).held ≡ Log → Under (λ x. (g.server x).lb) (g.server q).base
   pub saved : (q : Place) (v : Saved Entry) → (g.server q).saved ≡ Some v → Under (λ x. (g.server x).lb) v.base
@@ -78,15 +85,22 @@ pub record BasesOnBothDisks (g : Group Entry) : Type 0 where
 abbrev pub AreRecords : ℕ → List Entry → List Entry → Type 0
 AreRecords base items list = (base + length items ≤ length list) × (items ≡ take (length items) (drop base list))
 
--- EACH LOG STANDS FOR ITS VIEW'S LIST: a held server's numbers stand in their order and its log is the records of its accepted view's list; so
--- is a saved log, and a puller's staging list is records of the view that it pulls, within the start
+-- EACH LOG STANDS FOR ITS VIEW'S LIST: a held server's numbers stand in their order and its log is the records of its
+-- accepted view's list; so is a saved log, and a puller's staging list is records of the view that it pulls, within
+-- the start
 pub record StandsFor (g : Group Entry) (q : Place) : Type 0 where
-  pub order : (g.server q).held ≡ Log → ((g.server q).base ≤ (g.server q).lb) × ((g.server q).lb ≤ (g.server q).ap) × ((g.server q).ap ≤ (g.server q).cp) × ((g.server q).cp ≤ top (g.server q))
-  pub log : (g.server q).held ≡ Log → AreRecords (g.server q).base (g.server q).items (g.page (g.server q).accepted).list
-  pub saved_order : (v : Saved Entry) → (g.server q).saved ≡ Some v → ((g.server q).role ≡ Outside → ⊥) → (v.base ≤ (g.server q).lb) × ((g.server q).lb ≤ v.cp) × (v.cp ≤ v.base + length v.items)
-  pub saved : (v : Saved Entry) → (g.server q).saved ≡ Some v → ((g.server q).role ≡ Outside → ⊥) → AreRecords v.base v.items (g.page (g.server q).accepted).list
-  pub staged : (g.server q).mode ≡ Pulls → AreRecords (g.server q).wanted_from (g.server q).staged (g.page (g.server q).promised).list
-  pub staged_within : (g.server q).mode ≡ Pulls → (g.server q).wanted_from + length (g.server q).staged ≤ (g.page (g.server q).promised).plan.start
+  pub order : (g.server q).held ≡ Log → ((g.server q).base ≤ (g.server q).lb) × ((g.server q).lb ≤ (g.server q).ap)
+      × ((g.server q).ap ≤ (g.server q).cp) × ((g.server q).cp ≤ top (g.server q))
+  pub log : (g.server q).held ≡ Log
+      → AreRecords (g.server q).base (g.server q).items (g.page (g.server q).accepted).list
+  pub saved_order : (v : Saved Entry) → (g.server q).saved ≡ Some v → ((g.server q).role ≡ Outside → ⊥)
+      → (v.base ≤ (g.server q).lb) × ((g.server q).lb ≤ v.cp) × (v.cp ≤ v.base + length v.items)
+  pub saved : (v : Saved Entry) → (g.server q).saved ≡ Some v → ((g.server q).role ≡ Outside → ⊥)
+      → AreRecords v.base v.items (g.page (g.server q).accepted).list
+  pub staged : (g.server q).mode ≡ Pulls
+      → AreRecords (g.server q).wanted_from (g.server q).staged (g.page (g.server q).promised).list
+  pub staged_within : (g.server q).mode ≡ Pulls
+      → (g.server q).wanted_from + length (g.server q).staged ≤ (g.page (g.server q).promised).plan.start
 
 -- what a formed page becomes
 pub record PageGrows {E : Type 0} (p p' : Page E) : Type 0 where
@@ -101,23 +115,26 @@ pub record PageGrows {E : Type 0} (p p' : Page E) : Type 0 where
   pub partner_in : p.partner_in ≡ true → p'.partner_in ≡ true
   pub opened : p.opened ≡ true → p'.opened ≡ true
 
-pub record Grows {E : Type 0} (page page' : ℕ → Page E) (committed committed' : List E) (joins joins' : List JoinMade) : Type 0 where
+pub record Grows {E : Type 0} (page page' : ℕ
+    → Page E) (committed committed' : List E) (joins joins' : List JoinMade) : Type 0 where
   pub each : (v : ℕ) → (page v).formed ≡ true → PageGrows (page v) (page' v)
   pub longer : length committed ≤ length committed'
   pub agree : Agree (length committed) committed committed'
   pub more : (j : JoinMade) → In joins j → In joins' j
 
--- GROWTH. The book only grows; formed pages keep their plan and origin, lists are prolonged, flags stay; joins and answers stay
+-- GROWTH. The book only grows; formed pages keep their plan and origin, lists are prolonged, flags stay; joins and
+-- answers stay
 pub record Growth (g g' : Group Entry) : Type 0 where
   pub history : Grows g.page g'.page g.committed g'.committed g.joins g'.joins
   pub book : (new : List Entry) × (g'.book ≡ g.book ++ new)
   pub answered : (new : List (Answered Entry)) × (g'.answered ≡ new ++ g.answered)
 
--- What a move says is right at that moment: an answered update stands in the book; a read is answered with the length of the book as index
--- and its outcome on the book's tree, by the last that opened a view; a view is formed once
+-- What a move says is right at that moment: an answered update stands in the book; a read is answered with the length
+-- of the book as index and its outcome on the book's tree, by the last that opened a view; a view is formed once
 abbrev pub SaidRightly : Group Entry → Server Entry → Move Entry → Type 0
 SaidRightly g s (Saying (Answers n e)) = (0 < n) × (n ≤ length g.committed) × (slice_get g.committed (n - 1) ≡ Some e)
-SaidRightly g s (Reading n e) = (n ≡ length g.committed) × (is_update e.call ≡ false) × (e.reply ≡ (outcome (tree_after g.book) e.call e.stamp).0)
+SaidRightly g s (Reading n e) = (n ≡ length g.committed) × (is_update e.call ≡ false)
+    × (e.reply ≡ (outcome (tree_after g.book) e.call e.stamp).0)
     × ((w : ℕ) → s.accepted < w → (g.page w).formed ≡ true → (g.page w).opened ≡ false)
 SaidRightly g s (Choosing plan from) = (g.page s.promised).formed ≡ false
 SaidRightly g s m = ⊤
@@ -129,4 +146,5 @@ AllSaidRightly g q s (m ∷ ms) = SaidRightly g s m × AllSaidRightly (moved g q
 
 -- A step that is cut is whole, or the server has crashed
 abbrev pub TwoOutcomes : (List Entry → Entry → ℕ) → Group Entry → Happening → Happening → Place → Type 0
-TwoOutcomes size g cut whole q = (happens size g cut ≡ happens size g whole) ⊎ (happens size g cut ≡ happens size g (At q Crash))
+TwoOutcomes size g cut whole q = (happens size g cut ≡ happens size g whole)
+    ⊎ (happens size g cut ≡ happens size g (At q Crash))

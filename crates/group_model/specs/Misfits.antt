@@ -37,12 +37,13 @@ room_tests s base items = nat_le (length items - (base - s.base)) room ∷ []
 abbrev pub told_tests : Server Entry → Place → ℕ → ℕ → List Bool
 told_tests s from t lb = same from (partner s.plan.storers) ∷ nat_le t (top s) ∷ nat_le lb t ∷ []
 
--- What a message must meet. Tests that compare with the receiver's view or log are made only where it is in that view: active in it, or,
--- for a Form and a Give, about to accept it
+-- What a message must meet. Tests that compare with the receiver's view or log are made only where it is in that
+-- view: active in it, or, for a Form and a Give, about to accept it
 abbrev pub proper : Place → Server Entry → Place → Message Entry → List Bool
 proper q s from (Invite v) = same from (coordinator v) ∷ []
 proper q s from (Join v t) = order_tests t
-proper q s from (Form v plan) = same from (coordinator v) ∷ (if all_of ((v == s.promised) ∷ is_joins s.mode ∷ []) then fits q s plan else true) ∷ []
+proper q s from (Form v plan) = same from (coordinator v) ∷ (if all_of ((v == s.promised) ∷ is_joins s.mode ∷ [])
+    then fits q s plan else true) ∷ []
 proper q s from (Fetch v index) = []
 proper q s from (Give v index items) = nat_lt 0 (length items) ∷ follow index items
     ∷ (if all_of ((v == s.promised) ∷ is_pulls s.mode ∷ []) then all_of (given_tests s from index items) else true) ∷ []

@@ -15,7 +15,8 @@ on_formed s from v lb = if all_of (formed_tests s v) then Hearing from lb ∷ []
 -- The opening: a leader beside a data server sends Demote to server 2, and then Beat to its partner
 abbrev pub open_moves : {E : Type 0} → Server E → ℕ → List (Move E)
 open_moves s lb = Opening lb
-    ∷ ((if is_s01 s.plan.storers then Sending P2 (Demote s.accepted) ∷ [] else []) ++ Sending (partner s.plan.storers) (Beat s.accepted (top s) s.base) ∷ [])
+    ∷ ((if is_s01 s.plan.storers then Sending P2 (Demote s.accepted) ∷ [] else [])
+    ++ Sending (partner s.plan.storers) (Beat s.accepted (top s) s.base) ∷ [])
 
 -- its partner's Formed has come, and its clock is at least the horizon + 50
 abbrev pub open_heard : {E : Type 0} → ℕ → Server E → Option ℕ → List (Move E)
@@ -32,7 +33,8 @@ try_open q clock s = if all_of (open_tests q s) then open_heard clock s (get s.h
 abbrev pub base_tests : {E : Type 0} → Server E → List Bool
 base_tests s = is_open s.mode ∷ is_s01 s.plan.storers ∷ nat_lt s.base (min s.lb s.told_lb) ∷ []
 
--- Base: an open leader beside a data server drops the records that both have on their disks; beside a witness it drops none
+-- Base: an open leader beside a data server drops the records that both have on their disks; beside a witness it
+-- drops none
 abbrev pub rebase : {E : Type 0} → Server E → List (Move E)
 rebase s = if all_of (base_tests s) then Basing (min s.lb s.told_lb) ∷ [] else []
 

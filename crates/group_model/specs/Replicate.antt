@@ -12,8 +12,8 @@ in_view_tests s v = is_active s.mode ∷ (v == s.accepted) ∷ []
 abbrev pub is_in_view : {E : Type 0} → Server E → ℕ → Bool
 is_in_view s v = all_of (in_view_tests s v)
 
--- Event and Beat: heeded by the active partner of that view. It takes the next record, drops to the base, raises its CP, and
--- acknowledges with its top, LB and a promise of 2000 from now on
+-- Event and Beat: heeded by the active partner of that view. It takes the next record, drops to the base, raises its
+-- CP, and acknowledges with its top, LB and a promise of 2000 from now on
 abbrev pub on_event : {E : Type 0} → Place → ℕ → Server E → Place → ℕ → ℕ → ℕ → List E → List (Move E)
 on_event q clock s from v cp base items =
     if all_of (is_in_view s v ∷ same q (partner s.plan.storers) ∷ [])
@@ -28,10 +28,11 @@ answers n (e ∷ es) = Saying (Answers (n + 1) e) ∷ answers (n + 1) es
 abbrev pub ack_tests : {E : Type 0} → Server E → ℕ → List Bool
 ack_tests s v = is_open s.mode ∷ (v == s.accepted) ∷ []
 
--- Acknowledgement: heeded by the open leader of that view. It keeps the greatest numbers that it was told, and each record up to the
--- acknowledged top is committed and answered in this step, in order
+-- Acknowledgement: heeded by the open leader of that view. It keeps the greatest numbers that it was told, and each
+-- record up to the acknowledged top is committed and answered in this step, in order
 abbrev pub on_ack : {E : Type 0} → Server E → ℕ → ℕ → ℕ → ℕ → List (Move E)
 on_ack s v t lb until =
     if all_of (ack_tests s v)
-    then Noting t lb until ∷ (if nat_lt s.cp t then Committing t ∷ answers s.cp (take (t - s.cp) (drop (s.cp - s.base) s.items)) else [])
+    then Noting t lb until ∷ (if nat_lt s.cp t then Committing t
+    ∷ answers s.cp (take (t - s.cp) (drop (s.cp - s.base) s.items)) else [])
     else []

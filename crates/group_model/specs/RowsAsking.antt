@@ -31,7 +31,8 @@ refusals_of_an_ask_lines =
     Refused P0 7 4 Old ∷
     Sent 10 P1 P0 (ack (view 1 0) 1 0 4050) ∷
     State P1 (state lives (view 1 0) (view 1 0) (Follows P0) Log 0 0 0 0 1) ∷
-    Entered 1 7 5 2050 (call.SetAttr 1 (mode 493)) (reply.Attr (directory 493 2 1 (at 0 0) (at 0 0) (at 2 50000))) ∷
+    Entered 1 7 5 2050 (call.SetAttr 1 (mode 493))
+    (reply.Attr (directory 493 2 1 (at 0 0) (at 0 0) (at 2 50000))) ∷
     Told P0 7 5 1 (reply.Attr (directory 493 2 1 (at 0 0) (at 0 0) (at 2 50000))) ∷
     State P0 (state opens (view 1 0) (view 1 0) (Leads P1) Log 0 0 0 1 1) ∷
     Refused P0 7 4 Old ∷
@@ -55,7 +56,8 @@ repeat_lines =
     State P0 (state opens (view 1 0) (view 1 0) (Leads P1) Log 0 0 0 0 1) ∷
     Sent 10 P1 P0 (ack (view 1 0) 1 0 4050) ∷
     State P1 (state lives (view 1 0) (view 1 0) (Follows P0) Log 0 0 0 0 1) ∷
-    Entered 1 7 1 2050 (call.MkDir 1 (0x61 ∷ []) (mode 493)) (reply.Node 2 (directory 493 2 2 (at 2 50000) (at 2 50000) (at 2 50000))) ∷
+    Entered 1 7 1 2050 (call.MkDir 1 (0x61 ∷ []) (mode 493))
+    (reply.Node 2 (directory 493 2 2 (at 2 50000) (at 2 50000) (at 2 50000))) ∷
     Told P0 7 1 1 (reply.Node 2 (directory 493 2 2 (at 2 50000) (at 2 50000) (at 2 50000))) ∷
     State P0 (state opens (view 1 0) (view 1 0) (Leads P1) Log 0 0 0 1 1) ∷
     Told P0 7 1 1 (reply.Node 2 (directory 493 2 2 (at 2 50000) (at 2 50000) (at 2 50000))) ∷
@@ -83,7 +85,8 @@ acknowledged_three_times_lines =
     Sent 10 P1 P0 (ack (view 1 0) 1 0 4050) ∷
     State P1 (state lives (view 1 0) (view 1 0) (Follows P0) Log 0 0 0 0 1) ∷
     Sent 11 P1 P0 (ack (view 1 0) 1 0 4050) ∷
-    Entered 1 7 1 2050 (call.MkDir 1 (0x61 ∷ []) (mode 493)) (reply.Node 2 (directory 493 2 2 (at 2 50000) (at 2 50000) (at 2 50000))) ∷
+    Entered 1 7 1 2050 (call.MkDir 1 (0x61 ∷ []) (mode 493))
+    (reply.Node 2 (directory 493 2 2 (at 2 50000) (at 2 50000) (at 2 50000))) ∷
     Told P0 7 1 1 (reply.Node 2 (directory 493 2 2 (at 2 50000) (at 2 50000) (at 2 50000))) ∷
     State P0 (state opens (view 1 0) (view 1 0) (Leads P1) Log 0 0 0 1 1) ∷
     Sent 12 P1 P0 (ack (view 1 0) 1 0 4050) ∷
@@ -126,7 +129,8 @@ update_taken_over_lines =
     Sent 15 P0 P1 (give (view 2 0) 1 1) ∷
     Sent 16 P1 P0 (formed (view 2 0) 0) ∷
     State P1 (state waits (view 2 0) (view 2 0) (Follows P0) Log 0 0 0 0 1) ∷
-    Entered 1 7 1 2050 (call.MkDir 1 (0x61 ∷ []) (mode 493)) (reply.Node 2 (directory 493 2 2 (at 2 50000) (at 2 50000) (at 2 50000))) ∷
+    Entered 1 7 1 2050 (call.MkDir 1 (0x61 ∷ []) (mode 493))
+    (reply.Node 2 (directory 493 2 2 (at 2 50000) (at 2 50000) (at 2 50000))) ∷
     Sent 17 P0 P2 (demote (view 2 0)) ∷
     Sent 18 P0 P1 (beat (view 2 0) 1 0) ∷
     State P0 (state opens (view 2 0) (view 2 0) (Leads P1) Log 0 0 0 1 1) ∷

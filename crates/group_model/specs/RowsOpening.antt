@@ -17,11 +17,30 @@ abbrev pub at : ℕ → ℕ → Time
 at s m = record { seconds = s; micros = m }
 
 abbrev pub mode : ℕ → SetAttr
-mode m = record { mode = m; uid = leave; gid = leave; size = leave; atime = at leave leave; mtime = at leave leave }
+mode m = record {
+  mode = m;
+  uid = leave;
+  gid = leave;
+  size = leave;
+  atime = at leave leave;
+  mtime = at leave leave;
+}
 
 -- a directory without entries, with its mode, links, number and times
 abbrev pub directory : ℕ → ℕ → ℕ → Time → Time → Time → Attr
-directory m links fileid a b c = record { kind = Directory; mode = m; links = links; uid = 0; gid = 0; size = 0; blocks = 0; fileid = fileid; atime = a; mtime = b; ctime = c }
+directory m links fileid a b c = record {
+  kind = Directory;
+  mode = m;
+  links = links;
+  uid = 0;
+  gid = 0;
+  size = 0;
+  blocks = 0;
+  fileid = fileid;
+  atime = a;
+  mtime = b;
+  ctime = c;
+}
 
 abbrev pub opening_steps : List Happening
 opening_steps =

@@ -55,13 +55,16 @@ power_failure_lines =
     State P1 (state lives (view 1 0) (view 1 0) (Follows P0) Log 0 0 0 0 2) ∷
     Sent 14 P1 P0 (ack (view 1 0) 3 0 4050) ∷
     State P1 (state lives (view 1 0) (view 1 0) (Follows P0) Log 0 0 0 0 3) ∷
-    Entered 1 7 1 2050 (call.MkDir 1 (0x61 ∷ []) (mode 493)) (reply.Node 2 (directory 493 2 2 (at 2 50000) (at 2 50000) (at 2 50000))) ∷
+    Entered 1 7 1 2050 (call.MkDir 1 (0x61 ∷ []) (mode 493))
+    (reply.Node 2 (directory 493 2 2 (at 2 50000) (at 2 50000) (at 2 50000))) ∷
     Told P0 7 1 1 (reply.Node 2 (directory 493 2 2 (at 2 50000) (at 2 50000) (at 2 50000))) ∷
     State P0 (state opens (view 1 0) (view 1 0) (Leads P1) Log 0 0 0 1 3) ∷
-    Entered 2 7 2 2050 (call.MkDir 1 (0x62 ∷ []) (mode 493)) (reply.Node 3 (directory 493 2 3 (at 2 50000) (at 2 50000) (at 2 50000))) ∷
+    Entered 2 7 2 2050 (call.MkDir 1 (0x62 ∷ []) (mode 493))
+    (reply.Node 3 (directory 493 2 3 (at 2 50000) (at 2 50000) (at 2 50000))) ∷
     Told P0 7 2 2 (reply.Node 3 (directory 493 2 3 (at 2 50000) (at 2 50000) (at 2 50000))) ∷
     State P0 (state opens (view 1 0) (view 1 0) (Leads P1) Log 0 0 0 2 3) ∷
-    Entered 3 7 3 2050 (call.Remove 1 (0x7a ∷ [])) (reply.Refused NoEnt) ∷
+    Entered 3 7 3 2050 (call.Remove 1 (0x7a ∷ []))
+    (reply.Refused NoEnt) ∷
     Told P0 7 3 3 (reply.Refused NoEnt) ∷
     State P0 (state opens (view 1 0) (view 1 0) (Leads P1) Log 0 0 0 3 3) ∷
     State P0 is_down ∷
@@ -141,13 +144,16 @@ power_failure_cut_off_lines =
     State P1 (state lives (view 1 0) (view 1 0) (Follows P0) Log 0 0 0 0 2) ∷
     Sent 14 P1 P0 (ack (view 1 0) 3 0 4050) ∷
     State P1 (state lives (view 1 0) (view 1 0) (Follows P0) Log 0 0 0 0 3) ∷
-    Entered 1 7 1 2050 (call.MkDir 1 (0x61 ∷ []) (mode 493)) (reply.Node 2 (directory 493 2 2 (at 2 50000) (at 2 50000) (at 2 50000))) ∷
+    Entered 1 7 1 2050 (call.MkDir 1 (0x61 ∷ []) (mode 493))
+    (reply.Node 2 (directory 493 2 2 (at 2 50000) (at 2 50000) (at 2 50000))) ∷
     Told P0 7 1 1 (reply.Node 2 (directory 493 2 2 (at 2 50000) (at 2 50000) (at 2 50000))) ∷
     State P0 (state opens (view 1 0) (view 1 0) (Leads P1) Log 0 0 0 1 3) ∷
-    Entered 2 7 2 2050 (call.MkDir 1 (0x62 ∷ []) (mode 493)) (reply.Node 3 (directory 493 2 3 (at 2 50000) (at 2 50000) (at 2 50000))) ∷
+    Entered 2 7 2 2050 (call.MkDir 1 (0x62 ∷ []) (mode 493))
+    (reply.Node 3 (directory 493 2 3 (at 2 50000) (at 2 50000) (at 2 50000))) ∷
     Told P0 7 2 2 (reply.Node 3 (directory 493 2 3 (at 2 50000) (at 2 50000) (at 2 50000))) ∷
     State P0 (state opens (view 1 0) (view 1 0) (Leads P1) Log 0 0 0 2 3) ∷
-    Entered 3 7 3 2050 (call.Remove 1 (0x7a ∷ [])) (reply.Refused NoEnt) ∷
+    Entered 3 7 3 2050 (call.Remove 1 (0x7a ∷ []))
+    (reply.Refused NoEnt) ∷
     Told P0 7 3 3 (reply.Refused NoEnt) ∷
     State P0 (state opens (view 1 0) (view 1 0) (Leads P1) Log 0 0 0 3 3) ∷
     State P0 is_down ∷
@@ -230,13 +236,16 @@ fuzzy_disk_lines =
     State P1 (state lives (view 1 0) (view 1 0) (Follows P0) Log 0 0 0 0 2) ∷
     Sent 14 P1 P0 (ack (view 1 0) 3 0 4050) ∷
     State P1 (state lives (view 1 0) (view 1 0) (Follows P0) Log 0 0 0 0 3) ∷
-    Entered 1 7 1 2050 (call.MkDir 1 (0x61 ∷ []) (mode 493)) (reply.Node 2 (directory 493 2 2 (at 2 50000) (at 2 50000) (at 2 50000))) ∷
+    Entered 1 7 1 2050 (call.MkDir 1 (0x61 ∷ []) (mode 493))
+    (reply.Node 2 (directory 493 2 2 (at 2 50000) (at 2 50000) (at 2 50000))) ∷
     Told P0 7 1 1 (reply.Node 2 (directory 493 2 2 (at 2 50000) (at 2 50000) (at 2 50000))) ∷
     State P0 (state opens (view 1 0) (view 1 0) (Leads P1) Log 0 0 0 1 3) ∷
-    Entered 2 7 2 2050 (call.MkDir 1 (0x62 ∷ []) (mode 493)) (reply.Node 3 (directory 493 2 3 (at 2 50000) (at 2 50000) (at 2 50000))) ∷
+    Entered 2 7 2 2050 (call.MkDir 1 (0x62 ∷ []) (mode 493))
+    (reply.Node 3 (directory 493 2 3 (at 2 50000) (at 2 50000) (at 2 50000))) ∷
     Told P0 7 2 2 (reply.Node 3 (directory 493 2 3 (at 2 50000) (at 2 50000) (at 2 50000))) ∷
     State P0 (state opens (view 1 0) (view 1 0) (Leads P1) Log 0 0 0 2 3) ∷
-    Entered 3 7 3 2050 (call.Remove 1 (0x7a ∷ [])) (reply.Refused NoEnt) ∷
+    Entered 3 7 3 2050 (call.Remove 1 (0x7a ∷ []))
+    (reply.Refused NoEnt) ∷
     Told P0 7 3 3 (reply.Refused NoEnt) ∷
     State P0 (state opens (view 1 0) (view 1 0) (Leads P1) Log 0 0 0 3 3) ∷
     Sent 15 P0 P1 (beat (view 1 0) 3 0) ∷

@@ -84,7 +84,8 @@ late_acknowledgement_lines =
     Sent 16 P1 P2 (give (view 2 1) 1 1) ∷
     Sent 17 P2 P1 (formed (view 2 1) 0) ∷
     State P2 (state waits (view 2 1) (view 2 1) (Follows P1) Log 0 0 0 0 1) ∷
-    Entered 1 7 1 2050 (call.MkDir 1 (0x61 ∷ []) (mode 493)) (reply.Node 2 (directory 493 2 2 (at 2 50000) (at 2 50000) (at 2 50000))) ∷
+    Entered 1 7 1 2050 (call.MkDir 1 (0x61 ∷ []) (mode 493))
+    (reply.Node 2 (directory 493 2 2 (at 2 50000) (at 2 50000) (at 2 50000))) ∷
     Sent 18 P1 P2 (beat (view 2 1) 1 0) ∷
     State P1 (state opens (view 2 1) (view 2 1) (Leads P2) Log 0 0 0 1 1) ∷
     Told P0 7 1 1 (reply.Node 2 (directory 493 2 2 (at 2 50000) (at 2 50000) (at 2 50000))) ∷
@@ -146,7 +147,8 @@ promises_at_the_skew_lines =
     State P2 (state rests (view 1 0) (view 1 0) Outside Empty 0 0 0 0 0) ∷
     Sent 8 P1 P0 (ack (view 1 0) 0 0 4000) ∷
     State P1 (state lives (view 1 0) (view 1 0) (Follows P0) Log 0 0 0 0 0) ∷
-    Entered 0 9 1 0 (call.GetAttr 1) (reply.Attr (directory 493 2 1 (at 0 0) (at 0 0) (at 0 0))) ∷
+    Entered 0 9 1 0 (call.GetAttr 1)
+    (reply.Attr (directory 493 2 1 (at 0 0) (at 0 0) (at 0 0))) ∷
     Told P0 9 1 0 (reply.Attr (directory 493 2 1 (at 0 0) (at 0 0) (at 0 0))) ∷
     Sent 9 P1 P0 (invite (view 2 1)) ∷
     Sent 10 P1 P2 (invite (view 2 1)) ∷

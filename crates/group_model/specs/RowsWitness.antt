@@ -102,19 +102,24 @@ witness_lines =
     State P2 (state lives (view 2 0) (view 2 0) (Follows P0) Log 0 0 0 0 4) ∷
     Sent 25 P2 P0 (ack (view 2 0) 5 0 4050) ∷
     State P2 (state lives (view 2 0) (view 2 0) (Follows P0) Log 0 0 0 0 5) ∷
-    Entered 1 7 1 2050 (call.MkDir 1 (0x61 ∷ []) (mode 493)) (reply.Node 2 (directory 493 2 2 (at 2 50000) (at 2 50000) (at 2 50000))) ∷
+    Entered 1 7 1 2050 (call.MkDir 1 (0x61 ∷ []) (mode 493))
+    (reply.Node 2 (directory 493 2 2 (at 2 50000) (at 2 50000) (at 2 50000))) ∷
     Told P0 7 1 1 (reply.Node 2 (directory 493 2 2 (at 2 50000) (at 2 50000) (at 2 50000))) ∷
     State P0 (state opens (view 2 0) (view 2 0) (Leads P2) Log 0 0 0 1 5) ∷
-    Entered 2 7 2 2050 (call.MkDir 1 (0x62 ∷ []) (mode 493)) (reply.Node 3 (directory 493 2 3 (at 2 50000) (at 2 50000) (at 2 50000))) ∷
+    Entered 2 7 2 2050 (call.MkDir 1 (0x62 ∷ []) (mode 493))
+    (reply.Node 3 (directory 493 2 3 (at 2 50000) (at 2 50000) (at 2 50000))) ∷
     Told P0 7 2 2 (reply.Node 3 (directory 493 2 3 (at 2 50000) (at 2 50000) (at 2 50000))) ∷
     State P0 (state opens (view 2 0) (view 2 0) (Leads P2) Log 0 0 0 2 5) ∷
-    Entered 3 7 3 2050 (call.MkDir 1 (0x63 ∷ []) (mode 493)) (reply.Node 4 (directory 493 2 4 (at 2 50000) (at 2 50000) (at 2 50000))) ∷
+    Entered 3 7 3 2050 (call.MkDir 1 (0x63 ∷ []) (mode 493))
+    (reply.Node 4 (directory 493 2 4 (at 2 50000) (at 2 50000) (at 2 50000))) ∷
     Told P0 7 3 3 (reply.Node 4 (directory 493 2 4 (at 2 50000) (at 2 50000) (at 2 50000))) ∷
     State P0 (state opens (view 2 0) (view 2 0) (Leads P2) Log 0 0 0 3 5) ∷
-    Entered 4 7 4 2050 (call.MkDir 1 (0x64 ∷ []) (mode 493)) (reply.Node 5 (directory 493 2 5 (at 2 50000) (at 2 50000) (at 2 50000))) ∷
+    Entered 4 7 4 2050 (call.MkDir 1 (0x64 ∷ []) (mode 493))
+    (reply.Node 5 (directory 493 2 5 (at 2 50000) (at 2 50000) (at 2 50000))) ∷
     Told P0 7 4 4 (reply.Node 5 (directory 493 2 5 (at 2 50000) (at 2 50000) (at 2 50000))) ∷
     State P0 (state opens (view 2 0) (view 2 0) (Leads P2) Log 0 0 0 4 5) ∷
-    Entered 5 7 5 2050 (call.MkDir 1 (0x65 ∷ []) (mode 493)) (reply.Node 6 (directory 493 2 6 (at 2 50000) (at 2 50000) (at 2 50000))) ∷
+    Entered 5 7 5 2050 (call.MkDir 1 (0x65 ∷ []) (mode 493))
+    (reply.Node 6 (directory 493 2 6 (at 2 50000) (at 2 50000) (at 2 50000))) ∷
     Told P0 7 5 5 (reply.Node 6 (directory 493 2 6 (at 2 50000) (at 2 50000) (at 2 50000))) ∷
     State P0 (state opens (view 2 0) (view 2 0) (Leads P2) Log 0 0 0 5 5) ∷
     State P0 is_down ∷
@@ -193,7 +198,8 @@ abandoned_formation_lines =
     State P0 (state opens (view 1 0) (view 1 0) (Leads P1) Log 0 0 0 0 2) ∷
     Sent 11 P1 P0 (ack (view 1 0) 1 0 4050) ∷
     State P1 (state lives (view 1 0) (view 1 0) (Follows P0) Log 0 0 0 0 1) ∷
-    Entered 1 7 1 2050 (call.MkDir 1 (0x61 ∷ []) (mode 493)) (reply.Node 2 (directory 493 2 2 (at 2 50000) (at 2 50000) (at 2 50000))) ∷
+    Entered 1 7 1 2050 (call.MkDir 1 (0x61 ∷ []) (mode 493))
+    (reply.Node 2 (directory 493 2 2 (at 2 50000) (at 2 50000) (at 2 50000))) ∷
     Told P0 7 1 1 (reply.Node 2 (directory 493 2 2 (at 2 50000) (at 2 50000) (at 2 50000))) ∷
     State P0 (state opens (view 1 0) (view 1 0) (Leads P1) Log 0 0 0 1 2) ∷
     Sent 12 P0 P1 (invite (view 2 0)) ∷

@@ -1,4 +1,5 @@
--- What a schedule shows, line by line: the entered calls, the answers and refusals, the sends, and the server's state where it changed.
+-- What a schedule shows, line by line: the entered calls, the answers and refusals, the sends, and the server's state
+-- where it changed.
 use Rattle.std.specs.Prelude.{ℕ, ◌+◌, ◌-◌, ◌*◌, ◌==◌, Bool, true, false, List, [], ◌∷◌, ◌++◌, length, take, drop, reverse, Option, None, Some, if◌then◌else◌}
 use Rattle.harp_base.specs.declared.call.Call.{Call}
 use Rattle.harp_base.specs.declared.reply.Reply.{Reply}
@@ -60,7 +61,8 @@ demote v = 10 ∷ v ∷ []
 abbrev pub shown : Message Entry → List ℕ
 shown (Invite v) = invite v
 shown (Join v t) = join v t.held t.accepted t.base t.lb t.cp t.top t.horizon
-shown (Form v p) = form v (number (leader p.storers)) (number (partner p.storers)) (number p.source) p.base p.cp p.start p.horizon
+shown (Form v p) =
+    form v (number (leader p.storers)) (number (partner p.storers)) (number p.source) p.base p.cp p.start p.horizon
 shown (Fetch v index) = fetch v index
 shown (Give v index items) = give v index (length items)
 shown (Formed v lb) = formed v lb
@@ -114,12 +116,14 @@ is_down = 0 ∷ []
 
 -- a state line: mode, promised, accepted, role, held and the five numbers
 abbrev pub state : ℕ → ℕ → ℕ → Role → Held → ℕ → ℕ → ℕ → ℕ → ℕ → List ℕ
-state mode promised accepted role held base lb ap cp top = mode ∷ promised ∷ accepted ∷ (role_code role ++ held_code held ∷ base ∷ lb ∷ ap ∷ cp ∷ top ∷ [])
+state mode promised accepted role held base lb ap cp top = mode ∷ promised ∷ accepted
+    ∷ (role_code role ++ held_code held ∷ base ∷ lb ∷ ap ∷ cp ∷ top ∷ [])
 
 abbrev pub state_of : Server Entry → List ℕ
 state_of s =
     if s.up
-    then state (mode_code s.mode s.duty) s.promised s.accepted s.role s.held (by_held s.held s.base s.lb) (by_held s.held s.lb s.lb) (by_held s.held s.ap s.lb) (by_held s.held s.cp s.lb) (by_held s.held (s.base + length s.items) s.lb)
+    then state (mode_code s.mode s.duty) s.promised s.accepted s.role s.held (by_held s.held s.base s.lb)
+    (by_held s.held s.lb s.lb) (by_held s.held s.ap s.lb) (by_held s.held s.cp s.lb) (by_held s.held (top s) s.lb)
     else is_down
 
 abbrev pub same_numbers : List ℕ → List ℕ → Bool

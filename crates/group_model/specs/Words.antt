@@ -65,8 +65,8 @@ pub record Holds {E : Type 0} (p : Page E) (q : Place) (n : ℕ) : Type 0 where
   pub within : n ≤ length p.list
   pub all : q ≡ leader p.plan.storers → n ≡ length p.list
 
--- While q, the partner of v, has left v for no higher view, each view w above v begins with all that v's leader ever had.
--- p and r are the pages of v and w
+-- While q, the partner of v, has left v for no higher view, each view w above v begins with all that v's leader ever
+-- had. p and r are the pages of v and w
 abbrev pub AheadOfLeader : {E : Type 0} → Place → ℕ → ℕ → ℕ → Page E → Page E → Type 0
 AheadOfLeader q promised v w p r =
     v < w → p.formed ≡ true → r.formed ≡ true → q ≡ partner p.plan.storers → p.leader_in ≡ true → promised ≤ v
