@@ -8,7 +8,7 @@ use Rattle.group_model.specs.Bases.{BasesBody}
 use Rattle.group_model.specs.Effects.{booted, down}
 use Rattle.group_model.specs.Entered.{AnswerOk, UpdatesFrom}
 use Rattle.group_model.specs.Facts.{Ok}
-use Rattle.group_model.specs.Laws.{AllSaidRightly, AreRecords, BaseUnder, BasesOnBothDisks, CommittedSurvives, EveryLaterView, Grows, Growth, OneBook, ReadsAlone, SaidRightly, StandsFor, TwoOutcomes, Whole}
+use Rattle.group_model.specs.Laws.{AllSaidRightly, AreRecords, BaseUnder, BasesOnBothDisks, CommittedSurvives, EveryLaterView, Grows, Growth, OneBook, ReadsAlone, SaidRightly, StandsFor, TwoOutcomes, Whole, WithinLimits}
 use Rattle.group_model.specs.Moves.{Booting, Choosing, Committing, Falling, Move, Opening, Reading, Saying, act, answered_after, book_after, moved, moved_by, new_entries, said_after}
 use Rattle.group_model.specs.Places.{Place, all_of, number}
 use Rattle.group_model.specs.State.{Answered, Answers, Beat, Event, Group, Lists, Message, Packet, Page, Refuses, Say, Server, mark_of}
@@ -87,6 +87,15 @@ stands_for g h q =
       staged = λ m. let p = fine.modes.pulls m in records_are _ _ _ p.2 (le_trans p.3 (h.ok.page (g.server q).promised p.0).start_within);
       staged_within = λ m. (fine.modes.pulls m).3;
     }
+
+pub within_limits : (g : Group Entry) → Whole g → WithinLimits g
+within_limits g h = record {
+  count = λ q. (h.within.server q).count;
+  indices = λ q l. le_trans ((h.ok.server q).logs.log l).holds.within (h.within.list (g.server q).accepted (h.ok.server q).views.formed);
+  log = λ q. (h.within.server q).items;
+  saved = λ q v e. (h.within.server q).saved v e;
+  list = h.within.list;
+}
 
 -- ---- growth
 

@@ -76,11 +76,12 @@ said_twice_is_held g ok v n h = ⊎_elim
 holds_start : {E : Type 0} (p : Page E) (q : Place) (n : ℕ) → Holds p q n → HoldsStart p q n
 holds_start p q n h = (h.from_start, h.all)
 
-storer_holds_the_start : {E : Type 0} (g : Group E) → Ok g → StorerHoldsTheStart g
-storer_holds_the_start g ok = record {
+storer_holds_the_start : {E : Type 0} (g : Group E) → Ok g → Settled g → StorerHoldsTheStart g
+storer_holds_the_start g ok settled = record {
   server = λ q l. holds_start _ q _ ((ok.server q).logs.log l).holds;
   saved = λ q log s r. holds_start _ q _ ((ok.server q).logs.saved log s r).holds;
   join = λ j i l. holds_start _ j.from _ ((ok.join j i).holds l);
+  settled = λ q. (settled.server q).settled;
 }
 
 commits_agree : {E : Type 0} (g : Group E) → Ok g → Settled g → CommitsAgreeWithTheBook g
@@ -117,7 +118,7 @@ named_facts g h = record {
   messages_carry_list_entries = each_map _ _ (λ p. carries g.page g.joins g.committed p.from p.to p.body) g.packets h.ok.packet;
   held_twice_survives = held_twice_survives g h.ok;
   said_twice_is_held = said_twice_is_held g h.ok;
-  storer_holds_the_start = storer_holds_the_start g h.ok;
+  storer_holds_the_start = storer_holds_the_start g h.ok h.more;
   commits_agree_with_the_book = commits_agree g h.ok h.more;
   horizons_cover_promises = horizons_cover g h.ok;
   demotion_follows_two_data_servers = demotion_follows g h.ok;

@@ -1,11 +1,12 @@
 -- The laws of the group: what every schedule keeps.
-use Rattle.std.specs.Prelude.{◌≡◌, ℕ, ◌+◌, ◌-◌, ◌<◌, ◌≤◌, ◌⊎◌, true, false, List, [], ◌∷◌, ◌++◌, length, take, drop, Some, slice_get, ⊤}
+use Rattle.std.specs.Prelude.{◌≡◌, ℕ, ◌+◌, ◌-◌, ◌/◌, ◌<◌, ◌≤◌, ◌⊎◌, true, false, List, [], ◌∷◌, ◌++◌, length, take, drop, Some, slice_get, ⊤}
 use Rattle.file_tree.specs.Calls.{outcome}
 use Rattle.file_tree.specs.Book.{Entry, is_update, updates, tree_after, IsBook}
 use Rattle.group_model.specs.Bases.{Bases}
 use Rattle.group_model.specs.Choose.{longer}
 use Rattle.group_model.specs.Entered.{AnswersOk, Books, Within}
 use Rattle.group_model.specs.Facts.{Ok}
+use Rattle.group_model.specs.Limits.{limit, room}
 use Rattle.group_model.specs.Moves.{Choosing, Move, Reading, Saying, act, moved}
 use Rattle.group_model.specs.Places.{Place}
 use Rattle.group_model.specs.Replicate.{answers}
@@ -101,6 +102,14 @@ pub record StandsFor (g : Group Entry) (q : Place) : Type 0 where
       → AreRecords (g.server q).wanted_from (g.server q).staged (g.page (g.server q).promised).list
   pub staged_within : (g.server q).mode ≡ Pulls
       → (g.server q).wanted_from + length (g.server q).staged ≤ (g.page (g.server q).promised).plan.start
+
+-- LIMITS: counts and indices have at most 62 bits, and a log has at most 16,384 records
+pub record WithinLimits (g : Group Entry) : Type 0 where
+  pub count : (q : Place) → (g.server q).promised / 3 ≤ limit
+  pub indices : (q : Place) → (g.server q).held ≡ Log → top (g.server q) ≤ limit
+  pub log : (q : Place) → length (g.server q).items ≤ room
+  pub saved : (q : Place) (v : Saved Entry) → (g.server q).saved ≡ Some v → length v.items ≤ room
+  pub list : (w : ℕ) → (g.page w).formed ≡ true → length (g.page w).list ≤ limit
 
 -- what a formed page becomes
 pub record PageGrows {E : Type 0} (p p' : Page E) : Type 0 where

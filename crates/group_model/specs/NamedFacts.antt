@@ -1,7 +1,7 @@
 -- The facts of the induction by their names. Each follows from what every step keeps.
 use Rattle.std.specs.Prelude.{◌≡◌, ℕ, ◌+◌, ◌-◌, ◌<◌, ◌≤◌, ◌⊎◌, true, false, List, length, Some, slice_get, ⊤}
 use Rattle.group_model.specs.Places.{IsIn, P2, Place, S01, leader, partner}
-use Rattle.group_model.specs.State.{Ack, Beat, Demote, Empty, Event, Give, Group, JoinMade, Log, Message, Open, Outside, Packet, Page, Report, Saved, top}
+use Rattle.group_model.specs.State.{Ack, Beat, Demote, Empty, Event, Give, Group, JoinMade, Live, Log, Message, Open, Outside, Packet, Page, Report, Saved, top}
 use Rattle.group_model.specs.Words.{Agree, Each, In, Into, IsActive, Part, Promised, Sure, Tells}
 
 -- A server's accepted view is at most its promised one and was formed; it is active in its promised view alone; a
@@ -63,13 +63,16 @@ SaidTwice g v n =
 abbrev pub HoldsStart : {E : Type 0} → Page E → Place → ℕ → Type 0
 HoldsStart p q n = (p.plan.start ≤ n) × (q ≡ leader p.plan.storers → n ≡ length p.list)
 
--- Each held server, saved log and held join has at least its view's start, the leader's the whole list
+-- Each held server, saved log and held join has at least its view's start, the leader's the whole list; and a settled
+-- server has the start as committed
 pub record StorerHoldsTheStart {E : Type 0} (g : Group E) : Type 0 where
   pub server : (q : Place) → (g.server q).held ≡ Log → HoldsStart (g.page (g.server q).accepted) q (top (g.server q))
   pub saved : (q : Place) (log : Saved E) → (g.server q).saved ≡ Some log → ((g.server q).role ≡ Outside → ⊥)
       → HoldsStart (g.page (g.server q).accepted) q (log.base + length log.items)
   pub join : (j : JoinMade) → In g.joins j → j.report.held ≡ Log
       → HoldsStart (g.page j.report.accepted) j.from j.report.top
+  pub settled : (q : Place) → ((g.server q).mode ≡ Open) ⊎ ((g.server q).mode ≡ Live)
+      → (g.page (g.server q).accepted).plan.start ≤ (g.server q).cp
 
 -- the CP in a message
 abbrev pub CommitAgrees : {E : Type 0} → (ℕ → Page E) → List E → Message E → Type 0
