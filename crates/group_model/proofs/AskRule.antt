@@ -38,7 +38,7 @@ appends g q s h e o u m =
     let b = neither _ _ n in
     let c = not_le room (length s.items) b.0 in
     let d = not_le limit (top s) b.1 in
-    goes_more g q s (Appending e) _ h (tt, tt, (c, (omega arith), u, m)) (appending h e (record { open' = o })) (λ k.
+    goes_more g q s (Appending e) _ h (tt, tt, (c, (omega arith), u, m, (fine.modes.active a).0)) (appending h e (record { open' = o })) (λ k.
     let p' = put_is g.page s.accepted (record p { list = p.list ++ e ∷ [] }) in
     let known = its k in
     goes_send _ q _ _ _ [] k (

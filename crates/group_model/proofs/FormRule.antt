@@ -6,7 +6,7 @@ use Rattle.group_model.specs.Form.{accept_moves, adopted, fits, form_moves, keep
 use Rattle.group_model.specs.Limits.{by_held, give_bytes, is_joins, is_pulls, room}
 use Rattle.group_model.specs.Misfits.{given_tests}
 use Rattle.group_model.specs.Moves.{Accepting, Pulling, Staging, act, moved}
-use Rattle.group_model.specs.Places.{Place, all_of, is_p2, partner, place, same}
+use Rattle.group_model.specs.Places.{Place, all_of, is_p2, partner, same}
 use Rattle.group_model.specs.Serving.{front, gives, held_tests, on_fetch, one_or_more, serving_accepted, serving_joined}
 use Rattle.group_model.specs.State.{Group, Held, Plan, Server, top}
 use Rattle.group_model.specs.Words.{IsJoining, Part, Under}
@@ -35,7 +35,7 @@ accepts g q s h plan staged j f known fit pulled =
     let start : plan.start ≡ (g.page s.promised).plan.start = ap (λ (p : Plan). p.start) known in
     let most = (fits_is q s plan fit).space in
     let space : length n.items ≤ room = omega arith in
-    goes_more g q s (Accepting plan role n) _ h (tt, (f, subst (λ (p : Plan). Under (lbs_of g.server) p.base) (sym known) (h.low.page s.promised f), adopted_lb q s plan), space) (accepting' h plan role n may) (λ k.
+    goes_more g q s (Accepting plan role n) _ h (tt, (f, subst (λ (p : Plan). Under (lbs_of g.server) p.base) (sym known) (h.low.page s.promised f), adopted_lb q s plan), (space, j)) (accepting' h plan role n may) (λ k.
     let g1 = moved g q s (Accepting plan role n) in
     let s1 = act q (g.clock q) s (Accepting plan role n) in
     goes_where g1 q s1 (same q (partner plan.storers)) _ k (λ t.
@@ -57,7 +57,7 @@ forms g q s h plan f known = goes_where g q s (all_of (is_joins s.mode ∷ fits 
     (λ t. subst (λ (x : Held). by_held x s.cp s.lb ≤ plan.start) (keeps_held q s plan t) fits'.own_cp) (λ _. fits'.base) in
     goes_if g q s (same q plan.source || (wanted q s plan == plan.start)) _ _
     (λ t. accepts g q s h plan [] j f known fit (λ n. (no_part _ _, ⊎_elim (λ y. absurd (true≢false (sym y ∙ n))) (λ y. let z = is_eq' (wanted q s plan) plan.start y in omega arith) (one_of _ _ t))))
-    (λ t. goes_more g q s (Pulling plan (wanted q s plan)) _ h (tt, tt, tt)
+    (λ t. goes_more g q s (Pulling plan (wanted q s plan)) _ h (tt, tt, j)
     (pull_kept g h.ok q s h.is plan (wanted q s plan) j (f, known, no_part _ _, subst (λ (p : Plan). wanted q s plan + 0 ≤ p.start) known (omega arith), fit, refl, not_either (same q plan.source) _ t))
     (λ k. goes_send _ q _ _ _ [] k (f, ap (λ (p : Plan). p.source) known) (tt, tt, tt) goes_done)))
   where
@@ -90,7 +90,7 @@ given g q s h from v index items part test = goes_where g q s (all_of (pull_test
     goes_if g q s (s.wanted_from + length (s.staged ++ items) == s.plan.start) _ _
     (λ x. accepts g q s h s.plan (s.staged ++ items) j ok.0 ok.1 ok.4 (λ _.
     (subst (λ (n : ℕ). Part n (s.staged ++ items) (g.page s.promised).list) (sym ok.5) more, subst (λ (n : ℕ). n + length (s.staged ++ items) ≡ s.plan.start) (sym ok.5) (is_eq' (s.wanted_from + length (s.staged ++ items)) s.plan.start x))))
-    (λ _. goes_more g q s (Staging (s.staged ++ items)) _ h (tt, tt, tt)
+    (λ _. goes_more g q s (Staging (s.staged ++ items)) _ h (tt, tt, pulls)
     (stage_kept g h.ok q s h.is (s.staged ++ items) (ok.0, ok.1, more, subst (λ (p : Plan). s.wanted_from + length (s.staged ++ items) ≤ p.start) ok.1 (omega arith), ok.4, ok.5, ok.6))
     (λ k. goes_send _ q _ _ _ [] k (ok.0, ap (λ (p : Plan). p.source) ok.1) (tt, tt, tt) goes_done)))
 

@@ -3,14 +3,12 @@ use Rattle.std.proofs.Common.{◌≡◌, ℕ, zero, suc, ◌+◌, ◌-◌, ◌<�
 use Rattle.std.proofs.lemmas.Option.{slice_get_within}
 use Rattle.std.proofs.lemmas.List.{length-take, length-drop}
 use Rattle.file_tree.specs.Book.{Entry}
-use Rattle.group_model.proofs.May.{opened}
-use Rattle.group_model.specs.Choose.{longer}
 use Rattle.group_model.specs.Effects.{taken}
 use Rattle.group_model.specs.Entered.{AnswerOk}
 use Rattle.group_model.specs.Limits.{room}
 use Rattle.group_model.specs.Misfits.{led_tests}
 use Rattle.group_model.specs.Moves.{Committing, Heeding, Noting, act, moved, raised_page}
-use Rattle.group_model.specs.Places.{P1, Place, S01, all_of, partner, place, same}
+use Rattle.group_model.specs.Places.{P1, Place, S01, all_of, partner, same}
 use Rattle.group_model.specs.Replicate.{ack_tests, answers, in_view_tests, is_in_view, on_ack, on_event}
 use Rattle.group_model.specs.State.{Answers, Group, Log, Page, Plan, Server, top}
 use Rattle.group_model.specs.Words.{IsActive, Part, Sure, Under}
@@ -18,6 +16,7 @@ use Rattle.group_model.proofs.Lists.{part_append, get_take, get_drop}
 use Rattle.group_model.proofs.Common.{by_if, sure_less}
 use Rattle.group_model.proofs.Common.{put_same as put_is}
 use Rattle.group_model.proofs.Accepting.{same_is}
+use Rattle.group_model.proofs.Raising.{leader_not_partner}
 use Rattle.group_model.proofs.Tests.{each_of, is_le, is_lt, is_eq', open_is, active_is}
 use Rattle.group_model.proofs.Quiet.{note_kept}
 use Rattle.group_model.proofs.Moving.{Good, its, Goes, goes_done, goes_more, heeding', committing}
@@ -39,7 +38,7 @@ heeded g q s h up from v cp base items f o sure start low led space more = goes_
     let plan = (its h).modes.plan active in
     let follows : q ≡ partner (g.page s.accepted).plan.storers = same_is _ _ a.1.0 ∙ ap (λ (p : Plan). partner p.storers) plan in
     let new = more active e in
-    goes_more g q s (Heeding items cp base) _ h ((subst (λ (n : ℕ). (g.page n).plan.start ≤ cp) e start, active, new.0), low, space a.0)
+    goes_more g q s (Heeding items cp base) _ h ((subst (λ (n : ℕ). (g.page n).plan.start ≤ cp) e start, active, new.0), low, (space a.0, active, (λ o. leader_not_partner _ (sym ((its h).modes.leads o).0 ∙ follows)), ((its h).modes.active active).0))
     (heeding' h items cp base (record {
       active = active;
       follows = follows;
@@ -115,13 +114,13 @@ acked g q s h v t lb until held_twice til low = goes_where g q s (all_of (ack_te
     let active : IsActive s.mode = subst (λ z. IsActive z) (sym open') tt in
     let twice : t ≤ (g.page s.accepted).held_twice = subst (λ (n : ℕ). t ≤ (g.page n).held_twice) v_is held_twice in
     let log = (its h).logs.log ((its h).modes.active active).0 in
-    goes_more g q s (Noting t lb until) _ h (tt, (λ p. low (ap (λ (n : ℕ). (g.page n).plan.storers) v_is ∙ ap (λ (l : Plan). l.storers) (sym ((its h).modes.plan active)) ∙ p)), tt)
+    goes_more g q s (Noting t lb until) _ h (tt, (λ p. low (ap (λ (n : ℕ). (g.page n).plan.storers) v_is ∙ ap (λ (l : Plan). l.storers) (sym ((its h).modes.plan active)) ∙ p)), open')
     (note_kept g h.ok q s h.is t lb until (subst (λ (n : ℕ). until ≤ (g.page n).until) v_is til)) (λ k.
     goes_where _ q _ (nat_lt s.cp t) _ k (λ y.
     let s1 = act q (g.clock q) s (Noting t lb until) in
     let g1 = moved g q s (Noting t lb until) in
     let forward : s.cp ≤ t = le_of_lt (is_lt s.cp t y) in
-    goes_more g1 q s1 (Committing t) _ k ((open', forward, twice), tt, tt) (committing k.ok k.is t (record { open' = open'; forward = forward; held_twice = twice })) (λ k2.
+    goes_more g1 q s1 (Committing t) _ k ((open', forward, twice), tt, ((its h).modes.active active).0) (committing k.ok k.is t (record { open' = open'; forward = forward; held_twice = twice })) (λ k2.
     let s2 = act q (g.clock q) s1 (Committing t) in
     let g2 = moved g1 q s1 (Committing t) in
     steady_goes q s2 _ (answers_steady q s2 s.cp (take (t - s.cp) (drop (s.cp - s.base) s.items)) (λ g' k' i e z.

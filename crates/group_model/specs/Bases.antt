@@ -1,5 +1,5 @@
 -- The facts on bases: each is on the disks of both data servers.
-use Rattle.std.specs.Prelude.{◌≡◌, ℕ, ◌≤◌, true, List, Option, Some, ⊤}
+use Rattle.std.specs.Prelude.{◌≡◌, ℕ, ◌≤◌, true, Some, ⊤}
 use Rattle.group_model.specs.Places.{P1, Place, S01, get}
 use Rattle.group_model.specs.State.{Ack, Beat, Event, Formed, Group, JoinMade, Log, Message, Open, Packet, Page, Saved, Server}
 use Rattle.group_model.specs.Words.{Each, In, Under}

@@ -3,16 +3,14 @@ use Rattle.std.specs.Prelude.{◌≡◌, ℕ, ◌+◌, ◌-◌, ◌/◌, ◌<◌
 use Rattle.file_tree.specs.Calls.{outcome}
 use Rattle.file_tree.specs.Book.{Entry, is_update, updates, tree_after, IsBook}
 use Rattle.group_model.specs.Bases.{Bases}
-use Rattle.group_model.specs.Choose.{longer}
-use Rattle.group_model.specs.Entered.{AnswersOk, Books, Within}
+use Rattle.group_model.specs.Entered.{AnswersOk, Books, Tidy, Within}
 use Rattle.group_model.specs.Facts.{Ok}
 use Rattle.group_model.specs.Limits.{limit, room}
 use Rattle.group_model.specs.Moves.{Choosing, Move, Reading, Saying, act, moved}
 use Rattle.group_model.specs.Places.{Place}
-use Rattle.group_model.specs.Replicate.{answers}
 use Rattle.group_model.specs.Settled.{Settled}
 use Rattle.group_model.specs.State.{Answered, Answers, Beat, Event, Group, JoinMade, Log, Message, Open, Outside, Packet, Page, Pulls, Saved, Server, top}
-use Rattle.group_model.specs.Step.{At, Crash, Happening, happens, near, run}
+use Rattle.group_model.specs.Step.{At, Crash, Happening, happens, run}
 use Rattle.group_model.specs.Words.{Agree, Each, In, Under}
 
 -- the clocks are at most 50 apart
@@ -27,6 +25,7 @@ pub record Whole (g : Group Entry) : Type 0 where
   pub answers : AnswersOk g
   pub books : Books g
   pub within : Within g
+  pub tidy : Tidy g
   pub near : Near g.clock
 
 -- A law holds after each list of happenings, from each group that meets the facts, whatever the sizes of records

@@ -1,8 +1,7 @@
 -- Worked rows: refusals of an ask, a repeat, an update that is acknowledged three times, and one that is taken over.
-use Rattle.std.specs.Prelude.{◌≡◌, ℕ, List, [], ◌∷◌, ◌++◌, None, Some}
+use Rattle.std.specs.Prelude.{◌≡◌, List, [], ◌∷◌, ◌++◌, None, Some}
 use Rattle.harp_base.specs.declared.call.Call.TheVariants as call
 use Rattle.harp_base.specs.declared.reply.Reply.TheVariants as reply
-use Rattle.harp_base.specs.declared.reply.Status.TheVariants.{NoEnt}
 use Rattle.group_model.specs.Places.{P0, P1, P2}
 use Rattle.group_model.specs.State.{Log, Leads, Follows, Old, BadClient, NotLeader}
 use Rattle.group_model.specs.Step.{Happening, At, Deliver, Advance, Tick, Suspect, Ask}

@@ -1,5 +1,5 @@
 -- Worked rows: a power failure, the same with its save cut short, and a fuzzy disk.
-use Rattle.std.specs.Prelude.{◌≡◌, ℕ, List, [], ◌∷◌, ◌++◌, None, Some}
+use Rattle.std.specs.Prelude.{◌≡◌, List, [], ◌∷◌, ◌++◌}
 use Rattle.harp_base.specs.declared.call.Call.TheVariants as call
 use Rattle.harp_base.specs.declared.reply.Reply.TheVariants as reply
 use Rattle.harp_base.specs.declared.reply.Status.TheVariants.{NoEnt}

@@ -1,12 +1,12 @@
 -- Worked rows: steps that stop at a call which changes the disk.
-use Rattle.std.specs.Prelude.{◌≡◌, ℕ, List, [], ◌∷◌, ◌++◌, None, Some}
+use Rattle.std.specs.Prelude.{◌≡◌, List, [], ◌∷◌, ◌++◌}
 use Rattle.harp_base.specs.declared.call.Call.TheVariants as call
 use Rattle.harp_base.specs.declared.reply.Reply.TheVariants as reply
 use Rattle.harp_base.specs.declared.reply.Status.TheVariants.{NoEnt}
 use Rattle.group_model.specs.Places.{P0, P1, P2}
 use Rattle.group_model.specs.State.{Log, Lost, Leads, Follows}
 use Rattle.group_model.specs.Step.{Happening, At, Deliver, CutAt, CutDeliver, Boot, Tick, Suspect, Ask, Apply, Flush}
-use Rattle.group_model.specs.Trace.{Line, Entered, Told, Sent, State, view, invite, join, event, beat, ack, rests, calls, opens, lives, is_down, state, play}
+use Rattle.group_model.specs.Trace.{Line, Entered, Told, Sent, State, view, invite, event, beat, ack, rests, calls, opens, lives, is_down, state, play}
 use Rattle.group_model.specs.RowsOpening.{mode, directory, at, opening_steps, opening_lines}
 
 abbrev pub stop_at_a_join_steps : List Happening

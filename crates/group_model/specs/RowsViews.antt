@@ -1,8 +1,7 @@
 -- Worked rows: opening at its moment, a late acknowledgement, promises at the skew, no view.
-use Rattle.std.specs.Prelude.{◌≡◌, ℕ, List, [], ◌∷◌, ◌++◌, None, Some}
+use Rattle.std.specs.Prelude.{◌≡◌, List, [], ◌∷◌, ◌++◌}
 use Rattle.harp_base.specs.declared.call.Call.TheVariants as call
 use Rattle.harp_base.specs.declared.reply.Reply.TheVariants as reply
-use Rattle.harp_base.specs.declared.reply.Status.TheVariants.{NoEnt}
 use Rattle.group_model.specs.Places.{P0, P1, P2}
 use Rattle.group_model.specs.State.{Log, Lost, Empty, Leads, Follows, Outside, NotYetOpen, NoPromise}
 use Rattle.group_model.specs.Step.{Happening, At, Deliver, Boot, Clock, Advance, Tick, Suspect, Ask, Crash}

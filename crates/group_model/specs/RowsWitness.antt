@@ -1,8 +1,7 @@
 -- Worked rows: the witness takes part and hands over, and a formation that is given up.
-use Rattle.std.specs.Prelude.{◌≡◌, ℕ, List, [], ◌∷◌, ◌++◌, None, Some}
+use Rattle.std.specs.Prelude.{◌≡◌, List, [], ◌∷◌, ◌++◌}
 use Rattle.harp_base.specs.declared.call.Call.TheVariants as call
 use Rattle.harp_base.specs.declared.reply.Reply.TheVariants as reply
-use Rattle.harp_base.specs.declared.reply.Status.TheVariants.{NoEnt}
 use Rattle.group_model.specs.Places.{P0, P1, P2}
 use Rattle.group_model.specs.State.{Log, Lost, Empty, Leads, Follows, Outside}
 use Rattle.group_model.specs.Step.{Happening, At, Deliver, Boot, Advance, Tick, Suspect, Ask, ListTree, Power, Crash}
