@@ -8,6 +8,7 @@ use Rattle.file_tree.specs.Tree.{Tree, first_tree}
 use Rattle.file_tree.specs.Calls.{outcome}
 use Rattle.file_tree.specs.Book.{Entry, is_update, updates, tree_next, tree_after, MayFollow, MayFollowAll, IsNextUpdate, IsRead}
 use Rattle.file_tree.proofs.ReadLaw.{read_keeps}
+use Rattle.group_model.specs.Ask.{append}
 use Rattle.group_model.specs.Entered.{UpdatesFrom}
 
 pub all_append : {X : Type 0} (P : X → Type 0) (xs ys : List X) → AllByRecursion P xs → AllByRecursion P ys → AllByRecursion P (xs ++ ys)

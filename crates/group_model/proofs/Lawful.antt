@@ -1,8 +1,9 @@
 -- The laws follow from what every step keeps.
-use Rattle.std.proofs.Common.{◌≡◌, ◌⊎◌, ℕ, ◌+◌, ◌-◌, ◌<◌, ◌≤◌, Bool, true, false, List, [], ◌∷◌, ◌++◌, append_assoc, append-nil, length, Option, None, Some, slice_get, drop, refl, sym, ap, ◌∙◌, subst, inl, inr, arith, le_trans, lt_of_le_of_lt, ⊎_elim, le_of_lt, if◌then◌else◌}
+use Rattle.std.proofs.Common.{eq-or-lt_of_le, ◌≡◌, ◌⊎◌, ℕ, ◌+◌, ◌-◌, ◌<◌, ◌≤◌, Bool, true, false, List, [], ◌∷◌, ◌++◌, append_assoc, append-nil, length, Option, None, Some, slice_get, drop, refl, sym, ap, ◌∙◌, subst, inl, inr, arith, le_trans, lt_of_le_of_lt, ⊎_elim, le_of_lt, if◌then◌else◌}
 use Rattle.std.proofs.lemmas.List.{length-drop}
 use Rattle.std.proofs.lemmas.Bool.{cases_Bool}
 use Rattle.file_tree.specs.Book.{Entry, MayFollowAll}
+use Rattle.group_model.specs.Ask.{append}
 use Rattle.group_model.specs.Bases.{BasesBody}
 use Rattle.group_model.specs.Effects.{booted, down}
 use Rattle.group_model.specs.Entered.{AnswerOk, UpdatesFrom}
@@ -10,7 +11,7 @@ use Rattle.group_model.specs.Facts.{Ok}
 use Rattle.group_model.specs.Laws.{AllSaidRightly, AreRecords, BaseUnder, BasesOnBothDisks, CommittedSurvives, EveryLaterView, Grows, Growth, OneBook, ReadsAlone, SaidRightly, StandsFor, TwoOutcomes, Whole, WithinLimits}
 use Rattle.group_model.specs.Moves.{Booting, Choosing, Committing, Falling, Move, Opening, Reading, Saying, act, answered_after, book_after, moved, moved_by, new_entries, said_after}
 use Rattle.group_model.specs.Places.{Place, all_of, number}
-use Rattle.group_model.specs.State.{Answered, Answers, Beat, Event, Group, Lists, Message, Packet, Page, Refuses, Say, Server, mark_of}
+use Rattle.group_model.specs.State.{Answered, Answers, Beat, Event, Group, Lists, Log, Message, Packet, Page, Refuses, Say, Server, mark_of, top}
 use Rattle.group_model.specs.Step.{Advance, At, Boot, Clock, Comes, Crash, CutAt, CutDeliver, Deed, Deliver, Does, Happening, Input, clock_tests, cut_delivered, cut_steps, delivered, happens, numbered, run, step_of, steps, writes_any}
 use Rattle.group_model.specs.Words.{Part, Sure}
 use Rattle.group_model.proofs.Common.{by_if, sure_up}
@@ -28,6 +29,15 @@ use Rattle.group_model.proofs.Safe.{good_of, happens_whole, input_goes, sent_kno
 sure_starts : {E : Type 0} (g : Group E) → Ok g → (v w c : ℕ) → v < w → (g.page w).formed ≡ true → Sure g.page g.committed v c → c ≤ (g.page w).plan.start
 sure_starts g ok v w c lt f s = le_trans s.held_twice (ok.pair s.twice w (lt_of_le_of_lt s.not_above lt) s.formed f).kept_start
 
+-- what is sure in a held server's accepted view is in its log
+sure_held : {E : Type 0} (g : Group E) → Ok g → (q : Place) (c : ℕ) → (g.server q).held ≡ Log → Sure g.page g.committed (g.server q).accepted c → c ≤ top (g.server q)
+sure_held g ok q c l s =
+    let log = (ok.server q).logs.log l in
+    ⊎_elim
+    (λ (e : s.twice ≡ (g.server q).accepted). le_trans s.held_twice (subst (λ (v : ℕ). (g.page v).held_twice ≤ top (g.server q)) (sym e) log.holds.held_twice))
+    (λ (lt : s.twice < (g.server q).accepted). le_trans s.held_twice (le_trans (ok.pair s.twice (g.server q).accepted lt s.formed (ok.server q).views.formed).kept_start log.holds.from_start))
+    (eq-or-lt_of_le s.not_above)
+
 pub every_later_view : (g : Group Entry) → Whole g → EveryLaterView g
 every_later_view g h a i =
     let k = h.answers.each a i in
@@ -36,6 +46,9 @@ every_later_view g h a i =
       in_book = k.entry;
       here = k.sure.same;
       later = λ w lt f. (sure_starts g h.ok a.view w a.index lt f k.sure, (sure_up g h.ok a.view w a.index (le_of_lt lt) k.formed f k.sure).same);
+      held_twice = (k.sure.twice, k.sure.formed, k.sure.not_above, k.sure.held_twice);
+      held = λ q l le. sure_held g h.ok q a.index l (sure_up g h.ok a.view (g.server q).accepted a.index le k.formed (h.ok.server q).views.formed k.sure);
+      open' = λ q o lt. le_trans (sure_starts g h.ok a.view (g.server q).accepted a.index lt (h.ok.server q).views.formed k.sure) ((h.more.server q).settled (inl o));
     }
 
 pub committed_survives : (g : Group Entry) → Whole g → CommittedSurvives g

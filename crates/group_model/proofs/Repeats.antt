@@ -8,9 +8,9 @@ use Rattle.std.proofs.lemmas.List.{length-take-le}
 use Rattle.std.proofs.lemmas.List.Elements.{filter-append}
 use Rattle.harp_base.specs.declared.call.Call.{Call}
 use Rattle.file_tree.specs.Book.{Entry, is_update, updates, MayFollow, IsNextUpdate, IsRead}
-use Rattle.group_model.specs.Ask.{last_of, last_stamp, later_of, later_stamp, new_entry}
+use Rattle.group_model.specs.Ask.{append, last_of, last_stamp, later_of, later_stamp, new_entry}
 use Rattle.group_model.specs.Entered.{UpdatesFrom}
-use Rattle.group_model.specs.Places.{number}
+use Rattle.group_model.specs.Places.{number, place}
 use Rattle.group_model.proofs.Common.{by_if}
 use Rattle.group_model.proofs.Tests.{is_eq'}
 use Rattle.group_model.proofs.BookLists.{all_append, all_front, all_back, all_more, joined_up, only_updates, from_at, from_take, next_is}

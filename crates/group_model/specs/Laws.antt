@@ -3,14 +3,16 @@ use Rattle.std.specs.Prelude.{◌≡◌, ℕ, ◌+◌, ◌-◌, ◌/◌, ◌<◌
 use Rattle.file_tree.specs.Calls.{outcome}
 use Rattle.file_tree.specs.Book.{Entry, is_update, updates, tree_after, IsBook}
 use Rattle.group_model.specs.Bases.{Bases}
+use Rattle.group_model.specs.Choose.{longer}
 use Rattle.group_model.specs.Entered.{AnswersOk, Books, Tidy, Within}
 use Rattle.group_model.specs.Facts.{Ok}
 use Rattle.group_model.specs.Limits.{limit, room}
 use Rattle.group_model.specs.Moves.{Choosing, Move, Reading, Saying, act, moved}
 use Rattle.group_model.specs.Places.{Place}
+use Rattle.group_model.specs.Replicate.{answers}
 use Rattle.group_model.specs.Settled.{Settled}
 use Rattle.group_model.specs.State.{Answered, Answers, Beat, Event, Group, JoinMade, Log, Message, Open, Outside, Packet, Page, Pulls, Saved, Server, top}
-use Rattle.group_model.specs.Step.{At, Crash, Happening, happens, run}
+use Rattle.group_model.specs.Step.{At, Crash, Happening, happens, near, run}
 use Rattle.group_model.specs.Words.{Agree, Each, In, Under}
 
 -- the clocks are at most 50 apart
@@ -33,14 +35,19 @@ abbrev pub Always : (Group Entry → Type 0) → Type 0
 Always Law = (size : List Entry → Entry → ℕ) (g : Group Entry) → Whole g → (happenings : List Happening)
     → Law (run size g happenings)
 
--- EVERY LATER VIEW. An update that was answered with index n in view V stands in the book at n, the view's list
--- begins with the book's first n, and so does the list of each view formed above V, within its start
+-- EVERY LATER VIEW. An update that was answered with index n in view v stands in the book at n. The view's list begins
+-- with the book's first n, and so does the list of each view formed above v, within its start. They are held twice in a
+-- view not above v, each held server with an accepted view of at least v has them, and each open leader above v has them
+-- as committed
 pub record LaterViewsHave (g : Group Entry) (a : Answered Entry) : Type 0 where
   pub formed : (g.page a.view).formed ≡ true
   pub in_book : slice_get g.committed (a.index - 1) ≡ Some a.entry
   pub here : Agree a.index (g.page a.view).list g.committed
   pub later : (w : ℕ) → a.view < w → (g.page w).formed ≡ true → (a.index ≤ (g.page w).plan.start)
       × Agree a.index (g.page w).list g.committed
+  pub held_twice : (v : ℕ) × ((g.page v).formed ≡ true) × (v ≤ a.view) × (a.index ≤ (g.page v).held_twice)
+  pub held : (q : Place) → (g.server q).held ≡ Log → a.view ≤ (g.server q).accepted → a.index ≤ top (g.server q)
+  pub open' : (q : Place) → (g.server q).mode ≡ Open → a.view < (g.server q).accepted → a.index ≤ (g.server q).cp
 
 abbrev pub EveryLaterView : Group Entry → Type 0
 EveryLaterView g = (a : Answered Entry) → In g.answered a → LaterViewsHave g a
