@@ -8,11 +8,11 @@ use Rattle.group_model.specs.Entered.{AnswersOk, Books, Tidy, Within}
 use Rattle.group_model.specs.Facts.{Ok}
 use Rattle.group_model.specs.Limits.{limit, room}
 use Rattle.group_model.specs.Moves.{Choosing, Move, Reading, Saying, act, moved}
-use Rattle.group_model.specs.Places.{Place}
+use Rattle.group_model.specs.Places.{Place, number}
 use Rattle.group_model.specs.Replicate.{answers}
 use Rattle.group_model.specs.Settled.{Settled}
-use Rattle.group_model.specs.State.{Answered, Answers, Beat, Event, Group, JoinMade, Log, Message, Open, Outside, Packet, Page, Pulls, Saved, Server, top}
-use Rattle.group_model.specs.Step.{At, Crash, Happening, happens, near, run}
+use Rattle.group_model.specs.State.{Answered, Answers, Beat, Event, Give, Group, JoinMade, Log, Message, Open, Outside, Packet, Page, Pulls, Saved, Server, top}
+use Rattle.group_model.specs.Step.{Ask, At, Crash, Deed, Happening, happens, near, run}
 use Rattle.group_model.specs.Words.{Agree, Each, In, Under}
 
 -- the clocks are at most 50 apart
@@ -163,3 +163,17 @@ AllSaidRightly g q s (m ∷ ms) = SaidRightly g s m × AllSaidRightly (moved g q
 abbrev pub TwoOutcomes : (List Entry → Entry → ℕ) → Group Entry → Happening → Happening → Place → Type 0
 TwoOutcomes size g cut whole q = (happens size g cut ≡ happens size g whole)
     ⊎ (happens size g cut ≡ happens size g (At q Crash))
+
+-- HOW LOGS GROW. The number of a server's records grows only in an ask at it, by one, in the delivery of an Event to it,
+-- by one, and in the delivery of a Give to it
+abbrev pub records : Group Entry → Place → ℕ
+records g q = length (g.server q).items
+
+abbrev pub DeedGrows : Deed → ℕ → ℕ → Type 0
+DeedGrows (Ask client number c) old new = new ≤ old + 1
+DeedGrows d old new = new ≤ old
+
+abbrev pub DeliveryGrows : Message Entry → ℕ → ℕ → Type 0
+DeliveryGrows (Event v index cp base e) old new = new ≤ old + 1
+DeliveryGrows (Give v index items) old new = ⊤
+DeliveryGrows m old new = new ≤ old
