@@ -1,14 +1,14 @@
 -- Lists of updates, and the book that reads stand in beside them.
 use Rattle.std.proofs.Common.{◌≡◌, ℕ, zero, suc, Bool, true, false, List, [], ◌∷◌, ◌++◌, append_assoc, append-nil, Some, slice_get, take, refl, sym, ap, ◌∙◌, subst, ⊎_elim}
-use Rattle.std.specs.Prelude.{MatchBool, fold}
+use Rattle.std.specs.Prelude.{MatchBool}
 use Rattle.std.specs.List.{AllByRecursion}
 use Rattle.std.proofs.lemmas.Bool.{cases_Bool}
 use Rattle.std.proofs.lemmas.List.Elements.{filter-append}
-use Rattle.file_tree.specs.Tree.{Tree, first_tree}
+use Rattle.file_tree.specs.Tree.{Tree}
 use Rattle.file_tree.specs.Calls.{outcome}
-use Rattle.file_tree.specs.Book.{Entry, is_update, updates, tree_next, tree_after, MayFollow, MayFollowAll, IsNextUpdate, IsRead}
-use Rattle.file_tree.proofs.ReadLaw.{read_keeps}
-use Rattle.group_model.specs.Ask.{append}
+use Rattle.harp_base.specs.Update.{is_update}
+use Rattle.file_tree.specs.Book.{Entry, updates, tree_after, MayFollow, MayFollowAll, IsNextUpdate, IsRead}
+use Rattle.file_tree.proofs.BookLaws.{tree_of_updates}
 use Rattle.group_model.specs.Entered.{UpdatesFrom}
 
 pub all_append : {X : Type 0} (P : X → Type 0) (xs ys : List X) → AllByRecursion P xs → AllByRecursion P ys → AllByRecursion P (xs ++ ys)
@@ -58,13 +58,9 @@ from_at earlier (x ∷ xs) (suc k) e h i = subst (λ (l : List Entry). (is_updat
 pub next_is : (earlier : List Entry) (e : Entry) → updates earlier ≡ earlier → is_update e.call ≡ true → MayFollow earlier e → IsNextUpdate earlier e
 next_is earlier e u i m = subst (λ (l : List Entry). IsNextUpdate l e) u (subst (λ (b : Bool). MatchBool b (IsNextUpdate (updates earlier) e) (IsRead e)) i m.order)
 
--- reads leave the tree as it is
-pub tree_of_updates : (tree : Tree) (es : List Entry) → fold tree_next tree es ≡ fold tree_next tree (updates es)
-tree_of_updates tree [] = refl
-tree_of_updates tree (e ∷ es) = ⊎_elim
-    (λ (u : is_update e.call ≡ true). rw u (tree_of_updates (tree_next tree e) es))
-    (λ (u : is_update e.call ≡ false). rw u (ap (λ (t : Tree). fold tree_next t es) (read_keeps tree e.call e.stamp u) ∙ tree_of_updates tree es))
-    (cases_Bool (is_update e.call))
+pub follows_all : (earlier xs : List Entry) → UpdatesFrom earlier xs → MayFollowAll earlier xs
+follows_all earlier [] h = tt
+follows_all earlier (x ∷ xs) h = (h.1, follows_all (earlier ++ x ∷ []) xs h.2)
 
 -- updates that follow the committed ones may follow a book with these updates
 pub enter : (book c new : List Entry) → updates book ≡ c → UpdatesFrom c new → MayFollowAll book new × (updates (book ++ new) ≡ c ++ new)
@@ -72,7 +68,7 @@ enter book c [] u h = (tt, ap updates (append-nil book) ∙ u ∙ sym (append-ni
 enter book c (e ∷ es) u h =
     let cc' : updates c ≡ c = sym (ap updates u) ∙ twice book ∙ u in
     let next : IsNextUpdate (updates book) e = subst (λ (l : List Entry). IsNextUpdate l e) (sym u) (next_is c e cc' h.0 h.1) in
-    let tree : tree_after c ≡ tree_after book = ap tree_after (sym u) ∙ sym (tree_of_updates first_tree book) in
+    let tree : tree_after c ≡ tree_after book = ap tree_after (sym u) ∙ sym (tree_of_updates book) in
     let more : updates (book ++ e ∷ []) ≡ c ++ e ∷ [] = filter-append (λ x. is_update x.call) book (e ∷ []) ∙ ap (λ (l : List Entry). l ++ updates (e ∷ [])) u ∙ ap (λ (l : List Entry). c ++ l) (only_updates c (e ∷ []) (h.0, h.1, tt)) in
     let rest = enter (book ++ e ∷ []) (c ++ e ∷ []) es more h.2 in (
       (

@@ -2,11 +2,10 @@
 use Rattle.std.proofs.Common.{eq-or-lt_of_le, ◌≡◌, ◌⊎◌, ℕ, ◌+◌, ◌-◌, ◌<◌, ◌≤◌, Bool, true, false, List, [], ◌∷◌, ◌++◌, append_assoc, append-nil, length, Option, None, Some, slice_get, drop, refl, sym, ap, ◌∙◌, subst, inl, inr, arith, le_trans, lt_of_le_of_lt, ⊎_elim, le_of_lt, if◌then◌else◌}
 use Rattle.std.proofs.lemmas.List.{length-drop}
 use Rattle.std.proofs.lemmas.Bool.{cases_Bool}
-use Rattle.file_tree.specs.Book.{Entry, MayFollowAll}
-use Rattle.group_model.specs.Ask.{append}
+use Rattle.file_tree.specs.Book.{Entry}
 use Rattle.group_model.specs.Bases.{BasesBody}
 use Rattle.group_model.specs.Effects.{booted, down}
-use Rattle.group_model.specs.Entered.{AnswerOk, UpdatesFrom}
+use Rattle.group_model.specs.Entered.{AnswerOk}
 use Rattle.group_model.specs.Facts.{Ok}
 use Rattle.group_model.specs.Laws.{AllSaidRightly, AreRecords, BaseUnder, BasesOnBothDisks, CommittedSurvives, EveryLaterView, Grows, Growth, OneBook, ReadsAlone, SaidRightly, StandsFor, TwoOutcomes, Whole, WithinLimits}
 use Rattle.group_model.specs.Moves.{Booting, Choosing, Committing, Falling, Move, Opening, Reading, Saying, act, answered_after, book_after, moved, moved_by, new_entries, said_after}
@@ -18,6 +17,7 @@ use Rattle.group_model.proofs.Common.{by_if, sure_up}
 use Rattle.group_model.proofs.Lists.{get_drop}
 use Rattle.group_model.proofs.Grow.{each_map}
 use Rattle.group_model.proofs.Growth.{grows_same, grows_then}
+use Rattle.group_model.proofs.BookLists.{follows_all}
 use Rattle.group_model.proofs.Entering.{front_is}
 use Rattle.group_model.proofs.Reading.{exclusive}
 use Rattle.group_model.proofs.Moving.{Goes, May, goes_grows, goes_one, at_self}
@@ -61,10 +61,6 @@ pub reads_alone : (g : Group Entry) → Whole g → ReadsAlone g
 reads_alone g h q o grant =
     let later = exclusive g h.ok h.near q o grant in
     (later, (h.more.server q).count o later)
-
-follows_all : (earlier xs : List Entry) → UpdatesFrom earlier xs → MayFollowAll earlier xs
-follows_all earlier [] h = tt
-follows_all earlier (x ∷ xs) h = (h.1, follows_all (earlier ++ x ∷ []) xs h.2)
 
 pub one_book : (g : Group Entry) → Whole g → OneBook g
 one_book g h = record { book = h.books.book; updates = h.books.updates; lists = λ w f. follows_all [] (g.page w).list (h.books.list w f) }

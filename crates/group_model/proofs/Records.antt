@@ -1,10 +1,11 @@
 -- How many records a server has after a step.
-use Rattle.std.proofs.Common.{◌≡◌, ℕ, ◌+◌, ◌-◌, ◌/◌, ◌≤◌, ◌||◌, ◌==◌, not, Bool, true, false, List, [], ◌∷◌, ◌++◌, append_assoc, append-nil, length, Option, None, Some, take, drop, max, min, refl, sym, ap, ◌∙◌, subst, arith, le_trans, le_refl, zero-le, nat_lt, nat_le, if◌then◌else◌, length-append}
+use Rattle.std.proofs.Common.{◌≡◌, ℕ, ◌+◌, ◌-◌, ◌/◌, ◌≤◌, ◌||◌, ◌==◌, Bool, true, false, List, [], ◌∷◌, ◌++◌, length, Option, None, Some, take, refl, sym, ap, ◌∙◌, subst, arith, le_trans, le_refl, zero-le, nat_lt, nat_le, if◌then◌else◌, length-append}
 use Rattle.std.specs.Prelude.{⊤}
 use Rattle.std.proofs.lemmas.List.{length-drop, length-take}
 use Rattle.harp_base.specs.declared.call.Call.{Call}
-use Rattle.file_tree.specs.Book.{Entry, is_update}
-use Rattle.group_model.specs.Ask.{append, last_of, new_entry, on_ask, refuse, update_moves}
+use Rattle.harp_base.specs.Update.{is_update}
+use Rattle.file_tree.specs.Book.{Entry, last_of}
+use Rattle.group_model.specs.Ask.{append, new_entry, on_ask, refuse, update_moves}
 use Rattle.group_model.specs.Choose.{choose}
 use Rattle.group_model.specs.Disk.{demote_tests, flush_tests, settled_tests}
 use Rattle.group_model.specs.Effects.{demoted_by, report_of, taken}
@@ -66,11 +67,13 @@ keeping q clock s ms k = record { most = let a = keeps_most q clock ms s k in om
 
 -- moves that add n, and then moves that add none
 adds_then : (n : ℕ) (q : Place) (clock : ℕ) (s : Server Entry) (ms : List (Move Entry)) (next : Server Entry → List (Move Entry)) → Adds n q clock s ms → ((s : Server Entry) → KeepsAll (next s)) → Adds n q clock s (and_then q clock s ms next)
-adds_then n q clock s ms next h k = record { most =
-    let s' = acts q clock s ms in
-    let a = keeps_most q clock (next s') s' (k s') in
-    let b = h.most in
-    subst (λ (x : Server Entry). length x.items ≤ length s.items + n) (sym (acts_both q clock ms (next s') s)) (omega arith) }
+adds_then n q clock s ms next h k = record {
+  most =
+      let s' = acts q clock s ms in
+      let a = keeps_most q clock (next s') s' (k s') in
+      let b = h.most in
+      subst (λ (x : Server Entry). length x.items ≤ length s.items + n) (sym (acts_both q clock ms (next s') s)) (omega arith);
+}
 
 adds_if : (n : ℕ) (q : Place) (clock : ℕ) (s : Server Entry) (b : Bool) (x y : List (Move Entry)) → Adds n q clock s x → Adds n q clock s y → Adds n q clock s (if b then x else y)
 adds_if n q clock s b x y h k = by_if (λ ms. Adds n q clock s ms) b x y (λ _. h) (λ _. k)
@@ -176,9 +179,11 @@ choice_adds q clock s reports None = keeping q clock s _ (tt, tt)
 choice_adds q clock s reports (Some plan) =
     let s' = record s { duty = Chose s.promised plan } in
     let sends = to_each (Form s.promised plan) (other_storers q plan.storers) in
-    record { most = subst (λ (x : Server Entry). length x.items ≤ length s.items + 0)
-        (sym (acts_both q clock sends (form_moves q s' plan) s' ∙ ap (λ (x : Server Entry). acts q clock x (form_moves q s' plan)) (sends_stay q clock s' (Form s.promised plan) (other_storers q plan.storers))))
-        (form_adds q clock s' plan).most }
+    record {
+      most = subst (λ (x : Server Entry). length x.items ≤ length s.items + 0)
+          (sym (acts_both q clock sends (form_moves q s' plan) s' ∙ ap (λ (x : Server Entry). acts q clock x (form_moves q s' plan)) (sends_stay q clock s' (Form s.promised plan) (other_storers q plan.storers))))
+          (form_adds q clock s' plan).most;
+    }
 
 join_adds : (q : Place) (clock : ℕ) (s : Server Entry) (from : Place) (v : ℕ) (t : Report) (d : Duty) → Adds 0 q clock s (on_join q s from v t d)
 join_adds q clock s from v t NoDuty = keeping q clock s [] tt

@@ -2,7 +2,8 @@
 use Rattle.std.specs.Prelude.{ℕ, ◌+◌, ◌||◌, ◌==◌, nat_lt, nat_le, List, [], ◌∷◌, length, take, Option, None, Some, max, if◌then◌else◌}
 use Rattle.harp_base.specs.declared.call.Call.{Call}
 use Rattle.file_tree.specs.Calls.{outcome}
-use Rattle.file_tree.specs.Book.{Entry, is_update, tree_after}
+use Rattle.harp_base.specs.Update.{is_update}
+use Rattle.file_tree.specs.Book.{Entry, tree_after, last_of, last_stamp}
 use Rattle.group_model.specs.Limits.{is_active, is_open, limit, room}
 use Rattle.group_model.specs.Moves.{Appending, Move, Reading, Saying, Sending}
 use Rattle.group_model.specs.Places.{Place, all_of, leader, number, partner, same}
@@ -13,25 +14,6 @@ abbrev pub hint_of : Place → Role → Option Place
 hint_of q (Leads p) = Some q
 hint_of q (Follows p) = Some p
 hint_of q Outside = None
-
--- an entry after which comes this last update, or none
-abbrev pub later_of : ℕ → Entry → Option Entry → Option Entry
-later_of client e None = if e.client == client then Some e else None
-later_of client e (Some x) = Some x
-
--- the client's last update among the entries
-abbrev pub last_of : ℕ → List Entry → Option Entry
-last_of client [] = None
-last_of client (e ∷ es) = later_of client e (last_of client es)
-
-abbrev pub later_stamp : Entry → List Entry → ℕ
-later_stamp e [] = e.stamp
-later_stamp e (x ∷ xs) = later_stamp x xs
-
--- the stamp of the last entry, 0 before the first
-abbrev pub last_stamp : List Entry → ℕ
-last_stamp [] = 0
-last_stamp (e ∷ es) = later_stamp e es
 
 -- Appending: the stamp is the larger of the clock and the last one, the reply is the outcome on the tree at top
 abbrev pub new_entry : ℕ → List Entry → ℕ → ℕ → Call → Entry

@@ -1,6 +1,7 @@
 -- The facts on what is entered and answered, and on the limits. They stand on those of the pages and servers.
 use Rattle.std.specs.Prelude.{◌≡◌, ℕ, ◌-◌, ◌/◌, ◌<◌, ◌≤◌, ◌⊎◌, true, List, [], ◌∷◌, ◌++◌, length, Some, slice_get, ⊤}
-use Rattle.file_tree.specs.Book.{Entry, is_update, updates, MayFollow, IsBook}
+use Rattle.harp_base.specs.Update.{is_update}
+use Rattle.file_tree.specs.Book.{Entry, updates, MayFollow, IsBook}
 use Rattle.group_model.specs.Limits.{limit, room}
 use Rattle.group_model.specs.Places.{Place, nobody}
 use Rattle.group_model.specs.State.{Answered, Empty, Group, Invite, Joins, Live, Lost, Message, Open, Packet, Page, Pulls, Rests, Saved, Server, no_plan, no_report}

@@ -1,18 +1,17 @@
 -- The laws of the group: what every schedule keeps.
 use Rattle.std.specs.Prelude.{◌≡◌, ℕ, ◌+◌, ◌-◌, ◌/◌, ◌<◌, ◌≤◌, ◌⊎◌, true, false, List, [], ◌∷◌, ◌++◌, length, take, drop, Some, slice_get, ⊤}
 use Rattle.file_tree.specs.Calls.{outcome}
-use Rattle.file_tree.specs.Book.{Entry, is_update, updates, tree_after, IsBook}
+use Rattle.harp_base.specs.Update.{is_update}
+use Rattle.file_tree.specs.Book.{Entry, updates, tree_after, IsBook}
 use Rattle.group_model.specs.Bases.{Bases}
-use Rattle.group_model.specs.Choose.{longer}
 use Rattle.group_model.specs.Entered.{AnswersOk, Books, Tidy, Within}
 use Rattle.group_model.specs.Facts.{Ok}
 use Rattle.group_model.specs.Limits.{limit, room}
 use Rattle.group_model.specs.Moves.{Choosing, Move, Reading, Saying, act, moved}
 use Rattle.group_model.specs.Places.{Place, number}
-use Rattle.group_model.specs.Replicate.{answers}
 use Rattle.group_model.specs.Settled.{Settled}
 use Rattle.group_model.specs.State.{Answered, Answers, Beat, Event, Give, Group, JoinMade, Log, Message, Open, Outside, Packet, Page, Pulls, Saved, Server, top}
-use Rattle.group_model.specs.Step.{Ask, At, Crash, Deed, Happening, happens, near, run}
+use Rattle.group_model.specs.Step.{Ask, At, Crash, Deed, Happening, happens, run}
 use Rattle.group_model.specs.Words.{Agree, Each, In, Under}
 
 -- the clocks are at most 50 apart

@@ -1,0 +1,13 @@
+use Rattle.file_tree.proofs.ReadLaw.{read_keeps}
+use Rattle.file_tree.proofs.RefusalLaw.{refusal_keeps}
+use Rattle.file_tree.proofs.SoundLaws.{first_sound, outcome_sound, book_sound}
+use Rattle.file_tree.proofs.laws.tree_laws.Goals as goal
+
+pub returns : goal.returns
+returns c = record {
+  first_is_sound = first_sound;
+  outcomes_keep_sound = outcome_sound;
+  reads_keep = read_keeps;
+  refusals_keep = refusal_keeps;
+  all_are_sound = book_sound;
+}

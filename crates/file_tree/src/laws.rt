@@ -1,0 +1,38 @@
+//! What holds of every tree and of every book.
+
+ghost use Rattle.std.specs.Prelude.{◌≡◌, ◌<◌, ◌↔◌, ◌+◌, ◌++◌, ◌∷◌, [], ℕ, List, length, slice_index_or, true, false};
+ghost use Rattle.harp_base.specs.declared.call.Call.{Call};
+ghost use Rattle.harp_base.specs.declared.reply.Reply.TheVariants.{Refused};
+ghost use Rattle.harp_base.specs.declared.reply.Status.{Status};
+ghost use Rattle.harp_base.specs.Update.{is_update};
+ghost use Rattle.file_tree.specs.Tree.{Tree, first_tree};
+ghost use Rattle.file_tree.specs.Calls.{outcome};
+ghost use Rattle.file_tree.specs.Sound.{IsSound};
+ghost use Rattle.file_tree.specs.Book.{Entry, tree_next, tree_after, updates, MayFollow, IsBook, IsRead, ComesNext, last_next, last_of};
+
+/// Trees: the first one is sound, and every call leaves a sound tree sound; a read and a refused call leave it as it
+/// is. So the tree after any entries is sound.
+pub fn tree_laws()
+    ensures first_is_sound { IsSound first_tree }
+    ensures outcomes_keep_sound { (tree : Tree) (call : Call) (stamp : ℕ) → IsSound tree → IsSound (outcome tree call stamp).1 }
+    ensures reads_keep { (tree : Tree) (call : Call) (stamp : ℕ) → is_update call ≡ false → (outcome tree call stamp).1 ≡ tree }
+    ensures refusals_keep { (tree : Tree) (call : Call) (stamp : ℕ) (status : Status)
+        → (outcome tree call stamp).0 ≡ Refused status → (outcome tree call stamp).1 ≡ tree }
+    ensures all_are_sound { (entries : List Entry) → IsSound (tree_after entries) }
+{}
+
+/// Books: how one grows by an entry, and what may follow by the last update and its client's last one.
+pub fn book_laws()
+    ensures appended { (entries : List Entry) (e : Entry) → IsBook (entries ++ e ∷ []) ↔ (IsBook entries × MayFollow entries e) }
+    ensures tree_appended { (entries : List Entry) (e : Entry) → tree_after (entries ++ e ∷ []) ≡ tree_next (tree_after entries) e }
+    ensures tree_of_updates { (entries : List Entry) → tree_after entries ≡ tree_after (updates entries) }
+    ensures update_appended { (entries : List Entry) (e : Entry) → is_update e.call ≡ true → updates (entries ++ e ∷ []) ≡ updates entries ++ e ∷ [] }
+    ensures read_appended { (entries : List Entry) (e : Entry) → is_update e.call ≡ false → updates (entries ++ e ∷ []) ≡ updates entries }
+    ensures last_appended { (client : ℕ) (entries : List Entry) (e : Entry)
+        → last_of client (entries ++ e ∷ []) ≡ last_next client (last_of client entries) e }
+    ensures update_follows { (entries : List Entry) (e : Entry) → IsBook entries → is_update e.call ≡ true → MayFollow entries e ↔ ComesNext entries e }
+    ensures read_follows { (entries : List Entry) (e : Entry) → is_update e.call ≡ false
+        → MayFollow entries e ↔ ((e.reply ≡ (outcome (tree_after entries) e.call e.stamp).0) × IsRead e) }
+    ensures numbered { (entries : List Entry) → IsBook entries → (k : ℕ) (d : Entry) → k < length (updates entries)
+        → (slice_index_or (updates entries) k d).index ≡ k + 1 }
+{}

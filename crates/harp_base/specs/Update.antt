@@ -1,0 +1,23 @@
+-- Updates and reads.
+use Rattle.std.specs.Prelude.{Bool, true, false}
+use Rattle.harp_base.specs.declared.call.Call.{Call}
+use Rattle.harp_base.specs.declared.call.Call.TheVariants as call
+
+-- an update may change the tree, a read can't
+abbrev pub is_update : Call → Bool
+is_update (call.SetAttr handle attr) = true
+is_update (call.Write handle offset bytes) = true
+is_update (call.Create dir name attr) = true
+is_update (call.Remove dir name) = true
+is_update (call.Rename dir name to_dir to_name) = true
+is_update (call.Link handle dir name) = true
+is_update (call.SymLink dir name text attr) = true
+is_update (call.MkDir dir name attr) = true
+is_update (call.RmDir dir name) = true
+is_update call.Null = false
+is_update (call.GetAttr handle) = false
+is_update (call.Lookup dir name) = false
+is_update (call.ReadLink handle) = false
+is_update (call.Read handle offset count) = false
+is_update (call.ReadDir dir cookie count) = false
+is_update (call.StatFs handle) = false

@@ -1,0 +1,3 @@
+pub mod ChunkLemmas
+pub mod LineLemmas
+pub mod ReaderLemmas

@@ -1,0 +1,71 @@
+//! Bytes that were read from a source and not yet taken.
+
+ghost use Rattle.std.specs.Prelude.{◌≡◌, ◌≤◌, ◌<◌, [], ◌∷◌, length, drop, IfOk, OnErr};
+ghost use Rattle.std.specs.Io.KnownBytes.{Keeps, prepend_known};
+ghost use Rattle.harp_base.specs.Streams.{Rose};
+ghost use Rattle.line_reader.specs.Lines.{Peeked};
+
+use harp_base::{Failed, Source};
+use std::alloc::{AllocError, Global};
+use std::marker::Model;
+
+/// How many bytes are asked for at once.
+const SIZE: usize = 4096;
+
+/// Up to 4096 bytes of a source.
+#[derive(Drop)]
+pub struct Chunk {
+    bytes: Vec<u8>,
+    at: usize,
+    end: usize,
+}
+
+impl Model for Chunk {
+    ghost use Rattle.std.specs.Prelude.{ℕ, List, length, slice_range, ◌≤◌, ◌<◌};
+
+    ghost Value = { List ℕ };
+
+    ghost view = { λ c. slice_range c.bytes.items c.at c.end };
+
+    ghost invariant = { λ c. (c.at ≤ c.end) × (c.end ≤ length c.bytes.items) × (0 < length c.bytes.items) };
+}
+
+impl Chunk {
+    pub fn new(alloc: Global) -> Result<Chunk, AllocError>
+        ensures { IfOk result (λ chunk. chunk ≡ []) }
+    {
+        Ok(Chunk {
+            bytes: vec![in alloc; 0; SIZE]?,
+            at: 0,
+            end: 0,
+        })
+    }
+
+    /// The next byte of what is left of the source, or None at its end.
+    pub fn peek<S: Source>(&mut self, source: &mut S) -> Result<Option<u8>, Failed>
+        ensures ok { IfOk result (λ byte. Peeked self.old (S.left source.old) self.new byte) }
+        ensures left { Keeps (prepend_known self.old (S.left source.old)) (prepend_known self.new (S.left source.new)) }
+        ensures rose { OnErr result (Rose (S.faults source.old) (S.faults source.new)) }
+        ensures count { S.faults source.old ≤ S.faults source.new }
+    {
+        if self.at < self.end {
+            return Ok(Some(self.bytes[self.at]));
+        }
+        self.at = 0;
+        self.end = 0;
+        let count = source.read(self.bytes.as_mut_slice())?;
+        if count == 0 {
+            return Ok(None);
+        }
+        self.end = count;
+        Ok(Some(self.bytes[0]))
+    }
+
+    /// Takes the next byte.
+    pub fn advance(&mut self)
+        requires { 0 < length self.old }
+        ensures { self.new ≡ drop 1 self.old }
+    {
+        self.at += 1;
+    }
+}

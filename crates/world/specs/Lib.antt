@@ -1,0 +1,4 @@
+pub mod Answer
+pub mod State
+pub mod Run
+pub mod World
