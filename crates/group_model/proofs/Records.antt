@@ -11,17 +11,19 @@ use Rattle.group_model.specs.Disk.{demote_tests, flush_tests, settled_tests}
 use Rattle.group_model.specs.Effects.{demoted_by, report_of, taken}
 use Rattle.group_model.specs.Form.{accept_moves, adopted, fits, form_moves, keeps, role_of, wanted}
 use Rattle.group_model.specs.Joining.{chosen_moves, joined_tests, on_join, to_each}
-use Rattle.group_model.specs.Laws.{DeedGrows}
+use Rattle.group_model.specs.Laws.{DeedGrows, DeliveryGrows, log_length}
 use Rattle.group_model.specs.Limits.{is_active, is_joins, is_open, is_pulls, limit, room}
-use Rattle.group_model.specs.Moves.{Accepting, Appending, Basing, Booting, Demoting, Falling, Heeding, Joining, Move, Pulling, Saving, Sending, act, acts}
+use Rattle.group_model.specs.Misfits.{misfits}
+use Rattle.group_model.specs.Moves.{Accepting, Appending, Basing, Booting, Demoting, Falling, Heeding, Joining, Move, Pulling, Saving, Sending, act, acts, moved, moved_by}
 use Rattle.group_model.specs.Open.{and_then, base_tests, formed_tests, open_heard, open_tests, rebase, try_open}
 use Rattle.group_model.specs.Places.{P0, P1, P2, Place, Trio, all_of, get, is_s01, leader, number, other_storers, partner, same, with_at}
 use Rattle.group_model.specs.Replicate.{ack_tests, answers, is_in_view, on_event}
 use Rattle.group_model.specs.Serving.{held_tests, serving_accepted, serving_joined}
-use Rattle.group_model.specs.State.{Ack, Beat, Cause, Chose, Collects, Demote, Duty, Event, Fetch, Form, Formed, Give, Invite, Join, Message, NoDuty, Plan, Report, Server, top}
-use Rattle.group_model.specs.Step.{Apply, Ask, Crash, Deed, Flush, ListTree, Power, Suspect, Tick, does, on_message}
+use Rattle.group_model.specs.State.{Ack, Beat, Cause, Chose, Collects, Demote, Duty, Event, Fetch, Form, Formed, Give, Group, Invite, Join, Message, NoDuty, Packet, Plan, Report, Server, top}
+use Rattle.group_model.specs.Step.{Apply, Ask, At, Comes, Crash, Deed, Deliver, Does, Flush, Input, ListTree, Power, Suspect, Tick, delivered, does, happens, list_of, numbered, on_message, rule, step, step_of, steps}
 use Rattle.group_model.specs.Tick.{again, again_tests, beats, duties, duty_tests, events, invite_again, tick}
 use Rattle.group_model.proofs.Common.{by_if}
+use Rattle.group_model.proofs.Moving.{at_self}
 
 -- a move that adds no record
 abbrev pub Keeps : Move Entry → Type 0
@@ -236,3 +238,52 @@ deed_adds q clock list s Flush = none q clock s _ (keeping q clock s _ (keeps_if
 deed_adds q clock list s ListTree = none q clock s _ (keeping q clock s _ (keeps_if (all_of (settled_tests q s)) _ [] (tt, tt) tt))
 deed_adds q clock list s Power = none q clock s (Saving ∷ []) (keeping q clock s (Saving ∷ []) (tt, tt))
 deed_adds q clock list s Crash = none q clock s (Falling ∷ []) (keeping q clock s (Falling ∷ []) (tt, tt))
+
+delivery_adds : (size : List Entry → Entry → ℕ) (q : Place) (clock : ℕ) (list : List Entry) (s : Server Entry) (from : Place) (m : Message Entry) → (Given m → ⊥)
+    → length (acts q clock s (step size q clock list s (Comes from m))).items ≤ length s.items + most_of m
+delivery_adds size q clock list s from m n = (adds_then (most_of m) q clock s (rule size q clock list s (Comes from m)) rebase
+    (adds_if (most_of m) q clock s (misfits q s from m) [] _ (record { most = omega arith })
+    (adds_then (most_of m) q clock s (on_message size q clock list s from m) (try_open q clock) (message_adds size q clock list s from m n) (keeps_open q clock)))
+    keeps_base).most
+
+moved_server : (ms : List (Move Entry)) (g : Group Entry) (q : Place) (s : Server Entry) → g.server q ≡ s → (moved_by g q s ms).server q ≡ acts q (g.clock q) s ms
+moved_server [] g q s e = e
+moved_server (m ∷ ms) g q s e = moved_server ms (moved g q s m) q (act q (g.clock q) s m) (at_self g.server q _)
+
+step_records : (size : List Entry → Entry → ℕ) (g : Group Entry) (q : Place) (i : Input) (P : ℕ → Type 0)
+    → P (length (acts q (g.clock q) (g.server q) (step_of size g q i)).items) → P (log_length g q) → P (log_length (steps size g q i) q)
+step_records size g q i P h k = by_if (λ (x : Group Entry). P (log_length x q)) (g.server q).up _ g
+    (λ _. subst (λ (s : Server Entry). P (length s.items)) (sym (moved_server (step_of size g q i) g q (g.server q) refl)) h)
+    (λ _. k)
+
+same_deed : (d : Deed) (n : ℕ) → DeedGrows d n n
+same_deed Tick n = le_refl n
+same_deed Suspect n = le_refl n
+same_deed (Ask client number c) n = omega arith
+same_deed (Apply k) n = le_refl n
+same_deed Flush n = le_refl n
+same_deed ListTree n = le_refl n
+same_deed Power n = le_refl n
+same_deed Crash n = le_refl n
+
+pub deeds_grow : (size : List Entry → Entry → ℕ) (g : Group Entry) (q : Place) (d : Deed) → DeedGrows d (log_length g q) (log_length (happens size g (At q d)) q)
+deeds_grow size g q d = step_records size g q (Does d) (λ n. DeedGrows d (log_length g q) n) (deed_adds q (g.clock q) (list_of g q) (g.server q) d) (same_deed d (log_length g q))
+
+by_message : (m : Message Entry) (old new : ℕ) → ((Given m → ⊥) → new ≤ old + most_of m) → DeliveryGrows m old new
+by_message (Invite v) old new h = let a = h (λ x. x) in omega arith
+by_message (Join v t) old new h = let a = h (λ x. x) in omega arith
+by_message (Form v plan) old new h = let a = h (λ x. x) in omega arith
+by_message (Fetch v index) old new h = let a = h (λ x. x) in omega arith
+by_message (Give v index items) old new h = tt
+by_message (Formed v lb) old new h = let a = h (λ x. x) in omega arith
+by_message (Event v index cp base e) old new h = h (λ x. x)
+by_message (Beat v cp base) old new h = let a = h (λ x. x) in omega arith
+by_message (Ack v t lb until) old new h = let a = h (λ x. x) in omega arith
+by_message (Demote v) old new h = let a = h (λ x. x) in omega arith
+
+pub deliveries_grow : (size : List Entry → Entry → ℕ) (g : Group Entry) (n : ℕ) (p : Packet Entry) → numbered g.packets n ≡ Some p
+    → DeliveryGrows p.body (log_length g p.to) (log_length (happens size g (Deliver n)) p.to)
+deliveries_grow size g n p e = subst (λ (o : Option (Packet Entry)). DeliveryGrows p.body (log_length g p.to) (log_length (delivered size g o) p.to)) (sym e)
+    (step_records size g p.to (Comes p.from p.body) (λ n. DeliveryGrows p.body (log_length g p.to) n)
+    (by_message p.body _ _ (λ x. delivery_adds size p.to (g.clock p.to) (list_of g p.to) (g.server p.to) p.from p.body x))
+    (by_message p.body _ _ (λ x. omega arith)))

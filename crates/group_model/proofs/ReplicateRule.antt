@@ -3,12 +3,14 @@ use Rattle.std.proofs.Common.{◌≡◌, ℕ, zero, suc, ◌+◌, ◌-◌, ◌<�
 use Rattle.std.proofs.lemmas.Option.{slice_get_within}
 use Rattle.std.proofs.lemmas.List.{length-take, length-drop}
 use Rattle.file_tree.specs.Book.{Entry}
+use Rattle.group_model.proofs.May.{opened}
+use Rattle.group_model.specs.Choose.{longer}
 use Rattle.group_model.specs.Effects.{taken}
 use Rattle.group_model.specs.Entered.{AnswerOk}
 use Rattle.group_model.specs.Limits.{room}
 use Rattle.group_model.specs.Misfits.{led_tests}
 use Rattle.group_model.specs.Moves.{Committing, Heeding, Noting, act, moved, raised_page}
-use Rattle.group_model.specs.Places.{P1, Place, S01, all_of, partner, same}
+use Rattle.group_model.specs.Places.{P1, Place, S01, all_of, partner, place, same}
 use Rattle.group_model.specs.Replicate.{ack_tests, answers, in_view_tests, is_in_view, on_ack, on_event}
 use Rattle.group_model.specs.State.{Answers, Group, Log, Page, Plan, Server, top}
 use Rattle.group_model.specs.Words.{IsActive, Part, Sure, Under}

@@ -4,14 +4,16 @@ use Rattle.file_tree.specs.Calls.{outcome}
 use Rattle.harp_base.specs.Update.{is_update}
 use Rattle.file_tree.specs.Book.{Entry, updates, tree_after, IsBook}
 use Rattle.group_model.specs.Bases.{Bases}
+use Rattle.group_model.specs.Choose.{longer}
 use Rattle.group_model.specs.Entered.{AnswersOk, Books, Tidy, Within}
 use Rattle.group_model.specs.Facts.{Ok}
 use Rattle.group_model.specs.Limits.{limit, room}
 use Rattle.group_model.specs.Moves.{Choosing, Move, Reading, Saying, act, moved}
 use Rattle.group_model.specs.Places.{Place, number}
+use Rattle.group_model.specs.Replicate.{answers}
 use Rattle.group_model.specs.Settled.{Settled}
 use Rattle.group_model.specs.State.{Answered, Answers, Beat, Event, Give, Group, JoinMade, Log, Message, Open, Outside, Packet, Page, Pulls, Saved, Server, top}
-use Rattle.group_model.specs.Step.{Ask, At, Crash, Deed, Happening, happens, run}
+use Rattle.group_model.specs.Step.{Ask, At, Crash, Deed, Happening, happens, near, run}
 use Rattle.group_model.specs.Words.{Agree, Each, In, Under}
 
 -- the clocks are at most 50 apart
@@ -165,8 +167,8 @@ TwoOutcomes size g cut whole q = (happens size g cut ≡ happens size g whole)
 
 -- HOW LOGS GROW. The number of a server's records grows only in an ask at it, by one, in the delivery of an Event to it,
 -- by one, and in the delivery of a Give to it
-abbrev pub records : Group Entry → Place → ℕ
-records g q = length (g.server q).items
+abbrev pub log_length : Group Entry → Place → ℕ
+log_length g q = length (g.server q).items
 
 abbrev pub DeedGrows : Deed → ℕ → ℕ → Type 0
 DeedGrows (Ask client number c) old new = new ≤ old + 1
