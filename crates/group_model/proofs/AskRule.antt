@@ -88,7 +88,7 @@ read_goes g q s h o client number c u list e = goes_if g q s (nat_le s.grant (g.
     let log = (its h).logs.log ((its h).modes.active a).0 in
     let grant : g.clock q < s.grant = not_le s.grant (g.clock q) n in
     let later = subst (λ (x : Server Entry). x.mode ≡ Open → g.clock q < x.grant → (W : ℕ) → x.accepted < W → (g.page W).formed ≡ true → (g.page W).opened ≡ false) h.is (exclusive g h.ok h.near q) o grant in
-    let count : s.cp ≡ length g.committed = (subst (λ (x : Server Entry). SettledAt g.page g.committed x) h.is (h.more.server q)).count o later in
+    let count : s.cp ≡ length g.committed = (subst (λ (x : Server Entry). SettledAt g.page g.committed x) h.is (h.settled.server q)).count o later in
     let fronts : take s.cp list ≡ g.committed = ap (λ (x : List Entry). take s.cp x) e ∙ ap (λ (n : ℕ). take n (g.page s.accepted).list) count
     ∙ front_is (g.page s.accepted).list g.committed (subst (λ (n : ℕ). n ≤ length (g.page s.accepted).list) count log.sure.within) (λ k l. log.sure.same k (subst (λ (n : ℕ). k < n) (sym count) l)) in
     let tree : tree_after (take s.cp list) ≡ tree_after g.book = ap tree_after (fronts ∙ sym h.beside.books.updates) ∙ sym (tree_of_updates g.book) in

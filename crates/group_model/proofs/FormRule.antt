@@ -35,7 +35,7 @@ accepts g q s h plan staged j f known fit pulled =
     let start : plan.start ≡ (g.page s.promised).plan.start = ap (λ (p : Plan). p.start) known in
     let most = (fits_is q s plan fit).space in
     let space : length n.items ≤ room = omega arith in
-    goes_more g q s (Accepting plan role n) _ h (tt, (f, subst (λ (p : Plan). Under (lbs_of g.server) p.base) (sym known) (h.low.page s.promised f), adopted_lb q s plan), (space, j)) (accepting' h plan role n may) (λ k.
+    goes_more g q s (Accepting plan role n) _ h (tt, (f, subst (λ (p : Plan). Under (lbs_of g.server) p.base) (sym known) (h.bases.page s.promised f), adopted_lb q s plan), (space, j)) (accepting' h plan role n may) (λ k.
     let g1 = moved g q s (Accepting plan role n) in
     let s1 = act q (g.clock q) s (Accepting plan role n) in
     goes_where g1 q s1 (same q (partner plan.storers)) _ k (λ t.

@@ -49,7 +49,7 @@ every_later_view g h a i =
       later = λ w lt f. (sure_starts g h.ok a.view w a.index lt f k.sure, (sure_up g h.ok a.view w a.index (le_of_lt lt) k.formed f k.sure).same);
       held_twice = (k.sure.twice, k.sure.formed, k.sure.not_above, k.sure.held_twice);
       held = λ q l le. sure_held g h.ok q a.index l (sure_up g h.ok a.view (g.server q).accepted a.index le k.formed (h.ok.server q).views.formed k.sure);
-      open' = λ q o lt. le_trans (sure_starts g h.ok a.view (g.server q).accepted a.index lt (h.ok.server q).views.formed k.sure) ((h.more.server q).settled (inl o));
+      open' = λ q o lt. le_trans (sure_starts g h.ok a.view (g.server q).accepted a.index lt (h.ok.server q).views.formed k.sure) ((h.settled.server q).settled (inl o));
     }
 
 pub committed_survives : (g : Group Entry) → Whole g → CommittedSurvives g
@@ -61,7 +61,7 @@ committed_survives g h q l =
 pub reads_alone : (g : Group Entry) → Whole g → ReadsAlone g
 reads_alone g h q o grant =
     let later = exclusive g h.ok h.near q o grant in
-    (later, (h.more.server q).count o later)
+    (later, (h.settled.server q).count o later)
 
 pub one_book : (g : Group Entry) → Whole g → OneBook g
 one_book g h = record { book = h.books.book; updates = h.books.updates; lists = λ w f. follows_all [] (g.page w).list (h.books.list w f) }
@@ -73,11 +73,11 @@ base_under lbs page m h = tt
 
 pub bases_on_both_disks : (g : Group Entry) → Whole g → BasesOnBothDisks g
 bases_on_both_disks g h = record {
-  log = λ q. (h.low.server q).log;
-  saved = λ q. (h.low.server q).saved;
-  page = h.low.page;
-  join = h.low.join;
-  packet = each_map (λ (p : Packet Entry). BasesBody (λ x. (g.server x).lb) g.page p.body) (λ (p : Packet Entry). BaseUnder (λ x. (g.server x).lb) p.body) (λ p. base_under (λ x. (g.server x).lb) g.page p.body) g.packets h.low.packet;
+  log = λ q. (h.bases.server q).log;
+  saved = λ q. (h.bases.server q).saved;
+  page = h.bases.page;
+  join = h.bases.join;
+  packet = each_map (λ (p : Packet Entry). BasesBody (λ x. (g.server x).lb) g.page p.body) (λ (p : Packet Entry). BaseUnder (λ x. (g.server x).lb) p.body) (λ p. base_under (λ x. (g.server x).lb) g.page p.body) g.packets h.bases.packet;
 }
 
 records_are : (base : ℕ) (items list : List Entry) → Part base items list → base + length items ≤ length list → AreRecords base items list

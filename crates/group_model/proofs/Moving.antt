@@ -34,8 +34,8 @@ at_self f P2 x = refl
 pub record Good (g : Group Entry) (q : Place) (s : Server Entry) : Type 0 where
   pub ok : Ok g
   pub is : g.server q ≡ s
-  pub more : Settled g
-  pub low : Bases g
+  pub settled : Settled g
+  pub bases : Bases g
   pub beside : Beside g
   pub near : Near g.clock
 
@@ -77,8 +77,8 @@ goes_more g q s m ms h r k next = (
   next (record {
     ok = k;
     is = at_self g.server q (act q (g.clock q) s m);
-    more = settled_moved g h.ok h.more q s h.is m r.0 k;
-    low = bases_moved g h.ok h.low q s h.is m r.1;
+    settled = settled_moved g h.ok h.settled q s h.is m r.0 k;
+    bases = bases_moved g h.ok h.bases q s h.is m r.1;
     beside = beside_moved g h.ok h.beside q s h.is m r.0 r.1 r.2 k;
     near = h.near;
   }),

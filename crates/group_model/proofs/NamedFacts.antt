@@ -118,8 +118,8 @@ named_facts g h = record {
   messages_carry_list_entries = each_map _ _ (λ p. carries g.page g.joins g.committed p.from p.to p.body) g.packets h.ok.packet;
   held_twice_survives = held_twice_survives g h.ok;
   said_twice_is_held = said_twice_is_held g h.ok;
-  storer_holds_the_start = storer_holds_the_start g h.ok h.more;
-  commits_agree_with_the_book = commits_agree g h.ok h.more;
+  storer_holds_the_start = storer_holds_the_start g h.ok h.settled;
+  commits_agree_with_the_book = commits_agree g h.ok h.settled;
   horizons_cover_promises = horizons_cover g h.ok;
   demotion_follows_two_data_servers = demotion_follows g h.ok;
 }

@@ -49,11 +49,11 @@ at_page g q s h a = (its h).modes.plan a
 
 -- an open leader's CP is at least its view's start
 pub settled : (g : Group Entry) (q : Place) (s : Server Entry) → Good g q s → s.mode ≡ Open → (g.page s.accepted).plan.start ≤ s.cp
-settled g q s h o = (subst (λ s. SettledAt g.page g.committed s) h.is (h.more.server q)).settled (inl o)
+settled g q s h o = (subst (λ s. SettledAt g.page g.committed s) h.is (h.settled.server q)).settled (inl o)
 
 -- what is said of a server's bases
 pub its_low : {g : Group Entry} {q : Place} {s : Server Entry} → Good g q s → BasesAt (lbs_of g.server) g.page s
-its_low {g = g} {q = q} h = subst (λ s. BasesAt (lbs_of g.server) g.page s) h.is (h.low.server q)
+its_low {g = g} {q = q} h = subst (λ s. BasesAt (lbs_of g.server) g.page s) h.is (h.bases.server q)
 
 pub own_base : (g : Group Entry) (q : Place) (s : Server Entry) → Good g q s → IsActive s.mode → Under (lbs_of g.server) s.base
 own_base g q s h a = (its_low h).log ((its h).modes.active a).0

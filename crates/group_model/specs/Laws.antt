@@ -23,8 +23,8 @@ Near clock = (x y : Place) → clock x ≤ clock y + 50
 -- All that every step keeps
 pub record Whole (g : Group Entry) : Type 0 where
   pub ok : Ok g
-  pub more : Settled g
-  pub low : Bases g
+  pub settled : Settled g
+  pub bases : Bases g
   pub answers : AnswersOk g
   pub books : Books g
   pub within : Within g
@@ -131,8 +131,8 @@ pub record PageGrows {E : Type 0} (p p' : Page E) : Type 0 where
   pub partner_in : p.partner_in ≡ true → p'.partner_in ≡ true
   pub opened : p.opened ≡ true → p'.opened ≡ true
 
-pub record Grows {E : Type 0} (page page' : ℕ
-    → Page E) (committed committed' : List E) (joins joins' : List JoinMade) : Type 0 where
+pub record Grows {E : Type 0} (page page' : ℕ → Page E) (committed committed' : List E)
+    (joins joins' : List JoinMade) : Type 0 where
   pub each : (v : ℕ) → (page v).formed ≡ true → PageGrows (page v) (page' v)
   pub longer : length committed ≤ length committed'
   pub agree : Agree (length committed) committed committed'
