@@ -9,7 +9,6 @@ use Rattle.file_tree.specs.Calls.{outcome}
 use Rattle.harp_base.specs.Update.{is_update}
 use Rattle.file_tree.specs.Book.{Entry, updates, tree_after, MayFollow, MayFollowAll, IsNextUpdate, IsRead}
 use Rattle.file_tree.proofs.BookLaws.{tree_of_updates}
-use Rattle.group_model.specs.Ask.{append}
 use Rattle.group_model.specs.Entered.{UpdatesFrom}
 
 pub all_append : {X : Type 0} (P : X → Type 0) (xs ys : List X) → AllByRecursion P xs → AllByRecursion P ys → AllByRecursion P (xs ++ ys)

@@ -6,7 +6,6 @@ use Rattle.std.proofs.lemmas.List.{length-take, length-drop}
 use Rattle.std.proofs.lemmas.List.Elements.{filter-append}
 use Rattle.harp_base.specs.Update.{is_update}
 use Rattle.file_tree.specs.Book.{Entry, updates, MayFollow, IsBook}
-use Rattle.group_model.specs.Ask.{append}
 use Rattle.group_model.specs.Effects.{NewLog, booted, demoted_by, down, load_tests, loaded, lost_log, resting, saving}
 use Rattle.group_model.specs.Entered.{AnswerOk, AnswersOk, BodyWithin, Books, IsTidy, ServerWithin, Tidy, UpdatesFrom, Within}
 use Rattle.group_model.specs.Facts.{Ok}
@@ -14,7 +13,6 @@ use Rattle.group_model.specs.Laws.{Grows}
 use Rattle.group_model.specs.Limits.{can_have, is_log, is_outside, limit, room}
 use Rattle.group_model.specs.Moves.{Accepting, Appending, Applying, Basing, Booting, Choosing, Committing, Demoting, Falling, Flushing, Hearing, Heeding, Joining, Move, Noting, Opening, Pulling, Reading, Saving, Saying, Sending, Staging, act, moved, new_entries, said_after}
 use Rattle.group_model.specs.Places.{Place, all_of, at, is_p2, number, put}
-use Rattle.group_model.specs.Replicate.{answers}
 use Rattle.group_model.specs.State.{Answered, Answers, Empty, Group, Held, JoinMade, Joins, Lists, Live, Log, Lost, Mark, Mode, Open, Packet, Page, Pulls, Refuses, Rests, Saved, Say, Server, Waits, mark_of, top}
 use Rattle.group_model.specs.Words.{Agree, Each, In, IsActive, IsJoining}
 use Rattle.group_model.proofs.Common.{each_at, by_if}

@@ -6,7 +6,7 @@ use Rattle.group_model.specs.Form.{accept_moves, adopted, fits, form_moves, keep
 use Rattle.group_model.specs.Limits.{by_held, give_bytes, is_joins, is_pulls, room}
 use Rattle.group_model.specs.Misfits.{given_tests}
 use Rattle.group_model.specs.Moves.{Accepting, Pulling, Staging, act, moved}
-use Rattle.group_model.specs.Places.{Place, all_of, is_p2, partner, place, same}
+use Rattle.group_model.specs.Places.{Place, all_of, is_p2, partner, same}
 use Rattle.group_model.specs.Serving.{front, gives, held_tests, on_fetch, one_or_more, serving_accepted, serving_joined}
 use Rattle.group_model.specs.State.{Group, Held, Plan, Server, top}
 use Rattle.group_model.specs.Words.{IsJoining, Part, Under}

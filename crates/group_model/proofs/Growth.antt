@@ -1,7 +1,5 @@
 -- Each move lets the history grow: pages keep their plan and origin, lists and the book are prolonged, flags stay.
 use Rattle.std.proofs.Common.{◌≡◌, ◌∙◌, ℕ, ◌≤◌, true, List, [], ◌∷◌, ◌++◌, refl, sym, subst, inr, arith, le_trans, true≢false, le_refl, zero-le, length-append}
-use Rattle.group_model.proofs.May.{opened, raised}
-use Rattle.group_model.specs.Choose.{longer}
 use Rattle.group_model.specs.Facts.{Ok}
 use Rattle.group_model.specs.Laws.{Grows, PageGrows}
 use Rattle.group_model.specs.Moves.{Accepting, Appending, Choosing, Committing, Heeding, Joining, Move, Opening, into_page, moved, raised_page}

@@ -1,7 +1,6 @@
 -- Suspicion, invite, join and the choice keep the facts.
 use Rattle.std.proofs.Common.{◌≡◌, ℕ, ◌+◌, ◌*◌, ◌/◌, ◌%◌, ◌<◌, ◌≤◌, true, [], Option, None, Some, refl, sym, subst, inl, arith, nat_lt, ◌==◌}
 use Rattle.file_tree.specs.Book.{Entry}
-use Rattle.group_model.proofs.May.{chosen}
 use Rattle.group_model.specs.Choose.{choose, greatest}
 use Rattle.group_model.specs.Effects.{report_of}
 use Rattle.group_model.specs.Form.{form_moves}

@@ -3,7 +3,6 @@ use Rattle.std.proofs.Common.{eq-or-lt_of_le, ◌≡◌, ◌⊎◌, ℕ, ◌+◌
 use Rattle.std.proofs.lemmas.List.{length-drop}
 use Rattle.std.proofs.lemmas.Bool.{cases_Bool}
 use Rattle.file_tree.specs.Book.{Entry}
-use Rattle.group_model.specs.Ask.{append}
 use Rattle.group_model.specs.Bases.{BasesBody}
 use Rattle.group_model.specs.Effects.{booted, down}
 use Rattle.group_model.specs.Entered.{AnswerOk}

@@ -1,6 +1,5 @@
 -- What each move asks of the group, and the groups that the larger moves leave.
 use Rattle.std.proofs.Common.{◌≡◌, ℕ, ◌+◌, ◌<◌, ◌≤◌, true, List, [], ◌∷◌, ◌++◌, length, take, Option, Some, max}
-use Rattle.group_model.specs.Choose.{greatest, longer}
 use Rattle.group_model.specs.Effects.{NewLog, accepting, heeding, joined_server, opening, report_of}
 use Rattle.group_model.specs.Moves.{entered, into_page, new_page, raised_page}
 use Rattle.group_model.specs.Places.{IsIn, Place, Trio, at, coordinator, get, leader, partner, put}

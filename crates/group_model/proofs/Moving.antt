@@ -1,7 +1,7 @@
 -- Each move of a server keeps the facts: the small steps' lemmas in the words of `mark`.
 use Rattle.file_tree.specs.Book.{Entry}
 use Rattle.std.proofs.Common.{◌≡◌, ℕ, List, [], ◌∷◌, ◌++◌, Option, Some, refl, subst}
-use Rattle.group_model.proofs.May.{MayAccept, MayAppend, MayChoose, MayCommit, MayHeed, MayJoin, committing_group, joined}
+use Rattle.group_model.proofs.May.{MayAccept, MayAppend, MayChoose, MayCommit, MayHeed, MayJoin, committing_group}
 use Rattle.group_model.specs.Bases.{Bases}
 use Rattle.group_model.specs.Effects.{NewLog}
 use Rattle.group_model.specs.Facts.{BodyOk, Ok, ServerOk}
@@ -10,7 +10,6 @@ use Rattle.group_model.specs.Moves.{Accepting, Appending, Choosing, Collecting, 
 use Rattle.group_model.specs.Places.{P0, P1, P2, Place, Trio, at, get}
 use Rattle.group_model.specs.Settled.{Settled}
 use Rattle.group_model.specs.State.{Collects, Duty, Group, Message, Plan, Report, Role, Server}
-use Rattle.group_model.specs.Step.{near}
 use Rattle.group_model.specs.Words.{In}
 use Rattle.group_model.proofs.Grow.{with_call}
 use Rattle.group_model.proofs.Choice.{choice_kept}

@@ -1,7 +1,6 @@
 -- The named facts follow from what every step keeps.
 use Rattle.std.proofs.Common.{◌≡◌, ℕ, ◌+◌, ◌≤◌, true, List, [], ◌∷◌, length, subst, le_trans, lt_of_lt_of_le, ⊎_elim}
 use Rattle.file_tree.specs.Book.{Entry}
-use Rattle.group_model.proofs.May.{accepted, joined, opened}
 use Rattle.group_model.specs.Facts.{BodyOk, Ok, PacketOk}
 use Rattle.group_model.specs.Laws.{Whole}
 use Rattle.group_model.specs.NamedFacts.{AcceptedBelowPromised, CarriesEntries, CommitAgrees, CommitsAgreeWithTheBook, DemotesRightly, DemotionFollowsTwoDataServers, HeldTwiceSurvives, HoldsStart, HorizonsCoverPromises, NamedFacts, PromiseKnown, SaidTwice, StorerHoldsTheStart, StorersJoined}

@@ -3,14 +3,12 @@ use Rattle.std.proofs.Common.{◌≡◌, ℕ, zero, suc, ◌+◌, ◌-◌, ◌<�
 use Rattle.std.proofs.lemmas.Option.{slice_get_within}
 use Rattle.std.proofs.lemmas.List.{length-take, length-drop}
 use Rattle.file_tree.specs.Book.{Entry}
-use Rattle.group_model.proofs.May.{opened}
-use Rattle.group_model.specs.Choose.{longer}
 use Rattle.group_model.specs.Effects.{taken}
 use Rattle.group_model.specs.Entered.{AnswerOk}
 use Rattle.group_model.specs.Limits.{room}
 use Rattle.group_model.specs.Misfits.{led_tests}
 use Rattle.group_model.specs.Moves.{Committing, Heeding, Noting, act, moved, raised_page}
-use Rattle.group_model.specs.Places.{P1, Place, S01, all_of, partner, place, same}
+use Rattle.group_model.specs.Places.{P1, Place, S01, all_of, partner, same}
 use Rattle.group_model.specs.Replicate.{ack_tests, answers, in_view_tests, is_in_view, on_ack, on_event}
 use Rattle.group_model.specs.State.{Answers, Group, Log, Page, Plan, Server, top}
 use Rattle.group_model.specs.Words.{IsActive, Part, Sure, Under}
@@ -57,13 +55,19 @@ heeded g q s h up from v cp base items f o sure start low led space more = goes_
     let g1 = moved g q s (Heeding items cp base) in
     let s1 = act q (g.clock q) s (Heeding items cp base) in
     let known = its k in
+    let old = (its h).logs.log ((its h).modes.active active).0 in
+    let order = (its h).logs.order ((its h).modes.active active).0 in
+    let most = old.cp_top in
+    let longer = new.0 in
+    let low : s.lb ≤ s.base + length items = omega arith in
     goes_send g1 q s1 from _ [] k
-    (subst (λ (n : ℕ). ((g1.page n).formed ≡ true) × ((g1.page n).opened ≡ true) × (q ≡ partner (g1.page n).plan.storers) × (s.base + length items ≤ (g1.page n).held_twice) × (g.clock q + 2000 ≤ (g1.page n).until)) (sym e) (
+    (subst (λ (n : ℕ). ((g1.page n).formed ≡ true) × ((g1.page n).opened ≡ true) × (q ≡ partner (g1.page n).plan.storers) × (s.base + length items ≤ (g1.page n).held_twice) × (g.clock q + 2000 ≤ (g1.page n).until) × (s.lb ≤ s.base + length items)) (sym e) (
       known.views.formed,
       (known.modes.follows refl).1,
       (known.modes.follows refl).0,
       subst (λ (p : Page _). s.base + length items ≤ p.held_twice) (sym p') (omega arith),
       subst (λ (p : Page _). g.clock q + 2000 ≤ p.until) (sym p') (omega arith),
+      low,
     ))
     (tt, subst (λ (n : ℕ). ((g1.page n).formed ≡ true) × ((g1.page n).plan.storers ≡ S01 → s.lb ≤ lbs_of g1.server P1)) (sym e) (known.views.formed, partner_lb g1 q s1 k (known.modes.follows refl).0), tt) goes_done))
 

@@ -1,7 +1,6 @@
 -- Messages and answers: moves that leave the server as it is.
 use Rattle.std.proofs.Common.{◌≡◌, ◌≤◌, Bool, true, false, List, [], ◌∷◌, ◌++◌, append_assoc, append-nil, min, sym, ap, ◌∙◌, subst, inl, arith, le_of_eq, if◌then◌else◌}
 use Rattle.file_tree.specs.Book.{Entry}
-use Rattle.group_model.specs.Ask.{append}
 use Rattle.group_model.specs.Bases.{BasesAt, BasesBody}
 use Rattle.group_model.specs.Entered.{BodyWithin}
 use Rattle.group_model.specs.Facts.{BodyOk}

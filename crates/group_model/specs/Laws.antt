@@ -1,19 +1,17 @@
 -- The laws of the group: what every schedule keeps.
-use Rattle.std.specs.Prelude.{◌≡◌, ℕ, ◌+◌, ◌-◌, ◌/◌, ◌<◌, ◌≤◌, ◌⊎◌, true, false, List, [], ◌∷◌, ◌++◌, length, take, drop, Some, slice_get, ⊤}
+use Rattle.std.specs.Prelude.{◌≡◌, ℕ, zero, suc, ◌+◌, ◌-◌, ◌/◌, ◌<◌, ◌≤◌, ◌⊎◌, true, false, List, [], ◌∷◌, ◌++◌, length, take, drop, Some, slice_get, ⊤}
 use Rattle.file_tree.specs.Calls.{outcome}
 use Rattle.harp_base.specs.Update.{is_update}
 use Rattle.file_tree.specs.Book.{Entry, updates, tree_after, IsBook}
 use Rattle.group_model.specs.Bases.{Bases}
-use Rattle.group_model.specs.Choose.{longer}
 use Rattle.group_model.specs.Entered.{AnswersOk, Books, Tidy, Within}
 use Rattle.group_model.specs.Facts.{Ok}
 use Rattle.group_model.specs.Limits.{limit, room}
 use Rattle.group_model.specs.Moves.{Choosing, Move, Reading, Saying, act, moved}
 use Rattle.group_model.specs.Places.{Place, number}
-use Rattle.group_model.specs.Replicate.{answers}
 use Rattle.group_model.specs.Settled.{Settled}
-use Rattle.group_model.specs.State.{Answered, Answers, Beat, Event, Give, Group, JoinMade, Log, Message, Open, Outside, Packet, Page, Pulls, Saved, Server, top}
-use Rattle.group_model.specs.Step.{Ask, At, Crash, Deed, Happening, happens, near, run}
+use Rattle.group_model.specs.State.{Ack, Answered, Answers, Beat, Event, Give, Group, JoinMade, Log, Message, Open, Outside, Packet, Page, Pulls, Saved, Server, top}
+use Rattle.group_model.specs.Step.{Ask, At, Comes, Crash, Deed, Happening, happens, run, step_of}
 use Rattle.group_model.specs.Words.{Agree, Each, In, Under}
 
 -- the clocks are at most 50 apart
@@ -159,6 +157,27 @@ SaidRightly g s m = ⊤
 abbrev pub AllSaidRightly : Group Entry → Place → Server Entry → List (Move Entry) → Type 0
 AllSaidRightly g q s [] = ⊤
 AllSaidRightly g q s (m ∷ ms) = SaidRightly g s m × AllSaidRightly (moved g q s m) q (act q (g.clock q) s m) ms
+
+-- ANSWERED AT ONCE. The delivery of an Ack to the open leader of its view answers, in order, each update from the one
+-- after CP to the acknowledged top
+abbrev pub answered_one : Move Entry → List ℕ
+answered_one (Saying (Answers n e)) = n ∷ []
+answered_one m = []
+
+abbrev pub answered_in : List (Move Entry) → List ℕ
+answered_in [] = []
+answered_in (m ∷ ms) = answered_one m ++ answered_in ms
+
+-- the k numbers after n
+abbrev pub numbers_after : ℕ → ℕ → List ℕ
+numbers_after n zero = []
+numbers_after n (suc k) = (n + 1) ∷ numbers_after (n + 1) k
+
+pub record AnswersAtOnce (size : List Entry → Entry → ℕ) (g : Group Entry) (p : Packet Entry) (v t lb until : ℕ)
+    : Type 0 where
+  pub indices : p.body ≡ Ack v t lb until → (g.server p.to).up ≡ true → (g.server p.to).mode ≡ Open
+      → (g.server p.to).accepted ≡ v → (g.server p.to).cp < t
+      → answered_in (step_of size g p.to (Comes p.from p.body)) ≡ numbers_after (g.server p.to).cp (t - (g.server p.to).cp)
 
 -- A step that is cut is whole, or the server has crashed
 abbrev pub TwoOutcomes : (List Entry → Entry → ℕ) → Group Entry → Happening → Happening → Place → Type 0

@@ -1,6 +1,6 @@
 -- The words in which the facts speak of lists, pages and modes.
 use Rattle.std.specs.Prelude.{◌≡◌, ℕ, ◌+◌, ◌<◌, ◌≤◌, ◌⊎◌, Bool, true, List, [], ◌∷◌, length, slice_get, ⊤}
-use Rattle.group_model.specs.Places.{IsIn, P0, P1, Place, leader, partner, same}
+use Rattle.group_model.specs.Places.{IsIn, P0, P1, Place, leader, partner}
 use Rattle.group_model.specs.State.{JoinMade, Joins, Live, Log, Mode, Open, Page, Pulls, Rests, Server, Waits}
 
 -- the lists have the same first n entries
