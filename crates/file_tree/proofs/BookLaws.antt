@@ -1,15 +1,13 @@
 -- A book that grows by one entry.
-use Rattle.std.proofs.Common.{◌≡◌, ℕ, ◌+◌, ◌<◌, ◌≤◌, ◌==◌, ◌&&◌, Bool, true, false, List, [], ◌∷◌, ◌++◌, length, fold, filter, Option, Some, None, refl, sym, ap, ◌∙◌, subst, append_assoc, arith, inl, inr}
-use Rattle.std.specs.Prelude.{◌↔◌, IfSome, MatchBool}
-use Rattle.std.specs.List.{AllByRecursion}
-use Rattle.std.proofs.lemmas.Bool.{cases_Bool, cases_eq, eq-eqb, ne_eqb, MatchBool-at_true, MatchBool-at_false}
-use Rattle.std.proofs.lemmas.List.{append-nil, length_push}
-use Rattle.std.proofs.lemmas.List.Sums.{fold_push, fold-append}
+use Rattle.std.proofs.Common.{◌≡◌, ℕ, Bool, true, false, List, [], ◌∷◌, ◌++◌, fold, None, refl, sym, ap, ◌∙◌, subst, append_assoc, inl, inr}
+use Rattle.std.specs.Prelude.{◌↔◌}
+use Rattle.std.proofs.lemmas.Bool.{cases_Bool}
+use Rattle.std.proofs.lemmas.List.{append-nil}
+use Rattle.std.proofs.lemmas.List.Sums.{fold_push}
 use Rattle.std.proofs.lemmas.List.Elements.{filter-append}
 use Rattle.harp_base.specs.Update.{is_update}
 use Rattle.file_tree.specs.Tree.{Tree, first_tree}
-use Rattle.file_tree.specs.Calls.{outcome}
-use Rattle.file_tree.specs.Book.{Entry, tree_next, tree_after, updates, IsNextUpdate, IsRead, MayFollow, MayFollowAll, IsBook, last_next, last_of, stamp_next, last_stamp, ComesNext}
+use Rattle.file_tree.specs.Book.{Entry, tree_next, tree_after, updates, MayFollow, MayFollowAll, IsBook, last_next, last_of, stamp_next, last_stamp}
 use Rattle.file_tree.proofs.ReadLaw.{read_keeps}
 
 abbrev IsUpdate : Entry → Bool
@@ -54,12 +52,12 @@ folded_updates : (tree : Tree) (entries : List Entry) → fold tree_next tree en
 folded_updates tree [] = refl
 folded_updates tree (e ∷ entries) = elim (cases_Bool (is_update e.call)) [
   | inl u ↦
-    let more : updates (e ∷ entries) ≡ e ∷ updates entries = rw u refl in
-    folded_updates (tree_next tree e) entries ∙ ap (fold tree_next tree) (sym more)
+      let more : updates (e ∷ entries) ≡ e ∷ updates entries = rw u refl in
+      folded_updates (tree_next tree e) entries ∙ ap (fold tree_next tree) (sym more)
   | inr u ↦
-    let same : updates (e ∷ entries) ≡ updates entries = rw u refl in
-    let kept : tree_next tree e ≡ tree = read_keeps tree e.call e.stamp u in
-    ap (λ (t : Tree). fold tree_next t entries) kept ∙ folded_updates tree entries ∙ ap (fold tree_next tree) (sym same)
+      let same : updates (e ∷ entries) ≡ updates entries = rw u refl in
+      let kept : tree_next tree e ≡ tree = read_keeps tree e.call e.stamp u in
+      ap (λ (t : Tree). fold tree_next t entries) kept ∙ folded_updates tree entries ∙ ap (fold tree_next tree) (sym same)
 ]
 
 pub tree_of_updates : (entries : List Entry) → tree_after entries ≡ tree_after (updates entries)

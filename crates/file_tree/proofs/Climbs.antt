@@ -1,6 +1,6 @@
 -- Going up from a directory to the root.
-use Rattle.std.proofs.Common.{◌≡◌, ℕ, zero, suc, ◌+◌, ◌<◌, ◌≤◌, ◌==◌, ◌||◌, Bool, true, false, cond, length, ◌⊎◌, refl, sym, ◌∙◌, arith, inl, inr}
-use Rattle.std.proofs.lemmas.Bool.{cases_eq, cases_Bool, eq-eqb, eqb-true, ne_eqb, cond_both, or_cases, or_left, or_right, or_parts, both_ways, false_from_ne_true, true_from_ne_false, eqb-false}
+use Rattle.std.proofs.Common.{◌≡◌, ℕ, zero, suc, ◌+◌, ◌<◌, ◌≤◌, ◌==◌, Bool, true, false, cond, length, ◌⊎◌, refl, sym, arith, inl, inr}
+use Rattle.std.proofs.lemmas.Bool.{cases_eq, cases_Bool, eq-eqb, eqb-true, cond_both, or_cases, or_left, or_right, or_parts, both_ways, false_from_ne_true, true_from_ne_false}
 use Rattle.file_tree.specs.Tree.{Tree, parent_of}
 use Rattle.file_tree.specs.Rename.{is_above}
 use Rattle.file_tree.proofs.Holders.{Holds, IsDirectory, AreNamed, holder_is_directory, parent_of-lt, parent_is, parent_holds}
@@ -17,8 +17,8 @@ reaches tree number named d (at_root n e) = (0, eq-eqb n 1 e)
 reaches tree number named d (up dir n h c) = elim (cases_eq n 1) [
   | inl e ↦ (0, eq-eqb n 1 e)
   | inr ne ↦
-    let r = reaches tree dir named (holder_is_directory tree dir n h) c in
-    (suc r.0, or_right (n == 1) _ (rw (parent_is tree dir n named d ne h) r.1))
+      let r = reaches tree dir named (holder_is_directory tree dir n h) c in
+      (suc r.0, or_right (n == 1) _ (rw (parent_is tree dir n named d ne h) r.1))
 ]
 
 -- ---- as many levels as objects are enough: on each level below the number of levels stands an object
@@ -47,9 +47,9 @@ unfolding count
 count_more zero p q h m lt miss hit = absurd (omega arith)
 count_more (suc n) p q h m lt miss hit = elim (cases_eq m n) [
   | inl e ↦
-    let miss_here : p n ≡ false = rw (sym e) miss in
-    let hit_here : q n ≡ true = rw (sym e) hit in
-    rw (miss_here, hit_here) (omega (arith, count_kept n p q h))
+      let miss_here : p n ≡ false = rw (sym e) miss in
+      let hit_here : q n ≡ true = rw (sym e) hit in
+      rw (miss_here, hit_here) (omega (arith, count_kept n p q h))
   | inr ne ↦ omega (arith, one_more (p n) (q n) (h n), count_more n p q h m (omega (arith, lt, ne)) miss hit)
 ]
 
@@ -77,11 +77,11 @@ at_level zero levels tree m two lt hit miss = absurd (both_ways _ (off_root leve
 at_level (suc most) levels tree m two lt hit miss = elim (cases_Bool (is_above (suc levels) tree 1 m)) [
   | inl e ↦ (m, lt, miss, e)
   | inr e ↦
-    let parts = or_parts (m == 1) _ e in
-    elim (or_cases (m == 1) _ hit) [
-      | inl root ↦ absurd (both_ways _ parts.0 root)
-      | inr further ↦ at_level most levels tree (parent_of tree m) two (parent_of-lt tree m two) further parts.1
-    ]
+      let parts = or_parts (m == 1) _ e in
+      elim (or_cases (m == 1) _ hit) [
+        | inl root ↦ absurd (both_ways _ parts.0 root)
+        | inr further ↦ at_level most levels tree (parent_of tree m) two (parent_of-lt tree m two) further parts.1
+      ]
 ]
 
 root_itself : (tree : Tree) → is_above 0 tree 1 1 ≡ true
@@ -95,8 +95,11 @@ deep zero most tree m two lt hit miss =
 deep (suc levels) most tree m two lt hit miss =
     let before = above_less levels tree m miss in
     let r = at_level most levels tree m two lt hit before in
-    omega (arith, deep levels most tree m two lt hit before,
-      count_more (length tree) (λ x. is_above levels tree 1 x) (λ x. is_above (suc levels) tree 1 x) (λ k e. above_more levels tree k e) r.0 r.1 r.2 r.3)
+    omega (
+      arith,
+      deep levels most tree m two lt hit before,
+      count_more (length tree) (λ x. is_above levels tree 1 x) (λ x. is_above (suc levels) tree 1 x) (λ k e. above_more levels tree k e) r.0 r.1 r.2 r.3,
+    )
 
 enough : (most : ℕ) (tree : Tree) (m : ℕ) → 1 < length tree → m < length tree → is_above most tree 1 m ≡ true → is_above (length tree) tree 1 m ≡ true
 enough most tree m two lt hit =
@@ -121,15 +124,15 @@ climbs_on old new Q named turn zero number h d q = at_root number (eqb-true numb
 climbs_on old new Q named turn (suc levels) number h d q = elim (cases_eq number 1) [
   | inl e ↦ at_root number e
   | inr ne ↦
-    let held = parent_holds old number named d ne in
-    elim (turn levels number d ne held q) [
-      | inl c ↦ c
-      | inr on ↦
-        elim (or_cases (number == 1) _ h) [
-          | inl root ↦ absurd (ne (eqb-true number 1 root))
-          | inr further ↦
-            up (parent_of old number) number on.0
-              (climbs_on old new Q named turn levels (parent_of old number) further (holder_is_directory old (parent_of old number) number held) on.1)
-        ]
-    ]
+      let held = parent_holds old number named d ne in
+      elim (turn levels number d ne held q) [
+        | inl c ↦ c
+        | inr on ↦
+            elim (or_cases (number == 1) _ h) [
+              | inl root ↦ absurd (ne (eqb-true number 1 root))
+              | inr further ↦
+                  up (parent_of old number) number on.0
+                  (climbs_on old new Q named turn levels (parent_of old number) further (holder_is_directory old (parent_of old number) number held) on.1)
+            ]
+      ]
 ]

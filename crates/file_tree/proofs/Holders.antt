@@ -1,6 +1,6 @@
 -- The object with a slot that names a number.
-use Rattle.std.proofs.Common.{◌≡◌, ℕ, zero, suc, ◌+◌, ◌<◌, ◌≤◌, ◌==◌, Bool, true, false, List, [], ◌∷◌, length, get_or, sum_by, Option, Some, None, refl, sym, ◌∙◌, arith, inl, inr}
-use Rattle.std.proofs.lemmas.Bool.{cases_lt, cases_eq, ne_eqb, eq-eqb, cond_both}
+use Rattle.std.proofs.Common.{◌≡◌, ℕ, zero, suc, ◌+◌, ◌<◌, ◌≤◌, ◌==◌, true, false, List, [], ◌∷◌, length, get_or, sum_by, Option, Some, None, refl, ◌∙◌, arith, inl, inr}
+use Rattle.std.proofs.lemmas.Bool.{cases_lt, ne_eqb, cond_both}
 use Rattle.std.proofs.lemmas.List.{get_or_past}
 use Rattle.std.proofs.lemmas.List.Sums.{sum_by-cons, get_or-le-sum_by}
 use Rattle.file_tree.specs.declared.object.Body.{Body}
@@ -74,8 +74,8 @@ pub parent_of-lt : (tree : Tree) (number : ℕ) → 1 < length tree → parent_o
 unfolding parent_of
 parent_of-lt tree number lt =
     cond_both (is_directory_at (place tree number)) _ 0 (λ (x : ℕ). x < length tree)
-      (λ e. cond_both (number == 1) 1 _ (λ (x : ℕ). x < length tree) (λ e. lt) (λ e. holder_from-lt 0 tree number 0 (length tree) (omega (arith, lt)) (omega arith)))
-      (λ e. omega (arith, lt))
+    (λ e. cond_both (number == 1) 1 _ (λ (x : ℕ). x < length tree) (λ e. lt) (λ e. holder_from-lt 0 tree number 0 (length tree) (omega (arith, lt)) (omega arith)))
+    (λ e. omega (arith, lt))
 
 entries_within : (number : ℕ) (b : Body) (entries : ℕ) → is_directory b ≡ true → (number ≡ 1 → ⊥) → HasEntries number b entries → entries ≡ 1
 entries_within number (Directory slots) entries d ne h = let t : (number == 1) ≡ false = ne_eqb number 1 ne in rw t at h
@@ -106,3 +106,7 @@ pub parent_holds : (tree : Tree) (number : ℕ) → AreNamed tree → IsDirector
 parent_holds tree number named d ne =
     let r = some_holder tree number (omega (arith, directory_once tree number named d ne)) in
     rw (parent_is tree r.0 number named d ne r.1) r.1
+
+pub parent_of_root : (tree : Tree) → IsDirectory tree 1 → parent_of tree 1 ≡ 1
+unfolding parent_of
+parent_of_root tree d = rw d refl

@@ -1,16 +1,16 @@
 -- A refused call leaves the tree as it is: an outcome with a new tree has another reply than a refusal.
-use Rattle.std.proofs.Common.{◌≡◌, ℕ, ◌+◌, ◌==◌, ◌&&◌, Bool, true, false, not, ltb, List, length, Option, Some, None, Ok, Err, refl}
+use Rattle.std.proofs.Common.{◌≡◌, ℕ, ◌+◌, ◌==◌, ◌&&◌, not, ltb, List, length, Option, Some, None, Ok, Err, refl}
 use Rattle.harp_base.specs.declared.attr.Time.{Time}
 use Rattle.harp_base.specs.declared.attr.SetAttr.{SetAttr}
 use Rattle.harp_base.specs.declared.call.Call.{Call}
 use Rattle.harp_base.specs.declared.call.Call.TheVariants as call
 use Rattle.harp_base.specs.declared.reply.Reply.{Reply}
-use Rattle.harp_base.specs.declared.reply.Reply.TheVariants.{Refused, Done}
+use Rattle.harp_base.specs.declared.reply.Reply.TheVariants.{Refused}
 use Rattle.harp_base.specs.declared.reply.Status.{Status}
 use Rattle.harp_base.specs.declared.reply.Status.TheVariants.{Perm, NoEnt, NotDir, Exist, IsDir, FBig, NameTooLong, NotEmpty}
 use Rattle.harp_base.specs.Time.{time_of}
 use Rattle.file_tree.specs.Tree.{Tree, Slots, place, slots_of, entry, is_directory, is_directory_at}
-use Rattle.file_tree.specs.Steps.{Step, ◌>>=◌, refuse, some_or, live, slots_in, bytes_in, text_in, directory, is_dots, check_name, entry_name, room}
+use Rattle.file_tree.specs.Steps.{some_or, live, slots_in, bytes_in, text_in, directory, is_dots, check_name, entry_name, room}
 use Rattle.file_tree.specs.Outcome.{Outcome, LARGEST, given, get_attr, set_fields, set_attr, lookup, resolve, read_link, read, write, has_entry, free_name, room_for, is_regular_at, create_again, create_new, create_at, create, make_dir, make_link, doomed, remove, remove_dir, has_no_entry, add_entry, link, read_dir, stat_fs}
 use Rattle.file_tree.specs.Rename.{is_above, check_target, moved_to, rename}
 use Rattle.file_tree.specs.Calls.{answered, settled, outcome}
@@ -47,7 +47,7 @@ write_answers : (tree : Tree) (handle offset : ℕ) (bytes : List ℕ) (now : Ti
 unfolding write
 write_answers tree handle offset bytes now =
     step (live tree handle) _ IsAnswer (λ o e. step (bytes_in o.body) _ IsAnswer (λ old f. unless FBig (ltb LARGEST (offset + length bytes)) _ IsAnswer (λ small.
-      either (length bytes == 0) _ _ IsAnswer (λ t. done _ IsAnswer (λ s r. absurd cc)) (λ t. step (room tree handle _) _ IsAnswer (λ u g. done _ IsAnswer (λ s r. absurd cc))))))
+    either (length bytes == 0) _ _ IsAnswer (λ t. done _ IsAnswer (λ s r. absurd cc)) (λ t. step (room tree handle _) _ IsAnswer (λ u g. done _ IsAnswer (λ s r. absurd cc))))))
 
 create_again_answers : (tree : Tree) (number : ℕ) (a : SetAttr) (now : Time) → Answers (create_again tree number a now)
 unfolding create_again
@@ -72,14 +72,14 @@ make_dir_answers : (tree : Tree) (dir : ℕ) (name : List ℕ) (a : SetAttr) (no
 unfolding make_dir
 make_dir_answers tree dir name a now =
     step (directory tree dir) _ IsAnswer (λ slots e. step (free_name slots name) _ IsAnswer (λ u f.
-      step (room_for tree dir slots name 0) _ IsAnswer (λ full g. done _ IsAnswer (λ s r. absurd cc))))
+    step (room_for tree dir slots name 0) _ IsAnswer (λ full g. done _ IsAnswer (λ s r. absurd cc))))
 
 make_link_answers : (tree : Tree) (dir : ℕ) (name text : List ℕ) (a : SetAttr) (now : Time) → Answers (make_link tree dir name text a now)
 unfolding make_link
 make_link_answers tree dir name text a now =
     step (directory tree dir) _ IsAnswer (λ slots e. step (entry_name name) _ IsAnswer (λ u f.
-      unless NameTooLong (ltb 1024 (length text)) _ IsAnswer (λ short. unless Exist (has_entry slots name) _ IsAnswer (λ new.
-        step (room_for tree dir slots name (length text)) _ IsAnswer (λ full g. done _ IsAnswer (λ s r. absurd cc))))))
+    unless NameTooLong (ltb 1024 (length text)) _ IsAnswer (λ short. unless Exist (has_entry slots name) _ IsAnswer (λ new.
+    step (room_for tree dir slots name (length text)) _ IsAnswer (λ full g. done _ IsAnswer (λ s r. absurd cc))))))
 
 remove_answers : (tree : Tree) (dir : ℕ) (name : List ℕ) (now : Time) → Answers (remove tree dir name now)
 unfolding remove
@@ -90,26 +90,26 @@ remove_dir_answers : (tree : Tree) (dir : ℕ) (name : List ℕ) (now : Time) �
 unfolding remove_dir
 remove_dir_answers tree dir name now =
     step (directory tree dir) _ IsAnswer (λ slots e. step (doomed slots name) _ IsAnswer (λ x f.
-      unless NotDir (not (is_directory_at (place tree x.1))) _ IsAnswer (λ t.
-        unless NotEmpty (not (has_no_entry (slots_of (place tree x.1)))) _ IsAnswer (λ u. done _ IsAnswer (λ s r. absurd cc)))))
+    unless NotDir (not (is_directory_at (place tree x.1))) _ IsAnswer (λ t.
+    unless NotEmpty (not (has_no_entry (slots_of (place tree x.1)))) _ IsAnswer (λ u. done _ IsAnswer (λ s r. absurd cc)))))
 
 link_answers : (tree : Tree) (handle dir : ℕ) (name : List ℕ) (now : Time) → Answers (link tree handle dir name now)
 unfolding link
 link_answers tree handle dir name now =
     step (live tree handle) _ IsAnswer (λ o e. step (directory tree dir) _ IsAnswer (λ slots f. unless Perm (is_directory o.body) _ IsAnswer (λ t.
-      step (free_name slots name) _ IsAnswer (λ u g. step (add_entry tree dir slots _ now) _ IsAnswer (λ new h. done _ IsAnswer (λ s r. absurd cc))))))
+    step (free_name slots name) _ IsAnswer (λ u g. step (add_entry tree dir slots _ now) _ IsAnswer (λ new h. done _ IsAnswer (λ s r. absurd cc))))))
 
 rename_answers : (tree : Tree) (dir : ℕ) (name : List ℕ) (to_dir : ℕ) (to_name : List ℕ) (now : Time) → Answers (rename tree dir name to_dir to_name now)
 unfolding rename
 rename_answers tree dir name to_dir to_name now =
     step (live tree dir) _ IsAnswer (λ d a. step (live tree to_dir) _ IsAnswer (λ e b.
-      step (slots_in d.body) _ IsAnswer (λ slots f. step (slots_in e.body) _ IsAnswer (λ to_slots g.
-        unless Perm (is_dots name) _ IsAnswer (λ t. unless Perm (is_dots to_name) _ IsAnswer (λ u.
-          step (check_name name) _ IsAnswer (λ v h. step (check_name to_name) _ IsAnswer (λ w i.
-            step (some_or NoEnt (entry slots name)) _ IsAnswer (λ x j.
-              unless Perm (is_directory_at (place tree x.1) && is_above (length tree) tree x.1 to_dir) _ IsAnswer (λ k.
-                step (check_target tree x.1 (entry to_slots to_name)) _ IsAnswer (λ y l.
-                  step (moved_to tree dir x to_dir to_slots to_name (entry to_slots to_name) now) _ IsAnswer (λ new m. done _ IsAnswer (λ s r. absurd cc)))))))))))))
+    step (slots_in d.body) _ IsAnswer (λ slots f. step (slots_in e.body) _ IsAnswer (λ to_slots g.
+    unless Perm (is_dots name) _ IsAnswer (λ t. unless Perm (is_dots to_name) _ IsAnswer (λ u.
+    step (check_name name) _ IsAnswer (λ v h. step (check_name to_name) _ IsAnswer (λ w i.
+    step (some_or NoEnt (entry slots name)) _ IsAnswer (λ x j.
+    unless Perm (is_directory_at (place tree x.1) && is_above (length tree) tree x.1 to_dir) _ IsAnswer (λ k.
+    step (check_target tree x.1 (entry to_slots to_name)) _ IsAnswer (λ y l.
+    step (moved_to tree dir x to_dir to_slots to_name (entry to_slots to_name) now) _ IsAnswer (λ new m. done _ IsAnswer (λ s r. absurd cc)))))))))))))
 
 read_dir_answers : (tree : Tree) (dir cookie count : ℕ) → Answers (read_dir tree dir cookie count)
 unfolding read_dir

@@ -1,6 +1,6 @@
 -- What a change of a directory's slots leaves, and what a tree has before its entries are right again.
-use Rattle.std.proofs.Common.{◌≡◌, ℕ, ◌+◌, ◌*◌, ◌<◌, ◌≤◌, ◌==◌, Bool, true, false, cond, List, [], ◌∷◌, ◌++◌, length, get_or, set, Option, Some, None, Ok, refl, sym, ap, ◌∙◌, subst, arith, inl, inr}
-use Rattle.std.proofs.lemmas.Bool.{cases_eq, eq-eqb, ne_eqb, cond_both, eqb-true}
+use Rattle.std.proofs.Common.{◌≡◌, ℕ, ◌+◌, ◌*◌, ◌<◌, true, length, set, Option, Some, None, refl, sym, ap, ◌∙◌, subst, arith, inl, inr}
+use Rattle.std.proofs.lemmas.Bool.{cases_eq}
 use Rattle.std.proofs.lemmas.List.{length-set, get_or-set_same, get_or-set_other}
 use Rattle.std.proofs.lemmas.List.Sums.{sum_by-set}
 use Rattle.harp_base.specs.declared.attr.Time.{Time}
@@ -9,12 +9,11 @@ use Rattle.file_tree.specs.declared.object.Body.TheVariants.{Regular, Directory,
 use Rattle.file_tree.specs.declared.object.Object.{Object}
 use Rattle.file_tree.specs.Tree.{Tree, Slots, place, slots_within, size_of, blocks_of, blocks_at, used_blocks, names_in, names_at, names_of, is_directory, is_directory_at}
 use Rattle.file_tree.specs.Plain.{IsWithinLimits}
-use Rattle.file_tree.specs.Outcome.{change, changed_at, reslotted, slot_changed, slot_replaced, set_ctime, lost_entry}
+use Rattle.file_tree.specs.Outcome.{change, changed_at, reslotted, slot_changed, slot_replaced}
 use Rattle.file_tree.specs.Sound.{IsSoundObject, AreSound, HasEntries, IsNamed, IsSound}
 use Rattle.file_tree.proofs.Kept.{place_within}
 use Rattle.file_tree.proofs.Holders.{IsDirectory, AreNamed}
 use Rattle.file_tree.proofs.Climbs.{Climbs, climbs_reach}
-use Rattle.file_tree.proofs.SlotLaws.{one}
 
 -- a directory's slots were changed, and its times maybe
 pub record Reslots (old new : Tree) (dir : ℕ) (slots after : Slots) : Type 0 where
@@ -102,7 +101,7 @@ pub kinds_reslots : (old new : Tree) (dir : ℕ) (slots after : Slots) → Reslo
     → is_directory_at (place new k) ≡ is_directory_at (place old k)
 kinds_reslots old new dir slots after r k = elim (cases_eq k dir) [
   | inl e ↦
-    rw e (ap is_directory_at (own_place old new dir slots after r) ∙ ap is_directory r.body_after ∙ sym (was_directory old new dir slots after r))
+      rw e (ap is_directory_at (own_place old new dir slots after r) ∙ ap is_directory r.body_after ∙ sym (was_directory old new dir slots after r))
   | inr ne ↦ ap is_directory_at (other_place old new dir slots after r k ne)
 ]
 
@@ -144,12 +143,12 @@ pub nearly_set : (tree : Tree) (number : ℕ) (o new : Object) (entries : ℕ �
     → is_directory new.body ≡ is_directory o.body → IsSoundObject (Some new) → IsNearly (set tree number (Some new)) entries
 nearly_set tree number o new entries is at kind sound = record {
   nothing_at_0 =
-    let ne : 0 ≡ number → ⊥ = λ (e : 0 ≡ number). let none : place tree number ≡ None = rw (sym e) is.nothing_at_0 in absurd cc in
-    get_or-set_other tree number 0 (Some new) None ne ∙ is.nothing_at_0;
+      let ne : 0 ≡ number → ⊥ = λ (e : 0 ≡ number). let none : place tree number ≡ None = rw (sym e) is.nothing_at_0 in absurd cc in
+      get_or-set_other tree number 0 (Some new) None ne ∙ is.nothing_at_0;
   root = elim (cases_eq 1 number) [
     | inl e ↦
-      let d : is_directory_at (place tree number) ≡ true = rw (sym e) is.root in
-      rw e (ap is_directory_at (place_set tree number o new at) ∙ kind ∙ sym (ap is_directory_at at) ∙ d)
+        let d : is_directory_at (place tree number) ≡ true = rw (sym e) is.root in
+        rw e (ap is_directory_at (place_set tree number o new at) ∙ kind ∙ sym (ap is_directory_at at) ∙ d)
     | inr ne ↦ ap is_directory_at (get_or-set_other tree number 1 (Some new) None ne) ∙ is.root
   ];
   objects = λ k. elim (cases_eq k number) [
@@ -158,8 +157,8 @@ nearly_set tree number o new entries is at kind sound = record {
   ];
   named = λ k. elim (cases_eq k number) [
     | inl e ↦
-      let old : IsNamed k (Some o) (entries k) = subst (λ (x : Option Object). IsNamed k x (entries k)) (ap (λ (n : ℕ). place tree n) e ∙ at) (is.named k) in
-      subst (λ (x : Option Object). IsNamed k x (entries k)) (sym (ap (λ (n : ℕ). place (set tree number (Some new)) n) e ∙ place_set tree number o new at))
+        let old : IsNamed k (Some o) (entries k) = subst (λ (x : Option Object). IsNamed k x (entries k)) (ap (λ (n : ℕ). place tree n) e ∙ at) (is.named k) in
+        subst (λ (x : Option Object). IsNamed k x (entries k)) (sym (ap (λ (n : ℕ). place (set tree number (Some new)) n) e ∙ place_set tree number o new at))
         (same_entries k o.body new.body (entries k) (sym kind) old)
     | inr ne ↦ subst (λ (x : Option Object). IsNamed k x (entries k)) (sym (get_or-set_other tree number k (Some new) None ne)) (is.named k)
   ];

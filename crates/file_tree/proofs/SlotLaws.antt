@@ -1,5 +1,5 @@
 -- Slots that are entered, cleared and renamed.
-use Rattle.std.proofs.Common.{◌≡◌, ℕ, zero, suc, ◌+◌, ◌<◌, ◌≤◌, ◌==◌, Bool, true, false, cond, List, [], ◌∷◌, length, get_or, set, sum_by, count_by, Option, Some, None, Ok, refl, sym, ap, ◌∙◌, subst, arith, inl, inr}
+use Rattle.std.proofs.Common.{◌≡◌, ℕ, suc, ◌+◌, ◌<◌, ◌≤◌, ◌==◌, false, cond, List, [], ◌∷◌, length, get_or, set, sum_by, count_by, Option, Some, None, Ok, refl, sym, ap, ◌∙◌, subst, arith, inl, inr}
 use Rattle.std.specs.List.{All}
 use Rattle.std.specs.Str.{bytes_eq}
 use Rattle.std.proofs.lemmas.Bool.{cases_lt, cases_Bool}
@@ -55,11 +55,11 @@ found_from i (None ∷ slots) name x e =
     (suc r.0, r.1, omega (arith, r.2), omega (arith, r.3), r.4, r.5, r.6)
 found_from i (Some s ∷ slots) name x e = elim (cases_Bool (bytes_eq s.name name)) [
   | inl t ↦
-    let here : (i, s.number) ≡ x = let e' = rw t at e in cc in
-    (0, s, sym (ap (λ (y : ℕ × ℕ). y.0) here) ∙ omega arith, omega arith, refl, (bytes_eq-Decides s.name name).0 t, ap (λ (y : ℕ × ℕ). y.1) here)
+      let here : (i, s.number) ≡ x = let e' = rw t at e in cc in
+      (0, s, sym (ap (λ (y : ℕ × ℕ). y.0) here) ∙ omega arith, omega arith, refl, (bytes_eq-Decides s.name name).0 t, ap (λ (y : ℕ × ℕ). y.1) here)
   | inr t ↦
-    let r = found_from (i + 1) slots name x (rw t at e) in
-    (suc r.0, r.1, omega (arith, r.2), omega (arith, r.3), r.4, r.5, r.6)
+      let r = found_from (i + 1) slots name x (rw t at e) in
+      (suc r.0, r.1, omega (arith, r.2), omega (arith, r.3), r.4, r.5, r.6)
 ]
 
 -- the slot of an entry
@@ -89,8 +89,8 @@ not_found i (None ∷ slots) name e = omega (arith, sum_by-cons (name_share name
 not_found i (Some s ∷ slots) name e = elim (cases_Bool (bytes_eq s.name name)) [
   | inl t ↦ let e' = rw t at e in absurd cc
   | inr t ↦
-    let z : name_share name (Some s) ≡ 0 = rw t refl in
-    omega (arith, z, sum_by-cons (name_share name) (Some s) slots, not_found (i + 1) slots name (rw t at e))
+      let z : name_share name (Some s) ≡ 0 = rw t refl in
+      omega (arith, z, sum_by-cons (name_share name) (Some s) slots, not_found (i + 1) slots name (rw t at e))
 ]
 
 -- where a search finds nothing, no slot has the name
@@ -122,12 +122,12 @@ pub sound_renamed : (slots : Slots) (i : ℕ) (s t : Slot) → AreSound slots �
     → AreSound (set slots i (Some t))
 sound_renamed slots i s t is lt at same = record {
   names =
-    let right : entry_name s.name ≡ Ok tt = rw at at (All-get_or IsRightlyNamed slots i None lt is.names) in
-    All-set IsRightlyNamed slots i (Some t) (rw same right) is.names;
+      let right : entry_name s.name ≡ Ok tt = rw at at (All-get_or IsRightlyNamed slots i None lt is.names) in
+      All-set IsRightlyNamed slots i (Some t) (rw same right) is.names;
   once = λ name.
-    let old : name_share name (get_or slots i None) ≡ name_share name (Some s) = ap (name_share name) at in
-    let new : name_share name (Some t) ≡ name_share name (Some s) = ap (λ (n : List ℕ). cond (bytes_eq n name) 1 0) same in
-    omega (arith, old, new, sum_by-set (name_share name) slots i (Some t) None lt, is.once name);
+      let old : name_share name (get_or slots i None) ≡ name_share name (Some s) = ap (name_share name) at in
+      let new : name_share name (Some t) ≡ name_share name (Some s) = ap (λ (n : List ℕ). cond (bytes_eq n name) 1 0) same in
+      omega (arith, old, new, sum_by-set (name_share name) slots i (Some t) None lt, is.once name);
 }
 
 -- and where a name that none has is entered
@@ -135,16 +135,16 @@ pub sound_entered : (slots : Slots) (s : Slot) → AreSound slots → entry_name
 sound_entered slots s is right new = record {
   names = All-with_entry IsRightlyNamed slots s right is.names;
   once = λ name.
-    let more = sum_by-with_entry (name_share name) slots s refl in
-    elim (cases_Bool (bytes_eq s.name name)) [
-      | inl t ↦
-        let here : name_share name (Some s) ≡ 1 = rw t refl in
-        let none : count_by (has_name name) slots ≡ 0 = subst (λ (n : List ℕ). count_by (has_name n) slots ≡ 0) ((bytes_eq-Decides s.name name).0 t) new in
-        omega (arith, more, here, none)
-      | inr t ↦
-        let here : name_share name (Some s) ≡ 0 = rw t refl in
-        omega (arith, more, here, is.once name)
-    ];
+      let more = sum_by-with_entry (name_share name) slots s refl in
+      elim (cases_Bool (bytes_eq s.name name)) [
+        | inl t ↦
+            let here : name_share name (Some s) ≡ 1 = rw t refl in
+            let none : count_by (has_name name) slots ≡ 0 = subst (λ (n : List ℕ). count_by (has_name n) slots ≡ 0) ((bytes_eq-Decides s.name name).0 t) new in
+            omega (arith, more, here, none)
+        | inr t ↦
+            let here : name_share name (Some s) ≡ 0 = rw t refl in
+            omega (arith, more, here, is.once name)
+      ];
 }
 
 pub no_slots_sound : AreSound []

@@ -1,5 +1,5 @@
 -- Sound trees stay sound where an object changes, and where an object loses an entry.
-use Rattle.std.proofs.Common.{◌≡◌, ℕ, suc, ◌+◌, ◌<◌, ◌≤◌, ◌==◌, Bool, true, false, cond, List, [], length, get_or, set, Option, Some, None, refl, sym, ap, ◌∙◌, subst, arith, inl, inr}
+use Rattle.std.proofs.Common.{◌≡◌, ℕ, ◌+◌, ◌≤◌, ◌==◌, true, false, length, set, Option, Some, None, refl, sym, ap, ◌∙◌, subst, arith, inl, inr}
 use Rattle.std.proofs.lemmas.Bool.{cases_eq, eqb-true, eqb-false, eq-eqb, ne_eqb, cond_both, both_ways, false_from_ne_true}
 use Rattle.std.proofs.lemmas.List.{length-set, get_or-set_same, get_or-set_other}
 use Rattle.std.proofs.lemmas.List.Sums.{sum_by-set}
@@ -12,8 +12,7 @@ use Rattle.file_tree.specs.Plain.{IsWithinLimits}
 use Rattle.file_tree.specs.Outcome.{change, set_ctime, lost_entry}
 use Rattle.file_tree.specs.Sound.{IsSoundObject, HasEntries, IsNamed, IsSound}
 use Rattle.file_tree.proofs.Kept.{place_within, IsWithinLimits-same}
-use Rattle.file_tree.proofs.Holders.{Holds, IsDirectory}
-use Rattle.file_tree.proofs.Climbs.{Climbs}
+use Rattle.file_tree.proofs.Holders.{IsDirectory}
 use Rattle.file_tree.proofs.SlotLaws.{one}
 use Rattle.file_tree.proofs.Reslots.{IsNearly, nearly, nearly_set, place_set, change_is, sound_from}
 use Rattle.file_tree.proofs.WaysUp.{IsBare, file_is_bare, others_climb}
@@ -59,20 +58,20 @@ sound_set tree number o new is at kind same sound limits =
     let old_directory : (k : ℕ) → IsDirectory after k → IsDirectory tree k = λ (k : ℕ) (d : IsDirectory after k). sym (kinds_set tree number o new at kind k) ∙ d in
     let bare = zero_is_bare tree is.nothing_at_0 in
     sound_from after (names_of tree) (nearly_set tree number o new (names_of tree) (nearly tree is) at kind sound)
-      (names_of_set tree number o new at same) limits
-      (λ k d.
-        let not_0 = directory_not_0 tree k is.nothing_at_0 (old_directory k d) in
-        others_climb tree after 0 0 is bare bare
-          (λ dir m dm nx ny h. rw (names_at_set tree number o new at same dir m) h)
-          k (old_directory k d) not_0 not_0)
+    (names_of_set tree number o new at same) limits
+    (λ k d.
+    let not_0 = directory_not_0 tree k is.nothing_at_0 (old_directory k d) in
+    others_climb tree after 0 0 is bare bare
+    (λ dir m dm nx ny h. rw (names_at_set tree number o new at same dir m) h)
+    k (old_directory k d) not_0 not_0)
 
 pub sound_ctime : (tree : Tree) (number : ℕ) (o : Object) (now : Time) → IsSound tree → place tree number ≡ Some o → IsSound (change tree number (set_ctime now))
 sound_ctime tree number o now is at =
     let new = set_ctime now o in
     let object : IsSoundObject (Some o) = subst IsSoundObject at (is.objects number) in
     rw (change_is tree number (set_ctime now) o at)
-      (sound_set tree number o new is at refl (λ k. refl) object
-        (IsWithinLimits-same tree number None (Some new) is.limits (place_within tree number o at) (ap blocks_at at)))
+    (sound_set tree number o new is at refl (λ k. refl) object
+    (IsWithinLimits-same tree number None (Some new) is.limits (place_within tree number o at) (ap blocks_at at)))
 
 -- ---- an entry that is lost
 
@@ -149,9 +148,9 @@ gone tree entries x o is count bare at last =
     let nothing : (k : ℕ) → k ≡ x → place after k ≡ None = λ (k : ℕ) (e : k ≡ x). ap (place after) e ∙ place_gone tree x o at in
     let not_0 : 0 ≡ x → ⊥ = λ (e : 0 ≡ x). let none : place tree x ≡ None = rw (sym e) is.nothing_at_0 in absurd cc in
     let not_1 : 1 ≡ x → ⊥ = λ (e : 1 ≡ x).
-      let none = root_at (place tree 1) (entries 1) is.root (is.named 1) in
-      let some : one x 1 ≡ 1 = ap (one x) e ∙ one_itself x in
-      absurd (omega (arith, none, some, count 1)) in
+    let none = root_at (place tree 1) (entries 1) is.root (is.named 1) in
+    let some : one x 1 ≡ 1 = ap (one x) e ∙ one_itself x in
+    absurd (omega (arith, none, some, count 1)) in
     record {
       nearly = record {
         nothing_at_0 = other 0 not_0 ∙ is.nothing_at_0;
@@ -162,12 +161,12 @@ gone tree entries x o is count bare at last =
         ];
         named = λ k. elim (cases_eq k x) [
           | inl e ↦
-            let none : names_of after k ≡ 0 = gone_names tree x o at bare k ∙ ap (names_of tree) e ∙ last in
-            subst (λ (y : Option Object). IsNamed k y (names_of after k)) (sym (nothing k e)) none
+              let none : names_of after k ≡ 0 = gone_names tree x o at bare k ∙ ap (names_of tree) e ∙ last in
+              subst (λ (y : Option Object). IsNamed k y (names_of after k)) (sym (nothing k e)) none
           | inr ne ↦
-            let same : entries k ≡ names_of after k = omega (arith, count k, one_other x k ne, gone_names tree x o at bare k) in
-            let old : IsNamed k (place tree k) (names_of after k) = subst (IsNamed k (place tree k)) same (is.named k) in
-            subst (λ (y : Option Object). IsNamed k y (names_of after k)) (sym (other k ne)) old
+              let same : entries k ≡ names_of after k = omega (arith, count k, one_other x k ne, gone_names tree x o at bare k) in
+              let old : IsNamed k (place tree k) (names_of after k) = subst (IsNamed k (place tree k)) same (is.named k) in
+              subst (λ (y : Option Object). IsNamed k y (names_of after k)) (sym (other k ne)) old
         ];
       };
       kept = λ dir k. elim (cases_eq dir x) [
@@ -190,8 +189,8 @@ stays tree entries x o now is count at left =
     let after = set tree x (Some new) in
     let same : (k : ℕ) → names_of after k ≡ names_of tree k = names_of_set tree x o new at (λ k. refl) in
     let file : is_directory o.body ≡ false = false_from_ne_true (is_directory o.body) (λ d.
-      let few = few_at x (place tree x) (entries x) (ap is_directory_at at ∙ d) (is.named x) in
-      omega (arith, few, count x, one_itself x, left)) in
+    let few = few_at x (place tree x) (entries x) (ap is_directory_at at ∙ d) (is.named x) in
+    omega (arith, few, count x, one_itself x, left)) in
     let object : IsSoundObject (Some o) = subst IsSoundObject at (is.objects x) in
     let base = nearly_set tree x o new entries is at refl object in
     record {
@@ -201,18 +200,20 @@ stays tree entries x o now is count at left =
         objects = base.objects;
         named = λ k. elim (cases_eq k x) [
           | inl e ↦
-            let some : 1 ≤ names_of after k = omega (arith, same k, ap (names_of tree) e, left) in
-            file_at k (place after k) new (names_of after k) (ap (place after) e ∙ place_set tree x o new at) file some
+              let some : 1 ≤ names_of after k = omega (arith, same k, ap (names_of tree) e, left) in
+              file_at k (place after k) new (names_of after k) (ap (place after) e ∙ place_set tree x o new at) file some
           | inr ne ↦
-            let count_same : entries k ≡ names_of after k = omega (arith, count k, one_other x k ne, same k) in
-            subst (IsNamed k (place after k)) count_same (base.named k)
+              let count_same : entries k ≡ names_of after k = omega (arith, count k, one_other x k ne, same k) in
+              subst (IsNamed k (place after k)) count_same (base.named k)
         ];
       };
       kept = λ dir k. names_at_set tree x o new at (λ m. refl) dir k;
-      directories = λ k d. (sym (kinds_set tree x o new at refl k) ∙ d,
+      directories = λ k d. (
+        sym (kinds_set tree x o new at refl k) ∙ d,
         λ (e : k ≡ x).
-          let here : is_directory_at (place after k) ≡ false = ap (λ (n : ℕ). is_directory_at (place after n)) e ∙ ap is_directory_at (place_set tree x o new at) ∙ file in
-          both_ways _ here d);
+            let here : is_directory_at (place after k) ≡ false = ap (λ (n : ℕ). is_directory_at (place after n)) e ∙ ap is_directory_at (place_set tree x o new at) ∙ file in
+            both_ways _ here d,
+      );
       used = omega (arith, stays_used tree x o new at refl);
       same_length = length-set tree x (Some new);
     }
@@ -224,5 +225,5 @@ unfolding lost_entry
 lost tree entries x now is count bare =
     let live = live_from x (place tree x) (entries x) (is.named x) (omega (arith, count x, one_itself x)) in
     cond_both (names_of tree x == 0) (set tree x None) (change tree x (set_ctime now)) (λ (t : Tree). IsLost tree t x)
-      (λ e. gone tree entries x live.0 is count bare live.1 (eqb-true (names_of tree x) 0 e))
-      (λ e. rw (change_is tree x (set_ctime now) live.0 live.1) (stays tree entries x live.0 now is count live.1 (eqb-false (names_of tree x) 0 e)))
+    (λ e. gone tree entries x live.0 is count bare live.1 (eqb-true (names_of tree x) 0 e))
+    (λ e. rw (change_is tree x (set_ctime now) live.0 live.1) (stays tree entries x live.0 now is count live.1 (eqb-false (names_of tree x) 0 e)))

@@ -1,26 +1,20 @@
 -- Sound trees stay sound where entries are taken away and moved.
-use Rattle.std.proofs.Common.{◌≡◌, ℕ, ◌+◌, ◌*◌, ◌<◌, ◌≤◌, ◌==◌, ◌&&◌, Bool, true, false, cond, List, [], ◌∷◌, length, get_or, set, count_by, Option, Some, None, Ok, refl, sym, ap, ◌∙◌, subst, arith, inl, inr}
-use Rattle.std.proofs.lemmas.Bool.{cases_eq, cases_Bool, cases_lt, eqb-true, eqb-false, eq-eqb, ne_eqb, cond_both, both_ways}
-use Rattle.std.proofs.lemmas.List.{length-set, get_or_past, get_or-set_other}
+use Rattle.std.proofs.Common.{◌≡◌, ℕ, ◌+◌, ◌≤◌, List, length, get_or, set, Option, Some, None, refl, sym, ap, ◌∙◌, subst, arith, inl, inr}
+use Rattle.std.proofs.lemmas.Bool.{cases_eq, cases_lt}
+use Rattle.std.proofs.lemmas.List.{length-set, get_or_past}
 use Rattle.std.proofs.lemmas.List.Sums.{get_or-le-sum_by}
 use Rattle.harp_base.specs.declared.attr.Time.{Time}
-use Rattle.file_tree.specs.declared.object.Slot.{Slot}
 use Rattle.file_tree.specs.declared.object.Body.{Body}
-use Rattle.file_tree.specs.declared.object.Body.TheVariants.{Regular, Directory, Link}
+use Rattle.file_tree.specs.declared.object.Body.TheVariants.{Directory}
 use Rattle.file_tree.specs.declared.object.Object.{Object}
-use Rattle.file_tree.specs.Tree.{Tree, Slots, place, slots_within, blocks_of, blocks_at, used_blocks, names_in, names_at, names_of, is_directory, is_directory_at, with_entry}
-use Rattle.file_tree.specs.Steps.{entry_name}
-use Rattle.file_tree.specs.Plain.{IsWithinLimits}
-use Rattle.file_tree.specs.Outcome.{change, set_ctime, slot_changed, reslotted, lost_entry, removed}
-use Rattle.file_tree.specs.Rename.{is_above, freed, moved_over}
-use Rattle.file_tree.specs.Sound.{IsSoundObject, IsSoundBody, AreSound, has_name, IsNamed, IsSound}
-use Rattle.file_tree.proofs.Kept.{place_within}
+use Rattle.file_tree.specs.Tree.{Tree, Slots, place, slots_within, names_in, names_at, names_of}
+use Rattle.file_tree.specs.Outcome.{change, slot_changed, lost_entry, removed}
+use Rattle.file_tree.specs.Sound.{IsSoundObject, IsSoundBody, AreSound, IsSound}
 use Rattle.file_tree.proofs.Holders.{Holds, IsDirectory}
-use Rattle.file_tree.proofs.Climbs.{Climbs}
-use Rattle.file_tree.proofs.SlotLaws.{one, share, IsFound, names_set, names_entered, names_cleared, sound_cleared, sound_renamed, sound_entered}
-use Rattle.file_tree.proofs.Reslots.{Reslots, reslots_changed, reslots_reslotted, length_reslots, other_place, own_place, own_names, own_names_after, names_reslots, used_reslots, blocks_reslots, kinds_reslots, IsNearly, nearly, nearly_reslots, sound_from}
-use Rattle.file_tree.proofs.WaysUp.{IsBare, KeepsHolders, others_climb, moved_climb, file_is_bare}
-use Rattle.file_tree.proofs.SoundChanges.{zero_is_bare, directory_not_0, one_itself, one_other, live_from, IsLost, lost, sound_ctime}
+use Rattle.file_tree.proofs.SlotLaws.{one, share, IsFound, names_set, sound_cleared}
+use Rattle.file_tree.proofs.Reslots.{Reslots, reslots_changed, length_reslots, other_place, own_names, own_names_after, names_reslots, used_reslots, kinds_reslots, nearly, nearly_reslots, sound_from}
+use Rattle.file_tree.proofs.WaysUp.{IsBare, others_climb}
+use Rattle.file_tree.proofs.SoundChanges.{zero_is_bare, directory_not_0, one_itself, one_other, lost}
 
 sound_body : (x : Option Object) (o : Object) → x ≡ Some o → IsSoundObject x → IsSoundBody o.body
 sound_body None o e h = absurd cc
@@ -42,9 +36,9 @@ pub holders_reslots : (old new : Tree) (dir : ℕ) (slots after : Slots) → Res
     → (d : ℕ) → Holds old d m → Holds new d m
 holders_reslots old new dir slots after r m le d h = elim (cases_eq d dir) [
   | inl e ↦
-    let before : 1 ≤ names_at m (place old dir) = subst (λ (n : ℕ). Holds old n m) e h in
-    let here : Holds new dir m = omega (arith, before, own_names old new dir slots after r m, own_names_after old new dir slots after r m, le) in
-    subst (λ (n : ℕ). Holds new n m) (sym e) here
+      let before : 1 ≤ names_at m (place old dir) = subst (λ (n : ℕ). Holds old n m) e h in
+      let here : Holds new dir m = omega (arith, before, own_names old new dir slots after r m, own_names_after old new dir slots after r m, le) in
+      subst (λ (n : ℕ). Holds new n m) (sym e) here
   | inr ne ↦ let same = ap (names_at m) (other_place old new dir slots after r d ne) in omega (arith, h, same)
 ]
 
@@ -74,17 +68,17 @@ sound_removed tree dir o slots name x now is at body f bare =
     let apart : x.1 ≡ dir → ⊥ = λ (e : x.1 ≡ dir). let none = bare x.1 in let some : Holds tree x.1 x.1 = subst (λ (n : ℕ). Holds tree n x.1) (sym e) held in omega (arith, none, some) in
     let bare_then : IsBare cleared x.1 = λ (k : ℕ). ap (names_at k) (other_place tree cleared dir slots (set slots x.0 None) r x.1 apart) ∙ bare k in
     let l = lost cleared (names_of tree) x.1 now near
-      (λ k. omega (arith, names_reslots tree cleared dir slots (set slots x.0 None) r k, cleared_names slots name x k f)) bare_then in
+    (λ k. omega (arith, names_reslots tree cleared dir slots (set slots x.0 None) r k, cleared_names slots name x k f)) bare_then in
     let directory : (k : ℕ) → IsDirectory after k → IsDirectory tree k = λ (k : ℕ) (d : IsDirectory after k). sym (kinds_reslots tree cleared dir slots (set slots x.0 None) r k) ∙ (l.directories k d).0 in
     sound_from after (names_of after) l.nearly (λ k. refl)
-      (record {
-        few = omega (arith, l.same_length, length_reslots tree cleared dir slots (set slots x.0 None) r, is.limits.few);
-        room = omega (arith, l.used, used_reslots tree cleared dir slots (set slots x.0 None) r, length-set slots x.0 None, is.limits.room);
-      })
-      (λ k d.
-        others_climb tree after 0 x.1 is (zero_is_bare tree is.nothing_at_0) bare
-          (λ e m dm nz nx h.
-            let le : names_in m slots ≤ names_in m (set slots x.0 None) = omega (arith, cleared_names slots name x m f, one_other x.1 m nx) in
-            let between = holders_reslots tree cleared dir slots (set slots x.0 None) r m le e h in
-            rw (l.kept e m) between)
-          k (directory k d) (directory_not_0 tree k is.nothing_at_0 (directory k d)) (l.directories k d).1)
+    (record {
+      few = omega (arith, l.same_length, length_reslots tree cleared dir slots (set slots x.0 None) r, is.limits.few);
+      room = omega (arith, l.used, used_reslots tree cleared dir slots (set slots x.0 None) r, length-set slots x.0 None, is.limits.room);
+    })
+    (λ k d.
+    others_climb tree after 0 x.1 is (zero_is_bare tree is.nothing_at_0) bare
+    (λ e m dm nz nx h.
+    let le : names_in m slots ≤ names_in m (set slots x.0 None) = omega (arith, cleared_names slots name x m f, one_other x.1 m nx) in
+    let between = holders_reslots tree cleared dir slots (set slots x.0 None) r m le e h in
+    rw (l.kept e m) between)
+    k (directory k d) (directory_not_0 tree k is.nothing_at_0 (directory k d)) (l.directories k d).1)

@@ -1,5 +1,5 @@
 -- What follows where the steps of a call succeed.
-use Rattle.std.proofs.Common.{◌≡◌, ℕ, ◌+◌, ◌*◌, ◌<◌, ◌≤◌, ◌==◌, ◌&&◌, ◌||◌, Bool, true, false, not, cond, ltb, leb, List, [], ◌∷◌, ◌++◌, length, count_by, Option, Some, None, Result, Ok, Err, refl, sym, ap, ◌∙◌, subst, arith}
+use Rattle.std.proofs.Common.{◌≡◌, ℕ, ◌+◌, ◌*◌, ◌<◌, ◌≤◌, Bool, true, false, List, length, count_by, Option, Some, None, Ok, Err, refl, subst}
 use Rattle.std.proofs.lemmas.Bool.{ltb-false, leb-false}
 use Rattle.harp_base.specs.declared.reply.Status.{Status}
 use Rattle.harp_base.specs.declared.reply.Status.TheVariants.{NoSpc, NoEnt, Exist}
@@ -70,7 +70,7 @@ in_body tree dir o is (Err s) e = tt
 pub directory_is : (tree : Tree) (dir : ℕ) (slots : Slots) → directory tree dir ≡ Ok slots → IsDirectoryOf tree dir slots
 directory_is tree dir slots e =
     given_at (directory tree dir) (IsDirectoryOf tree dir) slots
-      (step (live tree dir) (λ o. slots_in o.body) (IsDirectoryOf tree dir) (λ o is. in_body tree dir o is (slots_in o.body) refl)) e
+    (step (live tree dir) (λ o. slots_in o.body) (IsDirectoryOf tree dir) (λ o is. in_body tree dir o is (slots_in o.body) refl)) e
 
 pub some_is : {A : Type 0} (s : Status) (x : Option A) (y : A) → some_or s x ≡ Ok y → x ≡ Some y
 some_is s None y e = absurd cc
@@ -87,8 +87,8 @@ pub record IsFree (slots : Slots) (name : List ℕ) : Type 0 where
 pub free_name_is : (slots : Slots) (name : List ℕ) → free_name slots name ≡ Ok tt → IsFree slots name
 free_name_is slots name e =
     given_at (free_name slots name) (λ u. IsFree slots name) tt
-      (step (entry_name name) (λ u. refuse Exist (has_entry slots name)) (λ u. IsFree slots name)
-        (λ u right. refused_unless Exist (has_entry slots name) (λ v. IsFree slots name) (λ new. record { right = right; new = no_entry slots name new }))) e
+    (step (entry_name name) (λ u. refuse Exist (has_entry slots name)) (λ u. IsFree slots name)
+    (λ u right. refused_unless Exist (has_entry slots name) (λ v. IsFree slots name) (λ new. record { right = right; new = no_entry slots name new }))) e
 
 found_step : (slots : Slots) (name : List ℕ) (r : Step (ℕ × ℕ)) → some_or NoEnt (entry slots name) ≡ r → Given r (IsFound slots name)
 unfolding Given
@@ -98,14 +98,14 @@ found_step slots name (Err s) e = tt
 pub doomed_is : (slots : Slots) (name : List ℕ) (x : ℕ × ℕ) → doomed slots name ≡ Ok x → IsFound slots name x
 doomed_is slots name x e =
     given_at (doomed slots name) (IsFound slots name) x
-      (unless _ (is_dots name) (λ u. find slots name) (IsFound slots name)
-        (λ dots. step (check_name name) (λ u. some_or NoEnt (entry slots name)) (IsFound slots name)
-          (λ u checked. found_step slots name (some_or NoEnt (entry slots name)) refl))) e
+    (unless _ (is_dots name) (λ u. find slots name) (IsFound slots name)
+    (λ dots. step (check_name name) (λ u. some_or NoEnt (entry slots name)) (IsFound slots name)
+    (λ u checked. found_step slots name (some_or NoEnt (entry slots name)) refl))) e
 
 pub room_is : (tree : Tree) (number size : ℕ) → room tree number size ≡ Ok tt → used_blocks tree + blocks_of size ≤ 65536 + blocks_at (place tree number)
 room_is tree number size e =
     given_at (room tree number size) (λ u. used_blocks tree + blocks_of size ≤ 65536 + blocks_at (place tree number)) tt
-      (refused_unless NoSpc _ (λ u. used_blocks tree + blocks_of size ≤ 65536 + blocks_at (place tree number)) (λ b. ltb-false _ _ b)) e
+    (refused_unless NoSpc _ (λ u. used_blocks tree + blocks_of size ≤ 65536 + blocks_at (place tree number)) (λ b. ltb-false _ _ b)) e
 
 -- the slots with an entry for the next object, where both have room
 pub record HasRoom (tree : Tree) (dir : ℕ) (slots : Slots) (name : List ℕ) (size : ℕ) (full : Slots) : Type 0 where
@@ -117,6 +117,6 @@ pub room_for_is : (tree : Tree) (dir : ℕ) (slots : Slots) (name : List ℕ) (s
 unfolding room_for
 room_for_is tree dir slots name size full e =
     given_at (room_for tree dir slots name size) (HasRoom tree dir slots name size) full
-      (unless NoSpc _ _ (HasRoom tree dir slots name size)
-        (λ few. unless NoSpc _ _ (HasRoom tree dir slots name size)
-          (λ enough. done _ (HasRoom tree dir slots name size) (record { slots_are = refl; few = leb-false _ _ few; enough = ltb-false _ _ enough })))) e
+    (unless NoSpc _ _ (HasRoom tree dir slots name size)
+    (λ few. unless NoSpc _ _ (HasRoom tree dir slots name size)
+    (λ enough. done _ (HasRoom tree dir slots name size) (record { slots_are = refl; few = leb-false _ _ few; enough = ltb-false _ _ enough })))) e

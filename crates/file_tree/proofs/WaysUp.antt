@@ -1,6 +1,6 @@
 -- Directories go on climbing where entries of other objects go, and where one directory moves.
-use Rattle.std.proofs.Common.{◌≡◌, ℕ, suc, ◌+◌, ◌≤◌, ◌==◌, Bool, true, false, length, Option, Some, None, ◌⊎◌, refl, sym, ap, ◌∙◌, subst, arith, inl, inr}
-use Rattle.std.proofs.lemmas.Bool.{cases_eq, cases_Bool, or_parts, or_from, ne_eqb, eqb-false, eq-eqb, both_ways}
+use Rattle.std.proofs.Common.{◌≡◌, ℕ, ◌≤◌, ◌==◌, false, length, Option, Some, None, refl, sym, subst, arith, inl, inr}
+use Rattle.std.proofs.lemmas.Bool.{cases_eq, or_parts, eqb-false}
 use Rattle.file_tree.specs.declared.object.Body.{Body}
 use Rattle.file_tree.specs.declared.object.Body.TheVariants.{Regular, Directory, Link}
 use Rattle.file_tree.specs.declared.object.Object.{Object}
@@ -38,18 +38,18 @@ pub others_climb : (old new : Tree) (x y : ℕ) → IsSound old → IsBare old x
     → (number : ℕ) → IsDirectory old number → (number ≡ x → ⊥) → (number ≡ y → ⊥) → Climbs new number
 others_climb old new x y is no_x no_y keeps number d not_x not_y =
     climbs_on old new (λ levels m. (m ≡ x → ⊥) × (m ≡ y → ⊥)) is.entries
-      (λ levels m dm ne held q. inr (keeps (parent_of old m) m dm q.0 q.1 held, (not_bare old x (parent_of old m) m no_x held, not_bare old y (parent_of old m) m no_y held)))
-      (length old) number (is.reaches number d) d (not_x, not_y)
+    (λ levels m dm ne held q. inr (keeps (parent_of old m) m dm q.0 q.1 held, (not_bare old x (parent_of old m) m no_x held, not_bare old y (parent_of old m) m no_y held)))
+    (length old) number (is.reaches number d) d (not_x, not_y)
 
 below_another : (old new : Tree) (x y to : ℕ) → IsSound old → IsBare old y → KeepsHolders old new x y
     → is_above (length old) old x to ≡ false → IsDirectory old to → (to ≡ y → ⊥) → Climbs new to
 unfolding is_above
 below_another old new x y to is no_y keeps apart d not_y =
     climbs_on old new (λ levels m. (m ≡ y → ⊥) × (is_above levels old x m ≡ false)) is.entries
-      (λ levels m dm ne held q.
-        let parts = or_parts (m == x) _ q.1 in
-        inr (keeps (parent_of old m) m dm (eqb-false m x parts.0) q.0 held, (not_bare old y (parent_of old m) m no_y held, parts.1)))
-      (length old) to (is.reaches to d) d (not_y, apart)
+    (λ levels m dm ne held q.
+    let parts = or_parts (m == x) _ q.1 in
+    inr (keeps (parent_of old m) m dm (eqb-false m x parts.0) q.0 held, (not_bare old y (parent_of old m) m no_y held, parts.1)))
+    (length old) to (is.reaches to d) d (not_y, apart)
 
 -- where x moves into a directory that isn't below it, and y is bare, the others climb
 pub moved_climb : (old new : Tree) (x y to : ℕ) → IsSound old → IsBare old y → KeepsHolders old new x y
@@ -58,8 +58,8 @@ pub moved_climb : (old new : Tree) (x y to : ℕ) → IsSound old → IsBare old
 moved_climb old new x y to is no_y keeps apart d not_y held number dn ny =
     let moved : Climbs new x = up to x held (below_another old new x y to is no_y keeps apart d not_y) in
     climbs_on old new (λ levels m. m ≡ y → ⊥) is.entries
-      (λ levels m dm ne h q. elim (cases_eq m x) [
-        | inl e ↦ inl (subst (Climbs new) (sym e) moved)
-        | inr nx ↦ inr (keeps (parent_of old m) m dm nx q h, not_bare old y (parent_of old m) m no_y h)
-      ])
-      (length old) number (is.reaches number dn) dn ny
+    (λ levels m dm ne h q. elim (cases_eq m x) [
+      | inl e ↦ inl (subst (Climbs new) (sym e) moved)
+      | inr nx ↦ inr (keeps (parent_of old m) m dm nx q h, not_bare old y (parent_of old m) m no_y h)
+    ])
+    (length old) number (is.reaches number dn) dn ny

@@ -1,5 +1,6 @@
 use Rattle.file_tree.proofs.ReadLaw.{read_keeps}
 use Rattle.file_tree.proofs.RefusalLaw.{refusal_keeps}
+use Rattle.file_tree.proofs.SoundFacts.{entry_lives, parent_is_directory}
 use Rattle.file_tree.proofs.SoundLaws.{first_sound, outcome_sound, book_sound}
 use Rattle.file_tree.proofs.laws.tree_laws.Goals as goal
 
@@ -10,4 +11,6 @@ returns c = record {
   reads_keep = read_keeps;
   refusals_keep = refusal_keeps;
   all_are_sound = book_sound;
+  entries_live = entry_lives;
+  parents_are_directories = parent_is_directory;
 }
