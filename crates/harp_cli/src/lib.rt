@@ -8,6 +8,3 @@ mod top;
 
 pub use exit::Exit;
 pub use top::harp;
-
-#[cfg(test)]
-mod tests;

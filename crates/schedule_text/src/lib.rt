@@ -15,6 +15,3 @@ mod writing;
 pub use fault::TextFault;
 pub use reading::read_step;
 pub use writing::{texts_are_lines, write_line, write_step};
-
-#[cfg(test)]
-mod tests;

@@ -1,6 +1,9 @@
 //! Rows of known bytes, and sources and sinks that fail.
 
-use super::*;
+use harp_base::{
+    Attr, Bytes, Call, Failed, FieldFault, Kind, MemSink, MemSource, ReaderSource, Reply, Sink,
+    SinkFault, Source, Time, WriterSink, read_call, read_reply, write_all, write_call, write_reply,
+};
 use std::alloc::Global;
 use std::io;
 use std::io::{ErrorKind, Read, Write};

@@ -1,7 +1,7 @@
 //! The worked rows of one server, compared whole, and ends that fail.
 
-use super::*;
 use harp_base::{Bytes, MemSink, MemSource};
+use harp_cli::harp;
 use std::alloc::Global;
 use std::test::Fail;
 use std::thread::Threads;

@@ -1,0 +1,11 @@
+//! What no clause says: that calls succeed with ample memory, known bytes and texts, and whole runs of the top call.
+#![tactic(auto)]
+
+#[cfg(test)]
+mod base;
+#[cfg(test)]
+mod plays;
+#[cfg(test)]
+mod texts;
+#[cfg(test)]
+mod tree;
