@@ -9,7 +9,7 @@ use Rattle.group_model.specs.Limits.{is_open}
 use Rattle.group_model.specs.Misfits.{misfits, proper, told_tests}
 use Rattle.group_model.specs.Moves.{Committing, Move, Noting, Sending, acts}
 use Rattle.group_model.specs.Open.{base_tests, open_heard, open_tests, rebase, try_open}
-use Rattle.group_model.specs.Places.{P0, P1, P2, Place, all_of, get, is_s01, partner, same}
+use Rattle.group_model.specs.Places.{Zero, One, Two, Place, all_of, get, is_s01, partner, same}
 use Rattle.group_model.specs.Replicate.{ack_tests, answers, is_in_view, on_ack}
 use Rattle.group_model.specs.State.{Ack, Beat, Demote, Group, Message, Open, Packet, Plan, Server, top}
 use Rattle.group_model.specs.Step.{Comes, list_of, numbered, rule, step_of}
@@ -35,15 +35,15 @@ if_not true x y e = cc
 if_not false x y e = refl
 
 not_same : (a b : Place) → (a ≡ b → ⊥) → not (same a b) ≡ true
-not_same P0 P0 n = absurd (n refl)
-not_same P0 P1 n = refl
-not_same P0 P2 n = refl
-not_same P1 P0 n = refl
-not_same P1 P1 n = absurd (n refl)
-not_same P1 P2 n = refl
-not_same P2 P0 n = refl
-not_same P2 P1 n = refl
-not_same P2 P2 n = absurd (n refl)
+not_same Zero Zero n = absurd (n refl)
+not_same Zero One n = refl
+not_same Zero Two n = refl
+not_same One Zero n = refl
+not_same One One n = absurd (n refl)
+not_same One Two n = refl
+not_same Two Zero n = refl
+not_same Two One n = refl
+not_same Two Two n = absurd (n refl)
 
 in_both : (a b : List (Move Entry)) → answered_in (a ++ b) ≡ answered_in a ++ answered_in b
 in_both [] b = refl
@@ -62,8 +62,8 @@ none_opens q clock s = none_if (all_of (open_tests q s)) _ (heard (get s.heard (
     heard : (o : Option ℕ) → answered_in (open_heard clock s o) ≡ []
     heard None = refl
     heard (Some lb) = none_if (nat_le (s.plan.horizon + 50) clock) _
-        (in_both (if is_s01 s.plan.storers then Sending P2 (Demote s.accepted) ∷ [] else []) (Sending (partner s.plan.storers) (Beat s.accepted (top s) s.base) ∷ [])
-        ∙ ap (λ (l : List ℕ). l ++ []) (none_if (is_s01 s.plan.storers) (Sending P2 (Demote s.accepted) ∷ []) refl))
+        (in_both (if is_s01 s.plan.storers then Sending Two (Demote s.accepted) ∷ [] else []) (Sending (partner s.plan.storers) (Beat s.accepted (top s) s.base) ∷ [])
+        ∙ ap (λ (l : List ℕ). l ++ []) (none_if (is_s01 s.plan.storers) (Sending Two (Demote s.accepted) ∷ []) refl))
 
 none_bases : (s : Server Entry) → answered_in (rebase s) ≡ []
 none_bases s = none_if (all_of (base_tests s)) _ refl

@@ -7,7 +7,7 @@ use Rattle.group_model.specs.Form.{form_moves}
 use Rattle.group_model.specs.Joining.{chosen_moves, joined_tests, on_invite, on_join, suspect, to_each}
 use Rattle.group_model.specs.Limits.{limit}
 use Rattle.group_model.specs.Moves.{Choosing, Collecting, Joining, act, moved}
-use Rattle.group_model.specs.Places.{P0, P1, P2, Place, Trio, all_of, coordinator, get, next_view, nobody, other_storers, others, with_at}
+use Rattle.group_model.specs.Places.{Zero, One, Two, Place, Trio, all_of, coordinator, get, next_view, nobody, other_storers, others, with_at}
 use Rattle.group_model.specs.State.{Chose, Collects, Duty, Form, Group, Invite, NoDuty, Plan, Report, Server}
 use Rattle.group_model.specs.Words.{In}
 use Rattle.group_model.proofs.Common.{each_with}
@@ -58,19 +58,19 @@ told_join g q s h from v t j (Collects reports) e = goes_where g q s (v == s.pro
 
 -- suspicion
 next_is : (q : Place) (promised : ℕ) → coordinator (next_view promised q) ≡ q
-next_is P0 p = let e : (3 * (p / 3 + 1) + 0) % 3 ≡ 0 = omega arith in rw e
-next_is P1 p = let e : (3 * (p / 3 + 1) + 1) % 3 ≡ 1 = omega arith in rw e
-next_is P2 p = let e : (3 * (p / 3 + 1) + 2) % 3 ≡ 2 = omega arith in rw e
+next_is Zero p = let e : (3 * (p / 3 + 1) + 0) % 3 ≡ 0 = omega arith in rw e
+next_is One p = let e : (3 * (p / 3 + 1) + 1) % 3 ≡ 1 = omega arith in rw e
+next_is Two p = let e : (3 * (p / 3 + 1) + 2) % 3 ≡ 2 = omega arith in rw e
 
 next_count : (q : Place) (p : ℕ) → p / 3 < limit → next_view p q / 3 ≤ limit
-next_count P0 p l = let e : (3 * (p / 3 + 1) + 0) / 3 ≡ p / 3 + 1 = omega arith in rw e (omega arith)
-next_count P1 p l = let e : (3 * (p / 3 + 1) + 1) / 3 ≡ p / 3 + 1 = omega arith in rw e (omega arith)
-next_count P2 p l = let e : (3 * (p / 3 + 1) + 2) / 3 ≡ p / 3 + 1 = omega arith in rw e (omega arith)
+next_count Zero p l = let e : (3 * (p / 3 + 1) + 0) / 3 ≡ p / 3 + 1 = omega arith in rw e (omega arith)
+next_count One p l = let e : (3 * (p / 3 + 1) + 1) / 3 ≡ p / 3 + 1 = omega arith in rw e (omega arith)
+next_count Two p l = let e : (3 * (p / 3 + 1) + 2) / 3 ≡ p / 3 + 1 = omega arith in rw e (omega arith)
 
 no_told : (x : Place) (u : Report) → get nobody x ≡ Some u → ⊥
-no_told P0 u e = cc
-no_told P1 u e = cc
-no_told P2 u e = cc
+no_told Zero u e = cc
+no_told One u e = cc
+no_told Two u e = cc
 
 pub suspects : (g : Group Entry) (q : Place) (s : Server Entry) → Good g q s → s.up ≡ true → Goes g q s (suspect q s)
 suspects g q s h up = goes_where g q s (nat_lt (s.promised / 3) limit) _ h (λ t.

@@ -7,7 +7,7 @@ use Rattle.group_model.specs.Effects.{NewLog}
 use Rattle.group_model.specs.Facts.{BodyOk, Ok, ServerOk}
 use Rattle.group_model.specs.Laws.{Grows, Near}
 use Rattle.group_model.specs.Moves.{Accepting, Appending, Choosing, Collecting, Committing, Heeding, Joining, Move, Sending, act, acts, book_after, moved, moved_by}
-use Rattle.group_model.specs.Places.{P0, P1, P2, Place, Trio, at, get}
+use Rattle.group_model.specs.Places.{Zero, One, Two, Place, Trio, at, get}
 use Rattle.group_model.specs.Settled.{Settled}
 use Rattle.group_model.specs.State.{Collects, Duty, Group, Message, Plan, Report, Role, Server}
 use Rattle.group_model.specs.Words.{In}
@@ -25,9 +25,9 @@ use Rattle.group_model.proofs.Entering.{Beside, BesideMay, beside_moved}
 use Rattle.group_model.proofs.Quiet.{Fine, fine, one_server, send_kept, ok_beside}
 
 pub at_self : {A : Type 0} (f : Place → A) (q : Place) (x : A) → at f q x q ≡ x
-at_self f P0 x = refl
-at_self f P1 x = refl
-at_self f P2 x = refl
+at_self f Zero x = refl
+at_self f One x = refl
+at_self f Two x = refl
 
 -- the facts hold, and q is in the state s
 pub record Good (g : Group Entry) (q : Place) (s : Server Entry) : Type 0 where
@@ -118,15 +118,15 @@ pub committing : {g : Group Entry} {q : Place} {s : Server Entry} → Ok g → g
 committing {g = g} {q = q} {s = s} ok is n = subst (λ s. MayCommit g q s n → Ok (moved g q s (Committing n))) is (λ m. ok_beside (committing_group g q n) (book_after g.book g.committed (g.server q) (Committing n)) g.answered (commit_kept g ok q n m))
 
 at_at : {A : Type 0} (f : Place → A) (q : Place) (a b : A) (x : Place) → at (at f q a) q b x ≡ at f q b x
-at_at f P0 a b P0 = refl
-at_at f P0 a b P1 = refl
-at_at f P0 a b P2 = refl
-at_at f P1 a b P0 = refl
-at_at f P1 a b P1 = refl
-at_at f P1 a b P2 = refl
-at_at f P2 a b P0 = refl
-at_at f P2 a b P1 = refl
-at_at f P2 a b P2 = refl
+at_at f Zero a b Zero = refl
+at_at f Zero a b One = refl
+at_at f Zero a b Two = refl
+at_at f One a b Zero = refl
+at_at f One a b One = refl
+at_at f One a b Two = refl
+at_at f Two a b Zero = refl
+at_at f Two a b One = refl
+at_at f Two a b Two = refl
 
 -- a server that changes twice
 pub merge : (g : Group Entry) (f : Place → Server Entry) (q : Place) (a b : Server Entry) → Ok (record g { server = at (at f q a) q b }) → Ok (record g { server = at f q b })

@@ -6,7 +6,7 @@ use Rattle.group_model.specs.Effects.{opening}
 use Rattle.group_model.specs.Facts.{Ok}
 use Rattle.group_model.specs.Moves.{Move, Opening, Sending, act, acts, moved, moved_by, raised_page}
 use Rattle.group_model.specs.Open.{and_then, base_tests, formed_tests, on_formed, open_heard, open_moves, open_tests, rebase, try_open}
-use Rattle.group_model.specs.Places.{P1, P2, Place, S01, all_of, at, get, is_s01, leader, partner, put}
+use Rattle.group_model.specs.Places.{One, Two, Place, S01, all_of, at, get, is_s01, leader, partner, put}
 use Rattle.group_model.specs.State.{Beat, Demote, Group, Page, Plan, Server, Waits, top}
 use Rattle.group_model.specs.Words.{IsActive}
 use Rattle.group_model.proofs.Common.{by_if}
@@ -42,8 +42,8 @@ open_goes g q s h w l lb e late =
     let s2 = act q (g.clock q) s (Opening lb) in
     by_if (λ ms. Goes g2 q s2 (ms ++ Sending (partner s.plan.storers) (Beat s.accepted (top s) s.base) ∷ [])) (is_s01 s.plan.storers) _ []
     (λ t. let x = (its k2).modes.leads refl in
-    goes_send g2 q s2 P2 (Demote s.accepted) _ k2 ((its k2).views.formed, x.1, ap (λ (p : Plan). p.storers) (sym ((its k2).modes.plan tt)) ∙ s01_is _ t) (tt, tt, tt)
-    (λ k3. beat_goes (moved g2 q s2 (Sending P2 (Demote s.accepted))) q s2 k3 refl (partner s.plan.storers)))
+    goes_send g2 q s2 Two (Demote s.accepted) _ k2 ((its k2).views.formed, x.1, ap (λ (p : Plan). p.storers) (sym ((its k2).modes.plan tt)) ∙ s01_is _ t) (tt, tt, tt)
+    (λ k3. beat_goes (moved g2 q s2 (Sending Two (Demote s.accepted))) q s2 k3 refl (partner s.plan.storers)))
     (λ _. beat_goes g2 q s2 k2 refl (partner s.plan.storers)))
 
 pub opens : (g : Group Entry) (q : Place) (s : Server Entry) → Good g q s → Goes g q s (try_open q (g.clock q) s)
@@ -71,8 +71,8 @@ pub finishes : (g : Group Entry) (q : Place) (s : Server Entry) (ms : List (Move
 finishes g q s ms h = goes_next g q s ms (try_open q (g.clock q)) h (λ k. subst (λ (c : ℕ). Goes (moved_by g q s ms) q (acts q (g.clock q) s ms) (try_open q c (acts q (g.clock q) s ms))) (clock_stays q ms g s) (opens _ q _ k))
 
 -- opening's Formed
-pub formed_heard : (g : Group Entry) (q : Place) (s : Server Entry) → Good g q s → (from : Place) (v lb : ℕ) → (g.page v).formed ≡ true → from ≡ partner (g.page v).plan.storers → (g.page v).partner_in ≡ true → ((g.page v).plan.storers ≡ S01 → lb ≤ lbs_of g.server P1) → Goes g q s (on_formed s from v lb)
+pub formed_heard : (g : Group Entry) (q : Place) (s : Server Entry) → Good g q s → (from : Place) (v lb : ℕ) → (g.page v).formed ≡ true → from ≡ partner (g.page v).plan.storers → (g.page v).partner_in ≡ true → ((g.page v).plan.storers ≡ S01 → lb ≤ lbs_of g.server One) → Goes g q s (on_formed s from v lb)
 formed_heard g q s h from v lb f x p l = goes_where g q s (all_of (formed_tests s v)) _ h (λ t.
     let e : v ≡ s.promised = is_eq' v s.promised (each_of (formed_tests s v) t).0 in
-    let b = subst (λ (n : ℕ). ((g.page n).formed ≡ true) × (from ≡ partner (g.page n).plan.storers) × ((g.page n).partner_in ≡ true) × ((g.page n).plan.storers ≡ S01 → lb ≤ lbs_of g.server P1)) e (f, x, p, l) in
+    let b = subst (λ (n : ℕ). ((g.page n).formed ≡ true) × (from ≡ partner (g.page n).plan.storers) × ((g.page n).partner_in ≡ true) × ((g.page n).plan.storers ≡ S01 → lb ≤ lbs_of g.server One)) e (f, x, p, l) in
     goes_one g q s _ h (tt, b.3, ⊎_elim (λ j. inl (joining_is s.mode j)) (λ w. inr (waits_is s.mode w)) (one_of _ _ (each_of (formed_tests s v) t).1.0)) (hear_kept g h.ok q s h.is from lb b.0 b.1 b.2))

@@ -16,7 +16,7 @@ use Rattle.group_model.specs.Limits.{is_active, is_joins, is_open, is_pulls, lim
 use Rattle.group_model.specs.Misfits.{misfits}
 use Rattle.group_model.specs.Moves.{Accepting, Appending, Basing, Booting, Demoting, Falling, Heeding, Joining, Move, Pulling, Saving, Sending, act, acts, moved, moved_by}
 use Rattle.group_model.specs.Open.{and_then, base_tests, formed_tests, open_heard, open_tests, rebase, try_open}
-use Rattle.group_model.specs.Places.{P0, P1, P2, Place, Trio, all_of, get, is_s01, leader, number, other_storers, partner, same, with_at}
+use Rattle.group_model.specs.Places.{Zero, One, Two, Place, Trio, all_of, get, is_s01, leader, number, other_storers, partner, same, with_at}
 use Rattle.group_model.specs.Replicate.{ack_tests, answers, is_in_view, on_event}
 use Rattle.group_model.specs.Serving.{held_tests, serving_accepted, serving_joined}
 use Rattle.group_model.specs.State.{Ack, Beat, Cause, Chose, Collects, Demote, Duty, Event, Fetch, Form, Formed, Give, Group, Invite, Join, Message, NoDuty, Packet, Plan, Report, Server, top}
@@ -115,7 +115,7 @@ keeps_invite v p (Some t) = tt
 
 keeps_duties : (q : Place) (s : Server Entry) (d : Duty) → KeepsAll (duties q s d)
 keeps_duties q s NoDuty = tt
-keeps_duties q s (Collects reports) = keeps_both _ _ (keeps_invite s.promised P0 (get reports P0)) (keeps_both _ _ (keeps_invite s.promised P1 (get reports P1)) (keeps_invite s.promised P2 (get reports P2)))
+keeps_duties q s (Collects reports) = keeps_both _ _ (keeps_invite s.promised Zero (get reports Zero)) (keeps_both _ _ (keeps_invite s.promised One (get reports One)) (keeps_invite s.promised Two (get reports Two)))
 keeps_duties q s (Chose v plan) = keeps_if (all_of (duty_tests q s v plan)) _ [] (keeps_each (Form v plan) (other_storers q plan.storers)) tt
 
 keeps_again : (q : Place) (s : Server Entry) → KeepsAll (again q s)

@@ -8,7 +8,7 @@ use Rattle.group_model.specs.Entered.{AnswerOk}
 use Rattle.group_model.specs.Limits.{room}
 use Rattle.group_model.specs.Misfits.{led_tests}
 use Rattle.group_model.specs.Moves.{Committing, Heeding, Noting, act, moved, raised_page}
-use Rattle.group_model.specs.Places.{P1, Place, S01, all_of, partner, same}
+use Rattle.group_model.specs.Places.{One, Place, S01, all_of, partner, same}
 use Rattle.group_model.specs.Replicate.{ack_tests, answers, in_view_tests, is_in_view, on_ack, on_event}
 use Rattle.group_model.specs.State.{Answers, Group, Log, Page, Plan, Server, top}
 use Rattle.group_model.specs.Words.{IsActive, Part, Sure, Under}
@@ -69,7 +69,7 @@ heeded g q s h up from v cp base items f o sure start low led space more = goes_
       subst (λ (p : Page _). g.clock q + 2000 ≤ p.until) (sym p') (omega arith),
       low,
     ))
-    (tt, subst (λ (n : ℕ). ((g1.page n).formed ≡ true) × ((g1.page n).plan.storers ≡ S01 → s.lb ≤ lbs_of g1.server P1)) (sym e) (known.views.formed, partner_lb g1 q s1 k (known.modes.follows refl).0), tt) goes_done))
+    (tt, subst (λ (n : ℕ). ((g1.page n).formed ≡ true) × ((g1.page n).plan.storers ≡ S01 → s.lb ≤ lbs_of g1.server One)) (sym e) (known.views.formed, partner_lb g1 q s1 k (known.modes.follows refl).0), tt) goes_done))
 
 pub event_taken : (g : Group Entry) (q : Place) (s : Server Entry) → Good g q s → (v index : ℕ) (e : Entry) → slice_get (g.page v).list (index - 1) ≡ Some e → IsActive s.mode → v ≡ s.accepted
     → (length s.items ≤ length (taken s index e)) × (s.base + length (taken s index e) ≤ length (g.page s.accepted).list) × Part s.base (taken s index e) (g.page s.accepted).list
@@ -112,7 +112,7 @@ answers_steady q s n (e ∷ es) h =
     (answers_steady q s (n + 1) es (λ g k i x y. let z' : n + suc i + 1 ≡ n + 1 + i + 1 = omega arith in subst (λ (j : ℕ). AnswerOk g.page g.committed (record { view = s.accepted; index = j; entry = x })) z' (h g k (suc i) x y)))
 
 -- acknowledgement
-pub acked : (g : Group Entry) (q : Place) (s : Server Entry) → Good g q s → (v t lb until : ℕ) → t ≤ (g.page v).held_twice → until ≤ (g.page v).until → ((g.page v).plan.storers ≡ S01 → lb ≤ lbs_of g.server P1) → Goes g q s (on_ack s v t lb until)
+pub acked : (g : Group Entry) (q : Place) (s : Server Entry) → Good g q s → (v t lb until : ℕ) → t ≤ (g.page v).held_twice → until ≤ (g.page v).until → ((g.page v).plan.storers ≡ S01 → lb ≤ lbs_of g.server One) → Goes g q s (on_ack s v t lb until)
 acked g q s h v t lb until held_twice til low = goes_where g q s (all_of (ack_tests s v)) _ h (λ x.
     let a = each_of (ack_tests s v) x in
     let open' = open_is s.mode a.0 in

@@ -7,7 +7,7 @@ use Rattle.group_model.specs.Facts.{BodyOk}
 use Rattle.group_model.specs.Joining.{to_each}
 use Rattle.group_model.specs.Moves.{Move, Saying, Sending, acts, moved, moved_by}
 use Rattle.group_model.specs.Open.{and_then}
-use Rattle.group_model.specs.Places.{P0, P1, Place, S01, leader, partner}
+use Rattle.group_model.specs.Places.{Zero, One, Place, S01, leader, partner}
 use Rattle.group_model.specs.Settled.{SettledAt, SettledBody}
 use Rattle.group_model.specs.State.{Beat, Group, Message, Open, Plan, Say, Server}
 use Rattle.group_model.specs.Words.{IsActive, Under}
@@ -58,17 +58,17 @@ pub own_base : (g : Group Entry) (q : Place) (s : Server Entry) → Good g q s �
 own_base g q s h a = (its_low h).log ((its h).modes.active a).0
 
 -- the partner beside server 0 is server 1
-pub partner_lb : (g : Group Entry) (q : Place) (s : Server Entry) → Good g q s → q ≡ partner (g.page s.accepted).plan.storers → (g.page s.accepted).plan.storers ≡ S01 → s.lb ≤ lbs_of g.server P1
+pub partner_lb : (g : Group Entry) (q : Place) (s : Server Entry) → Good g q s → q ≡ partner (g.page s.accepted).plan.storers → (g.page s.accepted).plan.storers ≡ S01 → s.lb ≤ lbs_of g.server One
 partner_lb g q s h e p =
-    let one : q ≡ P1 = e ∙ ap partner p in
+    let one : q ≡ One = e ∙ ap partner p in
     le_of_eq (ap (λ (x : Server _). x.lb) (sym h.is) ∙ ap (λ (x : Place). (g.server x).lb) one)
 
 -- the leader beside server 1 is server 0
 pub both : (g : Group Entry) (q : Place) (s : Server Entry) → Good g q s → s.mode ≡ Open → s.plan.storers ≡ S01 → Under (lbs_of g.server) (min s.lb s.told_lb)
 both g q s h o p =
     let a : IsActive s.mode = subst (λ z. IsActive z) (sym o) tt in
-    let zero' : q ≡ P0 = ((its h).modes.leads o).0 ∙ ap (λ (l : Plan). leader l.storers) (sym ((its h).modes.plan a)) ∙ ap leader p in
-    let mine : s.lb ≡ (g.server P0).lb = ap (λ (x : Server _). x.lb) (sym h.is) ∙ ap (λ (x : Place). (g.server x).lb) zero' in
+    let zero' : q ≡ Zero = ((its h).modes.leads o).0 ∙ ap (λ (l : Plan). leader l.storers) (sym ((its h).modes.plan a)) ∙ ap leader p in
+    let mine : s.lb ≡ (g.server Zero).lb = ap (λ (x : Server _). x.lb) (sym h.is) ∙ ap (λ (x : Place). (g.server x).lb) zero' in
     let low = (its_low h).acked o p in
     (omega arith, omega arith)
 

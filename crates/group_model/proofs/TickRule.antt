@@ -4,7 +4,7 @@ use Rattle.file_tree.specs.Book.{Entry}
 use Rattle.group_model.specs.Entered.{ServerWithin}
 use Rattle.group_model.specs.Limits.{is_open, is_pulls}
 use Rattle.group_model.specs.Open.{try_open}
-use Rattle.group_model.specs.Places.{P0, P1, P2, Place, all_of, get, partner}
+use Rattle.group_model.specs.Places.{Zero, One, Two, Place, all_of, get, partner}
 use Rattle.group_model.specs.State.{Chose, Collects, Duty, Event, Form, Group, Invite, NoDuty, Open, Plan, Report, Server}
 use Rattle.group_model.specs.Tick.{again, again_tests, beats, duties, duty_tests, events, invite_again, tick}
 use Rattle.group_model.specs.Words.{IsActive, Part}
@@ -41,7 +41,7 @@ steady_invite q s p (Some t) = steady_none q s
 
 steady_duties : (q : Place) (s : Server Entry) (c : Duty) → s.duty ≡ c → Steady q s (duties q s c)
 steady_duties q s NoDuty e = steady_none q s
-steady_duties q s (Collects reports) e = steady_both q s _ _ (steady_invite q s P0 (get reports P0)) (steady_both q s _ _ (steady_invite q s P1 (get reports P1)) (steady_invite q s P2 (get reports P2)))
+steady_duties q s (Collects reports) e = steady_both q s _ _ (steady_invite q s Zero (get reports Zero)) (steady_both q s _ _ (steady_invite q s One (get reports One)) (steady_invite q s Two (get reports Two)))
 steady_duties q s (Chose v plan) e = steady_where q s (all_of (duty_tests q s v plan)) _ (λ _. steady_each q s (Form v plan) _ (λ g h to. let x = (its h).chose v plan e in ((x.1, x.2), (tt, tt, tt))))
 
 steady_again : (q : Place) (s : Server Entry) → Steady q s (again q s)

@@ -1,7 +1,7 @@
 -- What each small move of a step does to its server.
 use Rattle.std.specs.Prelude.{ℕ, ◌+◌, ◌-◌, ◌&&◌, ◌==◌, nat_lt, nat_le, Bool, true, false, List, [], ◌∷◌, ◌++◌, length, drop, Option, None, Some, max, min, if◌then◌else◌}
 use Rattle.group_model.specs.Limits.{by_held, can_have, is_log, is_outside, room}
-use Rattle.group_model.specs.Places.{P0, P1, P2, Place, Trio, all_of, get, is_p2, nobody, partner, with_at}
+use Rattle.group_model.specs.Places.{Zero, One, Two, Place, Trio, all_of, get, is_p2, nobody, partner, with_at}
 use Rattle.group_model.specs.State.{Duty, Empty, Follows, Held, Joins, Leads, Live, Log, Lost, Mark, NoDuty, Open, Outside, Plan, Report, Rests, Role, Saved, Server, Waits, no_plan, no_report, top}
 
 -- the log that a server has afterwards
@@ -177,9 +177,9 @@ booted q clock m = if is_p2 q && is_outside m.role then resting clock m Empty (e
 
 -- the mark of a disk that has none
 abbrev pub first_role : Place → Role
-first_role P0 = Leads P1
-first_role P1 = Follows P0
-first_role P2 = Outside
+first_role Zero = Leads One
+first_role One = Follows Zero
+first_role Two = Outside
 
 abbrev pub first_mark : (E : Type 0) → Place → Mark E
 first_mark E q = record {

@@ -1,6 +1,6 @@
 -- The limits of the profile, and tests of modes and logs.
 use Rattle.std.specs.Prelude.{ℕ, ◌-◌, ◌^◌, ◌||◌, Bool, true, false}
-use Rattle.group_model.specs.Places.{P0, P1, P2, Place}
+use Rattle.group_model.specs.Places.{Zero, One, Two, Place}
 use Rattle.group_model.specs.State.{Empty, Follows, Held, Joins, Leads, Live, Log, Lost, Mode, Open, Outside, Pulls, Rests, Role, Waits}
 
 -- the greatest view count, and the greatest index
@@ -90,15 +90,15 @@ is_outside (Follows q) = false
 
 -- q is the first and p the second named storer of a view
 abbrev pub is_pair : Place → Place → Bool
-is_pair P0 P0 = false
-is_pair P0 P1 = true
-is_pair P0 P2 = true
-is_pair P1 P0 = false
-is_pair P1 P1 = false
-is_pair P1 P2 = true
-is_pair P2 P0 = false
-is_pair P2 P1 = false
-is_pair P2 P2 = false
+is_pair Zero Zero = false
+is_pair Zero One = true
+is_pair Zero Two = true
+is_pair One Zero = false
+is_pair One One = false
+is_pair One Two = true
+is_pair Two Zero = false
+is_pair Two One = false
+is_pair Two Two = false
 
 -- a choice can give q this role
 abbrev pub can_have : Place → Role → Bool

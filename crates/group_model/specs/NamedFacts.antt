@@ -1,6 +1,6 @@
 -- The facts of the induction by their names. Each follows from what every step keeps.
 use Rattle.std.specs.Prelude.{◌≡◌, ℕ, ◌+◌, ◌-◌, ◌<◌, ◌≤◌, ◌⊎◌, true, false, List, length, Some, slice_get, ⊤}
-use Rattle.group_model.specs.Places.{IsIn, P2, Place, S01, leader, partner}
+use Rattle.group_model.specs.Places.{IsIn, Two, Place, S01, leader, partner}
 use Rattle.group_model.specs.State.{Ack, Beat, Demote, Empty, Event, Give, Group, JoinMade, Live, Log, Message, Open, Outside, Packet, Page, Report, Saved, top}
 use Rattle.group_model.specs.Words.{Agree, Each, In, Into, IsActive, Part, Promised, Sure, Tells}
 
@@ -125,7 +125,7 @@ DemotesRightly page m = ⊤
 -- view
 pub record DemotionFollowsTwoDataServers {E : Type 0} (g : Group E) : Type 0 where
   pub packet : Each (λ (p : Packet E). DemotesRightly g.page p.body) g.packets
-  pub empty : (q : Place) → (g.server q).held ≡ Empty → (q ≡ P2)
+  pub empty : (q : Place) → (g.server q).held ≡ Empty → (q ≡ Two)
       × (((g.server q).accepted ≡ 0) ⊎ TwoDataServers (g.page (g.server q).accepted))
 
 -- the eight together

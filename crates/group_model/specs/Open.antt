@@ -2,7 +2,7 @@
 use Rattle.std.specs.Prelude.{ℕ, ◌+◌, ◌||◌, ◌==◌, nat_le, nat_lt, Bool, List, [], ◌∷◌, ◌++◌, Option, None, Some, min, if◌then◌else◌}
 use Rattle.group_model.specs.Limits.{is_joining, is_open, is_waits}
 use Rattle.group_model.specs.Moves.{Basing, Hearing, Move, Opening, Sending, acts}
-use Rattle.group_model.specs.Places.{P2, Place, all_of, get, is_s01, leader, partner, same}
+use Rattle.group_model.specs.Places.{Two, Place, all_of, get, is_s01, leader, partner, same}
 use Rattle.group_model.specs.State.{Beat, Demote, Server, top}
 
 -- Formed: kept by sender from joining on, the last one counts
@@ -15,7 +15,7 @@ on_formed s from v lb = if all_of (formed_tests s v) then Hearing from lb ∷ []
 -- The opening: a leader beside a data server sends Demote to server 2, and then Beat to its partner
 abbrev pub open_moves : {E : Type 0} → Server E → ℕ → List (Move E)
 open_moves s lb = Opening lb
-    ∷ ((if is_s01 s.plan.storers then Sending P2 (Demote s.accepted) ∷ [] else [])
+    ∷ ((if is_s01 s.plan.storers then Sending Two (Demote s.accepted) ∷ [] else [])
     ++ Sending (partner s.plan.storers) (Beat s.accepted (top s) s.base) ∷ [])
 
 -- its partner's Formed has come, and its clock is at least the horizon + 50

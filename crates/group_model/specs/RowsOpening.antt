@@ -4,7 +4,7 @@ use Rattle.harp_base.specs.declared.attr.Time.{Time}
 use Rattle.harp_base.specs.declared.attr.SetAttr.{SetAttr}
 use Rattle.harp_base.specs.declared.attr.Attr.{Attr}
 use Rattle.harp_base.specs.declared.attr.Kind.TheVariants.{Directory}
-use Rattle.group_model.specs.Places.{P0, P1, P2}
+use Rattle.group_model.specs.Places.{Zero, One, Two}
 use Rattle.group_model.specs.State.{Log, Empty, Leads, Follows, Outside}
 use Rattle.group_model.specs.Step.{Happening, At, Deliver, Advance, Tick, Suspect}
 use Rattle.group_model.specs.Trace.{Line, Sent, State, view, invite, join, form, formed, beat, ack, demote, rests, calls, joins, waits, opens, lives, state}
@@ -44,7 +44,7 @@ directory m links fileid a b c = record {
 
 abbrev pub opening_steps : List Happening
 opening_steps =
-    At P0 Suspect ∷
+    At Zero Suspect ∷
     Deliver 0 ∷
     Deliver 1 ∷
     Deliver 2 ∷
@@ -52,7 +52,7 @@ opening_steps =
     Deliver 4 ∷
     Deliver 5 ∷
     Advance 2050 ∷
-    At P0 Tick ∷
+    At Zero Tick ∷
     Deliver 6 ∷
     Deliver 7 ∷
     Deliver 8 ∷
@@ -60,21 +60,21 @@ opening_steps =
 
 abbrev pub opening_lines : List Line
 opening_lines =
-    Sent 0 P0 P1 (invite (view 1 0)) ∷
-    Sent 1 P0 P2 (invite (view 1 0)) ∷
-    State P0 (state calls (view 1 0) (view 0 0) (Leads P1) Log 0 0 0 0 0) ∷
-    Sent 2 P1 P0 (join (view 1 0) Log (view 0 0) 0 0 0 0 2000) ∷
-    State P1 (state joins (view 1 0) (view 0 0) (Follows P0) Log 0 0 0 0 0) ∷
-    Sent 3 P2 P0 (join (view 1 0) Empty (view 0 0) 0 0 0 0 2000) ∷
-    State P2 (state joins (view 1 0) (view 0 0) Outside Empty 0 0 0 0 0) ∷
-    Sent 4 P0 P1 (form (view 1 0) 0 1 0 0 0 0 2000) ∷
-    State P0 (state waits (view 1 0) (view 1 0) (Leads P1) Log 0 0 0 0 0) ∷
-    Sent 5 P1 P0 (formed (view 1 0) 0) ∷
-    State P1 (state waits (view 1 0) (view 1 0) (Follows P0) Log 0 0 0 0 0) ∷
-    Sent 6 P0 P2 (demote (view 1 0)) ∷
-    Sent 7 P0 P1 (beat (view 1 0) 0 0) ∷
-    State P0 (state opens (view 1 0) (view 1 0) (Leads P1) Log 0 0 0 0 0) ∷
-    State P2 (state rests (view 1 0) (view 1 0) Outside Empty 0 0 0 0 0) ∷
-    Sent 8 P1 P0 (ack (view 1 0) 0 0 4050) ∷
-    State P1 (state lives (view 1 0) (view 1 0) (Follows P0) Log 0 0 0 0 0) ∷
+    Sent 0 Zero One (invite (view 1 0)) ∷
+    Sent 1 Zero Two (invite (view 1 0)) ∷
+    State Zero (state calls (view 1 0) (view 0 0) (Leads One) Log 0 0 0 0 0) ∷
+    Sent 2 One Zero (join (view 1 0) Log (view 0 0) 0 0 0 0 2000) ∷
+    State One (state joins (view 1 0) (view 0 0) (Follows Zero) Log 0 0 0 0 0) ∷
+    Sent 3 Two Zero (join (view 1 0) Empty (view 0 0) 0 0 0 0 2000) ∷
+    State Two (state joins (view 1 0) (view 0 0) Outside Empty 0 0 0 0 0) ∷
+    Sent 4 Zero One (form (view 1 0) 0 1 0 0 0 0 2000) ∷
+    State Zero (state waits (view 1 0) (view 1 0) (Leads One) Log 0 0 0 0 0) ∷
+    Sent 5 One Zero (formed (view 1 0) 0) ∷
+    State One (state waits (view 1 0) (view 1 0) (Follows Zero) Log 0 0 0 0 0) ∷
+    Sent 6 Zero Two (demote (view 1 0)) ∷
+    Sent 7 Zero One (beat (view 1 0) 0 0) ∷
+    State Zero (state opens (view 1 0) (view 1 0) (Leads One) Log 0 0 0 0 0) ∷
+    State Two (state rests (view 1 0) (view 1 0) Outside Empty 0 0 0 0 0) ∷
+    Sent 8 One Zero (ack (view 1 0) 0 0 4050) ∷
+    State One (state lives (view 1 0) (view 1 0) (Follows Zero) Log 0 0 0 0 0) ∷
     []

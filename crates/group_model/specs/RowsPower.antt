@@ -3,7 +3,7 @@ use Rattle.std.specs.Prelude.{◌≡◌, List, [], ◌∷◌, ◌++◌}
 use Rattle.harp_base.specs.declared.call.Call.TheVariants as call
 use Rattle.harp_base.specs.declared.reply.Reply.TheVariants as reply
 use Rattle.harp_base.specs.declared.reply.Status.TheVariants.{NoEnt}
-use Rattle.group_model.specs.Places.{P0, P1, P2}
+use Rattle.group_model.specs.Places.{Zero, One, Two}
 use Rattle.group_model.specs.State.{Log, Lost, Empty, Leads, Follows, Outside}
 use Rattle.group_model.specs.Step.{Happening, At, Deliver, CutAt, Boot, Advance, Tick, Suspect, Ask, Apply, ListTree, Power, Crash}
 use Rattle.group_model.specs.Trace.{Line, Entered, Told, Sent, State, Listed, view, invite, join, form, fetch, give, formed, event, beat, ack, demote, rests, calls, joins, pulls, waits, opens, lives, is_down, state, play}
@@ -11,20 +11,20 @@ use Rattle.group_model.specs.RowsOpening.{mode, directory, at, opening_steps, op
 
 abbrev pub power_failure_steps : List Happening
 power_failure_steps =
-    At P0 (Ask 7 1 (call.MkDir 1 (0x61 ∷ []) (mode 493))) ∷
-    At P0 (Ask 7 2 (call.MkDir 1 (0x62 ∷ []) (mode 493))) ∷
-    At P0 (Ask 7 3 (call.Remove 1 (0x7a ∷ []))) ∷
+    At Zero (Ask 7 1 (call.MkDir 1 (0x61 ∷ []) (mode 493))) ∷
+    At Zero (Ask 7 2 (call.MkDir 1 (0x62 ∷ []) (mode 493))) ∷
+    At Zero (Ask 7 3 (call.Remove 1 (0x7a ∷ []))) ∷
     Deliver 9 ∷
     Deliver 10 ∷
     Deliver 11 ∷
     Deliver 12 ∷
     Deliver 13 ∷
     Deliver 14 ∷
-    At P0 Power ∷
-    At P1 Power ∷
-    Boot P0 ∷
-    Boot P1 ∷
-    At P0 Suspect ∷
+    At Zero Power ∷
+    At One Power ∷
+    Boot Zero ∷
+    Boot One ∷
+    At Zero Suspect ∷
     Deliver 15 ∷
     Deliver 16 ∷
     Deliver 17 ∷
@@ -34,64 +34,64 @@ power_failure_steps =
     Deliver 21 ∷
     Deliver 22 ∷
     Advance 2050 ∷
-    At P0 Tick ∷
+    At Zero Tick ∷
     Deliver 23 ∷
     Deliver 24 ∷
     Deliver 25 ∷
-    At P0 ListTree ∷
+    At Zero ListTree ∷
     []
 
 abbrev pub power_failure_lines : List Line
 power_failure_lines =
-    Sent 9 P0 P1 (event (view 1 0) 1 0 0 7 1) ∷
-    State P0 (state opens (view 1 0) (view 1 0) (Leads P1) Log 0 0 0 0 1) ∷
-    Sent 10 P0 P1 (event (view 1 0) 2 0 0 7 2) ∷
-    State P0 (state opens (view 1 0) (view 1 0) (Leads P1) Log 0 0 0 0 2) ∷
-    Sent 11 P0 P1 (event (view 1 0) 3 0 0 7 3) ∷
-    State P0 (state opens (view 1 0) (view 1 0) (Leads P1) Log 0 0 0 0 3) ∷
-    Sent 12 P1 P0 (ack (view 1 0) 1 0 4050) ∷
-    State P1 (state lives (view 1 0) (view 1 0) (Follows P0) Log 0 0 0 0 1) ∷
-    Sent 13 P1 P0 (ack (view 1 0) 2 0 4050) ∷
-    State P1 (state lives (view 1 0) (view 1 0) (Follows P0) Log 0 0 0 0 2) ∷
-    Sent 14 P1 P0 (ack (view 1 0) 3 0 4050) ∷
-    State P1 (state lives (view 1 0) (view 1 0) (Follows P0) Log 0 0 0 0 3) ∷
+    Sent 9 Zero One (event (view 1 0) 1 0 0 7 1) ∷
+    State Zero (state opens (view 1 0) (view 1 0) (Leads One) Log 0 0 0 0 1) ∷
+    Sent 10 Zero One (event (view 1 0) 2 0 0 7 2) ∷
+    State Zero (state opens (view 1 0) (view 1 0) (Leads One) Log 0 0 0 0 2) ∷
+    Sent 11 Zero One (event (view 1 0) 3 0 0 7 3) ∷
+    State Zero (state opens (view 1 0) (view 1 0) (Leads One) Log 0 0 0 0 3) ∷
+    Sent 12 One Zero (ack (view 1 0) 1 0 4050) ∷
+    State One (state lives (view 1 0) (view 1 0) (Follows Zero) Log 0 0 0 0 1) ∷
+    Sent 13 One Zero (ack (view 1 0) 2 0 4050) ∷
+    State One (state lives (view 1 0) (view 1 0) (Follows Zero) Log 0 0 0 0 2) ∷
+    Sent 14 One Zero (ack (view 1 0) 3 0 4050) ∷
+    State One (state lives (view 1 0) (view 1 0) (Follows Zero) Log 0 0 0 0 3) ∷
     Entered 1 7 1 2050 (call.MkDir 1 (0x61 ∷ []) (mode 493))
     (reply.Node 2 (directory 493 2 2 (at 2 50000) (at 2 50000) (at 2 50000))) ∷
-    Told P0 7 1 1 (reply.Node 2 (directory 493 2 2 (at 2 50000) (at 2 50000) (at 2 50000))) ∷
-    State P0 (state opens (view 1 0) (view 1 0) (Leads P1) Log 0 0 0 1 3) ∷
+    Told Zero 7 1 1 (reply.Node 2 (directory 493 2 2 (at 2 50000) (at 2 50000) (at 2 50000))) ∷
+    State Zero (state opens (view 1 0) (view 1 0) (Leads One) Log 0 0 0 1 3) ∷
     Entered 2 7 2 2050 (call.MkDir 1 (0x62 ∷ []) (mode 493))
     (reply.Node 3 (directory 493 2 3 (at 2 50000) (at 2 50000) (at 2 50000))) ∷
-    Told P0 7 2 2 (reply.Node 3 (directory 493 2 3 (at 2 50000) (at 2 50000) (at 2 50000))) ∷
-    State P0 (state opens (view 1 0) (view 1 0) (Leads P1) Log 0 0 0 2 3) ∷
+    Told Zero 7 2 2 (reply.Node 3 (directory 493 2 3 (at 2 50000) (at 2 50000) (at 2 50000))) ∷
+    State Zero (state opens (view 1 0) (view 1 0) (Leads One) Log 0 0 0 2 3) ∷
     Entered 3 7 3 2050 (call.Remove 1 (0x7a ∷ []))
     (reply.Refused NoEnt) ∷
-    Told P0 7 3 3 (reply.Refused NoEnt) ∷
-    State P0 (state opens (view 1 0) (view 1 0) (Leads P1) Log 0 0 0 3 3) ∷
-    State P0 is_down ∷
-    State P1 is_down ∷
-    State P0 (state rests (view 1 0) (view 1 0) (Leads P1) Log 0 0 0 3 3) ∷
-    State P1 (state rests (view 1 0) (view 1 0) (Follows P0) Log 0 0 0 0 3) ∷
-    Sent 15 P0 P1 (invite (view 2 0)) ∷
-    Sent 16 P0 P2 (invite (view 2 0)) ∷
-    State P0 (state calls (view 2 0) (view 1 0) (Leads P1) Log 0 0 0 3 3) ∷
-    Sent 17 P1 P0 (join (view 2 0) Log (view 1 0) 0 0 0 3 4050) ∷
-    State P1 (state joins (view 2 0) (view 1 0) (Follows P0) Log 0 0 0 0 3) ∷
-    Sent 18 P2 P0 (join (view 2 0) Empty (view 1 0) 0 0 0 0 2000) ∷
-    State P2 (state joins (view 2 0) (view 1 0) Outside Empty 0 0 0 0 0) ∷
-    Sent 19 P0 P1 (form (view 2 0) 0 1 0 0 3 3 4050) ∷
-    State P0 (state waits (view 2 0) (view 2 0) (Leads P1) Log 0 0 0 3 3) ∷
-    Sent 20 P1 P0 (fetch (view 2 0) 1) ∷
-    State P1 (state pulls (view 2 0) (view 1 0) (Follows P0) Log 0 0 0 0 3) ∷
-    Sent 21 P0 P1 (give (view 2 0) 1 3) ∷
-    Sent 22 P1 P0 (formed (view 2 0) 0) ∷
-    State P1 (state waits (view 2 0) (view 2 0) (Follows P0) Log 0 0 0 3 3) ∷
-    Sent 23 P0 P2 (demote (view 2 0)) ∷
-    Sent 24 P0 P1 (beat (view 2 0) 3 0) ∷
-    State P0 (state opens (view 2 0) (view 2 0) (Leads P1) Log 0 0 0 3 3) ∷
-    State P2 (state rests (view 2 0) (view 2 0) Outside Empty 0 0 0 0 0) ∷
-    Sent 25 P1 P0 (ack (view 2 0) 3 0 6100) ∷
-    State P1 (state lives (view 2 0) (view 2 0) (Follows P0) Log 0 0 0 3 3) ∷
-    Listed P0 3 ∷
+    Told Zero 7 3 3 (reply.Refused NoEnt) ∷
+    State Zero (state opens (view 1 0) (view 1 0) (Leads One) Log 0 0 0 3 3) ∷
+    State Zero is_down ∷
+    State One is_down ∷
+    State Zero (state rests (view 1 0) (view 1 0) (Leads One) Log 0 0 0 3 3) ∷
+    State One (state rests (view 1 0) (view 1 0) (Follows Zero) Log 0 0 0 0 3) ∷
+    Sent 15 Zero One (invite (view 2 0)) ∷
+    Sent 16 Zero Two (invite (view 2 0)) ∷
+    State Zero (state calls (view 2 0) (view 1 0) (Leads One) Log 0 0 0 3 3) ∷
+    Sent 17 One Zero (join (view 2 0) Log (view 1 0) 0 0 0 3 4050) ∷
+    State One (state joins (view 2 0) (view 1 0) (Follows Zero) Log 0 0 0 0 3) ∷
+    Sent 18 Two Zero (join (view 2 0) Empty (view 1 0) 0 0 0 0 2000) ∷
+    State Two (state joins (view 2 0) (view 1 0) Outside Empty 0 0 0 0 0) ∷
+    Sent 19 Zero One (form (view 2 0) 0 1 0 0 3 3 4050) ∷
+    State Zero (state waits (view 2 0) (view 2 0) (Leads One) Log 0 0 0 3 3) ∷
+    Sent 20 One Zero (fetch (view 2 0) 1) ∷
+    State One (state pulls (view 2 0) (view 1 0) (Follows Zero) Log 0 0 0 0 3) ∷
+    Sent 21 Zero One (give (view 2 0) 1 3) ∷
+    Sent 22 One Zero (formed (view 2 0) 0) ∷
+    State One (state waits (view 2 0) (view 2 0) (Follows Zero) Log 0 0 0 3 3) ∷
+    Sent 23 Zero Two (demote (view 2 0)) ∷
+    Sent 24 Zero One (beat (view 2 0) 3 0) ∷
+    State Zero (state opens (view 2 0) (view 2 0) (Leads One) Log 0 0 0 3 3) ∷
+    State Two (state rests (view 2 0) (view 2 0) Outside Empty 0 0 0 0 0) ∷
+    Sent 25 One Zero (ack (view 2 0) 3 0 6100) ∷
+    State One (state lives (view 2 0) (view 2 0) (Follows Zero) Log 0 0 0 3 3) ∷
+    Listed Zero 3 ∷
     []
 
 -- Both data servers save their logs, and all three updates stand in the next view
@@ -100,20 +100,20 @@ PowerFailure = play (opening_steps ++ power_failure_steps) ≡ opening_lines ++ 
 
 abbrev pub power_failure_cut_off_steps : List Happening
 power_failure_cut_off_steps =
-    At P0 (Ask 7 1 (call.MkDir 1 (0x61 ∷ []) (mode 493))) ∷
-    At P0 (Ask 7 2 (call.MkDir 1 (0x62 ∷ []) (mode 493))) ∷
-    At P0 (Ask 7 3 (call.Remove 1 (0x7a ∷ []))) ∷
+    At Zero (Ask 7 1 (call.MkDir 1 (0x61 ∷ []) (mode 493))) ∷
+    At Zero (Ask 7 2 (call.MkDir 1 (0x62 ∷ []) (mode 493))) ∷
+    At Zero (Ask 7 3 (call.Remove 1 (0x7a ∷ []))) ∷
     Deliver 9 ∷
     Deliver 10 ∷
     Deliver 11 ∷
     Deliver 12 ∷
     Deliver 13 ∷
     Deliver 14 ∷
-    CutAt P0 Power ∷
-    At P1 Power ∷
-    Boot P0 ∷
-    Boot P1 ∷
-    At P0 Suspect ∷
+    CutAt Zero Power ∷
+    At One Power ∷
+    Boot Zero ∷
+    Boot One ∷
+    At Zero Suspect ∷
     Deliver 15 ∷
     Deliver 16 ∷
     Deliver 17 ∷
@@ -123,64 +123,64 @@ power_failure_cut_off_steps =
     Deliver 21 ∷
     Deliver 22 ∷
     Advance 2050 ∷
-    At P0 Tick ∷
+    At Zero Tick ∷
     Deliver 23 ∷
     Deliver 24 ∷
     Deliver 25 ∷
-    At P0 ListTree ∷
+    At Zero ListTree ∷
     []
 
 abbrev pub power_failure_cut_off_lines : List Line
 power_failure_cut_off_lines =
-    Sent 9 P0 P1 (event (view 1 0) 1 0 0 7 1) ∷
-    State P0 (state opens (view 1 0) (view 1 0) (Leads P1) Log 0 0 0 0 1) ∷
-    Sent 10 P0 P1 (event (view 1 0) 2 0 0 7 2) ∷
-    State P0 (state opens (view 1 0) (view 1 0) (Leads P1) Log 0 0 0 0 2) ∷
-    Sent 11 P0 P1 (event (view 1 0) 3 0 0 7 3) ∷
-    State P0 (state opens (view 1 0) (view 1 0) (Leads P1) Log 0 0 0 0 3) ∷
-    Sent 12 P1 P0 (ack (view 1 0) 1 0 4050) ∷
-    State P1 (state lives (view 1 0) (view 1 0) (Follows P0) Log 0 0 0 0 1) ∷
-    Sent 13 P1 P0 (ack (view 1 0) 2 0 4050) ∷
-    State P1 (state lives (view 1 0) (view 1 0) (Follows P0) Log 0 0 0 0 2) ∷
-    Sent 14 P1 P0 (ack (view 1 0) 3 0 4050) ∷
-    State P1 (state lives (view 1 0) (view 1 0) (Follows P0) Log 0 0 0 0 3) ∷
+    Sent 9 Zero One (event (view 1 0) 1 0 0 7 1) ∷
+    State Zero (state opens (view 1 0) (view 1 0) (Leads One) Log 0 0 0 0 1) ∷
+    Sent 10 Zero One (event (view 1 0) 2 0 0 7 2) ∷
+    State Zero (state opens (view 1 0) (view 1 0) (Leads One) Log 0 0 0 0 2) ∷
+    Sent 11 Zero One (event (view 1 0) 3 0 0 7 3) ∷
+    State Zero (state opens (view 1 0) (view 1 0) (Leads One) Log 0 0 0 0 3) ∷
+    Sent 12 One Zero (ack (view 1 0) 1 0 4050) ∷
+    State One (state lives (view 1 0) (view 1 0) (Follows Zero) Log 0 0 0 0 1) ∷
+    Sent 13 One Zero (ack (view 1 0) 2 0 4050) ∷
+    State One (state lives (view 1 0) (view 1 0) (Follows Zero) Log 0 0 0 0 2) ∷
+    Sent 14 One Zero (ack (view 1 0) 3 0 4050) ∷
+    State One (state lives (view 1 0) (view 1 0) (Follows Zero) Log 0 0 0 0 3) ∷
     Entered 1 7 1 2050 (call.MkDir 1 (0x61 ∷ []) (mode 493))
     (reply.Node 2 (directory 493 2 2 (at 2 50000) (at 2 50000) (at 2 50000))) ∷
-    Told P0 7 1 1 (reply.Node 2 (directory 493 2 2 (at 2 50000) (at 2 50000) (at 2 50000))) ∷
-    State P0 (state opens (view 1 0) (view 1 0) (Leads P1) Log 0 0 0 1 3) ∷
+    Told Zero 7 1 1 (reply.Node 2 (directory 493 2 2 (at 2 50000) (at 2 50000) (at 2 50000))) ∷
+    State Zero (state opens (view 1 0) (view 1 0) (Leads One) Log 0 0 0 1 3) ∷
     Entered 2 7 2 2050 (call.MkDir 1 (0x62 ∷ []) (mode 493))
     (reply.Node 3 (directory 493 2 3 (at 2 50000) (at 2 50000) (at 2 50000))) ∷
-    Told P0 7 2 2 (reply.Node 3 (directory 493 2 3 (at 2 50000) (at 2 50000) (at 2 50000))) ∷
-    State P0 (state opens (view 1 0) (view 1 0) (Leads P1) Log 0 0 0 2 3) ∷
+    Told Zero 7 2 2 (reply.Node 3 (directory 493 2 3 (at 2 50000) (at 2 50000) (at 2 50000))) ∷
+    State Zero (state opens (view 1 0) (view 1 0) (Leads One) Log 0 0 0 2 3) ∷
     Entered 3 7 3 2050 (call.Remove 1 (0x7a ∷ []))
     (reply.Refused NoEnt) ∷
-    Told P0 7 3 3 (reply.Refused NoEnt) ∷
-    State P0 (state opens (view 1 0) (view 1 0) (Leads P1) Log 0 0 0 3 3) ∷
-    State P0 is_down ∷
-    State P1 is_down ∷
-    State P0 (state rests (view 1 0) (view 1 0) (Leads P1) Lost 0 0 0 0 0) ∷
-    State P1 (state rests (view 1 0) (view 1 0) (Follows P0) Log 0 0 0 0 3) ∷
-    Sent 15 P0 P1 (invite (view 2 0)) ∷
-    Sent 16 P0 P2 (invite (view 2 0)) ∷
-    State P0 (state calls (view 2 0) (view 1 0) (Leads P1) Lost 0 0 0 0 0) ∷
-    Sent 17 P1 P0 (join (view 2 0) Log (view 1 0) 0 0 0 3 4050) ∷
-    State P1 (state joins (view 2 0) (view 1 0) (Follows P0) Log 0 0 0 0 3) ∷
-    Sent 18 P2 P0 (join (view 2 0) Empty (view 1 0) 0 0 0 0 2000) ∷
-    State P2 (state joins (view 2 0) (view 1 0) Outside Empty 0 0 0 0 0) ∷
-    Sent 19 P0 P1 (form (view 2 0) 0 1 1 0 0 3 4050) ∷
-    Sent 20 P0 P1 (fetch (view 2 0) 1) ∷
-    State P0 (state pulls (view 2 0) (view 1 0) (Leads P1) Lost 0 0 0 0 0) ∷
-    Sent 21 P1 P0 (formed (view 2 0) 0) ∷
-    State P1 (state waits (view 2 0) (view 2 0) (Follows P0) Log 0 0 0 0 3) ∷
-    Sent 22 P1 P0 (give (view 2 0) 1 3) ∷
-    State P0 (state waits (view 2 0) (view 2 0) (Leads P1) Log 0 0 0 0 3) ∷
-    Sent 23 P0 P2 (demote (view 2 0)) ∷
-    Sent 24 P0 P1 (beat (view 2 0) 3 0) ∷
-    State P0 (state opens (view 2 0) (view 2 0) (Leads P1) Log 0 0 0 3 3) ∷
-    State P2 (state rests (view 2 0) (view 2 0) Outside Empty 0 0 0 0 0) ∷
-    Sent 25 P1 P0 (ack (view 2 0) 3 0 6100) ∷
-    State P1 (state lives (view 2 0) (view 2 0) (Follows P0) Log 0 0 0 3 3) ∷
-    Listed P0 3 ∷
+    Told Zero 7 3 3 (reply.Refused NoEnt) ∷
+    State Zero (state opens (view 1 0) (view 1 0) (Leads One) Log 0 0 0 3 3) ∷
+    State Zero is_down ∷
+    State One is_down ∷
+    State Zero (state rests (view 1 0) (view 1 0) (Leads One) Lost 0 0 0 0 0) ∷
+    State One (state rests (view 1 0) (view 1 0) (Follows Zero) Log 0 0 0 0 3) ∷
+    Sent 15 Zero One (invite (view 2 0)) ∷
+    Sent 16 Zero Two (invite (view 2 0)) ∷
+    State Zero (state calls (view 2 0) (view 1 0) (Leads One) Lost 0 0 0 0 0) ∷
+    Sent 17 One Zero (join (view 2 0) Log (view 1 0) 0 0 0 3 4050) ∷
+    State One (state joins (view 2 0) (view 1 0) (Follows Zero) Log 0 0 0 0 3) ∷
+    Sent 18 Two Zero (join (view 2 0) Empty (view 1 0) 0 0 0 0 2000) ∷
+    State Two (state joins (view 2 0) (view 1 0) Outside Empty 0 0 0 0 0) ∷
+    Sent 19 Zero One (form (view 2 0) 0 1 1 0 0 3 4050) ∷
+    Sent 20 Zero One (fetch (view 2 0) 1) ∷
+    State Zero (state pulls (view 2 0) (view 1 0) (Leads One) Lost 0 0 0 0 0) ∷
+    Sent 21 One Zero (formed (view 2 0) 0) ∷
+    State One (state waits (view 2 0) (view 2 0) (Follows Zero) Log 0 0 0 0 3) ∷
+    Sent 22 One Zero (give (view 2 0) 1 3) ∷
+    State Zero (state waits (view 2 0) (view 2 0) (Leads One) Log 0 0 0 0 3) ∷
+    Sent 23 Zero Two (demote (view 2 0)) ∷
+    Sent 24 Zero One (beat (view 2 0) 3 0) ∷
+    State Zero (state opens (view 2 0) (view 2 0) (Leads One) Log 0 0 0 3 3) ∷
+    State Two (state rests (view 2 0) (view 2 0) Outside Empty 0 0 0 0 0) ∷
+    Sent 25 One Zero (ack (view 2 0) 3 0 6100) ∷
+    State One (state lives (view 2 0) (view 2 0) (Follows Zero) Log 0 0 0 3 3) ∷
+    Listed Zero 3 ∷
     []
 
 -- Server 0's save is cut short: it boots lost and pulls the updates from server 1
@@ -189,22 +189,22 @@ PowerFailureCutOff = play (opening_steps ++ power_failure_cut_off_steps) ≡ ope
 
 abbrev pub fuzzy_disk_steps : List Happening
 fuzzy_disk_steps =
-    At P0 (Ask 7 1 (call.MkDir 1 (0x61 ∷ []) (mode 493))) ∷
-    At P0 (Ask 7 2 (call.MkDir 1 (0x62 ∷ []) (mode 493))) ∷
-    At P0 (Ask 7 3 (call.Remove 1 (0x7a ∷ []))) ∷
+    At Zero (Ask 7 1 (call.MkDir 1 (0x61 ∷ []) (mode 493))) ∷
+    At Zero (Ask 7 2 (call.MkDir 1 (0x62 ∷ []) (mode 493))) ∷
+    At Zero (Ask 7 3 (call.Remove 1 (0x7a ∷ []))) ∷
     Deliver 9 ∷
     Deliver 10 ∷
     Deliver 11 ∷
     Deliver 12 ∷
     Deliver 13 ∷
     Deliver 14 ∷
-    At P0 Tick ∷
+    At Zero Tick ∷
     Deliver 15 ∷
     Deliver 16 ∷
-    At P1 (Apply 3) ∷
-    At P1 Crash ∷
-    Boot P1 ∷
-    At P0 Suspect ∷
+    At One (Apply 3) ∷
+    At One Crash ∷
+    Boot One ∷
+    At Zero Suspect ∷
     Deliver 17 ∷
     Deliver 18 ∷
     Deliver 19 ∷
@@ -214,68 +214,68 @@ fuzzy_disk_steps =
     Deliver 23 ∷
     Deliver 24 ∷
     Advance 2050 ∷
-    At P0 Tick ∷
+    At Zero Tick ∷
     Deliver 25 ∷
     Deliver 26 ∷
     Deliver 27 ∷
-    At P0 ListTree ∷
-    At P1 ListTree ∷
+    At Zero ListTree ∷
+    At One ListTree ∷
     []
 
 abbrev pub fuzzy_disk_lines : List Line
 fuzzy_disk_lines =
-    Sent 9 P0 P1 (event (view 1 0) 1 0 0 7 1) ∷
-    State P0 (state opens (view 1 0) (view 1 0) (Leads P1) Log 0 0 0 0 1) ∷
-    Sent 10 P0 P1 (event (view 1 0) 2 0 0 7 2) ∷
-    State P0 (state opens (view 1 0) (view 1 0) (Leads P1) Log 0 0 0 0 2) ∷
-    Sent 11 P0 P1 (event (view 1 0) 3 0 0 7 3) ∷
-    State P0 (state opens (view 1 0) (view 1 0) (Leads P1) Log 0 0 0 0 3) ∷
-    Sent 12 P1 P0 (ack (view 1 0) 1 0 4050) ∷
-    State P1 (state lives (view 1 0) (view 1 0) (Follows P0) Log 0 0 0 0 1) ∷
-    Sent 13 P1 P0 (ack (view 1 0) 2 0 4050) ∷
-    State P1 (state lives (view 1 0) (view 1 0) (Follows P0) Log 0 0 0 0 2) ∷
-    Sent 14 P1 P0 (ack (view 1 0) 3 0 4050) ∷
-    State P1 (state lives (view 1 0) (view 1 0) (Follows P0) Log 0 0 0 0 3) ∷
+    Sent 9 Zero One (event (view 1 0) 1 0 0 7 1) ∷
+    State Zero (state opens (view 1 0) (view 1 0) (Leads One) Log 0 0 0 0 1) ∷
+    Sent 10 Zero One (event (view 1 0) 2 0 0 7 2) ∷
+    State Zero (state opens (view 1 0) (view 1 0) (Leads One) Log 0 0 0 0 2) ∷
+    Sent 11 Zero One (event (view 1 0) 3 0 0 7 3) ∷
+    State Zero (state opens (view 1 0) (view 1 0) (Leads One) Log 0 0 0 0 3) ∷
+    Sent 12 One Zero (ack (view 1 0) 1 0 4050) ∷
+    State One (state lives (view 1 0) (view 1 0) (Follows Zero) Log 0 0 0 0 1) ∷
+    Sent 13 One Zero (ack (view 1 0) 2 0 4050) ∷
+    State One (state lives (view 1 0) (view 1 0) (Follows Zero) Log 0 0 0 0 2) ∷
+    Sent 14 One Zero (ack (view 1 0) 3 0 4050) ∷
+    State One (state lives (view 1 0) (view 1 0) (Follows Zero) Log 0 0 0 0 3) ∷
     Entered 1 7 1 2050 (call.MkDir 1 (0x61 ∷ []) (mode 493))
     (reply.Node 2 (directory 493 2 2 (at 2 50000) (at 2 50000) (at 2 50000))) ∷
-    Told P0 7 1 1 (reply.Node 2 (directory 493 2 2 (at 2 50000) (at 2 50000) (at 2 50000))) ∷
-    State P0 (state opens (view 1 0) (view 1 0) (Leads P1) Log 0 0 0 1 3) ∷
+    Told Zero 7 1 1 (reply.Node 2 (directory 493 2 2 (at 2 50000) (at 2 50000) (at 2 50000))) ∷
+    State Zero (state opens (view 1 0) (view 1 0) (Leads One) Log 0 0 0 1 3) ∷
     Entered 2 7 2 2050 (call.MkDir 1 (0x62 ∷ []) (mode 493))
     (reply.Node 3 (directory 493 2 3 (at 2 50000) (at 2 50000) (at 2 50000))) ∷
-    Told P0 7 2 2 (reply.Node 3 (directory 493 2 3 (at 2 50000) (at 2 50000) (at 2 50000))) ∷
-    State P0 (state opens (view 1 0) (view 1 0) (Leads P1) Log 0 0 0 2 3) ∷
+    Told Zero 7 2 2 (reply.Node 3 (directory 493 2 3 (at 2 50000) (at 2 50000) (at 2 50000))) ∷
+    State Zero (state opens (view 1 0) (view 1 0) (Leads One) Log 0 0 0 2 3) ∷
     Entered 3 7 3 2050 (call.Remove 1 (0x7a ∷ []))
     (reply.Refused NoEnt) ∷
-    Told P0 7 3 3 (reply.Refused NoEnt) ∷
-    State P0 (state opens (view 1 0) (view 1 0) (Leads P1) Log 0 0 0 3 3) ∷
-    Sent 15 P0 P1 (beat (view 1 0) 3 0) ∷
-    Sent 16 P1 P0 (ack (view 1 0) 3 0 4050) ∷
-    State P1 (state lives (view 1 0) (view 1 0) (Follows P0) Log 0 0 0 3 3) ∷
-    State P1 (state lives (view 1 0) (view 1 0) (Follows P0) Log 0 0 3 3 3) ∷
-    State P1 is_down ∷
-    State P1 (state rests (view 1 0) (view 1 0) (Follows P0) Lost 0 0 0 0 0) ∷
-    Sent 17 P0 P1 (invite (view 2 0)) ∷
-    Sent 18 P0 P2 (invite (view 2 0)) ∷
-    State P0 (state calls (view 2 0) (view 1 0) (Leads P1) Log 0 0 0 3 3) ∷
-    Sent 19 P1 P0 (join (view 2 0) Lost (view 1 0) 0 0 0 0 4050) ∷
-    State P1 (state joins (view 2 0) (view 1 0) (Follows P0) Lost 0 0 0 0 0) ∷
-    Sent 20 P2 P0 (join (view 2 0) Empty (view 1 0) 0 0 0 0 2000) ∷
-    State P2 (state joins (view 2 0) (view 1 0) Outside Empty 0 0 0 0 0) ∷
-    Sent 21 P0 P1 (form (view 2 0) 0 1 0 0 3 3 4050) ∷
-    State P0 (state waits (view 2 0) (view 2 0) (Leads P1) Log 0 0 0 3 3) ∷
-    Sent 22 P1 P0 (fetch (view 2 0) 1) ∷
-    State P1 (state pulls (view 2 0) (view 1 0) (Follows P0) Lost 0 0 0 0 0) ∷
-    Sent 23 P0 P1 (give (view 2 0) 1 3) ∷
-    Sent 24 P1 P0 (formed (view 2 0) 0) ∷
-    State P1 (state waits (view 2 0) (view 2 0) (Follows P0) Log 0 0 0 3 3) ∷
-    Sent 25 P0 P2 (demote (view 2 0)) ∷
-    Sent 26 P0 P1 (beat (view 2 0) 3 0) ∷
-    State P0 (state opens (view 2 0) (view 2 0) (Leads P1) Log 0 0 0 3 3) ∷
-    State P2 (state rests (view 2 0) (view 2 0) Outside Empty 0 0 0 0 0) ∷
-    Sent 27 P1 P0 (ack (view 2 0) 3 0 6100) ∷
-    State P1 (state lives (view 2 0) (view 2 0) (Follows P0) Log 0 0 0 3 3) ∷
-    Listed P0 3 ∷
-    Listed P1 3 ∷
+    Told Zero 7 3 3 (reply.Refused NoEnt) ∷
+    State Zero (state opens (view 1 0) (view 1 0) (Leads One) Log 0 0 0 3 3) ∷
+    Sent 15 Zero One (beat (view 1 0) 3 0) ∷
+    Sent 16 One Zero (ack (view 1 0) 3 0 4050) ∷
+    State One (state lives (view 1 0) (view 1 0) (Follows Zero) Log 0 0 0 3 3) ∷
+    State One (state lives (view 1 0) (view 1 0) (Follows Zero) Log 0 0 3 3 3) ∷
+    State One is_down ∷
+    State One (state rests (view 1 0) (view 1 0) (Follows Zero) Lost 0 0 0 0 0) ∷
+    Sent 17 Zero One (invite (view 2 0)) ∷
+    Sent 18 Zero Two (invite (view 2 0)) ∷
+    State Zero (state calls (view 2 0) (view 1 0) (Leads One) Log 0 0 0 3 3) ∷
+    Sent 19 One Zero (join (view 2 0) Lost (view 1 0) 0 0 0 0 4050) ∷
+    State One (state joins (view 2 0) (view 1 0) (Follows Zero) Lost 0 0 0 0 0) ∷
+    Sent 20 Two Zero (join (view 2 0) Empty (view 1 0) 0 0 0 0 2000) ∷
+    State Two (state joins (view 2 0) (view 1 0) Outside Empty 0 0 0 0 0) ∷
+    Sent 21 Zero One (form (view 2 0) 0 1 0 0 3 3 4050) ∷
+    State Zero (state waits (view 2 0) (view 2 0) (Leads One) Log 0 0 0 3 3) ∷
+    Sent 22 One Zero (fetch (view 2 0) 1) ∷
+    State One (state pulls (view 2 0) (view 1 0) (Follows Zero) Lost 0 0 0 0 0) ∷
+    Sent 23 Zero One (give (view 2 0) 1 3) ∷
+    Sent 24 One Zero (formed (view 2 0) 0) ∷
+    State One (state waits (view 2 0) (view 2 0) (Follows Zero) Log 0 0 0 3 3) ∷
+    Sent 25 Zero Two (demote (view 2 0)) ∷
+    Sent 26 Zero One (beat (view 2 0) 3 0) ∷
+    State Zero (state opens (view 2 0) (view 2 0) (Leads One) Log 0 0 0 3 3) ∷
+    State Two (state rests (view 2 0) (view 2 0) Outside Empty 0 0 0 0 0) ∷
+    Sent 27 One Zero (ack (view 2 0) 3 0 6100) ∷
+    State One (state lives (view 2 0) (view 2 0) (Follows Zero) Log 0 0 0 3 3) ∷
+    Listed Zero 3 ∷
+    Listed One 3 ∷
     []
 
 -- Server 1 crashes after it applied: it boots lost and pulls all from server 0

@@ -2,7 +2,7 @@
 use Rattle.std.specs.Prelude.{◌≡◌, List, [], ◌∷◌, ◌++◌}
 use Rattle.harp_base.specs.declared.call.Call.TheVariants as call
 use Rattle.harp_base.specs.declared.reply.Reply.TheVariants as reply
-use Rattle.group_model.specs.Places.{P0, P1, P2}
+use Rattle.group_model.specs.Places.{Zero, One, Two}
 use Rattle.group_model.specs.State.{Log, Lost, Empty, Leads, Follows, Outside, NotYetOpen, NoPromise}
 use Rattle.group_model.specs.Step.{Happening, At, Deliver, Boot, Clock, Advance, Tick, Suspect, Ask, Crash}
 use Rattle.group_model.specs.Trace.{Line, Entered, Told, Refused, Sent, State, view, invite, join, form, fetch, give, formed, event, beat, ack, demote, rests, calls, joins, pulls, waits, opens, lives, is_down, state, play}
@@ -10,39 +10,39 @@ use Rattle.group_model.specs.RowsOpening.{mode, directory, at, opening_steps, op
 
 abbrev pub opening_at_its_moment_steps : List Happening
 opening_at_its_moment_steps =
-    At P0 Suspect ∷
+    At Zero Suspect ∷
     Deliver 0 ∷
     Deliver 1 ∷
     Deliver 2 ∷
     Deliver 3 ∷
     Deliver 4 ∷
     Deliver 5 ∷
-    At P0 (Ask 7 1 call.Null) ∷
+    At Zero (Ask 7 1 call.Null) ∷
     Advance 2049 ∷
-    At P0 Tick ∷
-    At P0 (Ask 7 1 call.Null) ∷
+    At Zero Tick ∷
+    At Zero (Ask 7 1 call.Null) ∷
     Advance 1 ∷
-    At P0 Tick ∷
+    At Zero Tick ∷
     []
 
 abbrev pub opening_at_its_moment_lines : List Line
 opening_at_its_moment_lines =
-    Sent 0 P0 P1 (invite (view 1 0)) ∷
-    Sent 1 P0 P2 (invite (view 1 0)) ∷
-    State P0 (state calls (view 1 0) (view 0 0) (Leads P1) Log 0 0 0 0 0) ∷
-    Sent 2 P1 P0 (join (view 1 0) Log (view 0 0) 0 0 0 0 2000) ∷
-    State P1 (state joins (view 1 0) (view 0 0) (Follows P0) Log 0 0 0 0 0) ∷
-    Sent 3 P2 P0 (join (view 1 0) Empty (view 0 0) 0 0 0 0 2000) ∷
-    State P2 (state joins (view 1 0) (view 0 0) Outside Empty 0 0 0 0 0) ∷
-    Sent 4 P0 P1 (form (view 1 0) 0 1 0 0 0 0 2000) ∷
-    State P0 (state waits (view 1 0) (view 1 0) (Leads P1) Log 0 0 0 0 0) ∷
-    Sent 5 P1 P0 (formed (view 1 0) 0) ∷
-    State P1 (state waits (view 1 0) (view 1 0) (Follows P0) Log 0 0 0 0 0) ∷
-    Refused P0 7 1 NotYetOpen ∷
-    Refused P0 7 1 NotYetOpen ∷
-    Sent 6 P0 P2 (demote (view 1 0)) ∷
-    Sent 7 P0 P1 (beat (view 1 0) 0 0) ∷
-    State P0 (state opens (view 1 0) (view 1 0) (Leads P1) Log 0 0 0 0 0) ∷
+    Sent 0 Zero One (invite (view 1 0)) ∷
+    Sent 1 Zero Two (invite (view 1 0)) ∷
+    State Zero (state calls (view 1 0) (view 0 0) (Leads One) Log 0 0 0 0 0) ∷
+    Sent 2 One Zero (join (view 1 0) Log (view 0 0) 0 0 0 0 2000) ∷
+    State One (state joins (view 1 0) (view 0 0) (Follows Zero) Log 0 0 0 0 0) ∷
+    Sent 3 Two Zero (join (view 1 0) Empty (view 0 0) 0 0 0 0 2000) ∷
+    State Two (state joins (view 1 0) (view 0 0) Outside Empty 0 0 0 0 0) ∷
+    Sent 4 Zero One (form (view 1 0) 0 1 0 0 0 0 2000) ∷
+    State Zero (state waits (view 1 0) (view 1 0) (Leads One) Log 0 0 0 0 0) ∷
+    Sent 5 One Zero (formed (view 1 0) 0) ∷
+    State One (state waits (view 1 0) (view 1 0) (Follows Zero) Log 0 0 0 0 0) ∷
+    Refused Zero 7 1 NotYetOpen ∷
+    Refused Zero 7 1 NotYetOpen ∷
+    Sent 6 Zero Two (demote (view 1 0)) ∷
+    Sent 7 Zero One (beat (view 1 0) 0 0) ∷
+    State Zero (state opens (view 1 0) (view 1 0) (Leads One) Log 0 0 0 0 0) ∷
     []
 
 -- A leader refuses asks until its clock has reached the horizon + 50, and opens in the tick after
@@ -51,9 +51,9 @@ OpeningAtItsMoment = play opening_at_its_moment_steps ≡ opening_at_its_moment_
 
 abbrev pub late_acknowledgement_steps : List Happening
 late_acknowledgement_steps =
-    At P0 (Ask 7 1 (call.MkDir 1 (0x61 ∷ []) (mode 493))) ∷
+    At Zero (Ask 7 1 (call.MkDir 1 (0x61 ∷ []) (mode 493))) ∷
     Deliver 9 ∷
-    At P1 Suspect ∷
+    At One Suspect ∷
     Deliver 12 ∷
     Deliver 13 ∷
     Deliver 14 ∷
@@ -61,34 +61,34 @@ late_acknowledgement_steps =
     Deliver 16 ∷
     Deliver 17 ∷
     Advance 2050 ∷
-    At P1 Tick ∷
+    At One Tick ∷
     Deliver 10 ∷
     []
 
 abbrev pub late_acknowledgement_lines : List Line
 late_acknowledgement_lines =
-    Sent 9 P0 P1 (event (view 1 0) 1 0 0 7 1) ∷
-    State P0 (state opens (view 1 0) (view 1 0) (Leads P1) Log 0 0 0 0 1) ∷
-    Sent 10 P1 P0 (ack (view 1 0) 1 0 4050) ∷
-    State P1 (state lives (view 1 0) (view 1 0) (Follows P0) Log 0 0 0 0 1) ∷
-    Sent 11 P1 P0 (invite (view 2 1)) ∷
-    Sent 12 P1 P2 (invite (view 2 1)) ∷
-    State P1 (state calls (view 2 1) (view 1 0) (Follows P0) Log 0 0 0 0 1) ∷
-    Sent 13 P2 P1 (join (view 2 1) Empty (view 1 0) 0 0 0 0 2000) ∷
-    State P2 (state joins (view 2 1) (view 1 0) Outside Empty 0 0 0 0 0) ∷
-    Sent 14 P1 P2 (form (view 2 1) 1 2 1 0 0 1 4050) ∷
-    State P1 (state waits (view 2 1) (view 2 1) (Leads P2) Log 0 0 0 0 1) ∷
-    Sent 15 P2 P1 (fetch (view 2 1) 1) ∷
-    State P2 (state pulls (view 2 1) (view 1 0) Outside Empty 0 0 0 0 0) ∷
-    Sent 16 P1 P2 (give (view 2 1) 1 1) ∷
-    Sent 17 P2 P1 (formed (view 2 1) 0) ∷
-    State P2 (state waits (view 2 1) (view 2 1) (Follows P1) Log 0 0 0 0 1) ∷
+    Sent 9 Zero One (event (view 1 0) 1 0 0 7 1) ∷
+    State Zero (state opens (view 1 0) (view 1 0) (Leads One) Log 0 0 0 0 1) ∷
+    Sent 10 One Zero (ack (view 1 0) 1 0 4050) ∷
+    State One (state lives (view 1 0) (view 1 0) (Follows Zero) Log 0 0 0 0 1) ∷
+    Sent 11 One Zero (invite (view 2 1)) ∷
+    Sent 12 One Two (invite (view 2 1)) ∷
+    State One (state calls (view 2 1) (view 1 0) (Follows Zero) Log 0 0 0 0 1) ∷
+    Sent 13 Two One (join (view 2 1) Empty (view 1 0) 0 0 0 0 2000) ∷
+    State Two (state joins (view 2 1) (view 1 0) Outside Empty 0 0 0 0 0) ∷
+    Sent 14 One Two (form (view 2 1) 1 2 1 0 0 1 4050) ∷
+    State One (state waits (view 2 1) (view 2 1) (Leads Two) Log 0 0 0 0 1) ∷
+    Sent 15 Two One (fetch (view 2 1) 1) ∷
+    State Two (state pulls (view 2 1) (view 1 0) Outside Empty 0 0 0 0 0) ∷
+    Sent 16 One Two (give (view 2 1) 1 1) ∷
+    Sent 17 Two One (formed (view 2 1) 0) ∷
+    State Two (state waits (view 2 1) (view 2 1) (Follows One) Log 0 0 0 0 1) ∷
     Entered 1 7 1 2050 (call.MkDir 1 (0x61 ∷ []) (mode 493))
     (reply.Node 2 (directory 493 2 2 (at 2 50000) (at 2 50000) (at 2 50000))) ∷
-    Sent 18 P1 P2 (beat (view 2 1) 1 0) ∷
-    State P1 (state opens (view 2 1) (view 2 1) (Leads P2) Log 0 0 0 1 1) ∷
-    Told P0 7 1 1 (reply.Node 2 (directory 493 2 2 (at 2 50000) (at 2 50000) (at 2 50000))) ∷
-    State P0 (state opens (view 1 0) (view 1 0) (Leads P1) Log 0 0 0 1 1) ∷
+    Sent 18 One Two (beat (view 2 1) 1 0) ∷
+    State One (state opens (view 2 1) (view 2 1) (Leads Two) Log 0 0 0 1 1) ∷
+    Told Zero 7 1 1 (reply.Node 2 (directory 493 2 2 (at 2 50000) (at 2 50000) (at 2 50000))) ∷
+    State Zero (state opens (view 1 0) (view 1 0) (Leads One) Log 0 0 0 1 1) ∷
     []
 
 -- An acknowledgement of the old view comes after the next view entered the update: it is answered, and not entered again
@@ -97,7 +97,7 @@ LateAcknowledgement = play (opening_steps ++ late_acknowledgement_steps) ≡ ope
 
 abbrev pub promises_at_the_skew_steps : List Happening
 promises_at_the_skew_steps =
-    At P0 Suspect ∷
+    At Zero Suspect ∷
     Deliver 0 ∷
     Deliver 1 ∷
     Deliver 2 ∷
@@ -105,62 +105,62 @@ promises_at_the_skew_steps =
     Deliver 4 ∷
     Deliver 5 ∷
     Advance 2000 ∷
-    Clock P0 2050 ∷
-    At P0 Tick ∷
+    Clock Zero 2050 ∷
+    At Zero Tick ∷
     Deliver 6 ∷
     Deliver 7 ∷
     Deliver 8 ∷
     Advance 1949 ∷
-    At P0 (Ask 9 1 (call.GetAttr 1)) ∷
-    At P1 Suspect ∷
+    At Zero (Ask 9 1 (call.GetAttr 1)) ∷
+    At One Suspect ∷
     Deliver 10 ∷
     Deliver 11 ∷
     Deliver 12 ∷
     Deliver 13 ∷
-    Clock P1 3990 ∷
-    Clock P2 4000 ∷
-    Clock P0 4000 ∷
-    At P0 (Ask 9 2 (call.GetAttr 1)) ∷
-    Clock P1 4049 ∷
-    At P1 Tick ∷
-    Clock P1 4050 ∷
-    At P1 Tick ∷
+    Clock One 3990 ∷
+    Clock Two 4000 ∷
+    Clock Zero 4000 ∷
+    At Zero (Ask 9 2 (call.GetAttr 1)) ∷
+    Clock One 4049 ∷
+    At One Tick ∷
+    Clock One 4050 ∷
+    At One Tick ∷
     []
 
 abbrev pub promises_at_the_skew_lines : List Line
 promises_at_the_skew_lines =
-    Sent 0 P0 P1 (invite (view 1 0)) ∷
-    Sent 1 P0 P2 (invite (view 1 0)) ∷
-    State P0 (state calls (view 1 0) (view 0 0) (Leads P1) Log 0 0 0 0 0) ∷
-    Sent 2 P1 P0 (join (view 1 0) Log (view 0 0) 0 0 0 0 2000) ∷
-    State P1 (state joins (view 1 0) (view 0 0) (Follows P0) Log 0 0 0 0 0) ∷
-    Sent 3 P2 P0 (join (view 1 0) Empty (view 0 0) 0 0 0 0 2000) ∷
-    State P2 (state joins (view 1 0) (view 0 0) Outside Empty 0 0 0 0 0) ∷
-    Sent 4 P0 P1 (form (view 1 0) 0 1 0 0 0 0 2000) ∷
-    State P0 (state waits (view 1 0) (view 1 0) (Leads P1) Log 0 0 0 0 0) ∷
-    Sent 5 P1 P0 (formed (view 1 0) 0) ∷
-    State P1 (state waits (view 1 0) (view 1 0) (Follows P0) Log 0 0 0 0 0) ∷
-    Sent 6 P0 P2 (demote (view 1 0)) ∷
-    Sent 7 P0 P1 (beat (view 1 0) 0 0) ∷
-    State P0 (state opens (view 1 0) (view 1 0) (Leads P1) Log 0 0 0 0 0) ∷
-    State P2 (state rests (view 1 0) (view 1 0) Outside Empty 0 0 0 0 0) ∷
-    Sent 8 P1 P0 (ack (view 1 0) 0 0 4000) ∷
-    State P1 (state lives (view 1 0) (view 1 0) (Follows P0) Log 0 0 0 0 0) ∷
+    Sent 0 Zero One (invite (view 1 0)) ∷
+    Sent 1 Zero Two (invite (view 1 0)) ∷
+    State Zero (state calls (view 1 0) (view 0 0) (Leads One) Log 0 0 0 0 0) ∷
+    Sent 2 One Zero (join (view 1 0) Log (view 0 0) 0 0 0 0 2000) ∷
+    State One (state joins (view 1 0) (view 0 0) (Follows Zero) Log 0 0 0 0 0) ∷
+    Sent 3 Two Zero (join (view 1 0) Empty (view 0 0) 0 0 0 0 2000) ∷
+    State Two (state joins (view 1 0) (view 0 0) Outside Empty 0 0 0 0 0) ∷
+    Sent 4 Zero One (form (view 1 0) 0 1 0 0 0 0 2000) ∷
+    State Zero (state waits (view 1 0) (view 1 0) (Leads One) Log 0 0 0 0 0) ∷
+    Sent 5 One Zero (formed (view 1 0) 0) ∷
+    State One (state waits (view 1 0) (view 1 0) (Follows Zero) Log 0 0 0 0 0) ∷
+    Sent 6 Zero Two (demote (view 1 0)) ∷
+    Sent 7 Zero One (beat (view 1 0) 0 0) ∷
+    State Zero (state opens (view 1 0) (view 1 0) (Leads One) Log 0 0 0 0 0) ∷
+    State Two (state rests (view 1 0) (view 1 0) Outside Empty 0 0 0 0 0) ∷
+    Sent 8 One Zero (ack (view 1 0) 0 0 4000) ∷
+    State One (state lives (view 1 0) (view 1 0) (Follows Zero) Log 0 0 0 0 0) ∷
     Entered 0 9 1 0 (call.GetAttr 1)
     (reply.Attr (directory 493 2 1 (at 0 0) (at 0 0) (at 0 0))) ∷
-    Told P0 9 1 0 (reply.Attr (directory 493 2 1 (at 0 0) (at 0 0) (at 0 0))) ∷
-    Sent 9 P1 P0 (invite (view 2 1)) ∷
-    Sent 10 P1 P2 (invite (view 2 1)) ∷
-    State P1 (state calls (view 2 1) (view 1 0) (Follows P0) Log 0 0 0 0 0) ∷
-    Sent 11 P2 P1 (join (view 2 1) Empty (view 1 0) 0 0 0 0 2000) ∷
-    State P2 (state joins (view 2 1) (view 1 0) Outside Empty 0 0 0 0 0) ∷
-    Sent 12 P1 P2 (form (view 2 1) 1 2 1 0 0 0 4000) ∷
-    State P1 (state waits (view 2 1) (view 2 1) (Leads P2) Log 0 0 0 0 0) ∷
-    Sent 13 P2 P1 (formed (view 2 1) 0) ∷
-    State P2 (state waits (view 2 1) (view 2 1) (Follows P1) Log 0 0 0 0 0) ∷
-    Refused P0 9 2 NoPromise ∷
-    Sent 14 P1 P2 (beat (view 2 1) 0 0) ∷
-    State P1 (state opens (view 2 1) (view 2 1) (Leads P2) Log 0 0 0 0 0) ∷
+    Told Zero 9 1 0 (reply.Attr (directory 493 2 1 (at 0 0) (at 0 0) (at 0 0))) ∷
+    Sent 9 One Zero (invite (view 2 1)) ∷
+    Sent 10 One Two (invite (view 2 1)) ∷
+    State One (state calls (view 2 1) (view 1 0) (Follows Zero) Log 0 0 0 0 0) ∷
+    Sent 11 Two One (join (view 2 1) Empty (view 1 0) 0 0 0 0 2000) ∷
+    State Two (state joins (view 2 1) (view 1 0) Outside Empty 0 0 0 0 0) ∷
+    Sent 12 One Two (form (view 2 1) 1 2 1 0 0 0 4000) ∷
+    State One (state waits (view 2 1) (view 2 1) (Leads Two) Log 0 0 0 0 0) ∷
+    Sent 13 Two One (formed (view 2 1) 0) ∷
+    State Two (state waits (view 2 1) (view 2 1) (Follows One) Log 0 0 0 0 0) ∷
+    Refused Zero 9 2 NoPromise ∷
+    Sent 14 One Two (beat (view 2 1) 0 0) ∷
+    State One (state opens (view 2 1) (view 2 1) (Leads Two) Log 0 0 0 0 0) ∷
     []
 
 -- With clocks 50 apart the old leader reads as long as its partner's promise runs, and the new view opens after
@@ -169,11 +169,11 @@ PromisesAtTheSkew = play promises_at_the_skew_steps ≡ promises_at_the_skew_lin
 
 abbrev pub no_view_steps : List Happening
 no_view_steps =
-    At P0 Crash ∷
-    At P1 Crash ∷
-    Boot P0 ∷
-    Boot P1 ∷
-    At P2 Suspect ∷
+    At Zero Crash ∷
+    At One Crash ∷
+    Boot Zero ∷
+    Boot One ∷
+    At Two Suspect ∷
     Deliver 9 ∷
     Deliver 10 ∷
     Deliver 11 ∷
@@ -182,17 +182,17 @@ no_view_steps =
 
 abbrev pub no_view_lines : List Line
 no_view_lines =
-    State P0 is_down ∷
-    State P1 is_down ∷
-    State P0 (state rests (view 1 0) (view 1 0) (Leads P1) Lost 0 0 0 0 0) ∷
-    State P1 (state rests (view 1 0) (view 1 0) (Follows P0) Lost 0 0 0 0 0) ∷
-    Sent 9 P2 P0 (invite (view 2 2)) ∷
-    Sent 10 P2 P1 (invite (view 2 2)) ∷
-    State P2 (state calls (view 2 2) (view 1 0) Outside Empty 0 0 0 0 0) ∷
-    Sent 11 P0 P2 (join (view 2 2) Lost (view 1 0) 0 0 0 0 4050) ∷
-    State P0 (state joins (view 2 2) (view 1 0) (Leads P1) Lost 0 0 0 0 0) ∷
-    Sent 12 P1 P2 (join (view 2 2) Lost (view 1 0) 0 0 0 0 4050) ∷
-    State P1 (state joins (view 2 2) (view 1 0) (Follows P0) Lost 0 0 0 0 0) ∷
+    State Zero is_down ∷
+    State One is_down ∷
+    State Zero (state rests (view 1 0) (view 1 0) (Leads One) Lost 0 0 0 0 0) ∷
+    State One (state rests (view 1 0) (view 1 0) (Follows Zero) Lost 0 0 0 0 0) ∷
+    Sent 9 Two Zero (invite (view 2 2)) ∷
+    Sent 10 Two One (invite (view 2 2)) ∷
+    State Two (state calls (view 2 2) (view 1 0) Outside Empty 0 0 0 0 0) ∷
+    Sent 11 Zero Two (join (view 2 2) Lost (view 1 0) 0 0 0 0 4050) ∷
+    State Zero (state joins (view 2 2) (view 1 0) (Leads One) Lost 0 0 0 0 0) ∷
+    Sent 12 One Two (join (view 2 2) Lost (view 1 0) 0 0 0 0 4050) ∷
+    State One (state joins (view 2 2) (view 1 0) (Follows Zero) Lost 0 0 0 0 0) ∷
     []
 
 -- Both data servers lost their logs: no choice is made

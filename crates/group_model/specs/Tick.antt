@@ -4,7 +4,7 @@ use Rattle.group_model.specs.Joining.{to_each}
 use Rattle.group_model.specs.Limits.{is_open, is_pulls, is_settled, is_waits}
 use Rattle.group_model.specs.Moves.{Move, Sending}
 use Rattle.group_model.specs.Open.{and_then, try_open}
-use Rattle.group_model.specs.Places.{P0, P1, P2, Place, all_of, get, leader, other_storers, partner, same}
+use Rattle.group_model.specs.Places.{Zero, One, Two, Place, all_of, get, leader, other_storers, partner, same}
 use Rattle.group_model.specs.State.{Beat, Chose, Collects, Duty, Event, Fetch, Form, Formed, Invite, NoDuty, Plan, Report, Server}
 
 -- the Events of these entries, the first with n records before it
@@ -38,8 +38,8 @@ duty_tests q s v plan = (v == s.promised) ∷ not (is_settled s.mode)
 -- A coordinator without a choice invites again those that haven't joined; one with a choice sends Form again
 abbrev pub duties : {E : Type 0} → Place → Server E → Duty → List (Move E)
 duties q s NoDuty = []
-duties q s (Collects reports) = invite_again s.promised P0 (get reports P0)
-    ++ (invite_again s.promised P1 (get reports P1) ++ invite_again s.promised P2 (get reports P2))
+duties q s (Collects reports) = invite_again s.promised Zero (get reports Zero)
+    ++ (invite_again s.promised One (get reports One) ++ invite_again s.promised Two (get reports Two))
 duties q s (Chose v plan) = if all_of (duty_tests q s v plan)
     then to_each (Form v plan) (other_storers q plan.storers) else []
 

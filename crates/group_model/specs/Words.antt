@@ -1,6 +1,6 @@
 -- The words in which the facts speak of lists, pages and modes.
 use Rattle.std.specs.Prelude.{◌≡◌, ℕ, ◌+◌, ◌<◌, ◌≤◌, ◌⊎◌, Bool, true, List, [], ◌∷◌, length, slice_get, ⊤}
-use Rattle.group_model.specs.Places.{IsIn, P0, P1, Place, leader, partner}
+use Rattle.group_model.specs.Places.{IsIn, Zero, One, Place, leader, partner}
 use Rattle.group_model.specs.State.{JoinMade, Joins, Live, Log, Mode, Open, Page, Pulls, Rests, Server, Waits}
 
 -- the lists have the same first n entries
@@ -23,7 +23,7 @@ In (y ∷ ys) x = (y ≡ x) ⊎ In ys x
 
 -- n records are on the disks of server 0 and of server 1, whose LBs are these
 abbrev pub Under : (Place → ℕ) → ℕ → Type 0
-Under lbs n = (n ≤ lbs P0) × (n ≤ lbs P1)
+Under lbs n = (n ≤ lbs Zero) × (n ≤ lbs One)
 
 -- in one of the modes of a storer that accepted its promised view in this boot
 abbrev pub IsActive : Mode → Type 0
