@@ -7,7 +7,7 @@ use harp_base::{Call, Reply, ViewNo};
 use std::alloc::{AllocError, Global};
 
 /// An update in the log, with the reply that its client gets once the record is committed (Harp
-/// paper, section 4.1).
+/// paper).
 #[derive(Debug, Drop)]
 pub struct Record {
     /// The view in which the record was appended.
