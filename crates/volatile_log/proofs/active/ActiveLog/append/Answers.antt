@@ -1,4 +1,4 @@
-use Rattle.std.proofs.Common.{arith, rules}
+use Rattle.std.proofs.Common.{rules}
 use Rattle.volatile_log.proofs.Numbers.{numbered_more}
 use Rattle.volatile_log.proofs.active.ActiveLog.append.Goals as goal
 

@@ -1,4 +1,4 @@
-use Rattle.std.proofs.Common.{arith, rules}
+use Rattle.std.proofs.Common.{rules}
 use Rattle.volatile_log.proofs.active.ActiveLog.start.Goals as goal
 
 pub invariant_of-result : goal.invariant_of-result
