@@ -1,0 +1,134 @@
+//! The log of a server that is active in its view.
+
+ghost use Rattle.std.specs.Prelude.{◌≡◌, ℕ, ◌+◌, ◌<◌, ◌≤◌, ◌^◌, ◌↔◌, length, IfOk, IfErr, IfSome, IsErr, IsSome, OnOk};
+ghost use Rattle.std.specs.Option.{option_copied};
+ghost use Rattle.volatile_log.specs.Log.{IsLog, LogValue, committed_to, empty_log, record_at, room, top, with_record};
+
+use event_record::Record;
+use std::alloc::{AllocError, Global};
+use std::collections::VecDeque;
+use std::marker::Model;
+
+/// The log has no room for another record: 16,384 stand in it.
+#[derive(Clone, Copy, Debug, PartialEq, Eq)]
+pub struct LogFull;
+
+/// How many records a log has room for.
+const ROOM: usize = 16384;
+
+/// A log that records are added to and committed in. It has the records base + 1 to top, at most
+/// 16,384 and each with the index of its place; base <= LB <= AP <= CP <= top, all below 2^62. Those
+/// up to LB are on this server's disk, those up to AP are applied to its tree, and those up to CP are
+/// committed (Harp paper). The room is taken when the log is made.
+#[derive(Drop)]
+pub struct ActiveLog {
+    base: u64,
+    lb: u64,
+    ap: u64,
+    cp: u64,
+    records: VecDeque<Record>,
+}
+
+impl Model for ActiveLog {
+    ghost use Rattle.std.specs.Prelude.{◌≤◌};
+    ghost use Rattle.std.specs.VecDeque.{deque_capacity};
+    ghost use Rattle.volatile_log.specs.Log.{IsLog, LogValue, room};
+
+    ghost Value = { LogValue };
+
+    ghost view = { λ l. record { base = l.base; lb = l.lb; ap = l.ap; cp = l.cp; records = l.records.items } };
+
+    ghost invariant = { λ l. IsLog (record { base = l.base; lb = l.lb; ap = l.ap; cp = l.cp; records = l.records.items })
+        × (room ≤ deque_capacity l.records) };
+}
+
+impl ActiveLog {
+    /// An empty log, all numbers 0. It takes the memory for 16,384 records at once.
+    pub fn start(alloc: Global) -> Result<ActiveLog, AllocError>
+        ensures { IfOk result (λ log. log ≡ empty_log) }
+    {
+        Ok(ActiveLog {
+            base: 0,
+            lb: 0,
+            ap: 0,
+            cp: 0,
+            records: VecDeque::with_capacity(alloc, ROOM)?,
+        })
+    }
+
+    /// Adds the next record. LogFull comes exactly where 16,384 records stand; the record comes back
+    /// with it, and the log is as before. It takes no memory.
+    pub fn append(&mut self, item: Record) -> Result<(), (LogFull, Record)>
+        requires next { item.index ≡ top self.old + 1 }
+        requires limit { item.index < 2 ^ 62 }
+        ensures ok { OnOk result (self.new ≡ with_record self.old item) }
+        ensures full { IsErr result ↔ (length self.old.records ≡ room) }
+        ensures back { IfErr result (λ both. (both.1 ≡ item) × (self.new ≡ self.old)) }
+    {
+        if self.records.len() == ROOM {
+            return Err((LogFull, item));
+        }
+        self.records.push_back_reserved(item);
+        Ok(())
+    }
+
+    /// Commits the records up to this index, which is from CP to top.
+    pub fn commit_to(&mut self, n: u64)
+        requires { (self.old.cp ≤ n) × (n ≤ top self.old) }
+        ensures { self.new ≡ committed_to self.old n }
+    {
+        self.cp = n;
+    }
+
+    /// The record of an index, None exactly outside base + 1 to top.
+    pub fn item(&self, index: u64) -> Option<&Record>
+        ensures found { IsSome result ↔ ((self.now.base < index) × (index ≤ top self.now)) }
+        ensures value { option_copied result ≡ record_at self.now index }
+        ensures index { IfSome result (λ r. r.now.index ≡ index) }
+    {
+        if index <= self.base {
+            return None;
+        }
+        self.records.get((index - self.base - 1) as usize)
+    }
+
+    /// The index before the first record.
+    pub fn base(&self) -> u64
+        ensures value { result ≡ self.now.base }
+        ensures order { IsLog self.now }
+    {
+        self.base
+    }
+
+    /// The greatest index up to which all records are on this server's disk.
+    pub fn lb(&self) -> u64
+        ensures value { result ≡ self.now.lb }
+        ensures order { IsLog self.now }
+    {
+        self.lb
+    }
+
+    /// The greatest index up to which all records are applied to this server's tree.
+    pub fn ap(&self) -> u64
+        ensures value { result ≡ self.now.ap }
+        ensures order { IsLog self.now }
+    {
+        self.ap
+    }
+
+    /// The greatest index up to which all records are committed.
+    pub fn cp(&self) -> u64
+        ensures value { result ≡ self.now.cp }
+        ensures order { IsLog self.now }
+    {
+        self.cp
+    }
+
+    /// The index of the last record.
+    pub fn top(&self) -> u64
+        ensures value { result ≡ top self.now }
+        ensures order { IsLog self.now }
+    {
+        self.base + self.records.len() as u64
+    }
+}
