@@ -1,0 +1,51 @@
+//! The log and the messages of one view.
+
+ghost use Rattle.std.specs.Prelude.{◌≡◌, IfOk};
+
+use event_record::{Index, Moment, Record};
+use harp_base::{Bounded, Call, Reply, ServerId, ViewNo};
+use std::alloc::Global;
+use std::test::Fail;
+use volatile_log::ActiveLog;
+use wire::Message;
+
+/// The update with this number, a write of one byte.
+fn record(alloc: Global, index: Index) -> Result<Record, Fail>
+    ensures { IfOk result (λ r. r.index ≡ index) }
+{
+    let bytes = Bounded::of(Vec::from_slice(alloc, b"a")?).ok_or("too long")?;
+    let stamped = ViewNo::of(1, ServerId::Zero).ok_or("no view")?;
+    Ok(Record {
+        stamped,
+        index,
+        client: 7,
+        number: 1,
+        call: Call::Write {
+            handle: 2,
+            offset: 0,
+            bytes,
+        },
+        stamp: Moment::new(2050),
+        reply: Reply::Done,
+    })
+}
+
+#[test]
+fn keeps_a_record(rt: HostRuntime) -> Result<(), Fail> {
+    let alloc = rt.alloc();
+    let mut log = ActiveLog::start(alloc)?;
+    let item = record(alloc, Index::new(1))?;
+    assert!(rt; log.append(item.copy(alloc)?).is_ok());
+    assert!(rt; matches!(log.item(1), Some(kept) if kept.client == 7));
+    assert!(rt; log.item(2).is_none());
+    let message = Message::Event {
+        view: item.stamped,
+        cp: 0,
+        base: 0,
+        record: item,
+    };
+    assert!(rt;
+        matches!(message.copy(alloc)?, Message::Event { record, .. } if record.number == 1)
+    );
+    Ok(())
+}
