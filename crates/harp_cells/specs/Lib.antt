@@ -1,0 +1,3 @@
+pub mod Effect
+pub mod Memory
+pub mod CellsOfTree
