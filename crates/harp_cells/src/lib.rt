@@ -5,6 +5,7 @@
 mod bounds;
 mod cell;
 mod change;
+mod laws;
 mod memory;
 mod reads;
 mod value;
@@ -12,6 +13,7 @@ mod value;
 pub use bounds::{NonEmpty, Stamp};
 pub use cell::Cell;
 pub use change::Change;
+pub use laws::cell_laws;
 pub use memory::MemCells;
 pub use reads::{CellFault, CellRead, ChangeLog};
 pub use value::{Inode, Value};

@@ -94,6 +94,7 @@ impl MemCells {
     pub fn put(&mut self, cell: Cell, value: Value) -> Result<(), AllocError>
         ensures put { OnOk result (BecomesBy (change.Put cell value ∷ []) self.old self.new) }
         ensures kept { OnErr result (self.new ≡ self.old) }
+        ensures fetched { self.new.fetched ≡ self.old.fetched }
     {
         let place = first_of(&self.entries, cell);
         if place < self.entries.len() {
@@ -106,14 +107,16 @@ impl MemCells {
 
     /// The cell is absent.
     pub fn erase(&mut self, cell: Cell)
-        ensures { BecomesBy (change.Erase cell ∷ []) self.old self.new }
+        ensures erased { BecomesBy (change.Erase cell ∷ []) self.old self.new }
+        ensures fetched { self.new.fetched ≡ self.old.fetched }
     {
         drop_cell(&mut self.entries, cell);
     }
 
     /// All blocks of the object from the first on are absent.
     pub fn erase_from(&mut self, object: u32, first: u32)
-        ensures { BecomesBy (change.EraseFrom object first ∷ []) self.old self.new }
+        ensures erased { BecomesBy (change.EraseFrom object first ∷ []) self.old self.new }
+        ensures fetched { self.new.fetched ≡ self.old.fetched }
     {
         drop_blocks(&mut self.entries, object, first);
     }
@@ -121,6 +124,7 @@ impl MemCells {
     fn apply_one(&mut self, alloc: Global, change: &Change) -> Result<(), AllocError>
         ensures done { OnOk result (BecomesBy (change.now ∷ []) self.old self.new) }
         ensures kept { OnErr result (self.new ≡ self.old) }
+        ensures fetched { self.new.fetched ≡ self.old.fetched }
     {
         match change {
             Change::Put { cell, value } => self.put(*cell, value.copy(alloc)?)?,
@@ -134,6 +138,7 @@ impl MemCells {
     pub fn apply(&mut self, alloc: Global, changes: &[Change]) -> Result<(), AllocError>
         ensures done { OnOk result (BecomesBy changes.now self.old self.new) }
         ensures part { OnErr result (BecomesByPart changes.now self.old self.new) }
+        ensures fetched { self.new.fetched ≡ self.old.fetched }
     {
         for change in changes {
             self.apply_one(alloc, change)?;
