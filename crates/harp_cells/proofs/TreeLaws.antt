@@ -1,14 +1,16 @@
 -- What the cells of a tree are at their ends, and the cells of the first tree.
 use Rattle.std.proofs.Common.{◌≡◌, ℕ, ◌+◌, ◌*◌, ◌≤◌, zero, suc, List, [], length, take, drop, get_or, Option, None, refl, sym, ap, ◌∙◌, arith}
 use Rattle.std.proofs.lemmas.List.{drop_all, get_or_past}
+use Rattle.std.proofs.lemmas.List.Sums.{fold-append}
 use Rattle.file_tree.specs.declared.object.Slot.{Slot}
 use Rattle.file_tree.specs.declared.object.Object.{Object}
 use Rattle.file_tree.specs.Tree.{Tree, first_tree, place, slots_of, used_blocks, links_of, parent_of}
 use Rattle.file_tree.specs.Book.{Entry}
 use Rattle.harp_cells.specs.declared.cell.Cell.TheVariants as cell
 use Rattle.harp_cells.specs.declared.value.Value.{Value}
+use Rattle.harp_cells.specs.Effect.{changed}
 use Rattle.harp_cells.specs.CellsOfTree.{object_value, content_of, block_of, block_value, slot_value, cell_of_tree, cells_after, absent_value, stands_for, StandForSame, StandForTree, StandForBook}
-use Rattle.harp_cells.specs.Laws.{NoValuesAreFirst, CellsStand, BlocksEnd, SlotsEnd, DeadAreAbsent}
+use Rattle.harp_cells.specs.Laws.{NoValuesAreFirst, CellsStand, BlocksEnd, SlotsEnd, DeadAreAbsent, ChangesAppend}
 
 past_end : (bytes : List ℕ) (block : ℕ) → length bytes ≤ 4096 * block → block_value (block_of bytes block) ≡ None
 past_end bytes block past = ap (λ (xs : List ℕ). block_value (take 4096 xs)) (drop_all (4096 * block) bytes past)
@@ -23,10 +25,11 @@ pub slots_end : SlotsEnd
 slots_end tree stamp last object slot past = past_slots (slots_of (place tree object)) slot past
 
 pub dead_are_absent : DeadAreAbsent
-dead_are_absent tree stamp last object at dead =
-    (ap (λ (o : Option Object). object_value tree object o) dead,
-     ap (λ (o : Option Object). block_value (block_of (content_of o) at)) dead ∙ past_end [] at (omega arith),
-     ap (λ (o : Option Object). slot_value (get_or (slots_of o) at None)) dead ∙ past_slots [] at (omega arith))
+dead_are_absent tree stamp last object at dead = (
+  ap (λ (o : Option Object). object_value tree object o) dead,
+  ap (λ (o : Option Object). block_value (block_of (content_of o) at)) dead ∙ past_end [] at (omega arith),
+  ap (λ (o : Option Object). slot_value (get_or (slots_of o) at None)) dead ∙ past_slots [] at (omega arith),
+)
 
 pub cells_stand : CellsStand
 cells_stand entries = record {
@@ -64,3 +67,6 @@ no_values_are_first = record {
   };
   client = λ client. refl;
 }
+
+pub changes_append : ChangesAppend
+changes_append changes more cells c = fold-append (changed c) (cells c) changes more

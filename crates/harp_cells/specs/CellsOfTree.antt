@@ -84,14 +84,11 @@ first_meta = value.Meta 2 0 0
 abbrev pub first_root : Value
 first_root = value.Object (record { kind = kind.Directory; mode = 493; uid = 0; gid = 0; links = 2; parent = 1; size = 0; slots = 0; atime = time_zero; mtime = time_zero; ctime = time_zero })
 
-abbrev pub whole_block : List ℕ
-whole_block = replicate 4096 0
-
--- what an absent cell stands for
+-- what an absent cell stands for, other than a block of a file
 abbrev pub absent_value : Cell → Option Value
 absent_value cell.Meta = Some first_meta
 absent_value (cell.Object object) = if object == 1 then Some first_root else None
-absent_value (cell.Block object block) = Some (value.Block whole_block)
+absent_value (cell.Block object block) = None
 absent_value (cell.Slot object slot) = None
 absent_value (cell.Client client) = None
 absent_value (cell.Saved at) = None
@@ -117,9 +114,13 @@ is_in_file tree (cell.Slot object slot) = false
 is_in_file tree (cell.Client client) = false
 is_in_file tree (cell.Saved at) = false
 
--- what a cell stands for that is absent or holds a value
+-- 4096 zeros
+abbrev pub zero_block : Value
+zero_block = value.Block (replicate 4096 0)
+
+-- what a cell stands for that is absent or holds a value: an absent block of a file stands for zeros
 abbrev pub stands_for : Tree → Cell → Option Value → Option Value
-stands_for tree c None = absent_value c
+stands_for tree c None = if is_in_file tree c then Some zero_block else absent_value c
 stands_for tree c (Some v) = Some (if is_in_file tree c then full_value v else v)
 
 -- two values of one cell stand for the same

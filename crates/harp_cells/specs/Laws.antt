@@ -1,8 +1,11 @@
 -- What the cells of a tree are at their ends.
-use Rattle.std.specs.Prelude.{◌≡◌, ℕ, ◌*◌, ◌≤◌, List, [], length, Option, None}
+use Rattle.std.specs.Prelude.{◌≡◌, ℕ, ◌*◌, ◌≤◌, List, [], ◌++◌, length, Option, None}
 use Rattle.file_tree.specs.Book.{Entry}
 use Rattle.file_tree.specs.Tree.{Tree, place, slots_of}
+use Rattle.harp_cells.specs.declared.cell.Cell.{Cell}
 use Rattle.harp_cells.specs.declared.cell.Cell.TheVariants as cell
+use Rattle.harp_cells.specs.declared.change.Change.{Change}
+use Rattle.harp_cells.specs.Effect.{Cells, after}
 use Rattle.harp_cells.specs.CellsOfTree.{cells_after, content_of, cell_of_tree, StandForBook}
 
 -- without any value, cells stand for the first tree and no updates
@@ -29,3 +32,7 @@ DeadAreAbsent = (tree : Tree) (stamp : ℕ) (last : ℕ → Option Entry) (objec
     → (cell_of_tree tree stamp last (cell.Object object) ≡ None)
     × (cell_of_tree tree stamp last (cell.Block object place_of) ≡ None)
     × (cell_of_tree tree stamp last (cell.Slot object place_of) ≡ None)
+
+-- changes made after others are those of both in a row
+abbrev pub ChangesAppend : Type 0
+ChangesAppend = (changes more : List Change) (cells : Cells) (c : Cell) → after (changes ++ more) cells c ≡ after more (after changes cells) c

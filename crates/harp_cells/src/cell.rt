@@ -1,6 +1,6 @@
 //! The places of values.
 
-ghost use Rattle.std.specs.Prelude.{◌≡◌};
+ghost use Rattle.std.specs.Prelude.{◌≡◌, ◌↔◌, IsTrue};
 ghost use Rattle.harp_cells.specs.Effect.{key, is_cell, is_block_from};
 
 /// A place that holds a value or is absent. Objects and clients are named by their numbers.
@@ -38,7 +38,8 @@ impl Cell {
     /// Whether it is this cell.
     #[tactic(auto, unfolding(crate::specs::Effect::is_cell))]
     pub fn is(self, other: Cell) -> bool
-        ensures { result ≡ is_cell self other }
+        ensures value { result ≡ is_cell self other }
+        ensures same { IsTrue result ↔ (self ≡ other) }
     {
         let (kind, first, second) = self.key();
         let (other_kind, other_first, other_second) = other.key();
