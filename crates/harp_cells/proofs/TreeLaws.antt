@@ -1,15 +1,14 @@
 -- What the cells of a tree are at their ends, and the cells of the first tree.
-use Rattle.std.proofs.Common.{◌≡◌, ℕ, ◌+◌, ◌*◌, ◌≤◌, zero, suc, List, [], length, take, drop, get_or, Option, None, refl, sym, ap, ◌∙◌, arith}
+use Rattle.std.proofs.Common.{◌≡◌, ℕ, ◌*◌, ◌≤◌, zero, suc, List, [], length, take, get_or, Option, None, refl, sym, ap, ◌∙◌, arith}
 use Rattle.std.proofs.lemmas.List.{drop_all, get_or_past}
 use Rattle.std.proofs.lemmas.List.Sums.{fold-append}
 use Rattle.file_tree.specs.declared.object.Slot.{Slot}
 use Rattle.file_tree.specs.declared.object.Object.{Object}
-use Rattle.file_tree.specs.Tree.{Tree, first_tree, place, slots_of, used_blocks, links_of, parent_of}
-use Rattle.file_tree.specs.Book.{Entry}
+use Rattle.file_tree.specs.Tree.{first_tree, place, slots_of, used_blocks, links_of, parent_of}
 use Rattle.harp_cells.specs.declared.cell.Cell.TheVariants as cell
 use Rattle.harp_cells.specs.declared.value.Value.{Value}
 use Rattle.harp_cells.specs.Effect.{changed}
-use Rattle.harp_cells.specs.CellsOfTree.{object_value, content_of, block_of, block_value, slot_value, cell_of_tree, cells_after, absent_value, stands_for, StandForSame, StandForTree, StandForBook}
+use Rattle.harp_cells.specs.CellsOfTree.{object_value, content_of, block_of, block_value, slot_value, cells_after, stands_for, StandForSame}
 use Rattle.harp_cells.specs.Laws.{NoValuesAreFirst, CellsStand, BlocksEnd, SlotsEnd, DeadAreAbsent, ChangesAppend}
 
 past_end : (bytes : List ℕ) (block : ℕ) → length bytes ≤ 4096 * block → block_value (block_of bytes block) ≡ None

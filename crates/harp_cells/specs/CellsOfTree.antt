@@ -1,12 +1,10 @@
 -- The cells that stand for a tree and its updates.
-use Rattle.std.specs.Prelude.{◌≡◌, ℕ, ◌+◌, ◌-◌, ◌*◌, Bool, true, false, ◌==◌, List, [], ◌∷◌, ◌++◌, length, take, drop, replicate, slice_index_or, Option, Some, None, if◌then◌else◌}
-use Rattle.harp_base.specs.declared.attr.Kind.{Kind}
+use Rattle.std.specs.Prelude.{◌≡◌, ℕ, ◌-◌, ◌*◌, Bool, true, false, ◌==◌, List, [], ◌∷◌, ◌++◌, length, take, drop, replicate, slice_index_or, Option, Some, None, if◌then◌else◌}
 use Rattle.harp_base.specs.declared.attr.Kind.TheVariants as kind
 use Rattle.file_tree.specs.declared.object.Slot.{Slot}
-use Rattle.file_tree.specs.declared.object.Body.{Body}
 use Rattle.file_tree.specs.declared.object.Body.TheVariants as body
 use Rattle.file_tree.specs.declared.object.Object.{Object}
-use Rattle.file_tree.specs.Tree.{Tree, Slots, place, time_zero, kind_of, size_of, slots_of, slots_within, used_blocks, links_of, parent_of}
+use Rattle.file_tree.specs.Tree.{Tree, place, time_zero, kind_of, size_of, slots_of, slots_within, used_blocks, links_of, parent_of}
 use Rattle.file_tree.specs.Book.{Entry, tree_after, last_of, last_stamp}
 use Rattle.harp_cells.specs.declared.value.Inode.{Inode}
 use Rattle.harp_cells.specs.declared.value.Value.{Value}

@@ -46,8 +46,8 @@ impl Cell {
         kind == other_kind && first == other_first && second == other_second
     }
 
-    #[tactic(auto, unfolding(crate::specs::Effect::is_block_from))]
     /// Whether it is a block of this object with this number or a higher one.
+    #[tactic(auto, unfolding(crate::specs::Effect::is_block_from))]
     pub fn is_block_from(self, object: u32, first: u32) -> bool
         ensures { result ≡ is_block_from object first self }
     {

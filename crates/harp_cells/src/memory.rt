@@ -21,7 +21,7 @@ struct Entry {
     value: Value,
 }
 
-/// A small map of cells in memory: each read and each change takes time by the number of cells.
+/// A small map of cells in memory. Each read and each change looks through all of them.
 #[derive(Debug, Drop)]
 pub struct MemCells {
     entries: Vec<Entry>,
