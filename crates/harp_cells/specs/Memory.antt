@@ -34,6 +34,10 @@ fetched_from entries (Some c) = cell_in entries c
 abbrev pub fetched_in : Listed → Option Value
 fetched_in m = fetched_from m.entries m.fetched
 
+-- every cell is absent
+abbrev pub HoldsNothing : Listed → Type 0
+HoldsNothing m = (c : Cell) → held m c ≡ None
+
 -- each cell holds what the changes make of it
 abbrev pub BecomesBy : List Change → Listed → Listed → Type 0
 BecomesBy changes old new = (c : Cell) → held new c ≡ after changes (held old) c

@@ -5,7 +5,7 @@ ghost use Rattle.std.specs.Option.{option_copied};
 ghost use Rattle.harp_base.specs.Streams.{Rose};
 ghost use Rattle.harp_cells.specs.declared.change.Change.TheVariants as change;
 ghost use Rattle.harp_cells.specs.Effect.{is_cell, is_block_from, Reads};
-ghost use Rattle.harp_cells.specs.Memory.{Listed, cell_in, first_of, without, held, fetched_in, BecomesBy, BecomesByPart};
+ghost use Rattle.harp_cells.specs.Memory.{Listed, cell_in, first_of, without, held, fetched_in, HoldsNothing, BecomesBy, BecomesByPart};
 
 use crate::cell::Cell;
 use crate::change::Change;
@@ -81,8 +81,10 @@ fn drop_blocks(entries: &mut Vec<Entry>, object: u32, first: u32)
 
 impl MemCells {
     /// No cells.
+    #[tactic(auto, unfolding(crate::specs::Memory::cell_in))]
     pub fn new(alloc: Global) -> MemCells
-        ensures { result ≡ record { entries = []; fetched = None } }
+        ensures cells { HoldsNothing result }
+        ensures fetched { result.fetched ≡ None }
     {
         MemCells {
             entries: Vec::new(alloc),
