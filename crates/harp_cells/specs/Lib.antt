@@ -1,0 +1,4 @@
+pub mod Effect
+pub mod Memory
+pub mod CellsOfTree
+pub mod Laws

@@ -1,0 +1,112 @@
+//! Bounds that the fields of values keep.
+
+ghost use Rattle.std.specs.Prelude.{◌≡◌, ◌<◌, ◌≤◌, ◌+◌, ◌^◌, ◌↔◌, length, IfOk, IfSome, IsSome};
+
+use std::alloc::{AllocError, Global};
+use std::marker::Model;
+
+/// A point in time in milliseconds, below 2^62 + 2000.
+#[derive(Clone, Copy, Debug, PartialEq, Eq)]
+pub struct Stamp {
+    millis: u64,
+}
+
+impl Model for Stamp {
+    ghost use Rattle.std.specs.Prelude.{ℕ, ◌+◌, ◌<◌, ◌^◌};
+
+    ghost Value = { ℕ };
+
+    ghost view = { λ s. s.millis };
+
+    ghost invariant = { λ s. s.millis < 2 ^ 62 + 2000 };
+
+    ghost inverse = { λ n. record { millis = n } };
+}
+
+impl Stamp {
+    /// The stamp of a number of milliseconds that is below 2^62 + 2000.
+    pub fn of(millis: u64) -> Option<Stamp>
+        ensures found { IsSome result ↔ (millis < 2 ^ 62 + 2000) }
+        ensures value { IfSome result (λ s. s ≡ millis) }
+    {
+        if millis < (1 << 62) + 2000 {
+            Some(Stamp { millis })
+        } else {
+            None
+        }
+    }
+
+    /// The milliseconds.
+    pub fn millis(self) -> u64
+        ensures value { result ≡ self }
+        ensures bound { self < 2 ^ 62 + 2000 }
+    {
+        self.millis
+    }
+}
+
+/// 1 to MOST bytes, as a block or a name.
+#[derive(Debug, Drop)]
+pub struct NonEmpty<const MOST: usize> {
+    items: Vec<u8>,
+}
+
+impl<const MOST: usize> Model for NonEmpty<MOST> {
+    ghost use Rattle.std.specs.Prelude.{ℕ, List, length, ◌≤◌};
+
+    ghost Value = { List ℕ };
+
+    ghost view = { λ b. b.items.items };
+
+    ghost invariant = { λ b. (1 ≤ length b.items.items) × (length b.items.items ≤ MOST) };
+}
+
+impl<const MOST: usize> NonEmpty<MOST> {
+    /// The bytes of a vector, where there are 1 to MOST. It isn't copied.
+    pub fn of(items: Vec<u8>) -> Option<NonEmpty<MOST>>
+        ensures found { IsSome result ↔ ((1 ≤ length items.items) × (length items.items ≤ MOST)) }
+        ensures value { IfSome result (λ b. b ≡ items.items) }
+    {
+        if items.is_empty() || items.len() > MOST {
+            None
+        } else {
+            Some(NonEmpty { items })
+        }
+    }
+
+    /// The bytes of a vector that is known to have 1 to MOST. It isn't copied.
+    pub fn new(items: Vec<u8>) -> NonEmpty<MOST>
+        requires least { 1 ≤ length items.items }
+        requires most { length items.items ≤ MOST }
+        ensures { result ≡ items.items }
+    {
+        NonEmpty { items }
+    }
+
+    /// The bytes as a slice.
+    pub fn as_slice(&self) -> &[u8]
+        ensures value { result.now ≡ self.now }
+        ensures least { 1 ≤ length self.now }
+        ensures most { length self.now ≤ MOST }
+    {
+        self.items.as_slice()
+    }
+
+    /// The vector of the bytes, which isn't copied.
+    pub fn into_vec(self) -> Vec<u8>
+        ensures value { result.items ≡ self.entry }
+        ensures least { 1 ≤ length self.entry }
+        ensures most { length self.entry ≤ MOST }
+    {
+        self.items
+    }
+
+    /// Equal bytes.
+    pub fn copy(&self, alloc: Global) -> Result<NonEmpty<MOST>, AllocError>
+        ensures { IfOk result (λ copy. copy ≡ self.now) }
+    {
+        Ok(NonEmpty {
+            items: Vec::from_slice(alloc, self.items.as_slice())?,
+        })
+    }
+}

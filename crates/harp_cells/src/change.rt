@@ -1,0 +1,37 @@
+//! Changes of cells.
+
+ghost use Rattle.std.specs.Prelude.{◌≡◌, IfOk};
+
+use crate::cell::Cell;
+use crate::value::Value;
+use std::alloc::{AllocError, Global};
+
+/// A change of cells, whatever they hold before.
+#[derive(Debug, Drop)]
+pub enum Change {
+    /// The cell holds the value.
+    Put { cell: Cell, value: Value },
+    /// The cell is absent.
+    Erase { cell: Cell },
+    /// All blocks of the object from the first on are absent.
+    EraseFrom { object: u32, first: u32 },
+}
+
+impl Change {
+    /// An equal change.
+    pub fn copy(&self, alloc: Global) -> Result<Change, AllocError>
+        ensures { IfOk result (λ copy. copy ≡ self.now) }
+    {
+        match self {
+            Change::Put { cell, value } => Ok(Change::Put {
+                cell: *cell,
+                value: value.copy(alloc)?,
+            }),
+            Change::Erase { cell } => Ok(Change::Erase { cell: *cell }),
+            Change::EraseFrom { object, first } => Ok(Change::EraseFrom {
+                object: *object,
+                first: *first,
+            }),
+        }
+    }
+}

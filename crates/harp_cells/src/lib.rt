@@ -1,0 +1,19 @@
+//! Cells: the values in which a file tree and its updates lie on a disk, the changes of them, where they are read from,
+//! and a small map of cells in memory.
+#![tactic(auto)]
+
+mod bounds;
+mod cell;
+mod change;
+mod laws;
+mod memory;
+mod reads;
+mod value;
+
+pub use bounds::{NonEmpty, Stamp};
+pub use cell::Cell;
+pub use change::Change;
+pub use laws::cell_laws;
+pub use memory::MemCells;
+pub use reads::{CellFault, CellRead, ChangeLog};
+pub use value::{Inode, Value};
