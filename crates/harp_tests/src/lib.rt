@@ -4,6 +4,8 @@
 #[cfg(test)]
 mod base;
 #[cfg(test)]
+mod cells;
+#[cfg(test)]
 mod logs;
 #[cfg(test)]
 mod plays;
