@@ -2,7 +2,7 @@
 use Rattle.std.proofs.Common.{◌≡◌, ◌≢◌, ℕ, ◌+◌, ◌<◌, ◌≤◌, true, false, List, [], ◌∷◌, ◌++◌, length, refl, sym, ap, ◌∙◌, subst, Option, Some, None, Result, Ok, Err, arith, Vec, Global}
 use Rattle.std.specs.Prelude.{nat_lt, MatchResult, IfOk}
 use Rattle.std.proofs.lemmas.Bool.{ltb-true, false_from_ne_true, lt-ltb}
-use Rattle.harp_trace.specs.declared.line.LineFault.TheVariants as fault
+use Rattle.trace_lines.specs.declared.line.LineFault.TheVariants as fault
 use Rattle.line_reader.specs.declared.reader.Next.TheVariants as next
 use Rattle.line_reader.specs.Lines.{lines_of}
 use Rattle.line_reader.specs.Reading.{GivesKnown}

@@ -5,10 +5,10 @@ use Rattle.std.specs.Io.KnownBytes.{Appends}
 use Rattle.std.proofs.lemmas.List.{append-nil}
 use Rattle.std.proofs.lemmas.Bool.{ltb-true, false_from_ne_true}
 use Rattle.harp_base.specs.Streams.{GrewByPart}
-use Rattle.harp_trace.specs.declared.step.Step.{Step}
-use Rattle.harp_trace.specs.declared.line.Line.{Line}
-use Rattle.harp_trace.specs.declared.line.LineFault.{LineFault}
-use Rattle.harp_trace.specs.declared.line.LineFault.TheVariants as fault
+use Rattle.trace_lines.specs.declared.step.Step.{Step}
+use Rattle.trace_lines.specs.declared.line.Line.{Line}
+use Rattle.trace_lines.specs.declared.line.LineFault.{LineFault}
+use Rattle.trace_lines.specs.declared.line.LineFault.TheVariants as fault
 use Rattle.harp_trace.specs.Trace.{Trace, entries}
 use Rattle.harp_trace.proofs.Places.{entries-append}
 use Rattle.schedule_text.specs.Reading.{meaning_of}

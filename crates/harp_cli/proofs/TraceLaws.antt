@@ -1,7 +1,7 @@
 -- The trace of every text.
 use Rattle.std.proofs.Common.{◌≡◌, ℕ, List, [], ◌∷◌, ◌++◌, length, refl, ap, ◌∙◌, Option, Some, None}
 use Rattle.std.proofs.lemmas.List.{append-nil}
-use Rattle.harp_trace.specs.declared.line.LineFault.{LineFault}
+use Rattle.trace_lines.specs.declared.line.LineFault.{LineFault}
 use Rattle.harp_trace.specs.Trace.{entries, steps, Ends, IsClosed}
 use Rattle.harp_trace.specs.Faithful.{IsFaithful}
 use Rattle.harp_trace.proofs.Places.{steps-append}

@@ -7,8 +7,8 @@ use Rattle.std.proofs.Math.Seq.{take-append_seam, take-append-add}
 use Rattle.std.proofs.lemmas.Bool.{cases_lt}
 use Rattle.std.proofs.lemmas.Grind.{flat_map-append}
 use Rattle.harp_base.specs.Streams.{GrewByPart}
-use Rattle.harp_trace.specs.declared.step.Step.{Step}
-use Rattle.harp_trace.specs.declared.line.Line.{Line}
+use Rattle.trace_lines.specs.declared.step.Step.{Step}
+use Rattle.trace_lines.specs.declared.line.Line.{Line}
 use Rattle.harp_trace.specs.Trace.{Trace, entries}
 use Rattle.harp_trace.proofs.Places.{entries-append}
 use Rattle.schedule_text.specs.Lines.{line_text}

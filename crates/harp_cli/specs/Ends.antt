@@ -2,7 +2,7 @@
 use Rattle.std.specs.Prelude.{◌≡◌, ◌≢◌, ℕ, ◌+◌, ◌≤◌, false, List, [], ◌∷◌, ◌++◌, length, Option, Some, None}
 use Rattle.std.specs.Io.KnownBytes.{Appends}
 use Rattle.harp_base.specs.Streams.{GrewByPart}
-use Rattle.harp_trace.specs.declared.step.Step.{Step}
+use Rattle.trace_lines.specs.declared.step.Step.{Step}
 use Rattle.harp_trace.specs.Trace.{entries}
 use Rattle.line_reader.specs.Lines.{lines_of}
 use Rattle.world.specs.State.{WorldValue, Stands}

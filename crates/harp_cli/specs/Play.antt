@@ -2,11 +2,11 @@
 use Rattle.std.specs.Prelude.{◌≡◌, ℕ, ◌+◌, codes, map, String, string_bytes, nat_lt, List, [], ◌∷◌, ◌++◌, length, Option, Some, None, Result, Ok, Err, if◌then◌else◌}
 use Rattle.std.specs.Global.{Global}
 use Rattle.std.specs.List.{flat_map}
-use Rattle.harp_trace.specs.declared.step.Step.{Step}
-use Rattle.harp_trace.specs.declared.line.Line.{Line}
-use Rattle.harp_trace.specs.declared.line.Line.TheVariants as line
-use Rattle.harp_trace.specs.declared.line.LineFault.{LineFault}
-use Rattle.harp_trace.specs.declared.line.LineFault.TheVariants as fault
+use Rattle.trace_lines.specs.declared.step.Step.{Step}
+use Rattle.trace_lines.specs.declared.line.Line.{Line}
+use Rattle.trace_lines.specs.declared.line.Line.TheVariants as line
+use Rattle.trace_lines.specs.declared.line.LineFault.{LineFault}
+use Rattle.trace_lines.specs.declared.line.LineFault.TheVariants as fault
 use Rattle.harp_trace.specs.Trace.{Trace, entries}
 use Rattle.line_reader.specs.Lines.{lines_of}
 use Rattle.schedule_text.specs.declared.fault.TextFault.{TextFault}

@@ -13,7 +13,7 @@ ghost use Rattle.harp_cli.specs.Ends.{PlayEnds, IsWhole, HasCome, GoesOn, TurnGi
 use crate::exit::{Exit, Stop};
 use crate::text::{write_last, write_lines};
 use harp_base::{Sink, Source};
-use harp_trace::{Line, LineFault, Step};
+use trace_lines::{Line, LineFault, Step};
 use line_reader::{LineReader, Next, ReadFault};
 use schedule_text::{TextFault, read_step};
 use std::alloc::Global;

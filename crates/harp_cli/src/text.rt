@@ -7,7 +7,7 @@ ghost use Rattle.harp_cli.specs.Play.{trace_text};
 
 use crate::exit::Stop;
 use harp_base::{Bytes, Sink, write_all};
-use harp_trace::Line;
+use trace_lines::Line;
 use schedule_text::write_line;
 use std::alloc::{AllocError, Global};
 

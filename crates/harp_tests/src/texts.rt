@@ -1,7 +1,7 @@
 //! Lines of schedules and traces.
 
 use harp_base::{Bounded, Bytes, DirEntry, Entries, Reply, ServerId};
-use harp_trace::{Cause, Line, LineFault};
+use trace_lines::{Cause, Line, LineFault};
 use schedule_text::{TextFault, read_step, write_line, write_step};
 use std::alloc::Global;
 use std::test::Fail;

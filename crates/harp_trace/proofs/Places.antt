@@ -4,7 +4,7 @@ use Rattle.std.specs.List.{AllByRecursion}
 use Rattle.std.proofs.lemmas.List.{append-nil}
 use Rattle.std.proofs.lemmas.List.Sums.{fold-append}
 use Rattle.std.proofs.lemmas.Grind.{flat_map-append}
-use Rattle.harp_trace.specs.declared.line.Line.{Line}
+use Rattle.trace_lines.specs.declared.line.Line.{Line}
 use Rattle.harp_trace.specs.Trace.{Trace, entered_by, entries, step_of_line, steps, later_step, step_under_way, AtPlacesAfter}
 
 pub entries-append : (xs ys : Trace) → entries (xs ++ ys) ≡ entries xs ++ entries ys

@@ -3,11 +3,11 @@ use Rattle.std.specs.Prelude.{Bool, ◌≡◌, ℕ, ◌+◌, true, false, [], �
 use Rattle.harp_base.specs.declared.call.Call.{Call}
 use Rattle.harp_base.specs.declared.reply.Reply.{Reply}
 use Rattle.harp_base.specs.declared.server.ServerId.{ServerId}
-use Rattle.harp_trace.specs.declared.step.Step.{Step}
-use Rattle.harp_trace.specs.declared.step.Step.TheVariants as step
-use Rattle.harp_trace.specs.declared.line.BookEntry.{BookEntry}
-use Rattle.harp_trace.specs.declared.line.Line.{Line}
-use Rattle.harp_trace.specs.declared.line.Line.TheVariants as line
+use Rattle.trace_lines.specs.declared.step.Step.{Step}
+use Rattle.trace_lines.specs.declared.step.Step.TheVariants as step
+use Rattle.trace_lines.specs.declared.line.BookEntry.{BookEntry}
+use Rattle.trace_lines.specs.declared.line.Line.{Line}
+use Rattle.trace_lines.specs.declared.line.Line.TheVariants as line
 use Rattle.harp_trace.specs.Trace.{Trace, entries, steps, step_under_way, AtEachPlace}
 use Rattle.harp_base.specs.Update.{is_update}
 use Rattle.file_tree.specs.Book.{Entry, IsBook}
@@ -15,11 +15,7 @@ use Rattle.file_tree.specs.Book.{Entry, IsBook}
 -- an entered line has the next number, from 1
 abbrev pub IsNumbered : Trace → Line → Type 0
 IsNumbered before (line.Entered place entry) = place ≡ length (entries before) + 1
-IsNumbered before (line.Event step) = Unit {0}
-IsNumbered before (line.Answered server client number index reply) = Unit {0}
-IsNumbered before (line.Refused server client number cause) = Unit {0}
-IsNumbered before (line.Bad number fault) = Unit {0}
-IsNumbered before (line.End entered) = Unit {0}
+IsNumbered before l = Unit {0}
 
 -- an entered update before has this client, number, index and reply
 pub record IsUpdateReply (before : Trace) (client number index : ℕ) (reply : Reply) : Type 0 where
@@ -49,26 +45,18 @@ IsReplyTo false before client number index call reply = IsReadReply before clien
 
 -- an answer of a step that asks for no read is one to an update
 abbrev pub IsReplyIn : Option Step → Trace → ℕ → ℕ → ℕ → Reply → Type 0
-IsReplyIn None before client number index reply = IsUpdateReply before client number index reply
 IsReplyIn (Some (step.Ask server asker asked call)) before client number index reply = IsReplyTo (is_update call) before client number index call reply
+IsReplyIn s before client number index reply = IsUpdateReply before client number index reply
 
 -- an answer is its call's reply in the book
 abbrev pub IsBookReply : Trace → Line → Type 0
 IsBookReply before (line.Answered server client number index reply) = IsReplyIn (step_under_way before) before client number index reply
-IsBookReply before (line.Event step) = Unit {0}
-IsBookReply before (line.Entered place entry) = Unit {0}
-IsBookReply before (line.Refused server client number cause) = Unit {0}
-IsBookReply before (line.Bad number fault) = Unit {0}
-IsBookReply before (line.End entered) = Unit {0}
+IsBookReply before l = Unit {0}
 
 -- an entered call was asked before, at some server
 abbrev pub WasAsked : Trace → Line → Type 0
 WasAsked before (line.Entered place entry) = (server : ServerId) × Contains (steps before) (step.Ask server entry.client entry.number entry.call)
-WasAsked before (line.Event step) = Unit {0}
-WasAsked before (line.Answered server client number index reply) = Unit {0}
-WasAsked before (line.Refused server client number cause) = Unit {0}
-WasAsked before (line.Bad number fault) = Unit {0}
-WasAsked before (line.End entered) = Unit {0}
+WasAsked before l = Unit {0}
 
 pub record IsFaithful (trace : Trace) : Type 0 where
   pub numbered : AtEachPlace IsNumbered trace

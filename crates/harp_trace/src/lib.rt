@@ -1,8 +1,2 @@
-//! The steps of a schedule and the lines of a trace, and what a trace has to be.
+//! What a trace has to be. The definitions speak of plain lists of lines, and of nothing in the code.
 #![tactic(auto)]
-
-mod line;
-mod step;
-
-pub use line::{BookEntry, Cause, Line, LineFault};
-pub use step::Step;

@@ -4,8 +4,8 @@ use Rattle.std.specs.Prelude.{◌||◌, codes}
 use Rattle.std.specs.Str.{bytes_eq}
 use Rattle.std.proofs.lemmas.Bool.{eqb-true, eq-eqb, ne_eqb}
 use Rattle.harp_base.specs.declared.server.ServerId.TheVariants as servers
-use Rattle.harp_trace.specs.declared.step.Step.{Step}
-use Rattle.harp_trace.specs.declared.step.Step.TheVariants as step
+use Rattle.trace_lines.specs.declared.step.Step.{Step}
+use Rattle.trace_lines.specs.declared.step.Step.TheVariants as step
 use Rattle.schedule_text.specs.declared.fault.TextFault.{TextFault}
 use Rattle.schedule_text.specs.declared.fault.TextFault.TheVariants.{Grammar, Unbuilt, NoMemory}
 use Rattle.schedule_text.specs.Text.{spaced, call_text, ask_head, step_text}

@@ -15,15 +15,15 @@ use Rattle.harp_base.specs.declared.call.Call.TheVariants as call
 use Rattle.harp_base.specs.declared.reply.DirEntry.{DirEntry}
 use Rattle.harp_base.specs.declared.reply.Reply.{Reply}
 use Rattle.harp_base.specs.declared.reply.Reply.TheVariants as reply
-use Rattle.harp_trace.specs.declared.step.Step.{Step}
-use Rattle.harp_trace.specs.declared.step.Step.TheVariants as step
-use Rattle.harp_trace.specs.declared.line.BookEntry.{BookEntry}
-use Rattle.harp_trace.specs.declared.line.Cause.{Cause}
-use Rattle.harp_trace.specs.declared.line.Cause.TheVariants as cause
-use Rattle.harp_trace.specs.declared.line.LineFault.{LineFault}
-use Rattle.harp_trace.specs.declared.line.LineFault.TheVariants as fault
-use Rattle.harp_trace.specs.declared.line.Line.{Line}
-use Rattle.harp_trace.specs.declared.line.Line.TheVariants as line
+use Rattle.trace_lines.specs.declared.step.Step.{Step}
+use Rattle.trace_lines.specs.declared.step.Step.TheVariants as step
+use Rattle.trace_lines.specs.declared.line.BookEntry.{BookEntry}
+use Rattle.trace_lines.specs.declared.line.Cause.{Cause}
+use Rattle.trace_lines.specs.declared.line.Cause.TheVariants as cause
+use Rattle.trace_lines.specs.declared.line.LineFault.{LineFault}
+use Rattle.trace_lines.specs.declared.line.LineFault.TheVariants as fault
+use Rattle.trace_lines.specs.declared.line.Line.{Line}
+use Rattle.trace_lines.specs.declared.line.Line.TheVariants as line
 use Rattle.schedule_text.specs.Text.{left, is_left_time, hex_text, octal, time_text, number_field, mode_field, time_field, later, mtime_on, atime_on, size_on, gid_on, uid_on, set_attr_text, call_text, kind_number, status_number, attr_owner, attr_extent, attr_times, attr_text, entry_text, page_end, reply_text, spaced, comma, ask_head, step_text}
 use Rattle.schedule_text.specs.Lines.{IsOneLine, cause_text, fault_text, entry_line, line_text}
 use Rattle.schedule_text.proofs.Names.{digit_above}

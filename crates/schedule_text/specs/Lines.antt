@@ -2,13 +2,13 @@
 use Rattle.std.specs.Prelude.{ℕ, ◌≢◌, List, ◌++◌, codes, decimal}
 use Rattle.std.specs.List.{AllByRecursion}
 use Rattle.harp_base.specs.Server.{number_of}
-use Rattle.harp_trace.specs.declared.line.BookEntry.{BookEntry}
-use Rattle.harp_trace.specs.declared.line.Cause.{Cause}
-use Rattle.harp_trace.specs.declared.line.Cause.TheVariants as cause
-use Rattle.harp_trace.specs.declared.line.LineFault.{LineFault}
-use Rattle.harp_trace.specs.declared.line.LineFault.TheVariants as fault
-use Rattle.harp_trace.specs.declared.line.Line.{Line}
-use Rattle.harp_trace.specs.declared.line.Line.TheVariants as line
+use Rattle.trace_lines.specs.declared.line.BookEntry.{BookEntry}
+use Rattle.trace_lines.specs.declared.line.Cause.{Cause}
+use Rattle.trace_lines.specs.declared.line.Cause.TheVariants as cause
+use Rattle.trace_lines.specs.declared.line.LineFault.{LineFault}
+use Rattle.trace_lines.specs.declared.line.LineFault.TheVariants as fault
+use Rattle.trace_lines.specs.declared.line.Line.{Line}
+use Rattle.trace_lines.specs.declared.line.Line.TheVariants as line
 use Rattle.schedule_text.specs.Text.{spaced, call_text, reply_text, step_text}
 
 abbrev pub cause_text : Cause → List ℕ

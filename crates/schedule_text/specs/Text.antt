@@ -17,8 +17,8 @@ use Rattle.harp_base.specs.declared.reply.Status.{Status}
 use Rattle.harp_base.specs.declared.reply.Status.TheVariants as status
 use Rattle.harp_base.specs.declared.reply.Reply.{Reply}
 use Rattle.harp_base.specs.declared.reply.Reply.TheVariants as reply
-use Rattle.harp_trace.specs.declared.step.Step.{Step}
-use Rattle.harp_trace.specs.declared.step.Step.TheVariants as step
+use Rattle.trace_lines.specs.declared.step.Step.{Step}
+use Rattle.trace_lines.specs.declared.step.Step.TheVariants as step
 
 -- a word behind a space
 abbrev pub spaced : List ℕ → List ℕ

@@ -2,7 +2,7 @@
 
 ghost use Rattle.std.specs.Prelude.{◌≡◌, ◌+◌, ◌<◌, ◌≤◌, length, IfOk, IsTrue, codes, Ok, Some, None, Err};
 ghost use Rattle.std.specs.Str.{bytes_eq};
-ghost use Rattle.harp_trace.specs.declared.step.Step.{Step};
+ghost use Rattle.trace_lines.specs.declared.step.Step.{Step};
 ghost use Rattle.schedule_text.specs.declared.fault.TextFault.TheVariants.{Unbuilt};
 ghost use Rattle.schedule_text.specs.Reading.{Gives, end_at, lookup_at, make_dir_at, call_at, asker_at, ends_word, ask_at, step_at, placeless, is_blank, meaning_of, is_among, unbuilt_steps, unbuilt_calls};
 ghost use Rattle.schedule_text.specs.Grammar.{Explains, IsStepLine, IsBlank, IsUnbuilt};
@@ -12,7 +12,7 @@ use crate::fields::set_attr_at;
 use crate::name::hex_at;
 use crate::number::{count_at, peek, server_at, space_at, u32_at, word_at};
 use harp_base::{Call, ServerId};
-use harp_trace::Step;
+use trace_lines::Step;
 use std::alloc::Global;
 
 /// Whether a word is the name of a step that isn't built.

@@ -4,14 +4,14 @@ ghost use Rattle.std.specs.Prelude.{◌≡◌, ◌++◌, ◌∷◌, [], codes, d
 ghost use Rattle.harp_base.specs.Server.{number_of};
 ghost use Rattle.schedule_text.specs.Text.{spaced, call_text, reply_text, ask_head, step_text};
 ghost use Rattle.schedule_text.specs.Lines.{cause_text, fault_text, entry_line, line_text, IsOneLine};
-ghost use Rattle.harp_trace.specs.declared.step.Step.{Step};
-ghost use Rattle.harp_trace.specs.declared.line.Line.{Line};
+ghost use Rattle.trace_lines.specs.declared.step.Step.{Step};
+ghost use Rattle.trace_lines.specs.declared.line.Line.{Line};
 
 use crate::put::put_number;
 use crate::write_call::put_call;
 use crate::write_reply::put_reply;
 use harp_base::{Bytes, Call, ServerId};
-use harp_trace::{BookEntry, Cause, Line, LineFault, Step};
+use trace_lines::{BookEntry, Cause, Line, LineFault, Step};
 use std::alloc::{AllocError, Global};
 
 /// A server, a client and a number of it.

@@ -5,10 +5,10 @@ use Rattle.std.proofs.lemmas.Bool.{cases_Bool, cases_eq, eq-eqb, ne_eqb, ltb-fal
 use Rattle.harp_base.specs.declared.call.Call.{Call}
 use Rattle.harp_base.specs.declared.server.ServerId.{ServerId}
 use Rattle.harp_base.specs.Update.{is_update}
-use Rattle.harp_trace.specs.declared.line.Line.{Line}
-use Rattle.harp_trace.specs.declared.line.Line.TheVariants as line
-use Rattle.harp_trace.specs.declared.line.Cause.{Cause}
-use Rattle.harp_trace.specs.declared.line.Cause.TheVariants.{Old, BadClient}
+use Rattle.trace_lines.specs.declared.line.Line.{Line}
+use Rattle.trace_lines.specs.declared.line.Line.TheVariants as line
+use Rattle.trace_lines.specs.declared.line.Cause.{Cause}
+use Rattle.trace_lines.specs.declared.line.Cause.TheVariants.{Old, BadClient}
 use Rattle.file_tree.specs.Book.{Entry, last_of}
 use Rattle.world.specs.Answer.{answer_to, update_answer, read_answer, new_answer}
 

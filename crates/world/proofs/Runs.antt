@@ -7,11 +7,11 @@ use Rattle.std.proofs.lemmas.List.Elements.{Contains-push}
 use Rattle.harp_base.specs.declared.call.Call.{Call}
 use Rattle.harp_base.specs.declared.server.ServerId.{ServerId}
 use Rattle.harp_base.specs.Update.{is_update}
-use Rattle.harp_trace.specs.declared.line.Line.{Line}
-use Rattle.harp_trace.specs.declared.line.Line.TheVariants as line
-use Rattle.harp_trace.specs.declared.line.LineFault.{LineFault}
-use Rattle.harp_trace.specs.declared.step.Step.{Step}
-use Rattle.harp_trace.specs.declared.step.Step.TheVariants as step
+use Rattle.trace_lines.specs.declared.line.Line.{Line}
+use Rattle.trace_lines.specs.declared.line.Line.TheVariants as line
+use Rattle.trace_lines.specs.declared.line.LineFault.{LineFault}
+use Rattle.trace_lines.specs.declared.step.Step.{Step}
+use Rattle.trace_lines.specs.declared.step.Step.TheVariants as step
 use Rattle.harp_trace.specs.Trace.{Trace, entries, steps, step_under_way, is_last, BeginsWithEvent, Ends, IsClosed, AtPlacesAfter}
 use Rattle.harp_trace.specs.Faithful.{IsNumbered, IsUpdateReply, IsReplyIn, IsBookReply, WasAsked, IsFaithful}
 use Rattle.harp_trace.proofs.Places.{entries-append, steps-append, step_under_way-append, places-append, all-append}

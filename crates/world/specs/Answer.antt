@@ -3,9 +3,9 @@ use Rattle.std.specs.Prelude.{ℕ, ◌+◌, ◌==◌, nat_lt, List, [], ◌∷�
 use Rattle.harp_base.specs.declared.call.Call.{Call}
 use Rattle.harp_base.specs.declared.server.ServerId.{ServerId}
 use Rattle.harp_base.specs.Update.{is_update}
-use Rattle.harp_trace.specs.declared.line.Line.{Line}
-use Rattle.harp_trace.specs.declared.line.Line.TheVariants as line
-use Rattle.harp_trace.specs.declared.line.Cause.TheVariants.{Old, BadClient}
+use Rattle.trace_lines.specs.declared.line.Line.{Line}
+use Rattle.trace_lines.specs.declared.line.Line.TheVariants as line
+use Rattle.trace_lines.specs.declared.line.Cause.TheVariants.{Old, BadClient}
 use Rattle.file_tree.specs.Book.{Entry, tree_after, updates, last_of}
 use Rattle.file_tree.specs.Calls.{outcome}
 

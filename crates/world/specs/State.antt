@@ -1,6 +1,6 @@
 -- What the world keeps stands for the book.
 use Rattle.std.specs.Prelude.{◌≡◌, ℕ, Bool, false, List, [], ◌++◌, length, Option, Some, None, map, replicate, slice_index_or}
-use Rattle.harp_trace.specs.declared.line.Line.{Line}
+use Rattle.trace_lines.specs.declared.line.Line.{Line}
 use Rattle.harp_trace.specs.Trace.{entry_of, entries}
 use Rattle.file_tree.specs.Book.{Entry, tree_after, last_of}
 use Rattle.file_tree.specs.Tree.{Tree, first_tree}

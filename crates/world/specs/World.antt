@@ -1,7 +1,7 @@
 -- A step of the world.
 use Rattle.std.specs.Prelude.{◌≡◌, ◌+◌, ◌≤◌, false, List, length}
-use Rattle.harp_trace.specs.declared.step.Step.{Step}
-use Rattle.harp_trace.specs.declared.line.Line.{Line}
+use Rattle.trace_lines.specs.declared.step.Step.{Step}
+use Rattle.trace_lines.specs.declared.line.Line.{Line}
 use Rattle.world.specs.State.{WorldValue, Stands}
 use Rattle.world.specs.Run.{step_lines, book_after}
 

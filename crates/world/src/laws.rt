@@ -1,8 +1,8 @@
 //! What the lines of every run are.
 
 ghost use Rattle.std.specs.Prelude.{◌≡◌, ◌++◌, ◌∷◌, [], List, length};
-ghost use Rattle.harp_trace.specs.declared.step.Step.{Step};
-ghost use Rattle.harp_trace.specs.declared.line.Line.{Line};
+ghost use Rattle.trace_lines.specs.declared.step.Step.{Step};
+ghost use Rattle.trace_lines.specs.declared.line.Line.{Line};
 ghost use Rattle.harp_trace.specs.Trace.{entries, steps, Ends, IsClosed};
 ghost use Rattle.harp_trace.specs.Faithful.{IsFaithful};
 ghost use Rattle.world.specs.Run.{run_lines};

@@ -3,13 +3,13 @@
 ghost use Rattle.std.specs.Prelude.{◌≡◌, ◌<◌, ◌≤◌, ◌+◌, ◌^◌, ◌++◌, ◌∷◌, [], length, IfOk, OnOk, false, true, slice_set};
 ghost use Rattle.harp_base.specs.Update.{is_update};
 ghost use Rattle.file_tree.specs.Book.{tree_after, last_of};
-ghost use Rattle.harp_trace.specs.declared.line.Line.TheVariants as line;
+ghost use Rattle.trace_lines.specs.declared.line.Line.TheVariants as line;
 ghost use Rattle.world.specs.State.{StateStands, Answers, book_of};
 ghost use Rattle.world.specs.Answer.{answer_to, entering, entered_line, read_answer, new_answer, update_answer};
 
 use file_tree::PlainTree;
 use harp_base::{Call, Reply, ServerId, is_update};
-use harp_trace::{BookEntry, Cause, Line};
+use trace_lines::{BookEntry, Cause, Line};
 use std::alloc::{AllocError, Global};
 
 /// A client's last update: its number, its index and the reply that a repeat gets.

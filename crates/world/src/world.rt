@@ -9,7 +9,7 @@ ghost use Rattle.world.specs.World.{Plays};
 
 use crate::state::{Asker, State, ask};
 use file_tree::PlainTree;
-use harp_trace::{BookEntry, Line, Step};
+use trace_lines::{BookEntry, Line, Step};
 use std::alloc::{AllocError, Global};
 use std::marker::Model;
 

@@ -3,7 +3,7 @@ use Rattle.std.specs.Io.KnownBytes.{Appends}
 use Rattle.std.proofs.lemmas.List.{length-map}
 use Rattle.harp_base.specs.Streams.{GrewByPart}
 use Rattle.harp_trace.specs.Trace.{entry_of}
-use Rattle.harp_trace.specs.declared.line.Line.TheVariants as line
+use Rattle.trace_lines.specs.declared.line.Line.TheVariants as line
 use Rattle.harp_cli.specs.Play.{trace_text}
 use Rattle.harp_cli.proofs.Parts.{reading-none, ends-whole, ends-early, stopped}
 use Rattle.harp_cli.proofs.play.end.Goals as goal

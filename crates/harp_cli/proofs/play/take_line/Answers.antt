@@ -1,5 +1,5 @@
 use Rattle.std.proofs.Common.{◌≡◌, ◌∙◌, arith, refl, ap, sym, ◌∷◌, Ok, Err, Some, None, Result, subst}
-use Rattle.harp_trace.specs.declared.line.LineFault.TheVariants as fault
+use Rattle.trace_lines.specs.declared.line.LineFault.TheVariants as fault
 use Rattle.schedule_text.specs.declared.fault.TextFault.{TextFault}
 use Rattle.schedule_text.specs.declared.fault.TextFault.TheVariants as text_fault
 use Rattle.schedule_text.specs.Reading.{Fails, meaning_of}

@@ -1,6 +1,6 @@
 use Rattle.std.proofs.Common.{◌≡◌, ◌++◌, ◌∷◌, [], refl, sym, ap, ◌∙◌, subst, append_assoc, drop, length, List, ℕ, get_or, ◌+◌, ◌<◌}
 use Rattle.std.proofs.lemmas.List.{at_drop_more, at_drop_all, append-nil}
-use Rattle.harp_trace.specs.declared.line.Line.{Line}
+use Rattle.trace_lines.specs.declared.line.Line.{Line}
 use Rattle.harp_trace.specs.Trace.{Trace}
 use Rattle.schedule_text.specs.Lines.{line_text}
 use Rattle.harp_cli.specs.Play.{trace_text}

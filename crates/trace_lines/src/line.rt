@@ -3,7 +3,7 @@
 ghost use Rattle.std.specs.Prelude.{◌≡◌, IfOk};
 
 use crate::step::Step;
-use harp_base::{Call, Reply, ServerId};
+use harp_base::{Call, Reply, ServerId, StateLine, ViewNo};
 use std::alloc::{AllocError, Global};
 
 /// A call that stands in the book, with its reply. A read has the index 0 and the stamp 0.
@@ -39,10 +39,47 @@ impl BookEntry {
 /// Why an ask is refused.
 #[derive(Clone, Copy, Debug, PartialEq, Eq)]
 pub enum Cause {
-    /// The client has asked an update with a greater number.
-    Old,
     /// The client's number is above 4095.
     BadClient,
+    /// The server doesn't lead its view; the hint is the server that does.
+    NotLeader {
+        hint: Option<ServerId>,
+    },
+    /// The server leads a view that isn't open.
+    NotYetOpen,
+    /// The partner's promise has run out, so a read can't be answered.
+    NoPromise,
+    /// The log has no room.
+    LogFull,
+    /// The client has asked an update with a greater number.
+    Old,
+}
+
+/// What a trace shows of a message from one server to another.
+#[derive(Clone, Copy, Debug, PartialEq, Eq)]
+pub enum ShownMessage {
+    /// A record with this index, of this client and number; the leader's CP and base.
+    Event {
+        view: ViewNo,
+        index: u64,
+        cp: u64,
+        base: u64,
+        client: u32,
+        number: u64,
+    },
+    /// The leader's CP and base.
+    Beat {
+        view: ViewNo,
+        cp: u64,
+        base: u64,
+    },
+    /// The partner's top and LB, and the moment until which it promises to help no other view.
+    Ack {
+        view: ViewNo,
+        top: u64,
+        lb: u64,
+        until: u64,
+    },
 }
 
 /// Why a line of a schedule ends the run.
@@ -56,6 +93,12 @@ pub enum LineFault {
     TooMany,
     /// The step is one of a later stage.
     Unbuilt,
+    /// No packet has the number.
+    NoPacket,
+    /// The clock would go back.
+    ClockBack,
+    /// Two clocks would be more than 50 milliseconds apart.
+    ClockApart,
 }
 
 /// One line of a trace.
@@ -84,6 +127,18 @@ pub enum Line {
         client: u32,
         number: u64,
         cause: Cause,
+    },
+    /// A packet is sent, with the next number from 0.
+    Sent {
+        packet: u64,
+        from: ServerId,
+        to: ServerId,
+        message: ShownMessage,
+    },
+    /// The server that stepped has another state than before.
+    State {
+        server: ServerId,
+        state: StateLine,
     },
     /// The last line, where a line of the schedule (from 1) is refused.
     Bad {

@@ -1,0 +1,8 @@
+//! The steps of a schedule and the lines of a trace, as values.
+#![tactic(auto)]
+
+mod line;
+mod step;
+
+pub use line::{BookEntry, Cause, Line, LineFault, ShownMessage};
+pub use step::Step;
