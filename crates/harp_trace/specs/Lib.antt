@@ -1,2 +1,4 @@
 pub mod Trace
 pub mod Faithful
+pub mod Servers
+pub mod Acknowledged
