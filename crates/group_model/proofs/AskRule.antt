@@ -12,6 +12,7 @@ use Rattle.group_model.proofs.Tests.{neither, above, is_le, not_le, open_is}
 use Rattle.group_model.proofs.Quiet.{read_kept}
 use Rattle.file_tree.proofs.BookLaws.{tree_of_updates}
 use Rattle.group_model.specs.Ask.{append, hint_of, new_entry, on_ask, read_entry, read_moves, update_moves}
+use Rattle.group_model.specs.FreeReads.{on_free_ask}
 use Rattle.group_model.specs.Entered.{AnswerOk, UpdatesFrom}
 use Rattle.group_model.specs.Limits.{is_active, is_open, limit, room}
 use Rattle.group_model.specs.Moves.{Appending, Reading}
@@ -80,14 +81,12 @@ updated g q s h o client number c u list e (Some l) last =
     (λ m. appends g q s h (new_entry (g.clock q) list client number c) o u (subst (λ (x : List Entry). MayFollow x (new_entry (g.clock q) list client number c)) e
     (new_follows (g.clock q) list client number c f u (subst (λ (x : Option Entry). IfSome x (λ l. l.number < number)) (sym last) (above number l.number n m))))))
 
--- a read at an open leader under an unexpired promise: CP is then the length of the book
-read_goes : (g : Group Entry) (q : Place) (s : Server Entry) → Good g q s → s.mode ≡ Open → (client number : ℕ) (c : Call) → is_update c ≡ false → (list : List Entry) → list ≡ (g.page s.accepted).list
-    → Goes g q s (read_moves (g.clock q) s (read_entry s.cp list client number c))
-read_goes g q s h o client number c u list e = goes_if g q s (nat_le s.grant (g.clock q)) _ _ (λ _. says g q s h (Refuses client number NoPromise) tt) (λ n.
+-- a read at an open leader, where no later view was opened: CP is then the length of the book
+read_at : (g : Group Entry) (q : Place) (s : Server Entry) → Good g q s → s.mode ≡ Open → (client number : ℕ) (c : Call) → is_update c ≡ false → (list : List Entry) → list ≡ (g.page s.accepted).list
+    → ((W : ℕ) → s.accepted < W → (g.page W).formed ≡ true → (g.page W).opened ≡ false) → Goes g q s (Reading s.cp (read_entry s.cp list client number c) ∷ [])
+read_at g q s h o client number c u list e later =
     let a : IsActive s.mode = subst (λ z. IsActive z) (sym o) tt in
     let log = (its h).logs.log ((its h).modes.active a).0 in
-    let grant : g.clock q < s.grant = not_le s.grant (g.clock q) n in
-    let later = subst (λ (x : Server Entry). x.mode ≡ Open → g.clock q < x.grant → (W : ℕ) → x.accepted < W → (g.page W).formed ≡ true → (g.page W).opened ≡ false) h.is (exclusive g h.ok h.near q) o grant in
     let count : s.cp ≡ length g.committed = (subst (λ (x : Server Entry). SettledAt g.page g.committed x) h.is (h.settled.server q)).count o later in
     let fronts : take s.cp list ≡ g.committed = ap (λ (x : List Entry). take s.cp x) e ∙ ap (λ (n : ℕ). take n (g.page s.accepted).list) count
     ∙ front_is (g.page s.accepted).list g.committed (subst (λ (n : ℕ). n ≤ length (g.page s.accepted).list) count log.sure.within) (λ k l. log.sure.same k (subst (λ (n : ℕ). k < n) (sym count) l)) in
@@ -104,7 +103,15 @@ read_goes g q s h o client number c u list e = goes_if g q s (nat_le s.grant (g.
         count,
         later,
       ),
-    ) (read_kept g h.ok q s h.is s.cp (read_entry s.cp list client number c)))
+    ) (read_kept g h.ok q s h.is s.cp (read_entry s.cp list client number c))
+
+-- a read at an open leader under an unexpired promise
+read_goes : (g : Group Entry) (q : Place) (s : Server Entry) → Good g q s → s.mode ≡ Open → (client number : ℕ) (c : Call) → is_update c ≡ false → (list : List Entry) → list ≡ (g.page s.accepted).list
+    → Goes g q s (read_moves (g.clock q) s (read_entry s.cp list client number c))
+read_goes g q s h o client number c u list e = goes_if g q s (nat_le s.grant (g.clock q)) _ _ (λ _. says g q s h (Refuses client number NoPromise) tt) (λ n.
+    let grant : g.clock q < s.grant = not_le s.grant (g.clock q) n in
+    read_at g q s h o client number c u list e
+    (subst (λ (x : Server Entry). x.mode ≡ Open → g.clock q < x.grant → (W : ℕ) → x.accepted < W → (g.page W).formed ≡ true → (g.page W).opened ≡ false) h.is (exclusive g h.ok h.near q) o grant))
 
 -- the answer to an ask
 pub asked : (g : Group Entry) (q : Place) (s : Server Entry) → Good g q s → (list : List Entry) → list ≡ take (top s) (g.page s.accepted).list → (client number : ℕ) (c : Call) → Goes g q s (on_ask q (g.clock q) list s client number c)
@@ -119,3 +126,17 @@ asked g q s h list e client number c = goes_if g q s (nat_lt 4095 client) _ _ (�
     (λ u. read_goes g q s h o client number c u list e'))
     (λ _. says g q s h (Refuses client number NotYetOpen) tt))
     (λ _. says g q s h (Refuses client number (NotLeader (hint_of q s.role))) tt))
+
+-- the answer to an ask where reads need no promise, and no later view was opened
+pub asked_freely : (g : Group Entry) (q : Place) (s : Server Entry) → Good g q s → (list : List Entry) → list ≡ take (top s) (g.page s.accepted).list
+    → ((W : ℕ) → s.accepted < W → (g.page W).formed ≡ true → (g.page W).opened ≡ false)
+    → (client number : ℕ) (c : Call) → Goes g q s (on_free_ask q (g.clock q) list s client number c)
+asked_freely g q s h list e later client number c = goes_if g q s (is_update c) _ _
+    (λ _. asked g q s h list e client number c)
+    (λ u. goes_if g q s (nat_lt 4095 client) _ _ (λ _. says g q s h (Refuses client number BadClient) tt) (λ _.
+    goes_if g q s (all_of (is_active s.mode ∷ same q (leader s.plan.storers) ∷ [])) _ _ (λ _.
+    goes_if g q s (is_open s.mode) _ _ (λ t.
+    let o = open_is s.mode t in
+    read_at g q s h o client number c u list (e ∙ whole_list g q s h o) later)
+    (λ _. says g q s h (Refuses client number NotYetOpen) tt))
+    (λ _. says g q s h (Refuses client number (NotLeader (hint_of q s.role))) tt)))
