@@ -44,12 +44,11 @@ pub moved_other : (ms : List (Move Entry)) (g : Group Entry) (q x : Place) (s : 
 moved_other [] g q x s n = refl
 moved_other (m ∷ ms) g q x s n = moved_other ms (moved g q s m) q x (act q (g.clock q) s m) n ∙ at_other g.server q x (act q (g.clock q) s m) n
 
-packets_by : List (Packet Entry) → Place → List (Move Entry) → List (Packet Entry)
+abbrev pub packets_by : List (Packet Entry) → Place → List (Move Entry) → List (Packet Entry)
 packets_by ps q [] = ps
 packets_by ps q (m ∷ ms) = packets_by (packets_after ps q m) q ms
 
 moved_packets : (ms : List (Move Entry)) (g : Group Entry) (q : Place) (s : Server Entry) → (moved_by g q s ms).packets ≡ packets_by g.packets q ms
-unfolding packets_by
 moved_packets [] g q s = refl
 moved_packets (m ∷ ms) g q s = moved_packets ms (moved g q s m) q (act q (g.clock q) s m)
 
@@ -102,14 +101,12 @@ said_early g h q m e p = record {
     same x = ap (λ s. at g.server q s x) e ∙ at_same x
 
 sent_early : (ps : List (Packet Entry)) (ms : List (Move Entry)) → Each IsEarly ps → AreLeaderSends ms → Each IsEarly (packets_by ps Zero ms)
-unfolding packets_by
 sent_early ps [] h a = h
 sent_early ps (Sending to m ∷ ms) h a =
     sent_early (record { from = Zero; to = to; body = m } ∷ ps) ms (subst (λ to. IsEarly (record { from = Zero; to = to; body = m })) (sym a.0.0) a.0.1, h) a.1
 sent_early ps (m ∷ ms) h a = absurd a.0
 
 answers_send : (ps : List (Packet Entry)) (q : Place) (n : ℕ) (es : List Entry) → packets_by ps q (answers n es) ≡ ps
-unfolding packets_by
 answers_send ps q n [] = refl
 answers_send ps q n (e ∷ es) = answers_send ps q (n + 1) es
 
@@ -119,7 +116,6 @@ leading_by : (g : Group Entry) → Early g → (ms : List (Move Entry)) → ((it
 leading_by g h ms f = f h.leads.items h.leads.cp h.leads.told h.leads.grant (g.server Zero) h.leads.is
 
 pub kind_early : (g : Group Entry) → Early g → (q : Place) (i : Input) (ms : List (Move Entry)) → Kind q (g.server q) i ms → Early (moved_by g q (g.server q) ms)
-unfolding packets_by
 kind_early g h q i _ quiet = h
 kind_early g h q i _ (refuses client number cause) = said_early g h q (Saying (Refuses client number cause)) refl refl
 kind_early g h q i _ (repeats index e client number call z is u) = said_early g h q (Saying (Answers index e)) refl refl
