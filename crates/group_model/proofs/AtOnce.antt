@@ -20,17 +20,17 @@ use Rattle.group_model.proofs.Raising.{leader_not_partner}
 use Rattle.group_model.proofs.Tests.{all_true, le_is}
 use Rattle.group_model.proofs.Safe.{sent_known}
 
-lt_is : (a b : ℕ) → a < b → nat_lt a b ≡ true
+pub lt_is : (a b : ℕ) → a < b → nat_lt a b ≡ true
 lt_is a b e = grind (arith, nat_tests)
 
 eq_is : (a b : ℕ) → a ≡ b → (a == b) ≡ true
 eq_is a b e = grind (arith, nat_tests)
 
-if_is : {A : Type 0} (b : Bool) (x y : A) → b ≡ true → (if b then x else y) ≡ x
+pub if_is : {A : Type 0} (b : Bool) (x y : A) → b ≡ true → (if b then x else y) ≡ x
 if_is true x y e = refl
 if_is false x y e = cc
 
-if_not : {A : Type 0} (b : Bool) (x y : A) → b ≡ false → (if b then x else y) ≡ y
+pub if_not : {A : Type 0} (b : Bool) (x y : A) → b ≡ false → (if b then x else y) ≡ y
 if_not true x y e = cc
 if_not false x y e = refl
 

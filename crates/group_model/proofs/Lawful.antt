@@ -30,7 +30,7 @@ sure_starts : {E : Type 0} (g : Group E) → Ok g → (v w c : ℕ) → v < w �
 sure_starts g ok v w c lt f s = le_trans s.held_twice (ok.pair s.twice w (lt_of_le_of_lt s.not_above lt) s.formed f).kept_start
 
 -- what is sure in a held server's accepted view is in its log
-sure_held : {E : Type 0} (g : Group E) → Ok g → (q : Place) (c : ℕ) → (g.server q).held ≡ Log → Sure g.page g.committed (g.server q).accepted c → c ≤ top (g.server q)
+pub sure_held : {E : Type 0} (g : Group E) → Ok g → (q : Place) (c : ℕ) → (g.server q).held ≡ Log → Sure g.page g.committed (g.server q).accepted c → c ≤ top (g.server q)
 sure_held g ok q c l s =
     let log = (ok.server q).logs.log l in
     ⊎_elim
@@ -107,7 +107,7 @@ within_limits g h = record {
 
 -- ---- growth
 
-book_grows : (ms : List (Move Entry)) (g : Group Entry) (q : Place) (s : Server Entry) → (new : List Entry) × ((moved_by g q s ms).book ≡ g.book ++ new)
+pub book_grows : (ms : List (Move Entry)) (g : Group Entry) (q : Place) (s : Server Entry) → (new : List Entry) × ((moved_by g q s ms).book ≡ g.book ++ new)
 book_grows [] g q s = ([], sym (append-nil g.book))
 book_grows (m ∷ ms) g q s =
     let a = book_more m g s in
@@ -120,7 +120,7 @@ book_grows (m ∷ ms) g q s =
     book_more (Reading n e) g s = (e ∷ [], refl)
     book_more m g s = ([], sym (append-nil g.book))
 
-answers_grow : (ms : List (Move Entry)) (g : Group Entry) (q : Place) (s : Server Entry) → (new : List (Answered Entry)) × ((moved_by g q s ms).answered ≡ new ++ g.answered)
+pub answers_grow : (ms : List (Move Entry)) (g : Group Entry) (q : Place) (s : Server Entry) → (new : List (Answered Entry)) × ((moved_by g q s ms).answered ≡ new ++ g.answered)
 answers_grow [] g q s = ([], refl)
 answers_grow (m ∷ ms) g q s =
     let a = answers_more m g s in

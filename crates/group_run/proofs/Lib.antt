@@ -1,3 +1,5 @@
 pub mod Early
 pub mod After
 pub mod LineParts
+pub mod StateLines
+pub mod Lists

@@ -274,7 +274,7 @@ abbrev pub packet_shown : Packet Entry → Option PacketShown
 packet_shown p = shows p.from p.to p.body
 
 -- the packet with a number, the newest first
-pub shown_at : List (Packet Entry) → ℕ → Option PacketShown
+unfoldable pub shown_at : List (Packet Entry) → ℕ → Option PacketShown
 shown_at [] n = None
 shown_at (p ∷ ps) n = if length ps == n then packet_shown p else shown_at ps n
 
