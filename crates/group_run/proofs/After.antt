@@ -25,7 +25,7 @@ use Rattle.group_run.proofs.Early.{AreLeaderSends, Early, IsEarly, IsFollowing, 
 
 -- ---- parts of a group after moves
 
-moved_server : (ms : List (Move Entry)) (g : Group Entry) (q : Place) (s : Server Entry) → g.server q ≡ s → (moved_by g q s ms).server q ≡ acts q (g.clock q) s ms
+pub moved_server : (ms : List (Move Entry)) (g : Group Entry) (q : Place) (s : Server Entry) → g.server q ≡ s → (moved_by g q s ms).server q ≡ acts q (g.clock q) s ms
 moved_server [] g q s e = e
 moved_server (m ∷ ms) g q s e = moved_server ms (moved g q s m) q (act q (g.clock q) s m) (at_self g.server q (act q (g.clock q) s m))
 
@@ -48,7 +48,7 @@ abbrev pub packets_by : List (Packet Entry) → Place → List (Move Entry) → 
 packets_by ps q [] = ps
 packets_by ps q (m ∷ ms) = packets_by (packets_after ps q m) q ms
 
-moved_packets : (ms : List (Move Entry)) (g : Group Entry) (q : Place) (s : Server Entry) → (moved_by g q s ms).packets ≡ packets_by g.packets q ms
+pub moved_packets : (ms : List (Move Entry)) (g : Group Entry) (q : Place) (s : Server Entry) → (moved_by g q s ms).packets ≡ packets_by g.packets q ms
 moved_packets [] g q s = refl
 moved_packets (m ∷ ms) g q s = moved_packets ms (moved g q s m) q (act q (g.clock q) s m)
 
