@@ -5,3 +5,5 @@ pub mod StateLines
 pub mod Lists
 pub mod Standing
 pub mod Keeping
+pub mod Taking
+pub mod Entering
