@@ -334,7 +334,7 @@ packet_at [] k p h e = cc
 packet_at (x ∷ ps) zero p h e = let same : x ≡ p = cc in subst IsEarly same h.0
 packet_at (x ∷ ps) (suc k) p h e = packet_at ps k p h.1 e
 
-numbered_early : (ps : List (Packet Entry)) (n : ℕ) (p : Packet Entry) → Each IsEarly ps → numbered ps n ≡ Some p → IsEarly p
+pub numbered_early : (ps : List (Packet Entry)) (n : ℕ) (p : Packet Entry) → Each IsEarly ps → numbered ps n ≡ Some p → IsEarly p
 numbered_early ps n p h = by_if (λ (o : Option (Packet Entry)). o ≡ Some p → IsEarly p) (nat_lt n (length ps)) _ None (λ _ e. packet_at ps _ p h e) (λ _ e. cc)
 
 -- the step that something begins is of a kind

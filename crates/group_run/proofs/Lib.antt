@@ -7,3 +7,5 @@ pub mod Standing
 pub mod Keeping
 pub mod Taking
 pub mod Entering
+pub mod Answering
+pub mod AtOnceLaw
