@@ -106,7 +106,7 @@ committed_asked g w h before asked e i =
     let at = at_in g.committed e i in
     asked e (in_at (one_list g) at.0 e (committed_listed g w h at.0 e at.1 at.2))
 
-in_back : (xs ys : List Entry) (e : Entry) → In ys e → In (xs ++ ys) e
+pub in_back : (xs ys : List Entry) (e : Entry) → In ys e → In (xs ++ ys) e
 in_back [] ys e h = h
 in_back (x ∷ xs) ys e h = inr (in_back xs ys e h)
 

@@ -65,34 +65,45 @@ quiet_stands before g g' s h w same = record {
 
 -- ---- what an asked entry is
 
--- an entry that an ask of this step became was asked for
-pub asked_now : (before : Trace) (g : Group Entry) (s : Step) (q : Place) (i : Input) (e : Entry) → begins g s ≡ Some (q, i) → IsAsked i e → AskedIn (before ++ line.Event s ∷ []) e
-asked_now before g (step.Ask server client number call) q i e b a =
+-- the ask that an entry comes from
+pub record AsksFor (s : Step) (e : Entry) : Type 0 where
+  pub server : ServerId
+  pub is : s ≡ step.Ask server e.client e.number e.call
+
+pub asks_for : (g : Group Entry) (s : Step) (q : Place) (i : Input) (e : Entry) → begins g s ≡ Some (q, i) → IsAsked i e → AsksFor s e
+asks_for g (step.Ask server client number call) q i e b a =
     let pair : (place_of server, Does (Ask client number call)) ≡ (q, i) = cc in
     let both : Does (Ask client number call) ≡ Does (Ask a.client a.number a.call) = ap (λ (x : Place × Input). x.1) pair ∙ a.input in
-    let c : e.client ≡ client = a.client_is ∙ (let x : a.client ≡ client = cc in x) in
-    let n : e.number ≡ number = a.number_is ∙ (let x : a.number ≡ number = cc in x) in
-    let k : e.call ≡ call = a.call_is ∙ (let x : a.call ≡ call = cc in x) in
-    (
-      server,
-      rw (c, n, k) (subst (λ ss. Contains ss (step.Ask server client number call)) (sym (steps-append before (line.Event (step.Ask server client number call) ∷ [])))
-      (Contains-push (steps before) (step.Ask server client number call))),
-    )
-asked_now before g (step.Tick server) q i e b a =
+    let c : client ≡ e.client = (let x : client ≡ a.client = cc in x ∙ sym a.client_is) in
+    let n : number ≡ e.number = (let x : number ≡ a.number = cc in x ∙ sym a.number_is) in
+    let k : call ≡ e.call = (let x : call ≡ a.call = cc in x ∙ sym a.call_is) in
+    record { server = server; is = rw (c, n, k) refl }
+asks_for g (step.Tick server) q i e b a =
     let pair : (place_of server, Does Tick) ≡ (q, i) = cc in
     let clash : Does Tick ≡ Does (Ask a.client a.number a.call) = ap (λ (x : Place × Input). x.1) pair ∙ a.input in
     absurd cc
-asked_now before g (step.Deliver n) q i e b a = came (numbered g.packets n) b
+asks_for g (step.Deliver n) q i e b a = came (numbered g.packets n) b
   where
-    came : (o : Option (Packet Entry)) → option_map {U = Place × Input} (λ (p : Packet Entry). (p.to, Comes p.from p.body)) o ≡ Some (q, i) → AskedIn (before ++ line.Event (step.Deliver n) ∷ []) e
+    came : (o : Option (Packet Entry)) → option_map {U = Place × Input} (λ (p : Packet Entry). (p.to, Comes p.from p.body)) o ≡ Some (q, i) → AsksFor (step.Deliver n) e
     came None b = absurd cc
     came (Some p) b =
         let pair : (p.to, Comes p.from p.body) ≡ (q, i) = cc in
         let clash : Comes p.from p.body ≡ Does (Ask a.client a.number a.call) = ap (λ (x : Place × Input). x.1) pair ∙ a.input in
         absurd cc
-asked_now before g (step.Pump among) q i e b a = absurd cc
-asked_now before g (step.Clock server reading) q i e b a = absurd cc
-asked_now before g (step.Advance millis) q i e b a = absurd cc
+asks_for g (step.Pump among) q i e b a = absurd cc
+asks_for g (step.Clock server reading) q i e b a = absurd cc
+asks_for g (step.Advance millis) q i e b a = absurd cc
+
+-- an entry that an ask of this step became was asked for
+pub asked_now : (before : Trace) (g : Group Entry) (s : Step) (q : Place) (i : Input) (e : Entry) → begins g s ≡ Some (q, i) → IsAsked i e → AskedIn (before ++ line.Event s ∷ []) e
+asked_now before g s q i e b a =
+    let ask = asks_for g s q i e b a in
+    (
+      ask.server,
+      subst (λ s. Contains (steps (before ++ line.Event s ∷ [])) (step.Ask ask.server e.client e.number e.call)) (sym ask.is)
+          (subst (λ ss. Contains ss (step.Ask ask.server e.client e.number e.call)) (sym (steps-append before (line.Event (step.Ask ask.server e.client e.number e.call) ∷ [])))
+          (Contains-push (steps before) (step.Ask ask.server e.client e.number e.call))),
+    )
 
 -- ---- what an Ack commits
 
@@ -171,7 +182,7 @@ kind_acked before g h s q i b ms k n z0 l = by ms k l
 -- ---- a step of a server
 
 -- what an entry of the new list was asked by
-list_asked : (before : Trace) (g : Group Entry) → Stands before g → (s : Step) (q : Place) (i : Input) → begins g s ≡ Some (q, i) → (list : List Entry)
+pub list_asked : (before : Trace) (g : Group Entry) → Stands before g → (s : Step) (q : Place) (i : Input) → begins g s ≡ Some (q, i) → (list : List Entry)
     → (list ≡ one_list g) ⊎ Lengthens i (one_list g) list → (e : Entry) → In list e → AskedIn (before ++ line.Event s ∷ []) e
 list_asked before g h s q i b list (inl same) e x = asked_more before (line.Event s ∷ []) e (h.asked e (subst (λ l. In l e) same x))
 list_asked before g h s q i b list (inr more) e x = ⊎_elim

@@ -9,3 +9,5 @@ pub mod Taking
 pub mod Entering
 pub mod Answering
 pub mod AtOnceLaw
+pub mod StepLaws
+pub mod RunLaws
