@@ -1,0 +1,5 @@
+pub mod Clients
+pub mod Heeding
+pub mod Said
+pub mod Servers
+pub mod Shown

@@ -1,0 +1,7 @@
+//! The leader of an open view.
+
+/// Later.
+#[derive(Drop)]
+pub struct Leader {
+    told_top: u64,
+}

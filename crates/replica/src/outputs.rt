@@ -1,0 +1,68 @@
+//! What a call of a server gives to others.
+
+ghost use Rattle.std.specs.Prelude.{◌≡◌, ◌++◌, ◌∷◌, [], OnOk};
+
+use harp_base::{Call, Peer, Reply, ServerId};
+use std::alloc::{AllocError, Global};
+use trace_lines::{BookEntry, Cause};
+use wire::Message;
+
+/// An answer to an ask.
+#[derive(Debug, Drop)]
+pub struct Answered {
+    /// Who asked.
+    pub peer: Peer,
+    pub client: u32,
+    /// The client's own number of the call.
+    pub number: u64,
+    /// The place of an update among the updates, from 1; of a read how many updates are committed.
+    pub index: u64,
+    pub reply: Reply,
+    /// The call of a read. An update stands in the book with its own.
+    pub asked: Option<Call>,
+}
+
+/// An ask that is refused.
+#[derive(Clone, Copy, Debug, PartialEq, Eq)]
+pub struct Refused {
+    /// Who asked.
+    pub peer: Peer,
+    pub client: u32,
+    /// The client's own number of the call.
+    pub number: u64,
+    pub cause: Cause,
+}
+
+/// A message to another server.
+#[derive(Debug, Drop)]
+pub struct Sent {
+    pub to: ServerId,
+    pub message: Message,
+}
+
+/// What calls gave, each list in its order.
+#[derive(Debug, Drop)]
+pub struct Outputs {
+    /// The updates that were committed, by their indices.
+    pub committed: Vec<BookEntry>,
+    pub answers: Vec<Answered>,
+    pub refusals: Vec<Refused>,
+    pub sends: Vec<Sent>,
+}
+
+impl Outputs {
+    /// No outputs.
+    pub fn new(alloc: Global) -> Outputs
+        ensures committed { result.committed.items ≡ [] }
+        ensures answers { result.answers.items ≡ [] }
+        ensures refusals { result.refusals.items ≡ [] }
+        ensures sends { result.sends.items ≡ [] }
+    {
+        Outputs {
+            committed: Vec::new(alloc),
+            answers: Vec::new(alloc),
+            refusals: Vec::new(alloc),
+            sends: Vec::new(alloc),
+        }
+    }
+}

@@ -1,0 +1,134 @@
+//! The partner of an open view.
+
+ghost use Rattle.std.specs.Prelude.{◌≡◌, ℕ, ◌+◌, ◌<◌, ◌≤◌, ◌^◌, [], length, IfOk, OnOk, IsTrue};
+ghost use Rattle.event_record.specs.Record.{entry_of};
+ghost use Rattle.file_tree.specs.Book.{Entry};
+ghost use Rattle.group_model.specs.Effects.{taken};
+ghost use Rattle.group_model.specs.FixedStart.{starting, view_one};
+ghost use Rattle.group_model.specs.Limits.{room};
+ghost use Rattle.group_model.specs.Names.{number_of_view, place_of};
+ghost use Rattle.group_model.specs.Places.{Zero, One};
+ghost use Rattle.group_model.specs.Replicate.{on_event};
+ghost use Rattle.replica.specs.Heeding.{heeds_beat, heeds_event};
+ghost use Rattle.replica.specs.Said.{Makes};
+ghost use Rattle.replica.specs.Shown.{state_of};
+
+use crate::outputs::{Outputs, Sent};
+use crate::view::{is_view_one, view_one};
+use event_record::{Moment, Record};
+use harp_base::{Held, Mode, Role, ServerId, StateLine, ViewNo};
+use std::alloc::{AllocError, Global};
+use std::marker::Model;
+use volatile_log::ActiveLog;
+use wire::Message;
+
+/// How many records a log has room for.
+const ROOM: u64 = 16384;
+
+/// How long a promise runs, in milliseconds.
+const PROMISE: u64 = 2000;
+
+/// Server 1 as the settled partner of view 1.0, in which server 0 leads. Its contracts see it as a
+/// server of the group's rules.
+#[derive(Drop)]
+pub struct Partner {
+    log: ActiveLog,
+    /// The end of the latest promise.
+    horizon: u64,
+}
+
+impl Model for Partner {
+    ghost use Rattle.std.specs.Prelude.{◌≡◌, ℕ, map};
+    ghost use Rattle.event_record.specs.Record.{entry_of};
+    ghost use Rattle.file_tree.specs.Book.{Entry};
+    ghost use Rattle.group_model.specs.State.{Server};
+    ghost use Rattle.replica.specs.Servers.{following};
+
+    ghost Value = { Server Entry };
+
+    ghost view = { λ p. following (map entry_of p.log.records) p.log.cp p.horizon };
+
+    ghost invariant = { λ p. (p.log.base ≡ 0) × (p.log.lb ≡ 0) × (p.log.ap ≡ 0) };
+}
+
+impl Partner {
+    /// The partner of the fixed start, with no record. It takes the memory for a whole log at once.
+    pub fn start(alloc: Global) -> Result<Partner, AllocError>
+        ensures { IfOk result (λ partner. partner ≡ starting One) }
+    {
+        Ok(Partner {
+            log: ActiveLog::start(alloc)?,
+            horizon: 0,
+        })
+    }
+
+    /// What a trace shows of the server.
+    pub fn state_line(&self) -> StateLine
+        ensures { result ≡ state_of self.now }
+    {
+        StateLine {
+            mode: Mode::Live,
+            promised: view_one(),
+            accepted: view_one(),
+            role: Role::Follows(ServerId::Zero),
+            held: Held::Held,
+            base: 0,
+            lb: 0,
+            ap: 0,
+            cp: self.log.cp(),
+            top: self.log.top(),
+        }
+    }
+
+    /// Whether this is a message of the view's leader, in view 1.0, with a base that is on the disk.
+    #[tactic(auto, unfolding(group_model::specs::Places::all_of))]
+    fn is_led(&self, from: ServerId, view: ViewNo, base: u64) -> bool
+        ensures tests { (cp : ℕ) → result ≡ heeds_beat One self.now (place_of from) (number_of_view view) cp base }
+        ensures base { IsTrue result → base ≡ 0 }
+    {
+        match from {
+            ServerId::Zero => is_view_one(view) && base == 0,
+            ServerId::One => false,
+            ServerId::Two => false,
+        }
+    }
+
+    /// Whether a Beat is heeded: it comes from the leader, in view 1.0, and its base isn't above LB.
+    pub fn heeds_beat(&self, from: ServerId, view: ViewNo, base: u64) -> bool
+        ensures tests { (cp : ℕ) → result ≡ heeds_beat One self.now (place_of from) (number_of_view view) cp base }
+        ensures base { IsTrue result → base ≡ 0 }
+    {
+        self.is_led(from, view, base)
+    }
+
+    /// Deals with a Beat that is heeded: CP rises, and the leader gets an Ack with a promise until
+    /// 2000 milliseconds from now on.
+    #[tactic(auto, unfolding(group_model::specs::Places::all_of))]
+    pub fn beat(
+        &mut self,
+        cp: u64,
+        base: u64,
+        now: u64,
+        outs: &mut Outputs,
+    ) -> Result<(), AllocError>
+        requires base { base ≡ 0 }
+        requires now { now < 2 ^ 62 }
+        ensures { OnOk result (Makes One now (on_event One now self.old Zero view_one cp base self.old.items) []
+            self.old self.new outs.old outs.new) }
+    {
+        let top = self.log.top();
+        let until = now + PROMISE;
+        self.log.commit_to(self.log.cp().max(cp.min(top)));
+        self.horizon = self.horizon.max(until);
+        outs.sends.push(Sent {
+            to: ServerId::Zero,
+            message: Message::Ack {
+                view: view_one(),
+                top,
+                lb: 0,
+                until: Moment::new(until),
+            },
+        })?;
+        Ok(())
+    }
+}
