@@ -7,7 +7,8 @@ ghost use Rattle.group_model.specs.Effects.{taken};
 ghost use Rattle.group_model.specs.FixedStart.{starting, view_one};
 ghost use Rattle.group_model.specs.Limits.{room};
 ghost use Rattle.group_model.specs.Names.{number_of_view, place_of};
-ghost use Rattle.group_model.specs.Places.{Zero, One};
+ghost use Rattle.group_model.specs.Misfits.{room_tests};
+ghost use Rattle.group_model.specs.Places.{Zero, One, all_of};
 ghost use Rattle.group_model.specs.Replicate.{on_event};
 ghost use Rattle.replica.specs.Heeding.{heeds_beat, heeds_event};
 ghost use Rattle.replica.specs.Said.{Makes};
@@ -84,10 +85,12 @@ impl Partner {
     #[tactic(auto, unfolding(group_model::specs::Places::all_of))]
     fn is_led(&self, from: ServerId, view: ViewNo, base: u64) -> bool
         ensures tests { (cp : ℕ) → result ≡ heeds_beat One self.now (place_of from) (number_of_view view) cp base }
+        ensures from { IsTrue result → place_of from ≡ Zero }
+        ensures view { IsTrue result → number_of_view view ≡ view_one }
         ensures base { IsTrue result → base ≡ 0 }
     {
         match from {
-            ServerId::Zero => is_view_one(view) && base == 0,
+            ServerId::Zero => is_view_one(view) && base <= self.log.lb(),
             ServerId::One => false,
             ServerId::Two => false,
         }
@@ -96,6 +99,8 @@ impl Partner {
     /// Whether a Beat is heeded: it comes from the leader, in view 1.0, and its base isn't above LB.
     pub fn heeds_beat(&self, from: ServerId, view: ViewNo, base: u64) -> bool
         ensures tests { (cp : ℕ) → result ≡ heeds_beat One self.now (place_of from) (number_of_view view) cp base }
+        ensures from { IsTrue result → place_of from ≡ Zero }
+        ensures view { IsTrue result → number_of_view view ≡ view_one }
         ensures base { IsTrue result → base ≡ 0 }
     {
         self.is_led(from, view, base)
@@ -130,5 +135,71 @@ impl Partner {
             },
         })?;
         Ok(())
+    }
+
+    /// Whether an Event of the record with this index is heeded: it comes from the leader, in view 1.0, its base isn't
+    /// above LB, and where it is the next one the log has room for it.
+    #[tactic(auto, unfolding(group_model::specs::Places::all_of, group_model::specs::Limits::room))]
+    pub fn heeds_event(&self, from: ServerId, view: ViewNo, index: u64, base: u64) -> bool
+        ensures tests { (cp : ℕ) (e : Entry) → result
+            ≡ heeds_event One self.now (place_of from) (number_of_view view) index cp base e }
+        ensures from { IsTrue result → place_of from ≡ Zero }
+        ensures view { IsTrue result → number_of_view view ≡ view_one }
+        ensures base { IsTrue result → base ≡ 0 }
+        ensures fits { (e : Entry) → IsTrue result → length (taken self.now index e) ≤ room }
+    {
+        match from {
+            ServerId::Zero => {
+                is_view_one(view) && base <= self.log.lb() && self.has_room(index, base)
+            }
+            ServerId::One => false,
+            ServerId::Two => false,
+        }
+    }
+
+    /// Whether the log has room for the record of this index, or doesn't take it.
+    #[tactic(auto, unfolding(group_model::specs::Places::all_of, group_model::specs::Limits::room))]
+    fn has_room(&self, index: u64, base: u64) -> bool
+        requires { base ≡ 0 }
+        ensures { (e : Entry) → result ≡ all_of (room_tests self.now base (taken self.now index e)) }
+    {
+        let top = self.log.top();
+        index != top + 1 || top < ROOM
+    }
+
+    /// Takes a record to the log where its index is the next one.
+    #[tactic(auto, unfolding(group_model::specs::Limits::room))]
+    fn take(&mut self, item: Record)
+        requires { length (taken self.old item.index (entry_of item)) ≤ room }
+        ensures { self.new ≡ record self.old { items = taken self.old item.index (entry_of item) } }
+    {
+        if item.index.get() == self.log.top() + 1 {
+            match self.log.append(item) {
+                Ok(()) => {}
+                Err(_) => unreachable!(),
+            }
+        }
+    }
+
+    /// Deals with an Event that is heeded: the record goes to the log where its index is the next one, CP rises, and
+    /// the leader gets an Ack with a promise until 2000 milliseconds from now on.
+    #[tactic(auto, unfolding(group_model::specs::Places::all_of))]
+    pub fn event(
+        &mut self,
+        cp: u64,
+        base: u64,
+        item: Record,
+        now: u64,
+        outs: &mut Outputs,
+    ) -> Result<(), AllocError>
+        requires base { base ≡ 0 }
+        requires fits { length (taken self.old item.index (entry_of item)) ≤ room }
+        requires now { now < 2 ^ 62 }
+        ensures { OnOk result (Makes One now (on_event One now self.old Zero view_one cp base
+            (taken self.old item.index (entry_of item))) [] self.old self.new outs.old outs.new) }
+    {
+        let _ = &self.log;
+        self.take(item);
+        self.beat(cp, base, now, outs)
     }
 }
