@@ -1,7 +1,135 @@
 //! The leader of an open view.
 
-/// Later.
+ghost use Rattle.std.specs.Prelude.{◌≡◌, ℕ, ◌+◌, ◌-◌, ◌||◌, ◌<◌, ◌≤◌, ◌^◌, ◌++◌, ◌∷◌, [], length, drop, nat_le, IfOk, OnOk, IsTrue, true, false};
+ghost use Rattle.event_record.specs.Record.{entry_of};
+ghost use Rattle.file_tree.specs.Book.{last_of};
+ghost use Rattle.group_model.specs.Ask.{append, new_entry, read_entry, update_moves};
+ghost use Rattle.group_model.specs.FixedStart.{starting, view_one};
+ghost use Rattle.group_model.specs.FreeReads.{on_free_ask};
+ghost use Rattle.group_model.specs.Limits.{limit, room};
+ghost use Rattle.group_model.specs.Moves.{Appending, Reading, Sending};
+ghost use Rattle.group_model.specs.Names.{number_of_view, place_of};
+ghost use Rattle.group_model.specs.Places.{Zero, One};
+ghost use Rattle.group_model.specs.Replicate.{on_ack};
+ghost use Rattle.group_model.specs.State.{Event, top};
+ghost use Rattle.group_model.specs.Tick.{tick};
+ghost use Rattle.harp_base.specs.Update.{is_update};
+ghost use Rattle.replica.specs.Heeding.{heeds_ack};
+ghost use Rattle.replica.specs.Leader.{CommitsNext};
+ghost use Rattle.replica.specs.Said.{Makes, waits_of};
+ghost use Rattle.replica.specs.Shown.{state_of};
+
+use crate::clients::{Kept, no_updates};
+use crate::outputs::{Answered, Asker, Outputs};
+use crate::view::{is_view_one, view_one};
+use event_record::{Index, Moment, Record};
+use file_tree::PlainTree;
+use harp_base::{Call, Held, Mode, Peer, Role, ServerId, StateLine, ViewNo, is_update};
+use std::alloc::{AllocError, Global};
+use std::collections::VecDeque;
+use std::marker::Model;
+use trace_lines::{BookEntry, Cause};
+use volatile_log::ActiveLog;
+use wire::Message;
+
+/// How many records a log has room for.
+const ROOM: u64 = 16384;
+
+/// How many records a tick sends again at most.
+const SENT_AGAIN: u64 = 64;
+
+/// Server 0 as the leader of the open view 1.0, in which server 1 is its partner. Its contracts see it
+/// as a server of the group's rules, and who asked for the records above its CP.
 #[derive(Drop)]
 pub struct Leader {
+    log: ActiveLog,
+    /// The greatest top, LB and promise that the partner's Acks told.
     told_top: u64,
+    told_lb: u64,
+    grant: u64,
+    /// The tree after the records up to CP.
+    committed: PlainTree,
+    /// The tree after all records. It is none once memory ran out while a record was made.
+    appended: Option<PlainTree>,
+    /// The clients' last updates, by client number.
+    clients: Vec<Option<Kept>>,
+    last_stamp: u64,
+    /// Who asked for the records above CP, in their order.
+    waiting: VecDeque<Peer>,
+}
+
+impl Model for Leader {
+    ghost use Rattle.std.specs.Prelude.{◌≡◌, ◌≤◌, ℕ, length, map};
+    ghost use Rattle.std.specs.VecDeque.{deque_capacity};
+    ghost use Rattle.event_record.specs.Record.{entry_of};
+    ghost use Rattle.replica.specs.Leader.{Stands};
+    ghost use Rattle.replica.specs.Servers.{Leading, leading};
+    ghost use Rattle.volatile_log.specs.Log.{room};
+
+    ghost Value = { Leading };
+
+    ghost view = { λ l. record {
+        server = leading (map entry_of l.log.records) l.log.cp l.told_top l.told_lb l.grant;
+        peers = l.waiting.items;
+    } };
+
+    ghost invariant = { λ l. (l.log.base ≡ 0) × (l.log.lb ≡ 0) × (l.log.ap ≡ 0)
+        × (l.told_top ≤ length l.log.records) × (room ≤ deque_capacity l.waiting)
+        × Stands (map entry_of l.log.records) l.log.cp l.committed l.appended l.clients.items l.last_stamp
+            l.waiting.items };
+}
+
+impl Leader {
+    /// The leader of the fixed start, with no record. It takes the memory for a whole log at once.
+    pub fn start(alloc: Global) -> Result<Leader, AllocError>
+        ensures server { IfOk result (λ leader. leader.server ≡ starting Zero) }
+        ensures peers { IfOk result (λ leader. leader.peers ≡ []) }
+    {
+        Ok(Leader {
+            log: ActiveLog::start(alloc)?,
+            told_top: 0,
+            told_lb: 0,
+            grant: 0,
+            committed: PlainTree::new(alloc)?,
+            appended: Some(PlainTree::new(alloc)?),
+            clients: no_updates(alloc)?,
+            last_stamp: 0,
+            waiting: VecDeque::with_capacity(alloc, ROOM as usize)?,
+        })
+    }
+
+    /// What a trace shows of the server.
+    pub fn state_line(&self) -> StateLine
+        ensures { result ≡ state_of self.now.server }
+    {
+        StateLine {
+            mode: Mode::Open,
+            promised: view_one(),
+            accepted: view_one(),
+            role: Role::Leads(ServerId::One),
+            held: Held::Held,
+            base: 0,
+            lb: 0,
+            ap: 0,
+            cp: self.log.cp(),
+            top: self.log.top(),
+        }
+    }
+
+    /// Whether an Ack is heeded: it comes from the partner, in view 1.0, its top is at most the log's, and its LB at
+    /// most its top.
+    #[tactic(auto, unfolding(group_model::specs::Places::all_of))]
+    pub fn heeds_ack(&self, from: ServerId, view: ViewNo, top: u64, lb: u64) -> bool
+        ensures tests { (until : ℕ) → result
+            ≡ heeds_ack Zero self.now.server (place_of from) (number_of_view view) top lb until }
+        ensures from { IsTrue result → place_of from ≡ One }
+        ensures view { IsTrue result → number_of_view view ≡ view_one }
+        ensures top { IsTrue result → top ≤ length self.now.server.items }
+    {
+        match from {
+            ServerId::Zero => false,
+            ServerId::One => is_view_one(view) && top <= self.log.top() && lb <= top,
+            ServerId::Two => false,
+        }
+    }
 }

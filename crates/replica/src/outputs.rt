@@ -40,6 +40,14 @@ pub struct Sent {
     pub message: Message,
 }
 
+/// Who asks, for which client, and by which number.
+#[derive(Clone, Copy)]
+pub struct Asker {
+    pub peer: Peer,
+    pub client: u32,
+    pub number: u64,
+}
+
 /// What calls gave, each list in its order.
 #[derive(Debug, Drop)]
 pub struct Outputs {

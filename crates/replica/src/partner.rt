@@ -81,9 +81,9 @@ impl Partner {
         }
     }
 
-    /// Whether this is a message of the view's leader, in view 1.0, with a base that is on the disk.
+    /// Whether a Beat is heeded: it comes from the leader, in view 1.0, and its base isn't above LB.
     #[tactic(auto, unfolding(group_model::specs::Places::all_of))]
-    fn is_led(&self, from: ServerId, view: ViewNo, base: u64) -> bool
+    pub fn heeds_beat(&self, from: ServerId, view: ViewNo, base: u64) -> bool
         ensures tests { (cp : ℕ) → result ≡ heeds_beat One self.now (place_of from) (number_of_view view) cp base }
         ensures from { IsTrue result → place_of from ≡ Zero }
         ensures view { IsTrue result → number_of_view view ≡ view_one }
@@ -94,16 +94,6 @@ impl Partner {
             ServerId::One => false,
             ServerId::Two => false,
         }
-    }
-
-    /// Whether a Beat is heeded: it comes from the leader, in view 1.0, and its base isn't above LB.
-    pub fn heeds_beat(&self, from: ServerId, view: ViewNo, base: u64) -> bool
-        ensures tests { (cp : ℕ) → result ≡ heeds_beat One self.now (place_of from) (number_of_view view) cp base }
-        ensures from { IsTrue result → place_of from ≡ Zero }
-        ensures view { IsTrue result → number_of_view view ≡ view_one }
-        ensures base { IsTrue result → base ≡ 0 }
-    {
-        self.is_led(from, view, base)
     }
 
     /// Deals with a Beat that is heeded: CP rises, and the leader gets an Ack with a promise until
