@@ -1,6 +1,6 @@
 //! The leader of an open view.
 
-ghost use Rattle.std.specs.Prelude.{◌≡◌, ℕ, ◌+◌, ◌-◌, ◌||◌, ◌<◌, ◌≤◌, ◌^◌, ◌++◌, ◌∷◌, [], length, drop, nat_le, IfOk, OnOk, IsTrue, true, false};
+ghost use Rattle.std.specs.Prelude.{◌≡◌, ℕ, ◌+◌, ◌-◌, ◌||◌, ◌<◌, ◌≤◌, ◌^◌, ◌++◌, ◌∷◌, [], length, take, drop, map, nat_le, IfOk, OnOk, IsTrue, true, false};
 ghost use Rattle.event_record.specs.Record.{entry_of};
 ghost use Rattle.file_tree.specs.Book.{last_of};
 ghost use Rattle.group_model.specs.Ask.{append, new_entry, read_entry, update_moves};
@@ -12,11 +12,11 @@ ghost use Rattle.group_model.specs.Names.{number_of_view, place_of};
 ghost use Rattle.group_model.specs.Places.{Zero, One};
 ghost use Rattle.group_model.specs.Replicate.{on_ack};
 ghost use Rattle.group_model.specs.State.{Event, top};
-ghost use Rattle.group_model.specs.Tick.{tick};
+ghost use Rattle.group_model.specs.Tick.{events, tick};
 ghost use Rattle.harp_base.specs.Update.{is_update};
 ghost use Rattle.replica.specs.Heeding.{heeds_ack};
 ghost use Rattle.replica.specs.Leader.{CommitsNext};
-ghost use Rattle.replica.specs.Said.{Makes, waits_of};
+ghost use Rattle.replica.specs.Said.{Makes, sends_of, sent, waits_of};
 ghost use Rattle.replica.specs.Shown.{state_of};
 
 use crate::clients::{Kept, no_updates};
@@ -131,5 +131,69 @@ impl Leader {
             ServerId::One => is_view_one(view) && top <= self.log.top() && lb <= top,
             ServerId::Two => false,
         }
+    }
+
+    /// The partner gets a Beat, and then the records above its told top, at most 64, each as an Event.
+    pub fn tick(&self, alloc: Global, now: u64, outs: &mut Outputs) -> Result<(), AllocError>
+        ensures { OnOk result (Makes Zero now (tick Zero now self.now.server) [] self.now.server self.now.server
+            outs.old outs.new) }
+    {
+        let beat = Message::Beat {
+            view: view_one(),
+            cp: self.log.cp(),
+            base: 0,
+        };
+        outs.send(ServerId::One, beat)?;
+        self.send_again(alloc, outs)?;
+        Ok(())
+    }
+
+    /// Sends the records above the told top, at most 64.
+    fn send_again(&self, alloc: Global, outs: &mut Outputs) -> Result<(), AllocError>
+        ensures sends { OnOk result (map sent outs.new.sends.items ≡ map sent outs.old.sends.items
+            ++ sends_of (events One view_one self.now.server.cp 0 self.now.server.told_top
+                (take 64 (drop self.now.server.told_top self.now.server.items)))) }
+        ensures committed { outs.new.committed ≡ outs.old.committed }
+        ensures answers { outs.new.answers ≡ outs.old.answers }
+        ensures refusals { outs.new.refusals ≡ outs.old.refusals }
+    {
+        let end = self.log.top().min(self.told_top + SENT_AGAIN);
+        for n in self.told_top..end {
+            self.send_record(alloc, n, outs)?;
+        }
+        Ok(())
+    }
+
+    /// Sends the record before which n stand, as an Event.
+    fn send_record(&self, alloc: Global, n: u64, outs: &mut Outputs) -> Result<(), AllocError>
+        requires { n < length self.now.server.items }
+        ensures sends { OnOk result (map sent outs.new.sends.items ≡ map sent outs.old.sends.items
+            ++ sends_of (events One view_one self.now.server.cp 0 n (take 1 (drop n self.now.server.items)))) }
+        ensures committed { outs.new.committed ≡ outs.old.committed }
+        ensures answers { outs.new.answers ≡ outs.old.answers }
+        ensures refusals { outs.new.refusals ≡ outs.old.refusals }
+    {
+        let event = Message::Event {
+            view: view_one(),
+            cp: self.log.cp(),
+            base: 0,
+            record: record_after(&self.log, n).copy(alloc)?,
+        };
+        outs.send(ServerId::One, event)
+    }
+}
+
+/// The record before which n stand in a log that dropped none.
+fn record_after(log: &ActiveLog, n: u64) -> &Record
+    requires base { log.now.base ≡ 0 }
+    requires within { n < length log.now.records }
+    ensures next { drop n (map entry_of log.now.records)
+        ≡ entry_of result.now ∷ drop (n + 1) (map entry_of log.now.records) }
+    ensures index { result.now.index ≡ n + 1 }
+{
+    let _ = log.top();
+    match log.item(n + 1) {
+        Some(item) => item,
+        None => unreachable!(),
     }
 }

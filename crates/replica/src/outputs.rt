@@ -1,6 +1,8 @@
 //! What a call of a server gives to others.
 
-ghost use Rattle.std.specs.Prelude.{◌≡◌, ◌++◌, ◌∷◌, [], OnOk};
+ghost use Rattle.std.specs.Prelude.{◌≡◌, ◌++◌, ◌∷◌, [], map, OnOk};
+ghost use Rattle.group_model.specs.Names.{place_of};
+ghost use Rattle.replica.specs.Said.{heard, sent};
 
 use harp_base::{Call, Peer, Reply, ServerId};
 use std::alloc::{AllocError, Global};
@@ -72,5 +74,50 @@ impl Outputs {
             refusals: Vec::new(alloc),
             sends: Vec::new(alloc),
         }
+    }
+
+    /// A message is sent.
+    pub(crate) fn send(&mut self, to: ServerId, message: Message) -> Result<(), AllocError>
+        ensures sends { OnOk result (map sent self.new.sends.items
+            ≡ map sent self.old.sends.items ++ (place_of to, heard message) ∷ []) }
+        ensures committed { self.new.committed ≡ self.old.committed }
+        ensures answers { self.new.answers ≡ self.old.answers }
+        ensures refusals { self.new.refusals ≡ self.old.refusals }
+    {
+        self.sends.push(Sent { to, message })?;
+        Ok(())
+    }
+
+    /// An ask is refused.
+    pub(crate) fn refuse(&mut self, asker: Asker, cause: Cause) -> Result<(), AllocError>
+        ensures refusals { OnOk result (self.new.refusals.items ≡ self.old.refusals.items
+            ++ (record { peer = asker.peer; client = asker.client; number = asker.number; cause = cause }) ∷ []) }
+        ensures committed { self.new.committed ≡ self.old.committed }
+        ensures answers { self.new.answers ≡ self.old.answers }
+        ensures sends { self.new.sends ≡ self.old.sends }
+    {
+        let Asker {
+            peer,
+            client,
+            number,
+        } = asker;
+        self.refusals.push(Refused {
+            peer,
+            client,
+            number,
+            cause,
+        })?;
+        Ok(())
+    }
+
+    /// An ask is answered.
+    pub(crate) fn answer(&mut self, answer: Answered) -> Result<(), AllocError>
+        ensures answers { OnOk result (self.new.answers.items ≡ self.old.answers.items ++ answer ∷ []) }
+        ensures committed { self.new.committed ≡ self.old.committed }
+        ensures refusals { self.new.refusals ≡ self.old.refusals }
+        ensures sends { self.new.sends ≡ self.old.sends }
+    {
+        self.answers.push(answer)?;
+        Ok(())
     }
 }

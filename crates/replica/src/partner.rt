@@ -14,7 +14,7 @@ ghost use Rattle.replica.specs.Heeding.{heeds_beat, heeds_event};
 ghost use Rattle.replica.specs.Said.{Makes};
 ghost use Rattle.replica.specs.Shown.{state_of};
 
-use crate::outputs::{Outputs, Sent};
+use crate::outputs::Outputs;
 use crate::view::{is_view_one, view_one};
 use event_record::{Moment, Record};
 use harp_base::{Held, Mode, Role, ServerId, StateLine, ViewNo};
@@ -115,16 +115,15 @@ impl Partner {
         let until = now + PROMISE;
         self.log.commit_to(self.log.cp().max(cp.min(top)));
         self.horizon = self.horizon.max(until);
-        outs.sends.push(Sent {
-            to: ServerId::Zero,
-            message: Message::Ack {
+        outs.send(
+            ServerId::Zero,
+            Message::Ack {
                 view: view_one(),
                 top,
                 lb: 0,
                 until: Moment::new(until),
             },
-        })?;
-        Ok(())
+        )
     }
 
     /// Whether an Event of the record with this index is heeded: it comes from the leader, in view 1.0, its base isn't
