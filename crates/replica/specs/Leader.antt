@@ -5,7 +5,9 @@ use Rattle.file_tree.specs.Book.{Entry, last_stamp, tree_after}
 use Rattle.file_tree.specs.Tree.{Tree}
 use Rattle.group_model.specs.Replicate.{answers}
 use Rattle.replica.specs.Clients.{AreLast}
-use Rattle.replica.specs.Said.{answered, answers_of, entered}
+use Rattle.group_model.specs.Moves.{Move}
+use Rattle.group_model.specs.Places.{Zero}
+use Rattle.replica.specs.Said.{Makes, answered, answers_of, entered, waits_of}
 use Rattle.replica.specs.Servers.{Leading}
 use Rattle.replica.specs.declared.clients.Kept.{Kept}
 use Rattle.replica.specs.declared.outputs.Answered.{Answered}
@@ -50,3 +52,8 @@ pub record IsUnderWay (top : ℕ) (old new : Leading) (before after : Outputs) :
   pub answers : after.answers.items ++ left_answers top new ≡ before.answers.items ++ left_answers top old
   pub refusals : after.refusals.items ≡ before.refusals.items
   pub sends : after.sends.items ≡ before.sends.items
+
+-- an ask of a peer made these moves, and who waits for what they append has come to those who wait
+pub record Asked (now : ℕ) (ms : List (Move Entry)) (peer : Peer) (old new : Leading) (before after : Outputs) : Type 0 where
+  pub makes : Makes Zero now ms (peer ∷ []) old.server new.server before after
+  pub waits : new.peers ≡ old.peers ++ waits_of peer ms
