@@ -1,3 +1,4 @@
 pub mod Asks
 pub mod ClientLemmas
+pub mod Commits
 pub mod Ticks

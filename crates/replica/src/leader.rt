@@ -1,6 +1,6 @@
 //! The leader of an open view.
 
-ghost use Rattle.std.specs.Prelude.{◌≡◌, ℕ, ◌+◌, ◌-◌, ◌||◌, ◌<◌, ◌≤◌, ◌^◌, ◌++◌, ◌∷◌, [], length, take, drop, map, nat_le, IfOk, OnOk, IsTrue, true, false, if◌then◌else◌};
+ghost use Rattle.std.specs.Prelude.{◌≡◌, ℕ, ◌+◌, ◌-◌, ◌||◌, ◌<◌, ◌≤◌, ◌^◌, ◌++◌, ◌∷◌, [], length, take, drop, map, max, nat_le, IfOk, OnOk, IsTrue, true, false, if◌then◌else◌};
 ghost use Rattle.event_record.specs.Record.{entry_of};
 ghost use Rattle.file_tree.specs.Book.{last_of, tree_after};
 ghost use Rattle.file_tree.specs.Calls.{outcome};
@@ -17,8 +17,8 @@ ghost use Rattle.group_model.specs.Tick.{events, tick};
 ghost use Rattle.harp_base.specs.Update.{is_update};
 ghost use Rattle.replica.specs.Clients.{kept};
 ghost use Rattle.replica.specs.Heeding.{heeds_ack};
-ghost use Rattle.replica.specs.Leader.{Asked, CommitsNext};
-ghost use Rattle.replica.specs.Said.{Makes, sends_of, sent};
+ghost use Rattle.replica.specs.Leader.{Asked, CommitsNext, IsUnderWay};
+ghost use Rattle.replica.specs.Said.{Makes, entered, sends_of, sent};
 ghost use Rattle.replica.specs.Shown.{state_of};
 
 use crate::clients::{Kept, no_updates};
@@ -413,6 +413,79 @@ impl Leader {
             Err(_) => unreachable!(),
         }
     }
+
+    /// Deals with an Ack that is heeded: its numbers are kept where they are greater, and each record up to its top is
+    /// committed, and answered to the peer that waits for it.
+    pub fn ack(
+        &mut self,
+        alloc: Global,
+        top: u64,
+        lb: u64,
+        until: Moment,
+        outs: &mut Outputs,
+    ) -> Result<(), AllocError>
+        requires { top ≤ length self.old.server.items }
+        ensures makes { OnOk result ((clock : ℕ) → Makes Zero clock (on_ack self.old.server view_one top lb until)
+            self.old.peers self.old.server self.new.server outs.old outs.new) }
+        ensures peers { OnOk result (self.new.peers ≡ drop (top - self.old.server.cp) self.old.peers) }
+    {
+        self.note(top, lb, until);
+        self.commit_to(alloc, top, outs)?;
+        Ok(())
+    }
+
+    /// Keeps what an Ack told.
+    fn note(&mut self, top: u64, lb: u64, until: Moment)
+        requires { top ≤ length self.old.server.items }
+        ensures server { let s = self.old.server in self.new.server ≡ record s {
+            told_top = max s.told_top top; told_lb = max s.told_lb lb; grant = max s.grant until } }
+        ensures peers { self.new.peers ≡ self.old.peers }
+    {
+        let _ = self.log.top();
+        self.told_top = self.told_top.max(top);
+        self.told_lb = self.told_lb.max(lb);
+        self.grant = self.grant.max(until.get());
+    }
+
+    /// Commits the records up to top, one after the other.
+    fn commit_to(
+        &mut self,
+        alloc: Global,
+        top: u64,
+        outs: &mut Outputs,
+    ) -> Result<(), AllocError>
+        requires { top ≤ length self.old.server.items }
+        ensures all { OnOk result (IsUnderWay top self.old self.new outs.old outs.new) }
+        ensures cp { OnOk result (self.new.server.cp ≡ max self.old.server.cp top) }
+    {
+        for _ in self.log.cp()..top {
+            self.commit_next(alloc, outs)?;
+        }
+        Ok(())
+    }
+
+    /// The next record is committed, and answered to the peer that waits for it.
+    fn commit_next(&mut self, alloc: Global, outs: &mut Outputs) -> Result<(), AllocError>
+        requires { self.old.server.cp < length self.old.server.items }
+        ensures { OnOk result (CommitsNext self.old self.new outs.old outs.new) }
+    {
+        let cp = self.log.cp();
+        let item = record_after(&self.log, cp);
+        let peer = first_of(&self.waiting);
+        outs.commit(entry_copy(alloc, item)?)?;
+        outs.answer(Answered {
+            peer,
+            client: item.client,
+            number: item.number,
+            index: cp + 1,
+            reply: item.reply.copy(alloc)?,
+            asked: None,
+        })?;
+        self.committed.apply(alloc, &item.call, item.stamp.get())?;
+        self.waiting.pop_front();
+        self.log.commit_to(cp + 1);
+        Ok(())
+    }
 }
 
 /// The record before which n stand in a log that dropped none.
@@ -437,4 +510,29 @@ fn reply_to_read(alloc: Global, tree: &mut PlainTree, call: &Call) -> Result<Rep
     ensures same { tree.new ≡ tree.old }
 {
     tree.apply(alloc, call, 0)
+}
+
+/// The first of those who wait.
+fn first_of(waiting: &VecDeque<Peer>) -> Peer
+    requires { 0 < length waiting.now.items }
+    ensures { waiting.now.items ≡ result ∷ drop 1 waiting.now.items }
+{
+    match waiting.front() {
+        Some(peer) => *peer,
+        None => unreachable!(),
+    }
+}
+
+/// The entry of the book for a record.
+fn entry_copy(alloc: Global, item: &Record) -> Result<BookEntry, AllocError>
+    ensures { IfOk result (λ entry. entered entry ≡ entry_of item.now) }
+{
+    Ok(BookEntry {
+        index: item.index.get(),
+        client: item.client,
+        number: item.number,
+        stamp: item.stamp.get(),
+        call: item.call.copy(alloc)?,
+        reply: item.reply.copy(alloc)?,
+    })
 }

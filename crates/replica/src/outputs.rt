@@ -2,7 +2,7 @@
 
 ghost use Rattle.std.specs.Prelude.{◌≡◌, ◌++◌, ◌∷◌, [], map, OnOk};
 ghost use Rattle.group_model.specs.Names.{place_of};
-ghost use Rattle.replica.specs.Said.{heard, sent};
+ghost use Rattle.replica.specs.Said.{entered, heard, sent};
 
 use harp_base::{Call, Peer, Reply, ServerId};
 use std::alloc::{AllocError, Global};
@@ -118,6 +118,18 @@ impl Outputs {
         ensures sends { self.new.sends ≡ self.old.sends }
     {
         self.answers.push(answer)?;
+        Ok(())
+    }
+
+    /// An update is committed.
+    pub(crate) fn commit(&mut self, entry: BookEntry) -> Result<(), AllocError>
+        ensures committed { OnOk result (map entered self.new.committed.items
+            ≡ map entered self.old.committed.items ++ entered entry ∷ []) }
+        ensures answers { self.new.answers ≡ self.old.answers }
+        ensures refusals { self.new.refusals ≡ self.old.refusals }
+        ensures sends { self.new.sends ≡ self.old.sends }
+    {
+        self.committed.push(entry)?;
         Ok(())
     }
 }
