@@ -1,8 +1,8 @@
 //! The leader of an open view.
 
-ghost use Rattle.std.specs.Prelude.{◌≡◌, ℕ, ◌+◌, ◌-◌, ◌||◌, ◌<◌, ◌≤◌, ◌^◌, ◌++◌, ◌∷◌, [], length, take, drop, map, max, nat_le, IfOk, OnOk, IsTrue, true, false, if◌then◌else◌};
+ghost use Rattle.std.specs.Prelude.{◌≡◌, ℕ, ◌+◌, ◌-◌, ◌||◌, ◌<◌, ◌≤◌, ◌^◌, ◌++◌, ◌∷◌, [], length, take, drop, map, max, nat_le, IfOk, OnErr, OnOk, IsTrue, true, false, if◌then◌else◌};
 ghost use Rattle.event_record.specs.Record.{entry_of};
-ghost use Rattle.file_tree.specs.Book.{last_of, tree_after};
+ghost use Rattle.file_tree.specs.Book.{last_of, tree_after, tree_next};
 ghost use Rattle.file_tree.specs.Calls.{outcome};
 ghost use Rattle.group_model.specs.Ask.{append, new_entry, read_entry, update_moves};
 ghost use Rattle.group_model.specs.FixedStart.{starting, view_one};
@@ -429,6 +429,7 @@ impl Leader {
             self.old.peers self.old.server self.new.server outs.old outs.new) }
         ensures peers { OnOk result (self.new.peers ≡ drop (top - self.old.server.cp) self.old.peers) }
     {
+        let _ = &self.log;
         self.note(top, lb, until);
         self.commit_to(alloc, top, outs)?;
         Ok(())
@@ -481,7 +482,7 @@ impl Leader {
             reply: item.reply.copy(alloc)?,
             asked: None,
         })?;
-        self.committed.apply(alloc, &item.call, item.stamp.get())?;
+        apply_record(alloc, &mut self.committed, item)?;
         self.waiting.pop_front();
         self.log.commit_to(cp + 1);
         Ok(())
@@ -535,4 +536,15 @@ fn entry_copy(alloc: Global, item: &Record) -> Result<BookEntry, AllocError>
         call: item.call.copy(alloc)?,
         reply: item.reply.copy(alloc)?,
     })
+}
+
+/// The tree takes a record's change.
+fn apply_record(alloc: Global, tree: &mut PlainTree, item: &Record) -> Result<(), AllocError>
+    ensures ok { OnOk result (tree.new ≡ tree_next tree.old (entry_of item.now)) }
+    ensures err { OnErr result (tree.new ≡ tree.old) }
+{
+    match tree.apply(alloc, &item.call, item.stamp.get()) {
+        Ok(_) => Ok(()),
+        Err(fault) => Err(fault),
+    }
 }
