@@ -1,0 +1,4 @@
+pub mod Asks
+pub mod ClientLemmas
+pub mod Commits
+pub mod Ticks

@@ -1,0 +1,6 @@
+pub mod Clients
+pub mod Heeding
+pub mod Leader
+pub mod Said
+pub mod Servers
+pub mod Shown
