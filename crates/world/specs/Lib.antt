@@ -1,4 +1,2 @@
-pub mod Answer
+pub mod Packets
 pub mod State
-pub mod Run
-pub mod World

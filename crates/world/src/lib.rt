@@ -1,10 +1,9 @@
-//! The world that a schedule is played in: one server with its tree, its clients and the book.
+//! The world that a schedule is played in: a group in the first open view, its packets, clocks and book.
 #![tactic(auto)]
 
-mod laws;
-mod state;
+mod packet;
+mod refusal;
 mod world;
 
-pub use laws::every_run;
-pub use state::Kept;
-pub use world::{Refusal, World};
+pub use refusal::Refusal;
+pub use world::World;

