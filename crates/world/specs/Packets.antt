@@ -1,10 +1,12 @@
 -- Packets on their way, as the machine has them.
-use Rattle.std.specs.Prelude.{◌≡◌, ℕ, ◌≤◌, Bool, true, List, length, take}
+use Rattle.std.specs.Prelude.{◌≡◌, ℕ, ◌≤◌, Bool, true, false, List, length, map, take}
 use Rattle.std.specs.List.{AllByRecursion}
 use Rattle.file_tree.specs.Book.{Entry}
 use Rattle.group_model.specs.Names.{place_of}
 use Rattle.group_model.specs.State.{Packet as Sent}
+use Rattle.harp_base.specs.declared.server.ServerId.{ServerId}
 use Rattle.replica.specs.Said.{heard}
+use Rattle.replica.specs.declared.outputs.Sent.{Sent as Posted}
 use Rattle.world.specs.declared.packet.Packet.{Packet}
 
 abbrev pub packet_of : Packet → Sent Entry
@@ -17,3 +19,10 @@ was_delivered p = p.delivered
 pub record AreSettled (settled : ℕ) (packets : List Packet) : Type 0 where
   pub within : settled ≤ length packets
   pub all : AllByRecursion (λ p. was_delivered p ≡ true) (take settled packets)
+
+-- a message that is on its way
+abbrev pub posted_one : ServerId → Posted → Packet
+posted_one from s = record { from = from; to = s.to; message = s.message; delivered = false }
+
+abbrev pub posted : ServerId → List Posted → List Packet
+posted from sends = map (posted_one from) sends

@@ -1,6 +1,7 @@
 //! The world that a schedule is played in: a group in the first open view, its packets, clocks and book.
 #![tactic(auto)]
 
+mod given;
 mod packet;
 mod refusal;
 mod world;
