@@ -5,6 +5,8 @@ mod clients;
 mod leader;
 mod outputs;
 mod partner;
+mod records;
+mod trees;
 mod view;
 
 pub use leader::Leader;

@@ -15,6 +15,7 @@ ghost use Rattle.replica.specs.Said.{Makes};
 ghost use Rattle.replica.specs.Shown.{state_of};
 
 use crate::outputs::Outputs;
+use crate::records::ROOM;
 use crate::view::{is_view_one, view_one};
 use event_record::{Moment, Record};
 use harp_base::{Held, Mode, Role, ServerId, StateLine, ViewNo};
@@ -22,9 +23,6 @@ use std::alloc::{AllocError, Global};
 use std::marker::Model;
 use volatile_log::ActiveLog;
 use wire::Message;
-
-/// How many records a log has room for.
-const ROOM: u64 = 16384;
 
 /// How long a promise runs, in milliseconds.
 const PROMISE: u64 = 2000;
