@@ -7,6 +7,7 @@ ghost use Rattle.group_model.specs.Places.{Zero, One};
 ghost use Rattle.group_model.specs.Tick.{events, tick};
 ghost use Rattle.replica.specs.Heeding.{heeds_ack};
 ghost use Rattle.replica.specs.Said.{Makes, sends_of, sent};
+ghost use Rattle.replica.specs.Servers.{IsLeading};
 ghost use Rattle.replica.specs.Shown.{state_of};
 
 mod acks;
@@ -58,14 +59,14 @@ impl Model for Leader {
     ghost Value = { Leading };
 
     ghost view = { λ l. record {
-        server = leading (map entry_of l.log.records) l.log.cp l.told_top l.told_lb l.grant;
-        peers = l.waiting.items;
+      server = leading (map entry_of l.log.records) l.log.cp l.told_top l.told_lb l.grant;
+      peers = l.waiting.items;
     } };
 
     ghost invariant = { λ l. (l.log.base ≡ 0) × (l.log.lb ≡ 0) × (l.log.ap ≡ 0)
         × (l.told_top ≤ length l.log.records) × (room ≤ deque_capacity l.waiting)
         × Stands (map entry_of l.log.records) l.log.cp l.committed l.appended l.clients.items l.last_stamp
-            l.waiting.items };
+        l.waiting.items };
 }
 
 impl Leader {
@@ -114,6 +115,7 @@ impl Leader {
         ensures from { IsTrue result → place_of from ≡ One }
         ensures view { IsTrue result → number_of_view view ≡ view_one }
         ensures top { IsTrue result → top ≤ length self.now.server.items }
+        ensures leads { IsLeading self.now.server }
     {
         match from {
             ServerId::Zero => false,
@@ -124,12 +126,14 @@ impl Leader {
 
     /// The partner gets a Beat, and then the records above its told top, at most 64, each as an Event.
     pub fn tick(&self, alloc: Global, now: u64, outs: &mut Outputs) -> Result<(), AllocError>
-        ensures { OnOk result (Makes Zero now (tick Zero now self.now.server) [] self.now.server self.now.server
+        ensures makes { OnOk result (Makes Zero now (tick Zero now self.now.server) [] self.now.server self.now.server
             outs.old outs.new) }
+        ensures leads { IsLeading self.now.server }
     {
+        let cp = self.log.cp();
         let beat = Message::Beat {
             view: view_one(),
-            cp: self.log.cp(),
+            cp,
             base: 0,
         };
         outs.send(ServerId::One, beat)?;
@@ -141,7 +145,7 @@ impl Leader {
     fn send_again(&self, alloc: Global, outs: &mut Outputs) -> Result<(), AllocError>
         ensures sends { OnOk result (map sent outs.new.sends.items ≡ map sent outs.old.sends.items
             ++ sends_of (events One view_one self.now.server.cp 0 self.now.server.told_top
-                (take 64 (drop self.now.server.told_top self.now.server.items)))) }
+            (take 64 (drop self.now.server.told_top self.now.server.items)))) }
         ensures committed { outs.new.committed ≡ outs.old.committed }
         ensures answers { outs.new.answers ≡ outs.old.answers }
         ensures refusals { outs.new.refusals ≡ outs.old.refusals }

@@ -12,7 +12,11 @@ use harp_base::{Call, Reply};
 use std::alloc::{AllocError, Global};
 
 /// The reply to a read, which leaves the tree as it is.
-pub(crate) fn reply_to_read(alloc: Global, tree: &mut PlainTree, call: &Call) -> Result<Reply, AllocError>
+pub(crate) fn reply_to_read(
+    alloc: Global,
+    tree: &mut PlainTree,
+    call: &Call,
+) -> Result<Reply, AllocError>
     requires { is_update call.now ≡ false }
     ensures reply { IfOk result (λ reply. reply ≡ (outcome tree.old call.now 0).0) }
     ensures same { tree.new ≡ tree.old }
@@ -21,7 +25,11 @@ pub(crate) fn reply_to_read(alloc: Global, tree: &mut PlainTree, call: &Call) ->
 }
 
 /// The tree takes a record's change.
-pub(crate) fn apply_record(alloc: Global, tree: &mut PlainTree, item: &Record) -> Result<(), AllocError>
+pub(crate) fn apply_record(
+    alloc: Global,
+    tree: &mut PlainTree,
+    item: &Record,
+) -> Result<(), AllocError>
     ensures ok { OnOk result (tree.new ≡ tree_next tree.old (entry_of item.now)) }
     ensures err { OnErr result (tree.new ≡ tree.old) }
 {

@@ -31,7 +31,10 @@ impl Leader {
         ensures makes { OnOk result ((clock : ℕ) → Makes Zero clock (on_ack self.old.server view_one top lb until)
             self.old.peers self.old.server self.new.server outs.old outs.new) }
         ensures peers { OnOk result (self.new.peers ≡ drop (top - self.old.server.cp) self.old.peers) }
+        // One peer waits for each record above CP, so each record that is committed is answered.
+        ensures waiting { self.old.server.cp + length self.old.peers ≡ length self.old.server.items }
     {
+        // The contract speaks of the whole server, so its model is opened here.
         let _ = &self.log;
         self.note(top, lb, until);
         self.commit_to(alloc, top, outs)?;
@@ -42,7 +45,10 @@ impl Leader {
     fn note(&mut self, top: u64, lb: u64, until: Moment)
         requires { top ≤ length self.old.server.items }
         ensures server { let s = self.old.server in self.new.server ≡ record s {
-            told_top = max s.told_top top; told_lb = max s.told_lb lb; grant = max s.grant until } }
+          told_top = max s.told_top top;
+          told_lb = max s.told_lb lb;
+          grant = max s.grant until;
+        } }
         ensures peers { self.new.peers ≡ self.old.peers }
     {
         let _ = self.log.top();
@@ -52,12 +58,7 @@ impl Leader {
     }
 
     /// Commits the records up to top, one after the other.
-    fn commit_to(
-        &mut self,
-        alloc: Global,
-        top: u64,
-        outs: &mut Outputs,
-    ) -> Result<(), AllocError>
+    fn commit_to(&mut self, alloc: Global, top: u64, outs: &mut Outputs) -> Result<(), AllocError>
         requires { top ≤ length self.old.server.items }
         ensures all { OnOk result (IsUnderWay top self.old self.new outs.old outs.new) }
         ensures cp { OnOk result (self.new.server.cp ≡ max self.old.server.cp top) }
@@ -75,16 +76,16 @@ impl Leader {
     {
         let cp = self.log.cp();
         let item = record_after(&self.log, cp);
-        let peer = first_of(&self.waiting);
-        outs.commit(entry_copy(alloc, item)?)?;
-        outs.answer(Answered {
-            peer,
+        let answer = Answered {
+            peer: first_of(&self.waiting),
             client: item.client,
             number: item.number,
             index: cp + 1,
             reply: item.reply.copy(alloc)?,
             asked: None,
-        })?;
+        };
+        outs.commit(entry_copy(alloc, item)?)?;
+        outs.answer(answer)?;
         apply_record(alloc, &mut self.committed, item)?;
         self.waiting.pop_front();
         self.log.commit_to(cp + 1);

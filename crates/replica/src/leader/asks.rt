@@ -12,6 +12,7 @@ ghost use Rattle.group_model.specs.State.{Event, top};
 ghost use Rattle.harp_base.specs.Update.{is_update};
 ghost use Rattle.replica.specs.Clients.{kept};
 ghost use Rattle.replica.specs.Leader.{Asked};
+ghost use Rattle.replica.specs.Servers.{IsLeading};
 
 use crate::clients::Kept;
 use crate::leader::Leader;
@@ -42,16 +43,18 @@ impl Leader {
         outs: &mut Outputs,
     ) -> Result<(), AllocError>
         requires { now < 2 ^ 62 }
-        ensures { OnOk result (Asked now
+        ensures asked { OnOk result (Asked now
             (on_free_ask Zero now self.old.server.items self.old.server client number call.now) peer
             self.old self.new outs.old outs.new) }
+        ensures leads { IsLeading self.old.server }
     {
+        // The contract speaks of the whole server, so its model is opened here.
+        let _ = &self.log;
         let asker = Asker {
             peer,
             client,
             number,
         };
-        let _ = &self.log;
         if client > 4095 {
             return outs.refuse(asker, Cause::BadClient);
         }
@@ -103,7 +106,7 @@ impl Leader {
         requires now { now < 2 ^ 62 }
         ensures { let s = self.old.server in OnOk result (Asked now
             (update_moves s (new_entry now s.items asker.client asker.number call.now)
-                (last_of asker.client s.items)) asker.peer self.old self.new outs.old outs.new) }
+            (last_of asker.client s.items)) asker.peer self.old self.new outs.old outs.new) }
     {
         match &self.clients[asker.client as usize] {
             None => self.append(alloc, asker, call, now, outs),
@@ -124,8 +127,13 @@ impl Leader {
     ) -> Result<(), AllocError>
         ensures answers { OnOk result (outs.new.answers.items ≡ outs.old.answers.items
             ++ (if nat_le kept.now.index self.now.server.cp then (record {
-                peer = asker.peer; client = asker.client; number = asker.number; index = kept.now.index;
-                reply = kept.now.reply; asked = None }) ∷ [] else [])) }
+              peer = asker.peer;
+              client = asker.client;
+              number = asker.number;
+              index = kept.now.index;
+              reply = kept.now.reply;
+              asked = None;
+            }) ∷ [] else [])) }
         ensures committed { outs.new.committed ≡ outs.old.committed }
         ensures refusals { outs.new.refusals ≡ outs.old.refusals }
         ensures sends { outs.new.sends ≡ outs.old.sends }

@@ -1,4 +1,3 @@
-use Rattle.std.proofs.Common.{rules, sym}
 use Rattle.replica.proofs.Ticks.{record_next}
 use Rattle.replica.proofs.records.record_after.Goals as goal
 
