@@ -1,6 +1,6 @@
 -- The moves of an ask at an open leader.
-use Rattle.std.proofs.Common.{◌≡◌, ℕ, ◌+◌, ◌<◌, ◌≤◌, Bool, true, false, List, [], ◌∷◌, ◌++◌, Option, Some, None, refl, sym, ap, ◌∙◌, arith, subst, inl, inr, fold}
-use Rattle.std.specs.Prelude.{◌==◌, Err, IfOk, IfSome, Ok, OnErr, Result, if◌then◌else◌, nat_le, map}
+use Rattle.std.proofs.Common.{◌≡◌, ℕ, ◌≤◌, Bool, true, false, List, [], ◌∷◌, ◌++◌, Option, Some, None, refl, sym, ap, ◌∙◌, subst, inl, inr, fold}
+use Rattle.std.specs.Prelude.{Err, IfOk, IfSome, Ok, OnErr, Result, if◌then◌else◌, nat_le, map}
 use Rattle.std.proofs.lemmas.Bool.{cases_Bool, eq-eqb, le-ltb}
 use Rattle.std.proofs.lemmas.Bool.Decides.{eqb_tells}
 use Rattle.std.proofs.lemmas.List.{append-nil}
@@ -34,7 +34,7 @@ pub asks_update : (now client number cp t lb grant : ℕ) (items : List Entry) (
 unfolding all_of
 asks_update now client number cp t lb grant items call s is update few =
     let P : Server Entry → Type 0 = λ s. on_free_ask Zero now s.items s client number call
-        ≡ update_moves s (new_entry now s.items client number call) (last_of client s.items) in
+    ≡ update_moves s (new_entry now s.items client number call) (last_of client s.items) in
     subst P is (rw (update, le-ltb 4095 client few) refl)
 
 pub asks_read : (now client number cp t lb grant : ℕ) (items : List Entry) (call : Call) (s : Server Entry) → leading items cp t lb grant ≡ s
@@ -43,7 +43,7 @@ pub asks_read : (now client number cp t lb grant : ℕ) (items : List Entry) (ca
 unfolding all_of
 asks_read now client number cp t lb grant items call s is update few =
     let P : Server Entry → Type 0 = λ s. on_free_ask Zero now s.items s client number call
-        ≡ Reading s.cp (read_entry s.cp s.items client number call) ∷ [] in
+    ≡ Reading s.cp (read_entry s.cp s.items client number call) ∷ [] in
     subst P is (rw (update, le-ltb 4095 client few) refl)
 
 -- ---- repeats
@@ -140,17 +140,17 @@ repeated now client ne peer k l before after is number answers committed refusal
     let index : k.index ≡ e.index = ap (λ (k : Kept). k.index) (sym is.kept_is) in
     let reply : k.reply ≡ e.reply = ap (λ (k : Kept). k.reply) (sym is.kept_is) in
     let moves : update_moves l.server ne (last_of client l.server.items)
-        ≡ (if nat_le e.index l.server.cp then Saying (Answers e.index e) ∷ [] else []) =
-        ap (update_moves l.server ne) is.last ∙ rw (eq-eqb ne.number e.number same_number) refl in
+    ≡ (if nat_le e.index l.server.cp then Saying (Answers e.index e) ∷ [] else []) =
+    ap (update_moves l.server ne) is.last ∙ rw (eq-eqb ne.number e.number same_number) refl in
     let shown : (if nat_le k.index l.server.cp then (record {
-          peer = peer;
-          client = client;
-          number = ne.number;
-          index = k.index;
-          reply = k.reply;
-          asked = None;
-        }) ∷ [] else []) ≡ answer_at (nat_le e.index l.server.cp) peer e =
-        rw (index, reply, same_number, sym is.client_is) refl in
+      peer = peer;
+      client = client;
+      number = ne.number;
+      index = k.index;
+      reply = k.reply;
+      asked = None;
+    }) ∷ [] else []) ≡ answer_at (nat_le e.index l.server.cp) peer e =
+    rw (index, reply, same_number, sym is.client_is) refl in
     subst (λ ms. Asked now ms peer l l before after) (sym moves)
     (said_at (nat_le e.index l.server.cp) now peer e l before after (answers ∙ ap (λ xs. before.answers.items ++ xs) shown)
     committed refusals sends)

@@ -1,6 +1,6 @@
 -- Commits, one after the other.
-use Rattle.std.proofs.Common.{◌≡◌, ℕ, zero, suc, ◌+◌, ◌-◌, ◌<◌, ◌≤◌, List, [], ◌∷◌, ◌++◌, length, take, drop, refl, sym, ap, ◌∙◌, arith, subst, append_assoc, true, false, inl, inr, Option, None}
-use Rattle.std.specs.Prelude.{map, max, nat_lt, if◌then◌else◌}
+use Rattle.std.proofs.Common.{◌≡◌, ℕ, zero, suc, ◌+◌, ◌-◌, ◌<◌, ◌≤◌, List, [], ◌∷◌, ◌++◌, length, take, drop, refl, sym, ap, ◌∙◌, arith, subst, append_assoc, inl, inr, Option, None}
+use Rattle.std.specs.Prelude.{map, max}
 use Rattle.std.specs.List.{flat_map}
 use Rattle.std.proofs.lemmas.Bool.{cases_lt, le-ltb, lt-ltb}
 use Rattle.std.proofs.lemmas.List.{append-nil}
@@ -9,12 +9,12 @@ use Rattle.file_tree.specs.Book.{Entry, tree_after, tree_next}
 use Rattle.file_tree.specs.Tree.{Tree}
 use Rattle.file_tree.proofs.BookLaws.{tree_push}
 use Rattle.group_model.specs.FixedStart.{view_one}
-use Rattle.group_model.specs.Moves.{Committing, Move, Noting, acts}
+use Rattle.group_model.specs.Moves.{Committing, Noting, acts}
 use Rattle.group_model.specs.Places.{Zero, Place, all_of}
 use Rattle.group_model.specs.Replicate.{answers, on_ack}
 use Rattle.group_model.specs.State.{Server}
 use Rattle.replica.specs.Leader.{CommitsNext, IsUnderWay, Stands, left, left_answers}
-use Rattle.replica.specs.Said.{Makes, answered, answered_by, answers_of, committed_of, entered, in_turn, refused, refused_by, sent, sent_by}
+use Rattle.replica.specs.Said.{Makes, answered, answers_of, committed_of, entered, in_turn, refused, refused_by, sent, sent_by}
 use Rattle.replica.specs.Servers.{Leading, leading}
 use Rattle.replica.specs.declared.clients.Kept.{Kept}
 use Rattle.replica.specs.declared.outputs.Outputs.{Outputs}
@@ -47,7 +47,7 @@ left_split : (top : ℕ) (mid new : Leading) (before after : Outputs) → mid.se
 left_split top mid new before after below h =
     let more : top - mid.server.cp ≡ suc (top - (mid.server.cp + 1)) = omega arith in
     ap (λ k. take k (drop mid.server.cp mid.server.items)) more ∙ ap (λ ys. take (suc (top - (mid.server.cp + 1))) ys) h.next
-        ∙ ap (λ (s : Server Entry). h.entry ∷ take (top - s.cp) (drop s.cp s.items)) (sym h.state)
+    ∙ ap (λ (s : Server Entry). h.entry ∷ take (top - s.cp) (drop s.cp s.items)) (sym h.state)
 
 answers_split : (top : ℕ) (mid new : Leading) (before after : Outputs) → mid.server.cp < top → (h : CommitsNext mid new before after)
     → left_answers top mid
@@ -55,28 +55,28 @@ answers_split : (top : ℕ) (mid new : Leading) (before after : Outputs) → mid
 answers_split top mid new before after below h =
     let first = answered h.peer (record { index = mid.server.cp + 1; entry = h.entry; asked = None }) in
     ap (λ es. answers_of (answers mid.server.cp es) mid.peers) (left_split top mid new before after below h)
-        ∙ ap (λ ps. answers_of (answers mid.server.cp (h.entry ∷ left top new)) ps) h.peers
-        ∙ ap (λ n. first ∷ answers_of (answers n (left top new)) new.peers) (sym (ap (λ (s : Server Entry). s.cp) h.state))
+    ∙ ap (λ ps. answers_of (answers mid.server.cp (h.entry ∷ left top new)) ps) h.peers
+    ∙ ap (λ n. first ∷ answers_of (answers n (left top new)) new.peers) (sym (ap (λ (s : Server Entry). s.cp) h.state))
 
 peers_split : (top : ℕ) (mid new : Leading) (before after : Outputs) → mid.server.cp < top → (h : CommitsNext mid new before after)
     → drop (top - mid.server.cp) mid.peers ≡ drop (top - new.server.cp) new.peers
 peers_split top mid new before after below h =
     let more : top - mid.server.cp ≡ suc (top - (mid.server.cp + 1)) = omega arith in
     ap (λ k. drop k mid.peers) more ∙ ap (λ ps. drop (suc (top - (mid.server.cp + 1))) ps) h.peers
-        ∙ ap (λ (s : Server Entry). drop (top - s.cp) new.peers) (sym h.state)
+    ∙ ap (λ (s : Server Entry). drop (top - s.cp) new.peers) (sym h.state)
 
 -- one more commit on the way
 pub goes_on : (top : ℕ) (old mid new : Leading) (first before after : Outputs) → mid.server.cp < top → IsUnderWay top old mid first before
     → CommitsNext mid new before after → IsUnderWay top old new first after
 goes_on top old mid new first before after below way h = record {
   state = h.state ∙ ap (λ (s : Server Entry). record s { cp = mid.server.cp + 1 }) way.state
-    ∙ ap (λ n. record (old.server) { cp = n }) (sym (ap (λ (s : Server Entry). s.cp) h.state));
+      ∙ ap (λ n. record (old.server) { cp = n }) (sym (ap (λ (s : Server Entry). s.cp) h.state));
   peers = sym (peers_split top mid new before after below h) ∙ way.peers;
   committed = ap (λ es. es ++ left top new) h.committed ∙ append_assoc (map entered before.committed.items) (h.entry ∷ []) (left top new)
-    ∙ ap (λ es. map entered before.committed.items ++ es) (sym (left_split top mid new before after below h)) ∙ way.committed;
+      ∙ ap (λ es. map entered before.committed.items ++ es) (sym (left_split top mid new before after below h)) ∙ way.committed;
   answers = ap (λ said. said ++ left_answers top new) h.answers
-    ∙ append_assoc before.answers.items (answered h.peer (record { index = mid.server.cp + 1; entry = h.entry; asked = None }) ∷ []) (left_answers top new)
-    ∙ ap (λ said. before.answers.items ++ said) (sym (answers_split top mid new before after below h)) ∙ way.answers;
+      ∙ append_assoc before.answers.items (answered h.peer (record { index = mid.server.cp + 1; entry = h.entry; asked = None }) ∷ []) (left_answers top new)
+      ∙ ap (λ said. before.answers.items ++ said) (sym (answers_split top mid new before after below h)) ∙ way.answers;
   refusals = h.refusals ∙ way.refusals;
   sends = h.sends ∙ way.sends;
 }
@@ -151,13 +151,13 @@ committing clock t lb until l new before after flat above way end =
     let plain : Makes Zero clock (Noting t lb until ∷ Committing t ∷ answers l.server.cp es) l.peers l.server new.server before after = record {
       state = way.state ∙ ap (λ n. record (mid.server) { cp = n }) at ∙ sym (acts-answers Zero clock l.server.cp s es);
       committed = sym (append-nil (map entered after.committed.items)) ∙ ap (λ xs. map entered after.committed.items ++ xs) (sym (left_none t new over))
-        ∙ way.committed ∙ ap (λ xs. map entered before.committed.items ++ xs)
-        (same ∙ sym (append-nil items) ∙ ap (λ xs. items ++ xs) (sym (committed-answers Zero clock l.server.cp s es)));
+          ∙ way.committed ∙ ap (λ xs. map entered before.committed.items ++ xs)
+          (same ∙ sym (append-nil items) ∙ ap (λ xs. items ++ xs) (sym (committed-answers Zero clock l.server.cp s es)));
       answers = sym (append-nil after.answers.items) ∙ ap (λ xs. after.answers.items ++ xs) (sym (left_answers_none t new over)) ∙ way.answers;
       refusals = way.refusals ∙ sym (append-nil before.refusals.items)
-        ∙ ap (λ xs. before.refusals.items ++ in_turn refused xs l.peers) (sym (refused-answers l.server.cp es));
+          ∙ ap (λ xs. before.refusals.items ++ in_turn refused xs l.peers) (sym (refused-answers l.server.cp es));
       sends = ap (map sent) way.sends ∙ sym (append-nil (map sent before.sends.items))
-        ∙ ap (λ xs. map sent before.sends.items ++ xs) (sym (sent-answers l.server.cp es));
+          ∙ ap (λ xs. map sent before.sends.items ++ xs) (sym (sent-answers l.server.cp es));
     } in
     subst (λ xs. Makes Zero clock (Noting t lb until ∷ Committing t ∷ answers l.server.cp xs) l.peers l.server new.server before after) same plain
 
@@ -172,9 +172,9 @@ noting clock t lb until l new before after above way end =
     record {
       state = way.state ∙ ap (λ n. record (mid.server) { cp = n }) at;
       committed = sym (append-nil (map entered after.committed.items)) ∙ ap (λ xs. map entered after.committed.items ++ xs) (sym (left_none t new over))
-        ∙ way.committed ∙ ap (λ xs. map entered before.committed.items ++ xs) (left_none t mid above);
+          ∙ way.committed ∙ ap (λ xs. map entered before.committed.items ++ xs) (left_none t mid above);
       answers = sym (append-nil after.answers.items) ∙ ap (λ xs. after.answers.items ++ xs) (sym (left_answers_none t new over)) ∙ way.answers
-        ∙ ap (λ xs. before.answers.items ++ xs) (left_answers_none t mid above);
+          ∙ ap (λ xs. before.answers.items ++ xs) (left_answers_none t mid above);
       refusals = way.refusals ∙ sym (append-nil before.refusals.items);
       sends = ap (map sent) way.sends ∙ sym (append-nil (map sent before.sends.items));
     }
@@ -188,7 +188,7 @@ unfolding all_of
 acked clock t lb until cp told tlb grant items peers l new before after is =
     let first : Leading = record { server = leading items cp told tlb grant; peers = peers } in
     let P : Leading → Type 0 = λ l. IsUnderWay t (noted t lb until l) new before after → new.server.cp ≡ max l.server.cp t
-        → Makes Zero clock (on_ack l.server view_one t lb until) l.peers l.server new.server before after in
+    → Makes Zero clock (on_ack l.server view_one t lb until) l.peers l.server new.server before after in
     subst P is (λ way end. elim (cases_lt cp t) [
       | inl below ↦ rw (lt-ltb cp t below) (committing clock t lb until first new before after refl below way end)
       | inr above ↦ rw (le-ltb cp t above) (noting clock t lb until first new before after above way end)

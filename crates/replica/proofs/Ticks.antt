@@ -1,5 +1,5 @@
 -- The moves of a tick of an open leader.
-use Rattle.std.proofs.Common.{◌≡◌, ℕ, zero, suc, ◌+◌, ◌-◌, ◌<◌, ◌≤◌, List, [], ◌∷◌, ◌++◌, length, take, drop, refl, sym, ap, ◌∙◌, arith, subst, append_assoc, Some, true, inl, inr}
+use Rattle.std.proofs.Common.{◌≡◌, ℕ, zero, suc, ◌+◌, ◌-◌, ◌<◌, List, [], ◌∷◌, ◌++◌, length, take, drop, refl, sym, ap, ◌∙◌, arith, subst, append_assoc, Some, true, inl, inr}
 use Rattle.std.specs.Prelude.{map, max, min, nat_lt, slice_get}
 use Rattle.std.specs.List.{flat_map}
 use Rattle.std.proofs.lemmas.Bool.{cases_lt, lt-ltb}
@@ -89,9 +89,9 @@ tick_is clock cp t lb grant items =
     let from : max 0 t - 0 ≡ t = omega arith in
     let F : Server Entry → List (Move Entry) = λ s'. beats s ++ (duties Zero s' s'.duty ++ again Zero s') in
     let plain : tick Zero clock s ≡ beats s =
-        ap F (acts-events Zero One clock view_one cp 0 (max 0 t) s (take 64 (drop (max 0 t - 0) items))) ∙ append-nil (beats s) in
+    ap F (acts-events Zero One clock view_one cp 0 (max 0 t) s (take 64 (drop (max 0 t - 0) items))) ∙ append-nil (beats s) in
     plain ∙ ap (λ n. Sending One (Beat view_one cp 0) ∷ events One view_one cp 0 n (take 64 (drop (max 0 t - 0) items))) told
-        ∙ ap (λ n. Sending One (Beat view_one cp 0) ∷ events One view_one cp 0 t (take 64 (drop n items))) from
+    ∙ ap (λ n. Sending One (Beat view_one cp 0) ∷ events One view_one cp 0 t (take 64 (drop n items))) from
 
 made : (clock cp t lb grant : ℕ) (items : List Entry) (es : List Entry) (before after : Outputs)
     → after.committed ≡ before.committed → after.answers ≡ before.answers → after.refusals ≡ before.refusals
@@ -127,8 +127,8 @@ pub ticked : (clock cp t lb grant : ℕ) (items : List Entry) (s : Server Entry)
     → Makes Zero clock (tick Zero clock s) [] s s before after
 ticked clock cp t lb grant items s before mid after is committed answers refusals beat again =
     let P : Server Entry → Type 0 = λ s. map sent after.sends.items ≡ map sent mid.sends.items
-        ++ sends_of (events One view_one s.cp 0 s.told_top (take 64 (drop s.told_top s.items)))
-        → Makes Zero clock (tick Zero clock s) [] s s before after in
+    ++ sends_of (events One view_one s.cp 0 s.told_top (take 64 (drop s.told_top s.items)))
+    → Makes Zero clock (tick Zero clock s) [] s s before after in
     let rest = sends_of (events One view_one cp 0 t (take 64 (drop t items))) in
     subst P (sym is) (λ again. ticked-plain clock cp t lb grant items before after committed answers refusals
     (again ∙ ap (λ xs. xs ++ rest) beat ∙ append_assoc (map sent before.sends.items) ((One, Beat view_one cp 0) ∷ []) rest)) again

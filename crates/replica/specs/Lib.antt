@@ -4,3 +4,4 @@ pub mod Leader
 pub mod Said
 pub mod Servers
 pub mod Shown
+pub mod Steps

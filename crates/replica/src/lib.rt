@@ -2,11 +2,15 @@
 #![tactic(auto)]
 
 mod clients;
+mod laws;
 mod leader;
 mod outputs;
 mod partner;
+mod records;
+mod trees;
 mod view;
 
+pub use laws::steps_are_the_groups;
 pub use leader::Leader;
 pub use outputs::{Answered, Outputs, Refused, Sent};
 pub use partner::Partner;

@@ -1,10 +1,11 @@
 //! The partner of an open view.
 
-ghost use Rattle.std.specs.Prelude.{◌≡◌, ℕ, ◌+◌, ◌<◌, ◌≤◌, ◌^◌, [], length, IfOk, OnOk, IsTrue};
+ghost use Rattle.std.specs.Prelude.{◌≡◌, ℕ, ◌+◌, ◌<◌, ◌≤◌, ◌^◌, ◌∷◌, [], length, IfOk, OnOk, IsTrue};
 ghost use Rattle.event_record.specs.Record.{entry_of};
 ghost use Rattle.file_tree.specs.Book.{Entry};
 ghost use Rattle.group_model.specs.Effects.{taken};
 ghost use Rattle.group_model.specs.FixedStart.{starting, view_one};
+ghost use Rattle.group_model.specs.FreeReads.{on_free_ask};
 ghost use Rattle.group_model.specs.Limits.{room};
 ghost use Rattle.group_model.specs.Names.{number_of_view, place_of};
 ghost use Rattle.group_model.specs.Misfits.{room_tests};
@@ -12,19 +13,19 @@ ghost use Rattle.group_model.specs.Places.{Zero, One, all_of};
 ghost use Rattle.group_model.specs.Replicate.{on_event};
 ghost use Rattle.replica.specs.Heeding.{heeds_beat, heeds_event};
 ghost use Rattle.replica.specs.Said.{Makes};
+ghost use Rattle.replica.specs.Servers.{IsFollowing};
 ghost use Rattle.replica.specs.Shown.{state_of};
 
-use crate::outputs::Outputs;
+use crate::outputs::{Asker, Outputs};
+use crate::records::ROOM;
 use crate::view::{is_view_one, view_one};
 use event_record::{Moment, Record};
-use harp_base::{Held, Mode, Role, ServerId, StateLine, ViewNo};
+use harp_base::{Call, Held, Mode, Peer, Role, ServerId, StateLine, ViewNo};
 use std::alloc::{AllocError, Global};
 use std::marker::Model;
+use trace_lines::Cause;
 use volatile_log::ActiveLog;
 use wire::Message;
-
-/// How many records a log has room for.
-const ROOM: u64 = 16384;
 
 /// How long a promise runs, in milliseconds.
 const PROMISE: u64 = 2000;
@@ -81,6 +82,38 @@ impl Partner {
         }
     }
 
+    /// Refuses a client's call: its client's number is above 4095, or else this server doesn't lead its view.
+    #[tactic(auto, unfolding(group_model::specs::Places::all_of))]
+    pub fn ask(
+        &self,
+        peer: Peer,
+        client: u32,
+        number: u64,
+        call: &Call,
+        outs: &mut Outputs,
+    ) -> Result<(), AllocError>
+        ensures makes { OnOk result ((clock : ℕ) → Makes One clock
+            (on_free_ask One clock self.now.items self.now client number call.now) (peer ∷ [])
+            self.now self.now outs.old outs.new) }
+        ensures follows { IsFollowing self.now }
+    {
+        // The contract speaks of the whole server, so its model is opened here.
+        let _ = &self.log;
+        let asker = Asker {
+            peer,
+            client,
+            number,
+        };
+        let hint = Some(ServerId::Zero);
+        let cause = if client > 4095 {
+            Cause::BadClient
+        } else {
+            Cause::NotLeader { hint }
+        };
+        outs.refuse(asker, cause)?;
+        Ok(())
+    }
+
     /// Whether a Beat is heeded: it comes from the leader, in view 1.0, and its base isn't above LB.
     #[tactic(auto, unfolding(group_model::specs::Places::all_of))]
     pub fn heeds_beat(&self, from: ServerId, view: ViewNo, base: u64) -> bool
@@ -88,6 +121,7 @@ impl Partner {
         ensures from { IsTrue result → place_of from ≡ Zero }
         ensures view { IsTrue result → number_of_view view ≡ view_one }
         ensures base { IsTrue result → base ≡ 0 }
+        ensures follows { IsFollowing self.now }
     {
         match from {
             ServerId::Zero => is_view_one(view) && base <= self.log.lb(),
@@ -135,6 +169,7 @@ impl Partner {
         ensures from { IsTrue result → place_of from ≡ Zero }
         ensures view { IsTrue result → number_of_view view ≡ view_one }
         ensures base { IsTrue result → base ≡ 0 }
+        ensures follows { IsFollowing self.now }
         ensures fits { (e : Entry) → IsTrue result → length (taken self.now index e) ≤ room }
     {
         match from {
@@ -187,6 +222,7 @@ impl Partner {
         ensures { OnOk result (Makes One now (on_event One now self.old Zero view_one cp base
             (taken self.old item.index (entry_of item))) [] self.old self.new outs.old outs.new) }
     {
+        // The contract speaks of the whole server, so its model is opened here.
         let _ = &self.log;
         self.take(item);
         self.beat(cp, base, now, outs)

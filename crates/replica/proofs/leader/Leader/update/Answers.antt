@@ -1,5 +1,5 @@
-use Rattle.std.proofs.Common.{◌≡◌, ◌∙◌, ap, arith, subst, sym, get_or, Option, None, length}
-use Rattle.std.specs.Prelude.{nat_le, map}
+use Rattle.std.proofs.Common.{◌≡◌, ◌∙◌, ap, arith, sym, Option, None}
+use Rattle.std.specs.Prelude.{map}
 use Rattle.std.proofs.lemmas.List.{get_or_read}
 use Rattle.std.proofs.lemmas.Result.{on_ok_weaker}
 use Rattle.event_record.specs.Record.{entry_of}

@@ -1,5 +1,5 @@
 use Rattle.replica.proofs.Asks.{read_same}
-use Rattle.replica.proofs.leader.reply_to_read.Goals as goal
+use Rattle.replica.proofs.trees.reply_to_read.Goals as goal
 
 pub returns-clause-same : goal.returns-clause-same
 returns-clause-same c =

@@ -1,6 +1,5 @@
-use Rattle.std.proofs.Common.{rules, sym}
 use Rattle.replica.proofs.Ticks.{record_next}
-use Rattle.replica.proofs.leader.record_after.Goals as goal
+use Rattle.replica.proofs.records.record_after.Goals as goal
 
 pub returns-clause-next : goal.returns-clause-next
 returns-clause-next c = record_next c.args.log.now c.args.n c.in-Some.item.now c.requires.base c.in-Some.ensures.value

@@ -1,0 +1,15 @@
+//! That the rules of the two servers are the group's.
+
+ghost use Rattle.replica.specs.Steps.{LeaderHearsAck, LeaderIsAsked, LeaderTicks, PartnerHearsBeat, PartnerHearsEvent, PartnerIsAsked, PartnerTicks};
+
+/// The whole step that the group's machine makes at the leader and at the partner, for each input that they meet: it is
+/// what their calls are said to make, with the tests before them.
+pub fn steps_are_the_groups()
+    ensures leader_ticks { LeaderTicks }
+    ensures leader_is_asked { LeaderIsAsked }
+    ensures leader_hears_ack { LeaderHearsAck }
+    ensures partner_ticks { PartnerTicks }
+    ensures partner_is_asked { PartnerIsAsked }
+    ensures partner_hears_event { PartnerHearsEvent }
+    ensures partner_hears_beat { PartnerHearsBeat }
+{}
