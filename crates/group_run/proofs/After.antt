@@ -119,7 +119,7 @@ pub kind_early : (g : Group Entry) → Early g → (q : Place) (i : Input) (ms :
 kind_early g h q i _ quiet = h
 kind_early g h q i _ (refuses client number cause) = said_early g h q (Saying (Refuses client number cause)) refl refl
 kind_early g h q i _ (repeats index e client number call z is u) = said_early g h q (Saying (Answers index e)) refl refl
-kind_early g h q i _ (reads e z is u) = said_early g h q (Reading (g.server q).cp e) refl refl
+kind_early g h q i _ (reads e z is u r) = said_early g h q (Reading (g.server q).cp e) refl refl
 kind_early g h q i _ (sends ms z is a) = subst (λ q. Early (moved_by g q (g.server q) ms)) (sym z)
     (leader_early g h ms (subst IsLeading (sym (sends_keep (g.clock Zero) ms (g.server Zero) a)) h.leads) (sent_early g.packets ms h.packets a))
 kind_early g h q i _ (appends e index z is u) = subst (λ q. Early (moved_by g q (g.server q) (Appending e ∷ Sending One (Event view_one index (g.server q).cp 0 e) ∷ []))) (sym z)

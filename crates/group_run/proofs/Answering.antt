@@ -108,7 +108,7 @@ kind_answers q s i _ (repeats index e client number call z is u) = updating (Say
       let one : call ≡ k = cc in
       subst (λ k. is_update k ≡ true) one u;
 })
-kind_answers q s i _ (reads e z is u) = reading s.cp e is u
+kind_answers q s i _ (reads e z is u r) = reading s.cp e is u
 kind_answers q s i _ (appends e index z is u) = silent q i (Appending e ∷ Sending One (Event view_one index s.cp 0 e) ∷ []) (tt, (tt, tt))
 kind_answers q s i ms (sends _ z is a) = silent q i ms (sends_silent ms a)
 kind_answers q s i ms (heeds items cp t until z m is) = silent q i ms (tt, (tt, tt))

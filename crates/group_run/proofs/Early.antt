@@ -85,7 +85,7 @@ pub data Kind (q : Place) (s : Server Entry) (i : Input) : List (Move Entry) →
   refuses : (client number : ℕ) (cause : Cause) → Kind q s i (Saying (Refuses client number cause) ∷ [])
   repeats : (index : ℕ) (e : Entry) (client number : ℕ) (call : Call) → q ≡ Zero → i ≡ Does (Ask client number call) → is_update call ≡ true
       → Kind q s i (Saying (Answers index e) ∷ [])
-  reads : (e : Entry) → q ≡ Zero → IsAsked i e → is_update e.call ≡ false → Kind q s i (Reading s.cp e ∷ [])
+  reads : (e : Entry) → q ≡ Zero → IsAsked i e → is_update e.call ≡ false → (e.index ≡ 0) × (e.stamp ≡ 0) → Kind q s i (Reading s.cp e ∷ [])
   appends : (e : Entry) (index : ℕ) → q ≡ Zero → IsAsked i e → is_update e.call ≡ true
       → Kind q s i (Appending e ∷ Sending One (Event view_one index s.cp 0 e) ∷ [])
   sends : (ms : List (Move Entry)) → q ≡ Zero → i ≡ Does Tick → AreLeaderSends ms → Kind q s i ms
@@ -138,7 +138,7 @@ leader_asked clock list items cp told grant client number call =
     (λ n. absurd (let clash : true ≡ false = sym u ∙ n in cc))))
     (λ r. by_if P (nat_lt 4095 client) _ _ (λ _. refuses client number _)
     (λ _. reads (read_entry cp list client number call) refl
-    (record { client = client; number = number; call = call; input = refl; client_is = refl; number_is = refl; call_is = refl }) r))
+    (record { client = client; number = number; call = call; input = refl; client_is = refl; number_is = refl; call_is = refl }) r (refl, refl)))
   where
     s : Server Entry
     s = leading items cp told grant
