@@ -1,2 +1,4 @@
 pub mod Loops
 pub mod OutputLists
+pub mod Giving
+pub mod PacketLists

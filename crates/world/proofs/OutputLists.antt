@@ -77,3 +77,19 @@ more_by xs ys es h = sym (size ys) ∙ ap length h ∙ length-append (map entere
     size : (xs : List BookEntry) → length (map entered xs) ≡ length xs
     size [] = refl
     size (x ∷ xs) = ap (λ n. suc n) (size xs)
+
+-- the lines of the five parts, one after the other
+pub put_together : (l l1 l2 l3 l4 l5 : List Line) (n m : ℕ) (us rs : List Entry) (a r s : List Line) → m ≡ n + length us
+    → l1 ≡ l ++ entered_lines n us → l2 ≡ l1 ++ entered_lines m rs → l3 ≡ l2 ++ a → l4 ≡ l3 ++ r → l5 ≡ l4 ++ s
+    → l5 ≡ l ++ (entered_lines n (us ++ rs) ++ (a ++ (r ++ s)))
+put_together l l1 l2 l3 l4 l5 n m us rs a r s size e1 e2 e3 e4 e5 =
+    let u = entered_lines n us in
+    let v = entered_lines m rs in
+    let whole : entered_lines n (us ++ rs) ≡ u ++ v = entered-append n us rs ∙ ap (λ k. u ++ entered_lines k rs) (sym size) in
+    e5 ∙ ap (λ x. x ++ s) (e4 ∙ ap (λ x. x ++ r) (e3 ∙ ap (λ x. x ++ a) (e2 ∙ ap (λ x. x ++ v) e1)))
+    ∙ regroup l u v a r s ∙ ap (λ x. l ++ (x ++ (a ++ (r ++ s)))) (sym whole)
+  where
+    regroup : (l u v a r s : List Line) → ((((l ++ u) ++ v) ++ a) ++ r) ++ s ≡ l ++ ((u ++ v) ++ (a ++ (r ++ s)))
+    regroup l u v a r s =
+        append_assoc (((l ++ u) ++ v) ++ a) r s ∙ append_assoc ((l ++ u) ++ v) a (r ++ s) ∙ append_assoc (l ++ u) v (a ++ (r ++ s))
+        ∙ append_assoc l u (v ++ (a ++ (r ++ s))) ∙ ap (λ x. l ++ x) (sym (append_assoc u v (a ++ (r ++ s))))

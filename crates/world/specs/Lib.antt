@@ -1,3 +1,4 @@
 pub mod Packets
 pub mod State
 pub mod Given
+pub mod Served

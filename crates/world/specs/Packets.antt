@@ -1,5 +1,5 @@
 -- Packets on their way, as the machine has them.
-use Rattle.std.specs.Prelude.{◌≡◌, ℕ, ◌≤◌, Bool, true, false, List, length, map, take}
+use Rattle.std.specs.Prelude.{◌≡◌, ℕ, ◌≤◌, ◌++◌, Bool, true, false, List, length, map, take}
 use Rattle.std.specs.List.{AllByRecursion}
 use Rattle.file_tree.specs.Book.{Entry}
 use Rattle.group_model.specs.Names.{place_of}
@@ -26,3 +26,7 @@ posted_one from s = record { from = from; to = s.to; message = s.message; delive
 
 abbrev pub posted : ServerId → List Posted → List Packet
 posted from sends = map (posted_one from) sends
+
+-- packets came to those that stood
+abbrev pub HasMore : List Packet → List Packet → Type 0
+HasMore old new = (more : List Packet) × (new ≡ old ++ more)

@@ -34,8 +34,7 @@ pub record LooksAs (w : Scene) (world : WorldValue) : Type 0 where
   pub witness : w.group.server Two ≡ starting Two
   pub packets : reverse w.group.packets ≡ world.packets
   pub flags : length world.delivered ≡ length world.packets
-  pub delivered : (n : ℕ) → n < length world.packets
-      → list_any (λ m. m == n) w.delivered ≡ slice_index_or world.delivered n false
+  pub delivered : (n : ℕ) → list_any (λ m. m == n) w.delivered ≡ slice_index_or world.delivered n false
   pub clocks : (q : Place) → w.group.clock q ≡ get world.clocks q
   pub book : w.group.book ≡ world.book
 

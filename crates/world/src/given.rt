@@ -2,14 +2,15 @@
 
 ghost use Rattle.std.specs.Prelude.{◌≡◌, ◌+◌, ◌++◌, ◌∷◌, [], length, map, IfOk, OnOk, false};
 ghost use Rattle.group_model.specs.Names.{place_of};
-ghost use Rattle.group_run.specs.Lines.{entered_line, entered_lines};
+ghost use Rattle.group_run.specs.Lines.{entered_line, entered_lines, state_lines};
 ghost use Rattle.replica.specs.Said.{entered, heard};
 ghost use Rattle.world.specs.Given.{answered_line, answered_lines, read_in, reads_in, refused_line, refused_lines, sent_line, sent_lines, shown_of};
-ghost use Rattle.world.specs.Packets.{packet_of, posted};
+ghost use Rattle.world.specs.Packets.{HasMore, posted};
 
 use crate::packet::Packet;
-use harp_base::ServerId;
-use replica::{Answered, Refused, Sent};
+use crate::states::is_same_state;
+use harp_base::{ServerId, StateLine};
+use replica::{Answered, Outputs, Refused, Sent};
 use std::alloc::{AllocError, Global};
 use trace_lines::{BookEntry, Line, ShownMessage};
 use wire::Message;
@@ -36,7 +37,7 @@ fn enter(
 }
 
 /// Enters the updates that were committed.
-pub fn enter_updates(
+fn enter_updates(
     alloc: Global,
     updates: &[BookEntry],
     book: &mut Vec<BookEntry>,
@@ -81,7 +82,7 @@ fn enter_read(
 }
 
 /// Enters the reads that were answered.
-pub fn enter_reads(
+fn enter_reads(
     alloc: Global,
     answers: &[Answered],
     book: &mut Vec<BookEntry>,
@@ -117,7 +118,7 @@ fn show_answer(
 }
 
 /// The lines of the answers.
-pub fn show_answers(
+fn show_answers(
     alloc: Global,
     server: ServerId,
     answers: &[Answered],
@@ -149,7 +150,7 @@ fn show_refusal(
 }
 
 /// The lines of the refusals.
-pub fn show_refusals(
+fn show_refusals(
     server: ServerId,
     refusals: &[Refused],
     lines: &mut Vec<Line>,
@@ -210,6 +211,7 @@ fn post(
     ensures packets { OnOk result (packets.new.items ≡ packets.old.items
         ++ (record { from = from; to = send.now.to; message = send.now.message; delivered = false }) ∷ []) }
     ensures lines { OnOk result (lines.new.items ≡ lines.old.items ++ sent_line from (length packets.old.items) send.now ∷ []) }
+    ensures more { HasMore packets.old.items packets.new.items }
 {
     let line = Line::Sent {
         packet: packets.len() as u64,
@@ -228,7 +230,7 @@ fn post(
 }
 
 /// The messages go among the packets, with their lines.
-pub fn post_all(
+fn post_all(
     alloc: Global,
     from: ServerId,
     sends: &[Sent],
@@ -237,9 +239,52 @@ pub fn post_all(
 ) -> Result<(), AllocError>
     ensures packets { OnOk result (packets.new.items ≡ packets.old.items ++ posted from sends.now) }
     ensures lines { OnOk result (lines.new.items ≡ lines.old.items ++ sent_lines from (length packets.old.items) sends.now) }
+    ensures more { HasMore packets.old.items packets.new.items }
 {
     for send in sends {
         post(alloc, from, send, packets, lines)?;
     }
+    Ok(())
+}
+
+/// Puts a server's outputs into the book, among the packets and into lines, in the order of a trace.
+pub fn put(
+    alloc: Global,
+    server: ServerId,
+    outs: &Outputs,
+    book: &mut Vec<BookEntry>,
+    packets: &mut Vec<Packet>,
+    lines: &mut Vec<Line>,
+) -> Result<(), AllocError>
+    ensures book { OnOk result (map entered book.new.items ≡ map entered book.old.items
+        ++ (map entered outs.now.committed.items ++ reads_in outs.now.answers.items)) }
+    ensures packets { OnOk result (packets.new.items ≡ packets.old.items ++ posted server outs.now.sends.items) }
+    ensures lines { OnOk result (lines.new.items ≡ lines.old.items
+        ++ (entered_lines (length book.old.items) (map entered outs.now.committed.items ++ reads_in outs.now.answers.items)
+        ++ (answered_lines server outs.now.answers.items ++ (refused_lines server outs.now.refusals.items
+        ++ sent_lines server (length packets.old.items) outs.now.sends.items)))) }
+    ensures more { HasMore packets.old.items packets.new.items }
+{
+    enter_updates(alloc, outs.committed.as_slice(), book, lines)?;
+    enter_reads(alloc, outs.answers.as_slice(), book, lines)?;
+    show_answers(alloc, server, outs.answers.as_slice(), lines)?;
+    show_refusals(server, outs.refusals.as_slice(), lines)?;
+    post_all(alloc, server, outs.sends.as_slice(), packets, lines)?;
+    Ok(())
+}
+
+/// The line of a server's state, where it isn't the one before.
+pub fn show_state(
+    server: ServerId,
+    before: StateLine,
+    now: StateLine,
+    lines: &mut Vec<Line>,
+) -> Result<(), AllocError>
+    ensures { OnOk result (lines.new.items ≡ lines.old.items ++ state_lines (place_of server) before now) }
+{
+    if is_same_state(&before, &now) {
+        return Ok(());
+    }
+    lines.push(Line::State { server, state: now })?;
     Ok(())
 }

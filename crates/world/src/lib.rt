@@ -4,6 +4,7 @@
 mod given;
 mod packet;
 mod refusal;
+mod states;
 mod world;
 
 pub use refusal::Refusal;

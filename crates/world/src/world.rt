@@ -1,18 +1,31 @@
 //! The world, one step after the other.
 
-ghost use Rattle.std.specs.Prelude.{◌≡◌, ◌<◌, ◌+◌, ◌++◌, IfOk, IfErr, IsErr, List, [], ◌∷◌, length, true, false, map};
+ghost use Rattle.std.specs.Prelude.{◌≡◌, ◌≤◌, ◌<◌, ◌+◌, ◌++◌, IfOk, IfErr, OnOk, IsErr, IsTrue, List, [], ◌∷◌, length, true, false, map, slice_index_or, slice_set, None};
 ghost use Rattle.trace_lines.specs.declared.step.Step.{Step as Taken};
+ghost use Rattle.trace_lines.specs.declared.step.Step.TheVariants as step;
+ghost use Rattle.trace_lines.specs.declared.line.Line.TheVariants as line;
+ghost use Rattle.group_model.specs.Moves.{acts};
+ghost use Rattle.group_model.specs.Names.{place_of};
+ghost use Rattle.group_model.specs.Places.{Two, get};
+ghost use Rattle.harp_base.specs.declared.server.ServerId.TheVariants as server;
+ghost use Rattle.group_run.specs.Lines.{entered_lines, state_lines};
 ghost use Rattle.group_run.specs.Run.{due, first_scene, is_elementary, run};
+ghost use Rattle.group_run.specs.Shown.{state_of};
 ghost use Rattle.replica.specs.Said.{entered};
+ghost use Rattle.world.specs.Given.{answered_lines, reads_in, refused_lines, sent_lines};
+ghost use Rattle.world.specs.Packets.{AreSettled, packet_of, posted};
+ghost use Rattle.world.specs.Served.{Gives, Says, Serves, ask_moves, leader_after, message_moves, partner_after, refusal_in, server_in, tick_moves};
 ghost use Rattle.world.specs.State.{AreReadings, IsLeftBy, Plays, Refused, clocks_after, first_world};
 
+use crate::given::{put, show_state};
 use crate::packet::Packet;
 use crate::refusal::Refusal;
-use harp_base::{ServerId, Trio};
-use replica::{Leader, Partner};
+use harp_base::{Call, Held, Mode, Peer, Role, ServerId, StateLine, Trio, ViewNo};
+use replica::{Leader, Outputs, Partner, Refused};
 use std::alloc::{AllocError, Global};
 use std::marker::Model;
-use trace_lines::{BookEntry, Line, Step};
+use trace_lines::{BookEntry, Cause, Line, Step};
+use wire::Message;
 
 /// Servers 0 and 1 as the leader and the partner of view 1.0, server 2 as the witness outside, the packets between
 /// them, their clocks in milliseconds, and the book of the calls that were entered.
@@ -56,31 +69,19 @@ impl World {
     pub fn new(alloc: Global) -> Result<World, AllocError>
         ensures { IfOk result (λ world. world ≡ first_world) }
     {
-        let _ = alloc;
-        Err(AllocError)
-    }
-
-    /// Takes a step, and gives its lines. Every step after want of memory is answered with it.
-    pub fn step(&mut self, alloc: Global, step: Step) -> Result<Vec<Line>, Refusal>
-        requires elementary { is_elementary step ≡ true }
-        requires readings { AreReadings (clocks_after self.old.clocks step) }
-        requires now { AreReadings self.old.clocks }
-        ensures ok { IfOk result (λ lines. Plays self.old self.new step lines.items) }
-        ensures err { IfErr result (λ r. Refused self.old self.new step r) }
-        ensures halted { self.old.halted ≡ true → IsErr result }
-    {
-        let _ = (alloc, step);
-        self.halted = true;
-        Err(Refusal::NoMemory)
-    }
-
-    /// The lowest number of a packet that was never delivered, among two servers where they are given. None comes
-    /// exactly where there is none.
-    pub fn next(&self, among: Option<(ServerId, ServerId)>) -> Option<u64>
-        ensures { (ss : List Taken) → IsLeftBy ss self.now → result ≡ due among (run first_scene ss) }
-    {
-        let _ = &self.packets;
-        None
+        Ok(World {
+            leader: Leader::start(alloc)?,
+            partner: Partner::start(alloc)?,
+            packets: Vec::new(alloc),
+            settled: 0,
+            clocks: Trio {
+                zero: 0,
+                one: 0,
+                two: 0,
+            },
+            book: Vec::new(alloc),
+            halted: false,
+        })
     }
 
     /// The book: the calls that were entered, with their replies.
@@ -88,5 +89,77 @@ impl World {
         ensures { map entered result.now ≡ self.now.book }
     {
         self.book.as_slice()
+    }
+
+    /// What a trace shows of a server.
+    fn state_line(&self, server: ServerId) -> StateLine
+        ensures { result ≡ state_of (server_in self.now (place_of server)) }
+    {
+        let _ = &self.packets;
+        match server {
+            ServerId::Zero => self.leader.state_line(),
+            ServerId::One => self.partner.state_line(),
+            ServerId::Two => outside(),
+        }
+    }
+
+    /// Puts the outputs of a server's step into the book, among the packets and into lines, and shows its state where
+    /// it isn't the one before.
+    fn give(
+        &mut self,
+        alloc: Global,
+        step: Step,
+        server: ServerId,
+        before: StateLine,
+        outs: Outputs,
+    ) -> Result<Vec<Line>, AllocError>
+        ensures { IfOk result (λ lines. Gives self.old self.new step server before outs lines.items) }
+    {
+        let mut lines = Vec::new(alloc);
+        lines.push(Line::Event { step })?;
+        put(alloc, server, &outs, &mut self.book, &mut self.packets, &mut lines)?;
+        let now = self.state_line(server);
+        show_state(server, before, now, &mut lines)?;
+        Ok(lines)
+    }
+
+    /// A server's clock.
+    fn reading(&self, server: ServerId) -> u64
+        ensures { result ≡ get self.now.clocks (place_of server) }
+    {
+        let _ = &self.packets;
+        match server {
+            ServerId::Zero => self.clocks.zero,
+            ServerId::One => self.clocks.one,
+            ServerId::Two => self.clocks.two,
+        }
+    }
+}
+
+/// The view that stands from the fixed start on.
+fn view_one() -> ViewNo
+    ensures { result ≡ record { count = 1; coordinator = server.Zero } }
+{
+    match ViewNo::of(1, ServerId::Zero) {
+        Some(view) => view,
+        None => unreachable!(),
+    }
+}
+
+/// What a trace shows of the witness outside.
+fn outside() -> StateLine
+    ensures { result ≡ state_of (server_in first_world Two) }
+{
+    StateLine {
+        mode: Mode::Rests,
+        promised: view_one(),
+        accepted: view_one(),
+        role: Role::Outside,
+        held: Held::Empty,
+        base: 0,
+        lb: 0,
+        ap: 0,
+        cp: 0,
+        top: 0,
     }
 }
