@@ -15,14 +15,17 @@ use Rattle.group_model.specs.Misfits.{misfits}
 use Rattle.group_model.specs.Moves.{Appending, Committing, Heeding, Move, Noting, Reading, Saying, Sending, act, acts}
 use Rattle.group_model.specs.Open.{base_tests, rebase, try_open}
 use Rattle.group_model.specs.Places.{Zero, One, Two, Place, all_of, is_s01, same, leader}
-use Rattle.group_model.specs.Replicate.{ack_tests, answers, on_ack, on_event}
+use Rattle.group_model.specs.Replicate.{ack_tests, answers, is_in_view, on_ack, on_event}
 use Rattle.group_model.specs.State.{Ack, Beat, Event, Mode, Open, Server}
 use Rattle.group_model.specs.Step.{Ask, Comes, Does, Tick, step}
 use Rattle.group_model.specs.Tick.{events, tick}
 use Rattle.replica.specs.Heeding.{heeds_ack, heeds_beat, heeds_event, is_partner}
 use Rattle.replica.specs.Servers.{IsFollowing, IsLeading, following, leading}
-use Rattle.replica.specs.Steps.{LeaderHearsAck, LeaderIsAsked, LeaderTicks, PartnerHearsBeat, PartnerHearsEvent, PartnerIsAsked, PartnerTicks}
+use Rattle.replica.specs.Steps.{LeaderHearsAck, LeaderIgnores, LeaderIsAsked, LeaderTicks, PartnerHearsBeat, PartnerHearsEvent, PartnerIgnores, PartnerIsAsked, PartnerTicks}
 use Rattle.replica.proofs.Ticks.{tick_is}
+
+apart : true ≡ false → ⊥
+apart h = let P : Bool → Type 0 = λ b. elim b [ true ↦ Unit {0} | false ↦ ⊥ ] in subst P h tt
 
 -- ---- moves that leave the mode, the base and LB
 
@@ -179,6 +182,44 @@ leader_hears_ack s from v t lb until is size clock list =
     (all_of (ack_tests first v)) (Noting t lb until ∷ commits)
     (tt, plain_if (nat_lt s.cp t) _ _ (tt, plain_answers s.cp es) tt))
 
+both_false : (b : Bool) → all_of (b ∷ false ∷ []) ≡ false
+unfolding all_of
+both_false true = refl
+both_false false = refl
+
+-- a message that isn't heeded
+leader_passes : (clock cp t lb grant : ℕ) (items : List Entry) (misfit heeded : Bool) (ms : List (Move Entry)) → heeded ≡ false
+    → let s = leading items cp t lb grant in
+    let made = if heeded then ms else [] in
+    let all = if misfit then [] else (made ++ try_open Zero clock (acts Zero clock s made)) in
+    all ++ rebase (acts Zero clock s all) ≡ []
+leader_passes clock cp t lb grant items true heeded ms shut = ends clock cp t lb grant items [] tt
+leader_passes clock cp t lb grant items false true ms shut = absurd (apart shut)
+leader_passes clock cp t lb grant items false false ms shut =
+    let s = leading items cp t lb grant in
+    ap (λ all. all ++ rebase (acts Zero clock s all)) (open_none clock cp t lb grant items [] tt) ∙ ends clock cp t lb grant items [] tt
+
+leader_ignores_event : (clock v index cp base : ℕ) (size : List Entry → Entry → ℕ) (list : List Entry) (s : Server Entry) (from : Place) (e : Entry)
+    → IsLeading s → step size Zero clock list s (Comes from (Event v index cp base e)) ≡ []
+leader_ignores_event clock v index cp base size list s from e is =
+    let first = leading s.items s.cp s.told_top s.told_lb s.grant in
+    let P : Server Entry → Type 0 = λ s. step size Zero clock list s (Comes from (Event v index cp base e)) ≡ [] in
+    subst P (sym is) (leader_passes clock s.cp s.told_top s.told_lb s.grant s.items (misfits Zero first from (Event v index cp base e))
+    (is_partner Zero first v) _ (both_false (is_in_view first v)))
+
+leader_ignores_beat : (clock v cp base : ℕ) (size : List Entry → Entry → ℕ) (list : List Entry) (s : Server Entry) (from : Place)
+    → IsLeading s → step size Zero clock list s (Comes from (Beat v cp base)) ≡ []
+leader_ignores_beat clock v cp base size list s from is =
+    let first = leading s.items s.cp s.told_top s.told_lb s.grant in
+    let P : Server Entry → Type 0 = λ s. step size Zero clock list s (Comes from (Beat v cp base)) ≡ [] in
+    subst P (sym is) (leader_passes clock s.cp s.told_top s.told_lb s.grant s.items (misfits Zero first from (Beat v cp base))
+    (is_partner Zero first v) _ (both_false (is_in_view first v)))
+
+pub leader_ignores : LeaderIgnores
+leader_ignores s from v index cp base e is =
+    (λ size clock list. leader_ignores_event clock v index cp base size list s from e is,
+    λ size clock list. leader_ignores_beat clock v cp base size list s from is)
+
 -- ---- the partner
 
 pub partner_ticks : PartnerTicks
@@ -221,3 +262,18 @@ partner_hears_beat s from v cp base is size clock list =
         ≡ (if heeds_beat One s from v cp base then on_event One clock s from v cp base s.items else []) in
     subst P (sym is) (partner_hears clock s.cp s.horizon v cp base s.items s.items from
     (misfits One first from (Beat v cp base)) (is_partner One first v))
+
+partner_passes : (clock cp horizon : ℕ) (items : List Entry) (misfit : Bool)
+    → let s = following items cp horizon in
+    let all = if misfit then [] else ([] ++ try_open One clock (acts One clock s [])) in
+    all ++ rebase (acts One clock s all) ≡ []
+unfolding all_of
+partner_passes clock cp horizon items true = refl
+partner_passes clock cp horizon items false = refl
+
+pub partner_ignores : PartnerIgnores
+unfolding all_of
+partner_ignores s from v t lb until is size clock list =
+    let first = following s.items s.cp s.horizon in
+    let P : Server Entry → Type 0 = λ s. step size One clock list s (Comes from (Ack v t lb until)) ≡ [] in
+    subst P (sym is) (partner_passes clock s.cp s.horizon s.items (misfits One first from (Ack v t lb until)))

@@ -47,3 +47,11 @@ PartnerHearsEvent = (s : Server Entry) (from : Place) (v index cp base : ℕ) (e
 abbrev pub PartnerHearsBeat : Type 0
 PartnerHearsBeat = (s : Server Entry) (from : Place) (v cp base : ℕ) → IsFollowing s
     → IsStepOf One s (λ clock. if heeds_beat One s from v cp base then on_event One clock s from v cp base s.items else []) from (Beat v cp base)
+
+-- the messages of the other's part change nothing
+abbrev pub LeaderIgnores : Type 0
+LeaderIgnores = (s : Server Entry) (from : Place) (v index cp base : ℕ) (e : Entry) → IsLeading s
+    → IsStepOf Zero s (λ clock. []) from (Event v index cp base e) × IsStepOf Zero s (λ clock. []) from (Beat v cp base)
+
+abbrev pub PartnerIgnores : Type 0
+PartnerIgnores = (s : Server Entry) (from : Place) (v t lb until : ℕ) → IsFollowing s → IsStepOf One s (λ clock. []) from (Ack v t lb until)
