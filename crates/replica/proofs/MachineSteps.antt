@@ -1,26 +1,26 @@
 -- The machine's step at the leader and at the partner.
-use Rattle.std.proofs.Common.{◌≡◌, ℕ, ◌+◌, ◌<◌, ◌≤◌, Bool, true, false, List, [], ◌∷◌, ◌++◌, ◌-◌, refl, sym, ap, ◌∙◌, arith, subst, inl, inr, Option, Some, None}
+use Rattle.std.proofs.Common.{◌≡◌, ℕ, ◌+◌, ◌≤◌, Bool, true, false, List, [], ◌∷◌, ◌++◌, ◌-◌, refl, sym, ap, ◌∙◌, arith, subst, inl, inr, Option, Some, None}
 use Rattle.std.specs.Prelude.{◌&&◌, ◌||◌, ◌==◌, not, if◌then◌else◌, min, nat_lt, nat_le, length, take, drop}
 use Rattle.std.proofs.lemmas.Bool.{cases_Bool, le-ltb}
 use Rattle.std.proofs.lemmas.List.{append-nil}
 use Rattle.harp_base.specs.declared.call.Call.{Call}
 use Rattle.harp_base.specs.Update.{is_update}
 use Rattle.file_tree.specs.Book.{Entry, last_of}
-use Rattle.group_model.specs.Ask.{append, new_entry, on_ask, refuse, update_moves}
+use Rattle.group_model.specs.Ask.{append, new_entry, on_ask, update_moves}
 use Rattle.group_model.specs.Effects.{taken}
 use Rattle.group_model.specs.FixedStart.{view_one}
 use Rattle.group_model.specs.FreeReads.{on_free_ask}
-use Rattle.group_model.specs.Limits.{is_active, is_open, is_waits, limit, room}
+use Rattle.group_model.specs.Limits.{is_active, is_open, limit, room}
 use Rattle.group_model.specs.Misfits.{misfits}
 use Rattle.group_model.specs.Moves.{Appending, Committing, Heeding, Move, Noting, Reading, Saying, Sending, act, acts}
 use Rattle.group_model.specs.Open.{base_tests, rebase, try_open}
-use Rattle.group_model.specs.Places.{Zero, One, Two, Place, all_of, is_s01, same, leader}
+use Rattle.group_model.specs.Places.{Zero, One, Place, all_of, is_s01, same, leader}
 use Rattle.group_model.specs.Replicate.{ack_tests, answers, is_in_view, on_ack, on_event}
-use Rattle.group_model.specs.State.{Ack, Beat, Event, Mode, Open, Server}
+use Rattle.group_model.specs.State.{Ack, Beat, Event, Open, Server}
 use Rattle.group_model.specs.Step.{Ask, Comes, Does, Tick, step}
 use Rattle.group_model.specs.Tick.{events, tick}
 use Rattle.replica.specs.Heeding.{heeds_ack, heeds_beat, heeds_event, is_partner}
-use Rattle.replica.specs.Servers.{IsFollowing, IsLeading, following, leading}
+use Rattle.replica.specs.Servers.{IsLeading, following, leading}
 use Rattle.replica.specs.Steps.{LeaderHearsAck, LeaderIgnores, LeaderIsAsked, LeaderTicks, PartnerHearsBeat, PartnerHearsEvent, PartnerIgnores, PartnerIsAsked, PartnerTicks}
 use Rattle.replica.proofs.Ticks.{tick_is}
 
@@ -74,7 +74,7 @@ not_rebased : (s : Server Entry) → s.lb ≤ s.base → rebase s ≡ []
 not_rebased s h =
     let no : nat_lt s.base (min s.lb s.told_lb) ≡ false = le-ltb s.base (min s.lb s.told_lb) (omega arith) in
     let none : all_of (base_tests s) ≡ false = ap (λ b. all_of (is_open s.mode ∷ is_s01 s.plan.storers ∷ b ∷ [])) no
-        ∙ all_but (is_open s.mode) (is_s01 s.plan.storers) in
+    ∙ all_but (is_open s.mode) (is_s01 s.plan.storers) in
     rw none refl
 
 -- an open leader opens no view
@@ -165,7 +165,7 @@ leader_hears clock cp t lb grant items true heeded ms plain = ends clock cp t lb
 leader_hears clock cp t lb grant items false true ms plain =
     let s = leading items cp t lb grant in
     let made : ms ++ try_open Zero clock (acts Zero clock s ms) ≡ ms =
-        ap (λ rest. ms ++ rest) (open_none clock cp t lb grant items ms plain) ∙ append-nil ms in
+    ap (λ rest. ms ++ rest) (open_none clock cp t lb grant items ms plain) ∙ append-nil ms in
     ap (λ all. all ++ rebase (acts Zero clock s all)) made ∙ ends clock cp t lb grant items ms plain
 leader_hears clock cp t lb grant items false false ms plain =
     let s = leading items cp t lb grant in
@@ -175,7 +175,7 @@ pub leader_hears_ack : LeaderHearsAck
 leader_hears_ack s from v t lb until is size clock list =
     let first = leading s.items s.cp s.told_top s.told_lb s.grant in
     let P : Server Entry → Type 0 = λ s. step size Zero clock list s (Comes from (Ack v t lb until))
-        ≡ (if heeds_ack Zero s from v t lb until then on_ack s v t lb until else []) in
+    ≡ (if heeds_ack Zero s from v t lb until then on_ack s v t lb until else []) in
     let es = take (t - s.cp) (drop (s.cp - 0) s.items) in
     let commits = if nat_lt s.cp t then Committing t ∷ answers s.cp es else [] in
     subst P (sym is) (leader_hears clock s.cp s.told_top s.told_lb s.grant s.items (misfits Zero first from (Ack v t lb until))
@@ -216,9 +216,10 @@ leader_ignores_beat clock v cp base size list s from is =
     (is_partner Zero first v) _ (both_false (is_in_view first v)))
 
 pub leader_ignores : LeaderIgnores
-leader_ignores s from v index cp base e is =
-    (λ size clock list. leader_ignores_event clock v index cp base size list s from e is,
-    λ size clock list. leader_ignores_beat clock v cp base size list s from is)
+leader_ignores s from v index cp base e is = (
+  λ size clock list. leader_ignores_event clock v index cp base size list s from e is,
+  λ size clock list. leader_ignores_beat clock v cp base size list s from is,
+)
 
 -- ---- the partner
 
@@ -233,8 +234,8 @@ unfolding all_of
 partner_is_asked s client number call is size clock list =
     let P : Server Entry → Type 0 = λ s. step size One clock list s (Does (Ask client number call)) ≡ on_free_ask One clock list s client number call in
     subst P (sym is) (elim (cases_Bool (nat_lt 4095 client)) [
-      | inl u ↦ elim (cases_Bool (is_update call)) [ | inl w ↦ rw (u, w) refl | inr w ↦ rw (u, w) refl ]
-      | inr u ↦ elim (cases_Bool (is_update call)) [ | inl w ↦ rw (u, w) refl | inr w ↦ rw (u, w) refl ]
+      | inl u ↦ elim (cases_Bool (is_update call)) [ inl w ↦ rw (u, w) refl | inr w ↦ rw (u, w) refl ]
+      | inr u ↦ elim (cases_Bool (is_update call)) [ inl w ↦ rw (u, w) refl | inr w ↦ rw (u, w) refl ]
     ])
 
 partner_hears : (clock cp horizon v c base : ℕ) (items xs : List Entry) (from : Place) (misfit heeded : Bool)
@@ -251,7 +252,7 @@ pub partner_hears_event : PartnerHearsEvent
 partner_hears_event s from v index cp base e is size clock list =
     let first = following s.items s.cp s.horizon in
     let P : Server Entry → Type 0 = λ s. step size One clock list s (Comes from (Event v index cp base e))
-        ≡ (if heeds_event One s from v index cp base e then on_event One clock s from v cp base (taken s index e) else []) in
+    ≡ (if heeds_event One s from v index cp base e then on_event One clock s from v cp base (taken s index e) else []) in
     subst P (sym is) (partner_hears clock s.cp s.horizon v cp base s.items (taken first index e) from
     (misfits One first from (Event v index cp base e)) (is_partner One first v))
 
@@ -259,7 +260,7 @@ pub partner_hears_beat : PartnerHearsBeat
 partner_hears_beat s from v cp base is size clock list =
     let first = following s.items s.cp s.horizon in
     let P : Server Entry → Type 0 = λ s. step size One clock list s (Comes from (Beat v cp base))
-        ≡ (if heeds_beat One s from v cp base then on_event One clock s from v cp base s.items else []) in
+    ≡ (if heeds_beat One s from v cp base then on_event One clock s from v cp base s.items else []) in
     subst P (sym is) (partner_hears clock s.cp s.horizon v cp base s.items s.items from
     (misfits One first from (Beat v cp base)) (is_partner One first v))
 
