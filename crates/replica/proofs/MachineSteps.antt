@@ -56,7 +56,8 @@ act_stays q clock s (Saying say) h = record { mode = refl; base = refl; lb = ref
 act_stays q clock s (Sending to m) h = record { mode = refl; base = refl; lb = refl }
 act_stays q clock s m h = absurd h
 
-acts_stay : (q : Place) (clock : ℕ) (s : Server Entry) (ms : List (Move Entry)) → ArePlain ms → Stays s (acts q clock s ms)
+acts_stay : (q : Place) (clock : ℕ) (s : Server Entry) (ms : List (Move Entry)) → ArePlain ms
+    → Stays s (acts q clock s ms)
 acts_stay q clock s [] h = record { mode = refl; base = refl; lb = refl }
 acts_stay q clock s (m ∷ ms) h =
     let first = act_stays q clock s m h.0 in
@@ -97,7 +98,8 @@ open_none clock cp t lb grant items ms h =
 
 ends : (clock cp t lb grant : ℕ) (items : List Entry) (ms : List (Move Entry)) → ArePlain ms
     → ms ++ rebase (acts Zero clock (leading items cp t lb grant) ms) ≡ ms
-ends clock cp t lb grant items ms h = ap (λ rest. ms ++ rest) (rebase_none clock cp t lb grant items ms h) ∙ append-nil ms
+ends clock cp t lb grant items ms h = ap (λ rest. ms ++ rest) (rebase_none clock cp t lb grant items ms h)
+    ∙ append-nil ms
 
 -- ---- the leader
 
@@ -111,7 +113,11 @@ plain_answers n (e ∷ es) = (tt, plain_answers (n + 1) es)
 
 plain_tick : (clock cp t lb grant : ℕ) (items : List Entry) → ArePlain (tick Zero clock (leading items cp t lb grant))
 plain_tick clock cp t lb grant items =
-    subst ArePlain (sym (tick_is clock cp t lb grant items)) (tt, plain_events One view_one cp 0 t (take 64 (drop t items)))
+    subst ArePlain (sym (tick_is clock cp t lb grant items)) (
+      tt,
+      plain_events One view_one cp 0 t (take 64
+          (drop t items)),
+    )
 
 pub leader_ticks : LeaderTicks
 leader_ticks s is size clock list =
@@ -137,7 +143,8 @@ plain_update s e (Some last) =
     (plain_if (nat_le last.index s.cp) _ _ (tt, tt) tt)
     (plain_if (nat_lt e.number last.number) _ _ (tt, tt) (plain_append s e))
 
-plain_ask : (clock client number : ℕ) (list : List Entry) (s : Server Entry) (call : Call) → ArePlain (on_ask Zero clock list s client number call)
+plain_ask : (clock client number : ℕ) (list : List Entry) (s : Server Entry) (call : Call)
+    → ArePlain (on_ask Zero clock list s client number call)
 plain_ask clock client number list s call =
     plain_if (nat_lt 4095 client) _ _ (tt, tt)
     (plain_if (all_of (is_active s.mode ∷ same Zero (leader s.plan.storers) ∷ [])) _ _
@@ -150,13 +157,18 @@ plain_ask clock client number list s call =
 pub leader_is_asked : LeaderIsAsked
 leader_is_asked s client number call is update size clock list =
     let first = leading s.items s.cp s.told_top s.told_lb s.grant in
-    let P : Server Entry → Type 0 = λ s. step size Zero clock list s (Does (Ask client number call)) ≡ on_free_ask Zero clock list s client number call in
-    let free : on_free_ask Zero clock list first client number call ≡ on_ask Zero clock list first client number call = rw update refl in
-    subst P (sym is) (ends clock s.cp s.told_top s.told_lb s.grant s.items (on_ask Zero clock list first client number call)
+    let P : Server Entry → Type 0 =
+    λ s. step size Zero clock list s (Does (Ask client number call))
+    ≡ on_free_ask Zero clock list s client number call in
+    let free : on_free_ask Zero clock list first client number call
+    ≡ on_ask Zero clock list first client number call = rw update refl in
+    subst P (sym is) (ends clock s.cp s.told_top s.told_lb s.grant s.items (on_ask Zero clock list first client
+    number call)
     (plain_ask clock client number list first call) ∙ sym free)
 
 -- a message that is tried as a misfit, then heeded by these moves
-leader_hears : (clock cp t lb grant : ℕ) (items : List Entry) (misfit heeded : Bool) (ms : List (Move Entry)) → ArePlain ms
+leader_hears : (clock cp t lb grant : ℕ) (items : List Entry) (misfit heeded : Bool) (ms : List (Move Entry))
+    → ArePlain ms
     → let s = leading items cp t lb grant in
     let made = if heeded then ms else [] in
     let all = if misfit then [] else (made ++ try_open Zero clock (acts Zero clock s made)) in
@@ -169,7 +181,8 @@ leader_hears clock cp t lb grant items false true ms plain =
     ap (λ all. all ++ rebase (acts Zero clock s all)) made ∙ ends clock cp t lb grant items ms plain
 leader_hears clock cp t lb grant items false false ms plain =
     let s = leading items cp t lb grant in
-    ap (λ all. all ++ rebase (acts Zero clock s all)) (open_none clock cp t lb grant items [] tt) ∙ ends clock cp t lb grant items [] tt
+    ap (λ all. all ++ rebase (acts Zero clock s all)) (open_none clock cp t lb grant items [] tt)
+    ∙ ends clock cp t lb grant items [] tt
 
 pub leader_hears_ack : LeaderHearsAck
 leader_hears_ack s from v t lb until is size clock list =
@@ -178,7 +191,8 @@ leader_hears_ack s from v t lb until is size clock list =
     ≡ (if heeds_ack Zero s from v t lb until then on_ack s v t lb until else []) in
     let es = take (t - s.cp) (drop (s.cp - 0) s.items) in
     let commits = if nat_lt s.cp t then Committing t ∷ answers s.cp es else [] in
-    subst P (sym is) (leader_hears clock s.cp s.told_top s.told_lb s.grant s.items (misfits Zero first from (Ack v t lb until))
+    subst P (sym is) (leader_hears clock s.cp s.told_top s.told_lb s.grant s.items (misfits Zero first from
+    (Ack v t lb until))
     (all_of (ack_tests first v)) (Noting t lb until ∷ commits)
     (tt, plain_if (nat_lt s.cp t) _ _ (tt, plain_answers s.cp es) tt))
 
@@ -188,7 +202,8 @@ both_false true = refl
 both_false false = refl
 
 -- a message that isn't heeded
-leader_passes : (clock cp t lb grant : ℕ) (items : List Entry) (misfit heeded : Bool) (ms : List (Move Entry)) → heeded ≡ false
+leader_passes : (clock cp t lb grant : ℕ) (items : List Entry) (misfit heeded : Bool) (ms : List (Move Entry))
+    → heeded ≡ false
     → let s = leading items cp t lb grant in
     let made = if heeded then ms else [] in
     let all = if misfit then [] else (made ++ try_open Zero clock (acts Zero clock s made)) in
@@ -197,22 +212,27 @@ leader_passes clock cp t lb grant items true heeded ms shut = ends clock cp t lb
 leader_passes clock cp t lb grant items false true ms shut = absurd (apart shut)
 leader_passes clock cp t lb grant items false false ms shut =
     let s = leading items cp t lb grant in
-    ap (λ all. all ++ rebase (acts Zero clock s all)) (open_none clock cp t lb grant items [] tt) ∙ ends clock cp t lb grant items [] tt
+    ap (λ all. all ++ rebase (acts Zero clock s all)) (open_none clock cp t lb grant items [] tt)
+    ∙ ends clock cp t lb grant items [] tt
 
-leader_ignores_event : (clock v index cp base : ℕ) (size : List Entry → Entry → ℕ) (list : List Entry) (s : Server Entry) (from : Place) (e : Entry)
+leader_ignores_event : (clock v index cp base : ℕ) (size : List Entry → Entry
+    → ℕ) (list : List Entry) (s : Server Entry) (from : Place) (e : Entry)
     → IsLeading s → step size Zero clock list s (Comes from (Event v index cp base e)) ≡ []
 leader_ignores_event clock v index cp base size list s from e is =
     let first = leading s.items s.cp s.told_top s.told_lb s.grant in
     let P : Server Entry → Type 0 = λ s. step size Zero clock list s (Comes from (Event v index cp base e)) ≡ [] in
-    subst P (sym is) (leader_passes clock s.cp s.told_top s.told_lb s.grant s.items (misfits Zero first from (Event v index cp base e))
+    subst P (sym is) (leader_passes clock s.cp s.told_top s.told_lb s.grant s.items (misfits Zero first from
+    (Event v index cp base e))
     (is_partner Zero first v) _ (both_false (is_in_view first v)))
 
-leader_ignores_beat : (clock v cp base : ℕ) (size : List Entry → Entry → ℕ) (list : List Entry) (s : Server Entry) (from : Place)
+leader_ignores_beat : (clock v cp base : ℕ) (size : List Entry → Entry
+    → ℕ) (list : List Entry) (s : Server Entry) (from : Place)
     → IsLeading s → step size Zero clock list s (Comes from (Beat v cp base)) ≡ []
 leader_ignores_beat clock v cp base size list s from is =
     let first = leading s.items s.cp s.told_top s.told_lb s.grant in
     let P : Server Entry → Type 0 = λ s. step size Zero clock list s (Comes from (Beat v cp base)) ≡ [] in
-    subst P (sym is) (leader_passes clock s.cp s.told_top s.told_lb s.grant s.items (misfits Zero first from (Beat v cp base))
+    subst P (sym is) (leader_passes clock s.cp s.told_top s.told_lb s.grant s.items (misfits Zero first from
+    (Beat v cp base))
     (is_partner Zero first v) _ (both_false (is_in_view first v)))
 
 pub leader_ignores : LeaderIgnores
@@ -232,7 +252,9 @@ partner_ticks s is size clock list =
 pub partner_is_asked : PartnerIsAsked
 unfolding all_of
 partner_is_asked s client number call is size clock list =
-    let P : Server Entry → Type 0 = λ s. step size One clock list s (Does (Ask client number call)) ≡ on_free_ask One clock list s client number call in
+    let P : Server Entry → Type 0 =
+    λ s. step size One clock list s (Does (Ask client number call))
+    ≡ on_free_ask One clock list s client number call in
     subst P (sym is) (elim (cases_Bool (nat_lt 4095 client)) [
       | inl u ↦ elim (cases_Bool (is_update call)) [ inl w ↦ rw (u, w) refl | inr w ↦ rw (u, w) refl ]
       | inr u ↦ elim (cases_Bool (is_update call)) [ inl w ↦ rw (u, w) refl | inr w ↦ rw (u, w) refl ]
@@ -252,7 +274,8 @@ pub partner_hears_event : PartnerHearsEvent
 partner_hears_event s from v index cp base e is size clock list =
     let first = following s.items s.cp s.horizon in
     let P : Server Entry → Type 0 = λ s. step size One clock list s (Comes from (Event v index cp base e))
-    ≡ (if heeds_event One s from v index cp base e then on_event One clock s from v cp base (taken s index e) else []) in
+    ≡ (if heeds_event One s from v index cp base e then on_event One clock s from v cp base (taken s index e)
+    else []) in
     subst P (sym is) (partner_hears clock s.cp s.horizon v cp base s.items (taken first index e) from
     (misfits One first from (Event v index cp base e)) (is_partner One first v))
 
