@@ -32,8 +32,8 @@ LeaderIsAsked = (s : Server Entry) (client number : ℕ) (call : Call) → IsLea
 
 abbrev pub LeaderHearsAck : Type 0
 LeaderHearsAck = (s : Server Entry) (from : Place) (v t lb until : ℕ) → IsLeading s
-    → IsStepOf Zero s (λ clock. if heeds_ack Zero s from v t lb until then on_ack s v t lb until else []) from
-    (Ack v t lb until)
+    → IsStepOf Zero s (λ clock. if heeds_ack Zero s from v t lb until then on_ack s v t lb until else [])
+    from (Ack v t lb until)
 
 abbrev pub PartnerTicks : Type 0
 PartnerTicks = (s : Server Entry) → IsFollowing s → IsStep One s (λ clock list. []) Tick
@@ -44,14 +44,13 @@ PartnerIsAsked = (s : Server Entry) (client number : ℕ) (call : Call) → IsFo
 
 abbrev pub PartnerHearsEvent : Type 0
 PartnerHearsEvent = (s : Server Entry) (from : Place) (v index cp base : ℕ) (e : Entry) → IsFollowing s
-    → IsStepOf One s (λ clock. if heeds_event One s from v index cp base e then on_event One clock s from v cp
-    base (taken s index e) else [])
-    from (Event v index cp base e)
+    → IsStepOf One s (λ clock. if heeds_event One s from v index cp base e
+    then on_event One clock s from v cp base (taken s index e) else []) from (Event v index cp base e)
 
 abbrev pub PartnerHearsBeat : Type 0
 PartnerHearsBeat = (s : Server Entry) (from : Place) (v cp base : ℕ) → IsFollowing s
-    → IsStepOf One s (λ clock. if heeds_beat One s from v cp base then on_event One clock s from v cp base
-    s.items else []) from (Beat v cp base)
+    → IsStepOf One s (λ clock. if heeds_beat One s from v cp base
+    then on_event One clock s from v cp base s.items else []) from (Beat v cp base)
 
 -- the messages of the other's part change nothing
 abbrev pub LeaderIgnores : Type 0
