@@ -13,3 +13,5 @@ mod plays;
 mod texts;
 #[cfg(test)]
 mod tree;
+#[cfg(test)]
+mod view;

@@ -28,16 +28,19 @@ use Rattle.replica.specs.declared.outputs.Outputs.{Outputs}
 
 -- ---- which moves
 
-pub asks_update : (now client number cp t lb grant : ℕ) (items : List Entry) (call : Call) (s : Server Entry) → leading items cp t lb grant ≡ s
+pub asks_update : (now client number cp t lb grant : ℕ) (items : List Entry) (call : Call) (s : Server Entry)
+    → leading items cp t lb grant ≡ s
     → is_update call ≡ true → client ≤ 4095
-    → on_free_ask Zero now s.items s client number call ≡ update_moves s (new_entry now s.items client number call) (last_of client s.items)
+    → on_free_ask Zero now s.items s client number call
+    ≡ update_moves s (new_entry now s.items client number call) (last_of client s.items)
 unfolding all_of
 asks_update now client number cp t lb grant items call s is update few =
     let P : Server Entry → Type 0 = λ s. on_free_ask Zero now s.items s client number call
     ≡ update_moves s (new_entry now s.items client number call) (last_of client s.items) in
     subst P is (rw (update, le-ltb 4095 client few) refl)
 
-pub asks_read : (now client number cp t lb grant : ℕ) (items : List Entry) (call : Call) (s : Server Entry) → leading items cp t lb grant ≡ s
+pub asks_read : (now client number cp t lb grant : ℕ) (items : List Entry) (call : Call) (s : Server Entry)
+    → leading items cp t lb grant ≡ s
     → is_update call ≡ false → client ≤ 4095
     → on_free_ask Zero now s.items s client number call ≡ Reading s.cp (read_entry s.cp s.items client number call) ∷ []
 unfolding all_of
@@ -61,7 +64,8 @@ next_of client last e h = elim (cases_Bool (is_update e.call)) [
   | inr u ↦ rw u h
 ]
 
-folded_of : (client : ℕ) (last : Option Entry) (items : List Entry) → IsOf client last → IsOf client (fold (last_next client) last items)
+folded_of : (client : ℕ) (last : Option Entry) (items : List Entry) → IsOf client last
+    → IsOf client (fold (last_next client) last items)
 folded_of client last [] h = h
 folded_of client last (e ∷ items) h = folded_of client (last_next client last e) items (next_of client last e h)
 
@@ -72,7 +76,8 @@ pub record LastIs (client : ℕ) (items : List Entry) (k : Kept) : Type 0 where
   pub client_is : entry.client ≡ client
   pub kept_is : record { number = entry.number; index = entry.index; reply = entry.reply } ≡ k
 
-last_among : (client : ℕ) (items : List Entry) (k : Kept) (last : Option Entry) → last_of client items ≡ last → IsOf client last → kept last ≡ Some k
+last_among : (client : ℕ) (items : List Entry) (k : Kept) (last : Option Entry) → last_of client items ≡ last
+    → IsOf client last → kept last ≡ Some k
     → LastIs client items k
 unfolding IsOf
 last_among client items k None is of h = absurd (cc)
@@ -82,8 +87,10 @@ none_of : (client : ℕ) → IsOf client None
 unfolding IsOf
 none_of client = tt
 
-pub last_is : (client : ℕ) (items : List Entry) (k : Kept) → kept (last_of client items) ≡ Some k → LastIs client items k
-last_is client items k h = last_among client items k (last_of client items) refl (folded_of client None items (none_of client)) h
+pub last_is : (client : ℕ) (items : List Entry) (k : Kept) → kept (last_of client items) ≡ Some k
+    → LastIs client items k
+last_is client items k h =
+    last_among client items k (last_of client items) refl (folded_of client None items (none_of client)) h
 
 -- the answer to a repeat of an entry, where it is committed
 abbrev answer_at : Bool → Peer → Entry → List Answered
@@ -122,7 +129,8 @@ said_at false now peer e l before after answers committed refusals sends = recor
 }
 
 -- a repeat says what the machine says of its client's last update
-pub repeated : (now client : ℕ) (ne : Entry) (peer : Peer) (k : Kept) (l : Leading) (before after : Outputs) → LastIs client l.server.items k
+pub repeated : (now client : ℕ) (ne : Entry) (peer : Peer) (k : Kept) (l : Leading) (before after : Outputs)
+    → LastIs client l.server.items k
     → ne.number ≡ k.number
     → after.answers.items ≡ before.answers.items ++ (if nat_le k.index l.server.cp then (record {
       peer = peer;
@@ -152,7 +160,8 @@ repeated now client ne peer k l before after is number answers committed refusal
     }) ∷ [] else []) ≡ answer_at (nat_le e.index l.server.cp) peer e =
     rw (index, reply, same_number, sym is.client_is) refl in
     subst (λ ms. Asked now ms peer l l before after) (sym moves)
-    (said_at (nat_le e.index l.server.cp) now peer e l before after (answers ∙ ap (λ xs. before.answers.items ++ xs) shown)
+    (said_at (nat_le e.index l.server.cp) now peer e l before after (answers
+    ∙ ap (λ xs. before.answers.items ++ xs) shown)
     committed refusals sends)
 
 -- the outcome of a read leaves the tree

@@ -25,24 +25,30 @@ none_last clients is = let none : Option Kept = None in record {
 }
 
 -- an update is its client's last
-last_of-same : (entries : List Entry) (e : Entry) → is_update e.call ≡ true → last_of e.client (entries ++ e ∷ []) ≡ Some e
+last_of-same : (entries : List Entry) (e : Entry) → is_update e.call ≡ true
+    → last_of e.client (entries ++ e ∷ []) ≡ Some e
 last_of-same entries e h = rw (last_push e.client entries e, h, eq-eqb e.client e.client refl) refl
 
 last_of-other : (client : ℕ) (entries : List Entry) (e : Entry) → (e.client == client) ≡ false
     → last_of client (entries ++ e ∷ []) ≡ last_of client entries
 last_of-other client entries e h = rw (last_push client entries e, h, and-false (is_update e.call)) refl
 
-client_set : (clients : List (Option Kept)) (entries : List Entry) (e : Entry) → is_update e.call ≡ true → e.client < 4096 → AreLast clients entries
-    → (client : ℕ) → client_of (slice_set clients e.client (kept (Some e))) client ≡ kept (last_of client (entries ++ e ∷ []))
+client_set : (clients : List (Option Kept)) (entries : List Entry) (e : Entry) → is_update e.call ≡ true
+    → e.client < 4096 → AreLast clients entries
+    → (client : ℕ)
+    → client_of (slice_set clients e.client (kept (Some e))) client ≡ kept (last_of client (entries ++ e ∷ []))
 client_set clients entries e h below are client = let places = are.places in elim (eqb_tells e.client client) [
-  | inl t ↦ let P : ℕ → Type 0 = λ c. client_of (slice_set clients e.client (kept (Some e))) c ≡ kept (last_of c (entries ++ e ∷ []))
-      in subst P t.1 (get_or-set_same clients e.client (kept (Some e)) None (omega arith) ∙ ap kept (sym (last_of-same entries e h)))
+  | inl t ↦ let P : ℕ → Type 0 =
+      λ c. client_of (slice_set clients e.client (kept (Some e))) c ≡ kept (last_of c (entries ++ e ∷ []))
+      in subst P t.1 (get_or-set_same clients e.client (kept (Some e)) None (omega arith)
+      ∙ ap kept (sym (last_of-same entries e h)))
   | inr t ↦ get_or-set_other clients e.client client (kept (Some e)) None (λ q. t.1 (sym q)) ∙ are.each client
       ∙ ap kept (sym (last_of-other client entries e t.0))
 ]
 
 -- an update's client has it as its last
-pub last_set : (clients : List (Option Kept)) (entries : List Entry) (e : Entry) → is_update e.call ≡ true → e.client < 4096 → AreLast clients entries
+pub last_set : (clients : List (Option Kept)) (entries : List Entry) (e : Entry) → is_update e.call ≡ true
+    → e.client < 4096 → AreLast clients entries
     → AreLast (slice_set clients e.client (kept (Some e))) (entries ++ e ∷ [])
 last_set clients entries e h below are = record {
   places = length-set clients e.client (kept (Some e)) ∙ are.places;

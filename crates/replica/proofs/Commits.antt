@@ -24,7 +24,8 @@ use Rattle.replica.specs.declared.outputs.Outputs.{Outputs}
 apart : {E : Type 0} (e : E) (rest : List E) → [] ≡ e ∷ rest → ⊥
 apart {E = E} e rest h = let P : List E → Type 0 = λ xs. elim xs [ [] ↦ Unit {0} | x ∷ xs ↦ ⊥ ] in subst P h tt
 
-take_next : {E : Type 0} (items : List E) (n : ℕ) (e : E) (rest : List E) → drop n items ≡ e ∷ rest → take (n + 1) items ≡ take n items ++ e ∷ []
+take_next : {E : Type 0} (items : List E) (n : ℕ) (e : E) (rest : List E) → drop n items ≡ e ∷ rest
+    → take (n + 1) items ≡ take n items ++ e ∷ []
 take_next [] zero e rest h = absurd (apart e rest h)
 take_next [] (suc n) e rest h = absurd (apart e rest h)
 take_next (x ∷ xs) zero e rest h = ap (λ ys. take 1 ys) h
@@ -39,17 +40,28 @@ tree_at_next items n e rest h = sym (ap tree_after (take_next items n e rest h) 
 -- ---- under way
 
 pub begins : (top : ℕ) (l : Leading) (outs : Outputs) → IsUnderWay top l l outs outs
-begins top l outs = record { state = refl; peers = refl; committed = refl; answers = refl; refusals = refl; sends = refl }
+begins top l outs = record {
+  state = refl;
+  peers = refl;
+  committed = refl;
+  answers = refl;
+  refusals =
+      refl;
+  sends = refl;
+}
 
 -- what is left begins with the next entry
-left_split : (top : ℕ) (mid new : Leading) (before after : Outputs) → mid.server.cp < top → (h : CommitsNext mid new before after)
+left_split : (top : ℕ) (mid new : Leading) (before after : Outputs) → mid.server.cp < top
+    → (h : CommitsNext mid new before after)
     → left top mid ≡ h.entry ∷ left top new
 left_split top mid new before after below h =
     let more : top - mid.server.cp ≡ suc (top - (mid.server.cp + 1)) = omega arith in
-    ap (λ k. take k (drop mid.server.cp mid.server.items)) more ∙ ap (λ ys. take (suc (top - (mid.server.cp + 1))) ys) h.next
+    ap (λ k. take k (drop mid.server.cp mid.server.items)) more
+    ∙ ap (λ ys. take (suc (top - (mid.server.cp + 1))) ys) h.next
     ∙ ap (λ (s : Server Entry). h.entry ∷ take (top - s.cp) (drop s.cp s.items)) (sym h.state)
 
-answers_split : (top : ℕ) (mid new : Leading) (before after : Outputs) → mid.server.cp < top → (h : CommitsNext mid new before after)
+answers_split : (top : ℕ) (mid new : Leading) (before after : Outputs) → mid.server.cp < top
+    → (h : CommitsNext mid new before after)
     → left_answers top mid
     ≡ answered h.peer (record { index = mid.server.cp + 1; entry = h.entry; asked = None }) ∷ left_answers top new
 answers_split top mid new before after below h =
@@ -58,7 +70,8 @@ answers_split top mid new before after below h =
     ∙ ap (λ ps. answers_of (answers mid.server.cp (h.entry ∷ left top new)) ps) h.peers
     ∙ ap (λ n. first ∷ answers_of (answers n (left top new)) new.peers) (sym (ap (λ (s : Server Entry). s.cp) h.state))
 
-peers_split : (top : ℕ) (mid new : Leading) (before after : Outputs) → mid.server.cp < top → (h : CommitsNext mid new before after)
+peers_split : (top : ℕ) (mid new : Leading) (before after : Outputs) → mid.server.cp < top
+    → (h : CommitsNext mid new before after)
     → drop (top - mid.server.cp) mid.peers ≡ drop (top - new.server.cp) new.peers
 peers_split top mid new before after below h =
     let more : top - mid.server.cp ≡ suc (top - (mid.server.cp + 1)) = omega arith in
@@ -66,24 +79,34 @@ peers_split top mid new before after below h =
     ∙ ap (λ (s : Server Entry). drop (top - s.cp) new.peers) (sym h.state)
 
 -- one more commit on the way
-pub goes_on : (top : ℕ) (old mid new : Leading) (first before after : Outputs) → mid.server.cp < top → IsUnderWay top old mid first before
+pub goes_on : (top : ℕ) (old mid new : Leading) (first before after : Outputs) → mid.server.cp < top
+    → IsUnderWay top old mid first before
     → CommitsNext mid new before after → IsUnderWay top old new first after
 goes_on top old mid new first before after below way h = record {
   state = h.state ∙ ap (λ (s : Server Entry). record s { cp = mid.server.cp + 1 }) way.state
       ∙ ap (λ n. record (old.server) { cp = n }) (sym (ap (λ (s : Server Entry). s.cp) h.state));
   peers = sym (peers_split top mid new before after below h) ∙ way.peers;
-  committed = ap (λ es. es ++ left top new) h.committed ∙ append_assoc (map entered before.committed.items) (h.entry ∷ []) (left top new)
-      ∙ ap (λ es. map entered before.committed.items ++ es) (sym (left_split top mid new before after below h)) ∙ way.committed;
+  committed = ap (λ es. es ++ left top new) h.committed
+      ∙ append_assoc (map entered before.committed.items) (h.entry ∷ []) (left top new)
+      ∙ ap (λ es. map entered before.committed.items ++ es) (sym (left_split top mid new before after below h))
+      ∙ way.committed;
   answers = ap (λ said. said ++ left_answers top new) h.answers
-      ∙ append_assoc before.answers.items (answered h.peer (record { index = mid.server.cp + 1; entry = h.entry; asked = None }) ∷ []) (left_answers top new)
+      ∙ append_assoc before.answers.items (answered h.peer (record {
+        index = mid.server.cp + 1;
+        entry =
+            h.entry;
+        asked = None;
+      }) ∷ []) (left_answers top new)
       ∙ ap (λ said. before.answers.items ++ said) (sym (answers_split top mid new before after below h)) ∙ way.answers;
   refusals = h.refusals ∙ way.refusals;
   sends = h.sends ∙ way.sends;
 }
 
 -- the next commit leaves what stands beside the log right
-pub stands_on : (items : List Entry) (cp : ℕ) (committed after : Tree) (appended : Option Tree) (clients : List (Option Kept)) (stamp : ℕ)
-    (peer : Peer) (peers peers' : List Peer) (e : Entry) (rest : List Entry) → drop cp items ≡ e ∷ rest → peers ≡ peer ∷ peers'
+pub stands_on : (items : List Entry) (cp : ℕ) (committed after : Tree) (appended : Option Tree) (clients : List
+    (Option Kept)) (stamp : ℕ)
+    (peer : Peer) (peers peers' : List Peer) (e : Entry) (rest : List Entry) → drop cp items ≡ e ∷ rest
+    → peers ≡ peer ∷ peers'
     → after ≡ tree_next committed e → Stands items cp committed appended clients stamp peers
     → Stands items (cp + 1) after appended clients stamp peers'
 stands_on items cp committed after appended clients stamp peer peers peers' e rest next first is h = record {
@@ -102,7 +125,8 @@ acts-answers : (q : Place) (clock n : ℕ) (s : Server Entry) (es : List Entry) 
 acts-answers q clock n s [] = refl
 acts-answers q clock n s (e ∷ es) = acts-answers q clock (n + 1) s es
 
-committed-answers : (q : Place) (clock n : ℕ) (s : Server Entry) (es : List Entry) → committed_of q clock s (answers n es) ≡ []
+committed-answers : (q : Place) (clock n : ℕ) (s : Server Entry) (es : List Entry)
+    → committed_of q clock s (answers n es) ≡ []
 committed-answers q clock n s [] = refl
 committed-answers q clock n s (e ∷ es) = committed-answers q clock (n + 1) s es
 
@@ -137,7 +161,8 @@ left_answers_none top l end = ap (λ es. answers_of (answers l.server.cp es) l.p
 -- records are committed
 committing : (clock t lb until : ℕ) (l new : Leading) (before after : Outputs) → l.server.base ≡ 0 → l.server.cp < t
     → IsUnderWay t (noted t lb until l) new before after → new.server.cp ≡ max l.server.cp t
-    → Makes Zero clock (Noting t lb until ∷ Committing t ∷ answers l.server.cp (take (t - l.server.cp) (drop (l.server.cp - l.server.base) l.server.items)))
+    → Makes Zero clock (Noting t lb until ∷ Committing t ∷ answers l.server.cp (take (t - l.server.cp) (drop
+    (l.server.cp - l.server.base) l.server.items)))
     l.peers l.server new.server before after
 committing clock t lb until l new before after flat above way end =
     let mid = noted t lb until l in
@@ -148,18 +173,23 @@ committing clock t lb until l new before after flat above way end =
     let items = take (t - l.server.cp) (drop (l.server.cp - l.server.base) l.server.items) in
     let same : es ≡ items = ap (λ n. take (t - l.server.cp) (drop n l.server.items)) (sym from) in
     let over : t ≤ new.server.cp = omega (arith, at) in
-    let plain : Makes Zero clock (Noting t lb until ∷ Committing t ∷ answers l.server.cp es) l.peers l.server new.server before after = record {
+    let plain : Makes Zero clock (Noting t lb until ∷ Committing t ∷ answers l.server.cp es) l.peers l.server
+    new.server before after = record {
       state = way.state ∙ ap (λ n. record (mid.server) { cp = n }) at ∙ sym (acts-answers Zero clock l.server.cp s es);
-      committed = sym (append-nil (map entered after.committed.items)) ∙ ap (λ xs. map entered after.committed.items ++ xs) (sym (left_none t new over))
+      committed = sym (append-nil (map entered after.committed.items))
+          ∙ ap (λ xs. map entered after.committed.items ++ xs) (sym (left_none t new over))
           ∙ way.committed ∙ ap (λ xs. map entered before.committed.items ++ xs)
-          (same ∙ sym (append-nil items) ∙ ap (λ xs. items ++ xs) (sym (committed-answers Zero clock l.server.cp s es)));
-      answers = sym (append-nil after.answers.items) ∙ ap (λ xs. after.answers.items ++ xs) (sym (left_answers_none t new over)) ∙ way.answers;
+          (same ∙ sym (append-nil items)
+          ∙ ap (λ xs. items ++ xs) (sym (committed-answers Zero clock l.server.cp s es)));
+      answers = sym (append-nil after.answers.items)
+          ∙ ap (λ xs. after.answers.items ++ xs) (sym (left_answers_none t new over)) ∙ way.answers;
       refusals = way.refusals ∙ sym (append-nil before.refusals.items)
           ∙ ap (λ xs. before.refusals.items ++ in_turn refused xs l.peers) (sym (refused-answers l.server.cp es));
       sends = ap (map sent) way.sends ∙ sym (append-nil (map sent before.sends.items))
           ∙ ap (λ xs. map sent before.sends.items ++ xs) (sym (sent-answers l.server.cp es));
     } in
-    subst (λ xs. Makes Zero clock (Noting t lb until ∷ Committing t ∷ answers l.server.cp xs) l.peers l.server new.server before after) same plain
+    subst (λ xs. Makes Zero clock (Noting t lb until ∷ Committing t ∷ answers l.server.cp xs) l.peers l.server
+    new.server before after) same plain
 
 -- none is
 noting : (clock t lb until : ℕ) (l new : Leading) (before after : Outputs) → t ≤ l.server.cp
@@ -171,23 +201,27 @@ noting clock t lb until l new before after above way end =
     let over : t ≤ new.server.cp = omega (arith, at) in
     record {
       state = way.state ∙ ap (λ n. record (mid.server) { cp = n }) at;
-      committed = sym (append-nil (map entered after.committed.items)) ∙ ap (λ xs. map entered after.committed.items ++ xs) (sym (left_none t new over))
+      committed = sym (append-nil (map entered after.committed.items))
+          ∙ ap (λ xs. map entered after.committed.items ++ xs) (sym (left_none t new over))
           ∙ way.committed ∙ ap (λ xs. map entered before.committed.items ++ xs) (left_none t mid above);
-      answers = sym (append-nil after.answers.items) ∙ ap (λ xs. after.answers.items ++ xs) (sym (left_answers_none t new over)) ∙ way.answers
+      answers = sym (append-nil after.answers.items)
+          ∙ ap (λ xs. after.answers.items ++ xs) (sym (left_answers_none t new over)) ∙ way.answers
           ∙ ap (λ xs. before.answers.items ++ xs) (left_answers_none t mid above);
       refusals = way.refusals ∙ sym (append-nil before.refusals.items);
       sends = ap (map sent) way.sends ∙ sym (append-nil (map sent before.sends.items));
     }
 
 -- the commits after what an Ack told was kept are what the machine does
-pub acked : (clock t lb until cp told tlb grant : ℕ) (items : List Entry) (peers : List Peer) (l new : Leading) (before after : Outputs)
+pub acked : (clock t lb until cp told tlb grant : ℕ) (items : List Entry) (peers : List Peer) (l new : Leading)
+    (before after : Outputs)
     → record { server = leading items cp told tlb grant; peers = peers } ≡ l
     → IsUnderWay t (noted t lb until l) new before after → new.server.cp ≡ max l.server.cp t
     → Makes Zero clock (on_ack l.server view_one t lb until) l.peers l.server new.server before after
 unfolding all_of
 acked clock t lb until cp told tlb grant items peers l new before after is =
     let first : Leading = record { server = leading items cp told tlb grant; peers = peers } in
-    let P : Leading → Type 0 = λ l. IsUnderWay t (noted t lb until l) new before after → new.server.cp ≡ max l.server.cp t
+    let P : Leading → Type 0 = λ l. IsUnderWay t (noted t lb until l) new before after
+    → new.server.cp ≡ max l.server.cp t
     → Makes Zero clock (on_ack l.server view_one t lb until) l.peers l.server new.server before after in
     subst P is (λ way end. elim (cases_lt cp t) [
       | inl below ↦ rw (lt-ltb cp t below) (committing clock t lb until first new before after refl below way end)
@@ -197,6 +231,14 @@ acked clock t lb until cp told tlb grant items peers l new before after is =
 pub same_leading : (a b : Leading) → a.server ≡ b.server → a.peers ≡ b.peers → a ≡ b
 same_leading a b server peers =
     let mid : Leading = record { server = b.server; peers = a.peers } in
-    let left : a ≡ mid = ap (λ (s : Server Entry). let l : Leading = record { server = s; peers = a.peers } in l) server in
-    let right : mid ≡ b = ap (λ (ps : List Peer). let l : Leading = record { server = b.server; peers = ps } in l) peers in
+    let left : a ≡ mid = ap (λ (s : Server Entry). let l : Leading = record {
+      server = s;
+      peers =
+          a.peers;
+    } in l) server in
+    let right : mid ≡ b = ap (λ (ps : List Peer). let l : Leading = record {
+      server = b.server;
+      peers =
+          ps;
+    } in l) peers in
     left ∙ right

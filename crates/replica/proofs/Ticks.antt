@@ -20,15 +20,18 @@ use Rattle.replica.specs.declared.outputs.Outputs.{Outputs}
 use Rattle.volatile_log.specs.Log.{LogValue, record_at}
 
 -- the Events change nothing, and say nothing else
-acts-events : (q to : Place) (clock v cp base n : ℕ) (s : Server Entry) (es : List Entry) → acts q clock s (events to v cp base n es) ≡ s
+acts-events : (q to : Place) (clock v cp base n : ℕ) (s : Server Entry) (es : List Entry)
+    → acts q clock s (events to v cp base n es) ≡ s
 acts-events q to clock v cp base n s [] = refl
 acts-events q to clock v cp base n s (e ∷ es) = acts-events q to clock v cp base (n + 1) s es
 
-committed-events : (q to : Place) (clock v cp base n : ℕ) (s : Server Entry) (es : List Entry) → committed_of q clock s (events to v cp base n es) ≡ []
+committed-events : (q to : Place) (clock v cp base n : ℕ) (s : Server Entry) (es : List Entry)
+    → committed_of q clock s (events to v cp base n es) ≡ []
 committed-events q to clock v cp base n s [] = refl
 committed-events q to clock v cp base n s (e ∷ es) = committed-events q to clock v cp base (n + 1) s es
 
-answered-events : (to : Place) (v cp base n : ℕ) (es : List Entry) → flat_map answered_by (events to v cp base n es) ≡ []
+answered-events : (to : Place) (v cp base n : ℕ) (es : List Entry)
+    → flat_map answered_by (events to v cp base n es) ≡ []
 answered-events to v cp base n [] = refl
 answered-events to v cp base n (e ∷ es) = answered-events to v cp base (n + 1) es
 
@@ -37,7 +40,8 @@ refused-events to v cp base n [] = refl
 refused-events to v cp base n (e ∷ es) = refused-events to v cp base (n + 1) es
 
 -- after n of the entries comes one, and then those after n + 1
-pub drop-split : {E : Type 0} (items : List E) (n : ℕ) → n < length items → (e : E) × (drop n items ≡ e ∷ drop (n + 1) items)
+pub drop-split : {E : Type 0} (items : List E) (n : ℕ) → n < length items
+    → (e : E) × (drop n items ≡ e ∷ drop (n + 1) items)
 drop-split [] n h = absurd (omega (arith, h))
 drop-split (x ∷ xs) zero h = (x, refl)
 drop-split (x ∷ xs) (suc n) h =
@@ -64,7 +68,8 @@ record_next log n r flat is =
     entry_after log.records n r (sym (is ∙ there))
 
 -- nothing is left once the end is reached
-pub none_left : {E : Type 0} (items : List E) (t n : ℕ) → n ≡ min (length items) (t + 64) → take (t + 64 - n) (drop n items) ≡ []
+pub none_left : {E : Type 0} (items : List E) (t n : ℕ) → n ≡ min (length items) (t + 64)
+    → take (t + 64 - n) (drop n items) ≡ []
 none_left items t n end = elim (cases_lt (t + 64) (length items)) [
   | inl below ↦ let none : t + 64 - n ≡ 0 = omega arith in ap (λ k. take k (drop n items)) none
   | inr above ↦ at_drop_all (take (t + 64 - n)) items n (omega arith) ∙ take-nil (t + 64 - n)
@@ -72,7 +77,8 @@ none_left items t n end = elim (cases_lt (t + 64) (length items)) [
 
 -- what is sent of the first entry, and of those after it
 pub events-split : (to : Place) (v cp base n k m : ℕ) (items : List Entry) → n < length items → m ≡ k + 1
-    → sends_of (events to v cp base n (take 1 (drop n items))) ++ sends_of (events to v cp base (n + 1) (take k (drop (n + 1) items)))
+    → sends_of (events to v cp base n (take 1 (drop n items))) ++ sends_of (events to v cp base (n + 1) (take k
+    (drop (n + 1) items)))
     ≡ sends_of (events to v cp base n (take m (drop n items)))
 events-split to v cp base n k m items h is =
     let r = drop-split items n h in
@@ -89,22 +95,32 @@ tick_is clock cp t lb grant items =
     let from : max 0 t - 0 ≡ t = omega arith in
     let F : Server Entry → List (Move Entry) = λ s'. beats s ++ (duties Zero s' s'.duty ++ again Zero s') in
     let plain : tick Zero clock s ≡ beats s =
-    ap F (acts-events Zero One clock view_one cp 0 (max 0 t) s (take 64 (drop (max 0 t - 0) items))) ∙ append-nil (beats s) in
-    plain ∙ ap (λ n. Sending One (Beat view_one cp 0) ∷ events One view_one cp 0 n (take 64 (drop (max 0 t - 0) items))) told
+    ap F (acts-events Zero One clock view_one cp 0 (max 0 t) s (take 64 (drop (max 0 t - 0) items)))
+    ∙ append-nil (beats s) in
+    plain ∙ ap (λ n. Sending One (Beat view_one cp 0) ∷ events One view_one cp 0 n (take 64 (drop (max 0 t - 0)
+    items))) told
     ∙ ap (λ n. Sending One (Beat view_one cp 0) ∷ events One view_one cp 0 t (take 64 (drop n items))) from
 
 made : (clock cp t lb grant : ℕ) (items : List Entry) (es : List Entry) (before after : Outputs)
     → after.committed ≡ before.committed → after.answers ≡ before.answers → after.refusals ≡ before.refusals
-    → map sent after.sends.items ≡ map sent before.sends.items ++ (One, Beat view_one cp 0) ∷ sends_of (events One view_one cp 0 t es)
-    → Makes Zero clock (Sending One (Beat view_one cp 0) ∷ events One view_one cp 0 t es) [] (leading items cp t lb grant) (leading items cp t lb grant)
+    → map sent after.sends.items
+    ≡ map sent before.sends.items ++ (One, Beat view_one cp 0) ∷ sends_of (events One view_one cp 0 t es)
+    → Makes Zero clock (Sending One (Beat view_one cp 0) ∷ events One view_one cp 0 t es) [] (leading items cp
+    t lb grant) (leading items cp t lb grant)
     before after
 made clock cp t lb grant items es before after committed answers refusals sends =
     let s = leading items cp t lb grant in
     record {
       state = sym (acts-events Zero One clock view_one cp 0 t s es);
-      committed = rw (committed-events Zero One clock view_one cp 0 t s es, append-nil (map entered before.committed.items)) (ap (λ c. map entered c.items) committed);
-      answers = rw (answered-events One view_one cp 0 t es, append-nil before.answers.items) (ap (λ a. a.items) answers);
-      refusals = rw (refused-events One view_one cp 0 t es, append-nil before.refusals.items) (ap (λ r. r.items) refusals);
+      committed = rw (
+        committed-events Zero One clock view_one cp 0 t s es,
+        append-nil (map entered
+            before.committed.items),
+      ) (ap (λ c. map entered c.items) committed);
+      answers = rw (answered-events One view_one cp 0 t es, append-nil before.answers.items) (ap (λ a. a.items)
+          answers);
+      refusals = rw (refused-events One view_one cp 0 t es, append-nil before.refusals.items) (ap (λ r.
+          r.items) refusals);
       sends = sends;
     }
 
@@ -112,14 +128,16 @@ ticked-plain : (clock cp t lb grant : ℕ) (items : List Entry) (before after : 
     → after.committed ≡ before.committed → after.answers ≡ before.answers → after.refusals ≡ before.refusals
     → map sent after.sends.items ≡ map sent before.sends.items
     ++ (One, Beat view_one cp 0) ∷ sends_of (events One view_one cp 0 t (take 64 (drop t items)))
-    → Makes Zero clock (tick Zero clock (leading items cp t lb grant)) [] (leading items cp t lb grant) (leading items cp t lb grant) before after
+    → Makes Zero clock (tick Zero clock (leading items cp t lb grant)) [] (leading items cp t lb grant)
+    (leading items cp t lb grant) before after
 ticked-plain clock cp t lb grant items before after committed answers refusals sends =
     let s = leading items cp t lb grant in
     subst (λ ms. Makes Zero clock ms [] s s before after) (sym (tick_is clock cp t lb grant items))
     (made clock cp t lb grant items (take 64 (drop t items)) before after committed answers refusals sends)
 
 -- a Beat and the Events after it are what a tick sends
-pub ticked : (clock cp t lb grant : ℕ) (items : List Entry) (s : Server Entry) (before mid after : Outputs) → s ≡ leading items cp t lb grant
+pub ticked : (clock cp t lb grant : ℕ) (items : List Entry) (s : Server Entry) (before mid after : Outputs)
+    → s ≡ leading items cp t lb grant
     → after.committed ≡ before.committed → after.answers ≡ before.answers → after.refusals ≡ before.refusals
     → map sent mid.sends.items ≡ map sent before.sends.items ++ (One, Beat view_one cp 0) ∷ []
     → map sent after.sends.items ≡ map sent mid.sends.items
@@ -131,4 +149,5 @@ ticked clock cp t lb grant items s before mid after is committed answers refusal
     → Makes Zero clock (tick Zero clock s) [] s s before after in
     let rest = sends_of (events One view_one cp 0 t (take 64 (drop t items))) in
     subst P (sym is) (λ again. ticked-plain clock cp t lb grant items before after committed answers refusals
-    (again ∙ ap (λ xs. xs ++ rest) beat ∙ append_assoc (map sent before.sends.items) ((One, Beat view_one cp 0) ∷ []) rest)) again
+    (again ∙ ap (λ xs. xs ++ rest) beat
+    ∙ append_assoc (map sent before.sends.items) ((One, Beat view_one cp 0) ∷ []) rest)) again

@@ -13,10 +13,10 @@ use Rattle.replica.specs.declared.clients.Kept.{Kept}
 use Rattle.replica.specs.declared.outputs.Answered.{Answered}
 use Rattle.replica.specs.declared.outputs.Outputs.{Outputs}
 
--- Beside these entries, of which cp are committed, stand the trees at CP and at top, the clients' last updates, the last
--- stamp, and who asked for the entries above CP. The tree at top is none once memory ran out in an append
-pub record Stands (items : List Entry) (cp : ℕ) (committed : Tree) (appended : Option Tree) (clients : List (Option Kept))
-    (stamp : ℕ) (peers : List Peer) : Type 0 where
+-- Beside these entries, of which cp are committed, stand the trees at CP and at top, the clients' last updates, the
+-- last stamp, and who asked for the entries above CP. The tree at top is none once memory ran out in an append
+pub record Stands (items : List Entry) (cp : ℕ) (committed : Tree) (appended : Option Tree)
+    (clients : List (Option Kept)) (stamp : ℕ) (peers : List Peer) : Type 0 where
   pub at_cp : committed ≡ tree_after (take cp items)
   pub at_top : IfSome appended (λ tree. tree ≡ tree_after items)
   pub last : AreLast clients items
@@ -54,6 +54,7 @@ pub record IsUnderWay (top : ℕ) (old new : Leading) (before after : Outputs) :
   pub sends : after.sends.items ≡ before.sends.items
 
 -- an ask of a peer made these moves, and who waits for what they append has come to those who wait
-pub record Asked (now : ℕ) (ms : List (Move Entry)) (peer : Peer) (old new : Leading) (before after : Outputs) : Type 0 where
+pub record Asked (now : ℕ) (ms : List (Move Entry)) (peer : Peer) (old new : Leading) (before after : Outputs)
+    : Type 0 where
   pub makes : Makes Zero now ms (peer ∷ []) old.server new.server before after
   pub waits : new.peers ≡ old.peers ++ waits_of peer ms

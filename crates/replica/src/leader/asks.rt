@@ -191,7 +191,7 @@ impl Leader {
             OnOk result (Asked now (Appending e ∷ Sending One (Event view_one (top s + 1) s.cp 0 e) ∷ []) asker.peer
             self.old self.new outs.old outs.new) }
     {
-        let mut tree = self.appended.take().ok_or(AllocError)?;
+        let mut tree = self.take_tree()?;
         let item = self.make_record(alloc, &mut tree, asker, call, now)?;
         let kept = Kept {
             number: item.number,
@@ -202,6 +202,17 @@ impl Leader {
         outs.send(ServerId::One, event)?;
         self.keep(asker.peer, item, kept, tree);
         Ok(())
+    }
+
+    /// The tree at top, which the leader has no more until a record is kept.
+    fn take_tree(&mut self) -> Result<PlainTree, AllocError>
+        ensures tree { IfOk result (λ tree. tree ≡ tree_after self.old.server.items) }
+        ensures same { self.new ≡ self.old }
+    {
+        match self.appended.take() {
+            Some(tree) => Ok(tree),
+            None => Err(AllocError),
+        }
     }
 
     /// The next record, whose call changes the tree at top.

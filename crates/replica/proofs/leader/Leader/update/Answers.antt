@@ -21,8 +21,11 @@ returns-in-Some c =
     let items : map entry_of l.log.records ≡ s.items = ap (λ (x : Leading). x.server.items) c.self.view_is in
     let places = last.places in
     let there = get_or_read l.clients.items a.asker.client c.index.result.now (omega arith) c.index.ensures none in
-    let is = sym (last.each a.asker.client ∙ ap (λ es. kept (last_of a.asker.client es)) items) ∙ sym there ∙ c.in-Some.is in
+    let is = sym (last.each a.asker.client ∙ ap (λ es. kept (last_of a.asker.client es)) items) ∙ sym there
+    ∙ c.in-Some.is in
     on_ok_weaker c.repeat.result (λ answers. repeated a.now a.asker.client
-    (new_entry a.now s.items a.asker.client a.asker.number a.call.now) a.asker.peer c.in-Some.kept a.self.now a.outs.now c.repeat.new.outs
-    (last_is a.asker.client s.items c.in-Some.kept is) c.if-asker-kept.true answers c.repeat.ensures.committed c.repeat.ensures.refusals
+    (new_entry a.now s.items a.asker.client a.asker.number a.call.now) a.asker.peer c.in-Some.kept a.self.now
+    a.outs.now c.repeat.new.outs
+    (last_is a.asker.client s.items c.in-Some.kept is) c.if-asker-kept.true answers c.repeat.ensures.committed
+    c.repeat.ensures.refusals
     c.repeat.ensures.sends) c.repeat.ensures.answers
