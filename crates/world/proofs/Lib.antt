@@ -2,3 +2,4 @@ pub mod Loops
 pub mod OutputLists
 pub mod Giving
 pub mod PacketLists
+pub mod Saying

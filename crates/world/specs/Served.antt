@@ -1,22 +1,25 @@
 -- A step of one server of the world: its moves, what they give, and the world that they leave.
-use Rattle.std.specs.Prelude.{◌≡◌, ℕ, Bool, false, nat_lt, List, [], ◌∷◌, ◌++◌, length, replicate, map, Option, None, Some, if◌then◌else◌}
+use Rattle.std.specs.Prelude.{◌≡◌, ℕ, Bool, true, false, nat_lt, slice_get, slice_set, List, [], ◌∷◌, ◌++◌, length, replicate, map, Option, None, Some, if◌then◌else◌}
 use Rattle.std.specs.List.{flat_map}
 use Rattle.harp_base.specs.declared.server.ServerId.{ServerId}
 use Rattle.harp_base.specs.declared.call.Call.{Call}
 use Rattle.harp_base.specs.declared.state.StateLine.{StateLine}
 use Rattle.trace_lines.specs.declared.step.Step.{Step}
 use Rattle.trace_lines.specs.declared.step.Step.TheVariants as step
+use Rattle.harp_base.specs.declared.peer.Peer.{Peer}
+use Rattle.trace_lines.specs.declared.line.Cause.{Cause}
+use Rattle.trace_lines.specs.declared.line.Cause.TheVariants as cause
 use Rattle.trace_lines.specs.declared.line.Line.{Line}
 use Rattle.trace_lines.specs.declared.line.Line.TheVariants as line
 use Rattle.file_tree.specs.Book.{Entry}
 use Rattle.group_model.specs.Effects.{taken}
 use Rattle.group_model.specs.FixedStart.{starting}
 use Rattle.group_model.specs.FreeReads.{on_free_ask}
-use Rattle.group_model.specs.Moves.{Move, Reading, acts}
+use Rattle.group_model.specs.Moves.{Move, Reading, Saying, acts}
 use Rattle.group_model.specs.Names.{id_of, place_of}
 use Rattle.group_model.specs.Places.{Zero, One, Two, Place, get, with_at}
 use Rattle.group_model.specs.Replicate.{on_ack, on_event}
-use Rattle.group_model.specs.State.{Ack, Beat, Event, Message, Packet, Server}
+use Rattle.group_model.specs.State.{Ack, BadClient, Beat, Event, Message, NotLeader, Packet, Refuses, Server}
 use Rattle.group_model.specs.Step.{near}
 use Rattle.group_model.specs.Tick.{tick}
 use Rattle.group_run.specs.Lines.{answered_lines, entered_lines, refused_lines, sent_lines, state_lines}
@@ -26,7 +29,7 @@ use Rattle.replica.specs.Said.{committed_of, entered, sends_of, sent}
 use Rattle.replica.specs.declared.outputs.Outputs.{Outputs}
 use Rattle.world.specs.Given.{answered_lines as answered_lines_of, reads_in, refused_lines as refused_lines_of, sent_lines as sent_lines_of}
 use Rattle.world.specs.Packets.{packet_of, posted}
-use Rattle.world.specs.State.{WorldValue}
+use Rattle.world.specs.State.{WorldValue, clocks_after}
 use Rattle.world.specs.declared.refusal.Refusal.{Refusal}
 use Rattle.world.specs.declared.refusal.Refusal.TheVariants as refusals
 
@@ -37,9 +40,16 @@ server_in w Zero = w.leader
 server_in w One = w.partner
 server_in w Two = starting Two
 
+-- a server that leads nothing refuses an ask, with the leader as hint where it knows one
+abbrev pub refuse_moves : ℕ → ℕ → Option Place → List (Move Entry)
+refuse_moves client number hint =
+    Saying (Refuses client number (if nat_lt 4095 client then BadClient else NotLeader hint)) ∷ []
+
 -- the moves of an ask, and those of a tick; only the leader has something due
 abbrev pub ask_moves : Place → ℕ → Server Entry → ℕ → ℕ → Call → List (Move Entry)
-ask_moves q clock s client number call = on_free_ask q clock s.items s client number call
+ask_moves Zero clock s client number call = on_free_ask Zero clock s.items s client number call
+ask_moves One clock s client number call = refuse_moves client number (Some Zero)
+ask_moves Two clock s client number call = refuse_moves client number None
 
 abbrev pub tick_moves : Place → ℕ → Server Entry → List (Move Entry)
 tick_moves Zero clock s = tick Zero clock s
@@ -74,6 +84,17 @@ pub record Says (q : Place) (clock : ℕ) (s : Server Entry) (ms : List (Move En
   pub answers : answered_lines_of (id_of q) outs.answers.items ≡ answered_lines q ms
   pub refusals : refused_lines_of (id_of q) outs.refusals.items ≡ refused_lines q ms
   pub sends : map sent outs.sends.items ≡ sends_of ms
+
+-- the outputs of a server that leads nothing: one refusal
+abbrev pub cause_shown : ℕ → Option ServerId → Cause
+cause_shown client hint = if nat_lt 4095 client then cause.BadClient else cause.NotLeader hint
+
+pub record RefusesAsk (client number : ℕ) (hint : Option ServerId) (outs : Outputs) : Type 0 where
+  pub committed : outs.committed.items ≡ []
+  pub answers : outs.answers.items ≡ []
+  pub refusals : (peer : Peer) × (outs.refusals.items
+      ≡ (record { peer = peer; client = client; number = number; cause = cause_shown client hint }) ∷ [])
+  pub sends : outs.sends.items ≡ []
 
 -- ---- the world after moves
 
@@ -142,3 +163,39 @@ refusal_in w (step.Clock server reading) =
     if nat_lt reading (get w.clocks (place_of server)) then Some refusals.ClockBack
     else (if near reading (λ q. get (with_at w.clocks (place_of server) reading) q) then None else Some refusals.ClockApart)
 refusal_in w s = None
+
+-- ---- a step
+
+-- the world where a server has made moves, before what they give was put into it
+abbrev pub moved : WorldValue → Place → List (Move Entry) → WorldValue
+moved w q ms = record w {
+  leader = leader_after w q (get w.clocks q) ms;
+  partner = partner_after w q (get w.clocks q) ms;
+}
+
+-- a packet was delivered: the server that it is for made its moves
+pub record Delivers (old new : WorldValue) (n : ℕ) (lines : List Line) : Type 0 where
+  pub packet : Packet Entry
+  pub sent_as : slice_get old.packets n ≡ Some packet
+  pub serves : Serves old new (step.Deliver n) packet.to
+      (message_moves packet.to (get old.clocks packet.to) (server_in old packet.to) packet.from packet.body)
+      (slice_set old.delivered n true) lines
+
+-- only the clocks changed, and there is the event line alone
+pub record Sets (old new : WorldValue) (s : Step) (lines : List Line) : Type 0 where
+  pub world : new ≡ record old { clocks = clocks_after old.clocks s }
+  pub lines_are : lines ≡ line.Event s ∷ []
+
+-- what a step does that isn't refused
+abbrev pub Takes : WorldValue → WorldValue → Step → List Line → Type 0
+Takes old new (step.Ask server client number call) lines =
+    Serves old new (step.Ask server client number call) (place_of server)
+    (ask_moves (place_of server) (get old.clocks (place_of server)) (server_in old (place_of server)) client number call)
+    old.delivered lines
+Takes old new (step.Tick server) lines =
+    Serves old new (step.Tick server) (place_of server)
+    (tick_moves (place_of server) (get old.clocks (place_of server)) (server_in old (place_of server))) old.delivered lines
+Takes old new (step.Deliver n) lines = Delivers old new n lines
+Takes old new (step.Clock server reading) lines = Sets old new (step.Clock server reading) lines
+Takes old new (step.Advance millis) lines = Sets old new (step.Advance millis) lines
+Takes old new (step.Pump among) lines = ⊥

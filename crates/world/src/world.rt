@@ -1,12 +1,13 @@
 //! The world, one step after the other.
 
-ghost use Rattle.std.specs.Prelude.{◌≡◌, ◌≤◌, ◌<◌, ◌+◌, ◌++◌, IfOk, IfErr, OnOk, IsErr, IsTrue, List, [], ◌∷◌, length, true, false, map, slice_index_or, slice_set, None};
+ghost use Rattle.std.specs.Prelude.{◌≡◌, ◌^◌, ◌≤◌, ◌<◌, ◌+◌, ◌++◌, IfOk, IfErr, OnOk, IsErr, IsTrue, List, [], ◌∷◌, length, true, false, map, slice_index_or, slice_set, None};
 ghost use Rattle.trace_lines.specs.declared.step.Step.{Step as Taken};
 ghost use Rattle.trace_lines.specs.declared.step.Step.TheVariants as step;
 ghost use Rattle.trace_lines.specs.declared.line.Line.TheVariants as line;
 ghost use Rattle.group_model.specs.Moves.{acts};
 ghost use Rattle.group_model.specs.Names.{place_of};
-ghost use Rattle.group_model.specs.Places.{Two, get};
+ghost use Rattle.group_model.specs.Places.{Zero, One, Two, get};
+ghost use Rattle.group_model.specs.Step.{near};
 ghost use Rattle.harp_base.specs.declared.server.ServerId.TheVariants as server;
 ghost use Rattle.group_run.specs.Lines.{entered_lines, state_lines};
 ghost use Rattle.group_run.specs.Run.{due, first_scene, is_elementary, run};
@@ -14,7 +15,7 @@ ghost use Rattle.group_run.specs.Shown.{state_of};
 ghost use Rattle.replica.specs.Said.{entered};
 ghost use Rattle.world.specs.Given.{answered_lines, reads_in, refused_lines, sent_lines};
 ghost use Rattle.world.specs.Packets.{AreSettled, packet_of, posted};
-ghost use Rattle.world.specs.Served.{Gives, Says, Serves, ask_moves, leader_after, message_moves, partner_after, refusal_in, server_in, tick_moves};
+ghost use Rattle.world.specs.Served.{Gives, RefusesAsk, cause_shown, Says, Serves, ask_moves, leader_after, message_moves, moved, partner_after, refusal_in, server_in, tick_moves};
 ghost use Rattle.world.specs.State.{AreReadings, IsLeftBy, Plays, Refused, clocks_after, first_world};
 
 use crate::given::{put, show_state};
@@ -134,6 +135,147 @@ impl World {
             ServerId::Two => self.clocks.two,
         }
     }
+
+    /// Why a clock isn't set.
+    fn clock_refusal(&self, server: ServerId, reading: u64) -> Option<Refusal>
+        requires readings { AreReadings self.now.clocks }
+        requires reading { reading < 2 ^ 62 }
+        ensures { result ≡ refusal_in self.now (step.Clock server reading) }
+    {
+        let _ = &self.packets;
+        if reading < self.reading(server) {
+            return Some(Refusal::ClockBack);
+        }
+        let Trio { zero, one, two } = self.clocks;
+        let near = match server {
+            ServerId::Zero => is_near(reading, reading, one, two),
+            ServerId::One => is_near(reading, zero, reading, two),
+            ServerId::Two => is_near(reading, zero, one, reading),
+        };
+        if near {
+            None
+        } else {
+            Some(Refusal::ClockApart)
+        }
+    }
+
+    /// Sets a server's clock.
+    fn set_clock(&mut self, server: ServerId, reading: u64)
+        ensures { self.new ≡ record self.old { clocks = clocks_after self.old.clocks (step.Clock server reading) } }
+    {
+        let _ = &self.packets;
+        match server {
+            ServerId::Zero => self.clocks.zero = reading,
+            ServerId::One => self.clocks.one = reading,
+            ServerId::Two => self.clocks.two = reading,
+        }
+    }
+
+    /// All clocks go on.
+    fn advance(&mut self, millis: u64)
+        requires { AreReadings (clocks_after self.old.clocks (step.Advance millis)) }
+        ensures { self.new ≡ record self.old { clocks = clocks_after self.old.clocks (step.Advance millis) } }
+    {
+        let _ = &self.packets;
+        self.clocks.zero += millis;
+        self.clocks.one += millis;
+        self.clocks.two += millis;
+    }
+
+    /// The leader, or a server that leads nothing, deals with a client's call.
+    fn serve_ask(
+        &mut self,
+        alloc: Global,
+        server: ServerId,
+        client: u32,
+        number: u64,
+        call: &Call,
+    ) -> Result<Outputs, AllocError>
+        requires { AreReadings self.old.clocks }
+        ensures { let q = place_of server in
+            let ms = ask_moves q (get self.old.clocks q) (server_in self.old q) client number call.now in
+            IfOk result (λ outs. (self.new ≡ moved self.old q ms)
+            × Says q (get self.old.clocks q) (server_in self.old q) ms outs) }
+    {
+        let _ = &self.packets;
+        match server {
+            ServerId::Zero => self.serve_leader(alloc, client, number, call),
+            ServerId::One => refuse(alloc, client, number, Some(ServerId::Zero)),
+            ServerId::Two => refuse(alloc, client, number, None),
+        }
+    }
+
+    /// The leader deals with a client's call.
+    fn serve_leader(
+        &mut self,
+        alloc: Global,
+        client: u32,
+        number: u64,
+        call: &Call,
+    ) -> Result<Outputs, AllocError>
+        requires { AreReadings self.old.clocks }
+        ensures { let ms = ask_moves Zero (get self.old.clocks Zero) (server_in self.old Zero) client number call.now in
+            IfOk result (λ outs. (self.new ≡ moved self.old Zero ms)
+            × Says Zero (get self.old.clocks Zero) (server_in self.old Zero) ms outs) }
+    {
+        let now = self.clocks.zero;
+        let mut outs = Outputs::new(alloc);
+        self.leader.ask(alloc, CLIENT, client, number, call, now, &mut outs)?;
+        Ok(outs)
+    }
+}
+
+/// The peer that all asks of a schedule come from.
+const CLIENT: Peer = Peer::Other {
+    address: 0,
+    port: 0,
+};
+
+/// The refusal of a server that leads nothing, with the leader as hint where it knows one.
+fn refuse(
+    alloc: Global,
+    client: u32,
+    number: u64,
+    hint: Option<ServerId>,
+) -> Result<Outputs, AllocError>
+    ensures { IfOk result (λ outs. RefusesAsk client number hint outs) }
+{
+    let mut outs = Outputs::new(alloc);
+    outs.refusals.push(Refused {
+        peer: CLIENT,
+        client,
+        number,
+        cause: cause_of(client, hint),
+    })?;
+    Ok(outs)
+}
+
+/// Why a server that leads nothing refuses.
+fn cause_of(client: u32, hint: Option<ServerId>) -> Cause
+    ensures { result ≡ cause_shown client hint }
+{
+    if client > 4095 {
+        Cause::BadClient
+    } else {
+        Cause::NotLeader { hint }
+    }
+}
+
+/// Whether each of three clocks is at most 50 milliseconds from a reading.
+#[tactic(auto, unfolding(group_model::specs::Places::all_of))]
+fn is_near(reading: u64, zero: u64, one: u64, two: u64) -> bool
+    requires reading { reading < 2 ^ 62 }
+    requires zero { zero < 2 ^ 62 }
+    requires one { one < 2 ^ 62 }
+    requires two { two < 2 ^ 62 }
+    ensures { result ≡ near reading (λ q. get (record { zero_th = zero; one_th = one; two_th = two }) q) }
+{
+    reading <= zero + 50
+        && zero <= reading + 50
+        && reading <= one + 50
+        && one <= reading + 50
+        && reading <= two + 50
+        && two <= reading + 50
 }
 
 /// The view that stands from the fixed start on.
