@@ -2,4 +2,5 @@ pub mod Loops
 pub mod OutputLists
 pub mod Giving
 pub mod PacketLists
+pub mod Making
 pub mod Saying

@@ -173,6 +173,12 @@ moved w q ms = record w {
   partner = partner_after w q (get w.clocks q) ms;
 }
 
+-- a server made these moves, and these are its outputs
+pub record Made (old new : WorldValue) (q : Place) (ms : List (Move Entry)) (outs : Outputs) : Type 0 where
+  pub world : new ≡ moved old q ms
+  pub stands : server_in new q ≡ acts q (get old.clocks q) (server_in old q) ms
+  pub says : Says q (get old.clocks q) (server_in old q) ms outs
+
 -- a packet was delivered: the server that it is for made its moves
 pub record Delivers (old new : WorldValue) (n : ℕ) (lines : List Line) : Type 0 where
   pub packet : Packet Entry

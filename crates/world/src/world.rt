@@ -4,9 +4,8 @@ ghost use Rattle.std.specs.Prelude.{◌≡◌, ◌^◌, ◌≤◌, ◌<◌, ◌+
 ghost use Rattle.trace_lines.specs.declared.step.Step.{Step as Taken};
 ghost use Rattle.trace_lines.specs.declared.step.Step.TheVariants as step;
 ghost use Rattle.trace_lines.specs.declared.line.Line.TheVariants as line;
-ghost use Rattle.group_model.specs.Moves.{acts};
 ghost use Rattle.group_model.specs.Names.{place_of};
-ghost use Rattle.group_model.specs.Places.{Zero, One, Two, get};
+ghost use Rattle.group_model.specs.Places.{Two, get};
 ghost use Rattle.group_model.specs.Step.{near};
 ghost use Rattle.harp_base.specs.declared.server.ServerId.TheVariants as server;
 ghost use Rattle.group_run.specs.Lines.{entered_lines, state_lines};
@@ -15,18 +14,19 @@ ghost use Rattle.group_run.specs.Shown.{state_of};
 ghost use Rattle.replica.specs.Said.{entered};
 ghost use Rattle.world.specs.Given.{answered_lines, reads_in, refused_lines, sent_lines};
 ghost use Rattle.world.specs.Packets.{AreSettled, packet_of, posted};
-ghost use Rattle.world.specs.Served.{Gives, RefusesAsk, cause_shown, Says, Serves, ask_moves, leader_after, message_moves, moved, partner_after, refusal_in, server_in, tick_moves};
+ghost use Rattle.world.specs.Served.{Gives, refusal_in, server_in};
 ghost use Rattle.world.specs.State.{AreReadings, IsLeftBy, Plays, Refused, clocks_after, first_world};
+
+mod serving;
 
 use crate::given::{put, show_state};
 use crate::packet::Packet;
 use crate::refusal::Refusal;
-use harp_base::{Call, Held, Mode, Peer, Role, ServerId, StateLine, Trio, ViewNo};
-use replica::{Leader, Outputs, Partner, Refused};
+use harp_base::{Held, Mode, Role, ServerId, StateLine, Trio, ViewNo};
+use replica::{Leader, Outputs, Partner};
 use std::alloc::{AllocError, Global};
 use std::marker::Model;
-use trace_lines::{BookEntry, Cause, Line, Step};
-use wire::Message;
+use trace_lines::{BookEntry, Line, Step};
 
 /// Servers 0 and 1 as the leader and the partner of view 1.0, server 2 as the witness outside, the packets between
 /// them, their clocks in milliseconds, and the book of the calls that were entered.
@@ -180,84 +180,6 @@ impl World {
         self.clocks.zero += millis;
         self.clocks.one += millis;
         self.clocks.two += millis;
-    }
-
-    /// The leader, or a server that leads nothing, deals with a client's call.
-    fn serve_ask(
-        &mut self,
-        alloc: Global,
-        server: ServerId,
-        client: u32,
-        number: u64,
-        call: &Call,
-    ) -> Result<Outputs, AllocError>
-        requires { AreReadings self.old.clocks }
-        ensures { let q = place_of server in
-            let ms = ask_moves q (get self.old.clocks q) (server_in self.old q) client number call.now in
-            IfOk result (λ outs. (self.new ≡ moved self.old q ms)
-            × Says q (get self.old.clocks q) (server_in self.old q) ms outs) }
-    {
-        let _ = &self.packets;
-        match server {
-            ServerId::Zero => self.serve_leader(alloc, client, number, call),
-            ServerId::One => refuse(alloc, client, number, Some(ServerId::Zero)),
-            ServerId::Two => refuse(alloc, client, number, None),
-        }
-    }
-
-    /// The leader deals with a client's call.
-    fn serve_leader(
-        &mut self,
-        alloc: Global,
-        client: u32,
-        number: u64,
-        call: &Call,
-    ) -> Result<Outputs, AllocError>
-        requires { AreReadings self.old.clocks }
-        ensures { let ms = ask_moves Zero (get self.old.clocks Zero) (server_in self.old Zero) client number call.now in
-            IfOk result (λ outs. (self.new ≡ moved self.old Zero ms)
-            × Says Zero (get self.old.clocks Zero) (server_in self.old Zero) ms outs) }
-    {
-        let now = self.clocks.zero;
-        let mut outs = Outputs::new(alloc);
-        self.leader.ask(alloc, CLIENT, client, number, call, now, &mut outs)?;
-        Ok(outs)
-    }
-}
-
-/// The peer that all asks of a schedule come from.
-const CLIENT: Peer = Peer::Other {
-    address: 0,
-    port: 0,
-};
-
-/// The refusal of a server that leads nothing, with the leader as hint where it knows one.
-fn refuse(
-    alloc: Global,
-    client: u32,
-    number: u64,
-    hint: Option<ServerId>,
-) -> Result<Outputs, AllocError>
-    ensures { IfOk result (λ outs. RefusesAsk client number hint outs) }
-{
-    let mut outs = Outputs::new(alloc);
-    outs.refusals.push(Refused {
-        peer: CLIENT,
-        client,
-        number,
-        cause: cause_of(client, hint),
-    })?;
-    Ok(outs)
-}
-
-/// Why a server that leads nothing refuses.
-fn cause_of(client: u32, hint: Option<ServerId>) -> Cause
-    ensures { result ≡ cause_shown client hint }
-{
-    if client > 4095 {
-        Cause::BadClient
-    } else {
-        Cause::NotLeader { hint }
     }
 }
 
