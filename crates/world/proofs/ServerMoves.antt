@@ -1,12 +1,12 @@
 -- The moves that a world's server makes are those of the group's step.
-use Rattle.std.proofs.Common.{◌≡◌, ℕ, ◌+◌, ◌-◌, true, false, List, [], ◌∷◌, ◌++◌, length, take, drop, refl, sym, ap, ◌∙◌, subst, arith, inl, inr, nat_lt, if◌then◌else◌}
+use Rattle.std.proofs.Common.{◌≡◌, ℕ, ◌+◌, List, [], length, take, drop, refl, sym, ap, ◌∙◌, subst, arith, inl, inr, nat_lt}
 use Rattle.std.proofs.lemmas.Bool.{cases_Bool}
 use Rattle.harp_base.specs.declared.call.Call.{Call}
 use Rattle.harp_base.specs.Update.{is_update}
 use Rattle.file_tree.specs.Book.{Entry}
+use Rattle.group_model.specs.Ask.{on_ask}
 use Rattle.group_model.specs.FixedStart.{starting, view_one}
 use Rattle.group_model.specs.FreeReads.{on_free_ask, on_read}
-use Rattle.group_model.specs.Ask.{on_ask}
 use Rattle.group_model.specs.Laws.{Whole}
 use Rattle.group_model.specs.Moves.{Move}
 use Rattle.group_model.specs.Open.{and_then, rebase}
@@ -19,7 +19,7 @@ use Rattle.group_run.specs.Run.{Scene, moves_of, no_size}
 use Rattle.group_run.proofs.Early.{Early, IsEarly, ack, beat, event, following, leading}
 use Rattle.replica.specs.Servers.{IsFollowing, IsLeading}
 use Rattle.replica.proofs.MachineSteps.{leader_hears_ack, leader_is_asked, leader_ticks, partner_hears_beat, partner_hears_event, partner_ticks}
-use Rattle.world.specs.Served.{ask_moves, message_moves, refuse_moves, server_in, tick_moves}
+use Rattle.world.specs.Served.{ask_moves, message_moves, server_in, tick_moves}
 use Rattle.world.specs.State.{LooksAs, WorldValue}
 
 -- ---- the servers
@@ -125,10 +125,12 @@ ask_is x w looks k h q client number call =
 
 -- ---- ticks
 
+-- the witness has nothing due
 witness_ticks : (clock : ℕ) (list : List Entry) → step no_size Two clock list (starting Two) (Does Tick) ≡ []
 unfolding all_of
 witness_ticks clock list = refl
 
+-- the moves of a tick, and below those of a message, by the group's own clock and server
 tick_of : (g : Group Entry) → Early g → (q : Place) → moves_of g q (Does Tick) ≡ tick_moves q (g.clock q) (g.server q)
 tick_of g h Zero = leader_ticks (g.server Zero) (leads_so g h) no_size (g.clock Zero) (list_of g Zero)
 tick_of g h One = partner_ticks (g.server One) (follows_so g h) no_size (g.clock One) (list_of g One)
