@@ -4,3 +4,5 @@ pub mod Giving
 pub mod PacketLists
 pub mod Making
 pub mod Saying
+pub mod ServerMoves
+pub mod ServerBook

@@ -1,5 +1,5 @@
 -- What a call of the leader or of the partner makes of the world.
-use Rattle.std.proofs.Common.{◌≡◌, ℕ, zero, suc, ◌+◌, ◌-◌, ◌<◌, ◌≤◌, Bool, true, false, List, [], ◌∷◌, ◌++◌, length, take, drop, map, refl, sym, ap, ◌∙◌, subst, arith, nat_lt, zero-le, if◌then◌else◌}
+use Rattle.std.proofs.Common.{◌≡◌, ℕ, zero, suc, ◌+◌, ◌-◌, ◌<◌, ◌≤◌, Bool, true, false, List, [], ◌∷◌, ◌++◌, length, take, drop, map, refl, sym, ap, ◌∙◌, subst, arith, nat_lt, if◌then◌else◌}
 use Rattle.std.specs.List.{flat_map}
 use Rattle.harp_base.specs.declared.peer.Peer.{Peer}
 use Rattle.file_tree.specs.Book.{Entry}
@@ -84,12 +84,12 @@ answers_refuse n [] = refl
 answers_refuse n (e ∷ es) = answers_refuse (n + 1) es
 
 take_size : {X : Type 0} (n : ℕ) (xs : List X) → length (take n xs) ≤ length xs
-take_size zero xs = zero-le (length xs)
+take_size zero xs = omega arith
 take_size (suc n) [] = omega arith
 take_size (suc n) (x ∷ xs) = let h = take_size n xs in omega (arith, h)
 
 drop_size : {X : Type 0} (n : ℕ) (xs : List X) → n ≤ length xs → n + length (drop n xs) ≡ length xs
-drop_size zero xs h = refl
+drop_size zero xs h = omega arith
 drop_size (suc n) [] h = absurd (omega (arith, h))
 drop_size (suc n) (x ∷ xs) h = let k = drop_size n xs (omega (arith, h)) in omega (arith, k)
 
