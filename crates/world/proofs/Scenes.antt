@@ -95,15 +95,15 @@ refusal_shown x w l (step.Advance millis) = refl
 refusal_shown x w l (step.Pump among) = refl
 
 -- a scene refuses what its world refuses, for the same reason
-pub refusal_looks : (x : Scene) (w : WorldValue) → LooksAs x w → (s : Step) → refusal x.group s ≡ (elim (refusal_in w s) [ | None ↦ None | Some r ↦ fault_of r ])
+pub refusal_looks : (x : Scene) (w : WorldValue) → LooksAs x w → (s : Step) → refusal x.group s ≡ (elim (refusal_in w s) [ None ↦ None | Some r ↦ fault_of r ])
 unfolding shown_fault
 refusal_looks x w l s = refusal_shown x w l s ∙ by (refusal_in w s)
   where
-    by : (o : Option Refusal) → shown_fault o ≡ (elim o [ | None ↦ None | Some r ↦ fault_of r ])
+    by : (o : Option Refusal) → shown_fault o ≡ (elim o [ None ↦ None | Some r ↦ fault_of r ])
     by None = refl
     by (Some r) = refl
 
-pub refusals_are : (old : WorldValue) (s : Step) (ss : List Step) → IsLeftBy ss old → refusal (run first_scene ss).group s ≡ (elim (refusal_in old s) [ | None ↦ None | Some r ↦ fault_of r ])
+pub refusals_are : (old : WorldValue) (s : Step) (ss : List Step) → IsLeftBy ss old → refusal (run first_scene ss).group s ≡ (elim (refusal_in old s) [ None ↦ None | Some r ↦ fault_of r ])
 refusals_are old s ss h = refusal_looks (run first_scene ss) old h.looks s
 
 pub refused_is : (old : WorldValue) (s : Step) (ss : List Step) (r : Refusal) → IsLeftBy ss old → refusal_in old s ≡ Some r → refusal (run first_scene ss).group s ≡ fault_of r
