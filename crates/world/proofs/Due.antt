@@ -10,6 +10,7 @@ use Rattle.trace_lines.specs.declared.step.Step.{Step}
 use Rattle.file_tree.specs.Book.{Entry}
 use Rattle.group_model.specs.State.{Packet}
 use Rattle.group_run.specs.Run.{due, first_scene, is_among, is_due, lowest_due, run}
+use Rattle.world.specs.Packets.{IsFirstDue}
 use Rattle.world.specs.State.{IsLeftBy, WorldValue}
 use Rattle.world.proofs.Scenes.{get_before, get_last}
 
@@ -89,3 +90,9 @@ due_none among old ss left h =
     let l = left.looks in
     none_due among x.delivered x.group.packets
     (λ k lt q f b. let at : slice_get old.packets k ≡ Some q = sym (ap (λ ps. slice_get ps k) l.packets) ∙ f in l.delivered k ∙ h k (slice_get_within old.packets k q at) q at b)
+
+-- what a search for the first packet finds
+pub due_is : (among : Option (ServerId × ServerId)) (old : WorldValue) (ss : List Step) → IsLeftBy ss old → (o : Option ℕ) → IsFirstDue among old.packets old.delivered o
+    → o ≡ due among (run first_scene ss)
+due_is among old ss left None h = sym (due_none among old ss left h)
+due_is among old ss left (Some n) h = sym (due_found among old ss left n h.0.packet h.0.sent_as h.0.is h.0.waits h.1)

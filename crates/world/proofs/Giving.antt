@@ -1,6 +1,5 @@
 -- What a server's outputs come to in the world.
-use Rattle.std.proofs.Common.{◌≡◌, ℕ, zero, suc, ◌+◌, ◌<◌, ◌≤◌, Bool, true, false, List, [], ◌∷◌, ◌++◌, append_assoc, append-nil, length, take, map, replicate, refl, sym, ap, ◌∙◌, subst, arith, if◌then◌else◌, le_trans, inl, inr}
-use Rattle.std.specs.List.{AllByRecursion}
+use Rattle.std.proofs.Common.{◌≡◌, ℕ, zero, suc, ◌+◌, ◌<◌, ◌≤◌, Bool, true, false, List, [], ◌∷◌, ◌++◌, append_assoc, append-nil, length, take, map, replicate, slice_index_or, refl, sym, ap, ◌∙◌, subst, arith, if◌then◌else◌, le_trans, inl, inr}
 use Rattle.harp_base.specs.declared.server.ServerId.{ServerId}
 use Rattle.harp_base.specs.declared.server.ServerId.TheVariants as server
 use Rattle.harp_base.specs.declared.state.StateLine.{StateLine}
@@ -23,29 +22,23 @@ use Rattle.world.specs.Served.{Gives, given, server_in}
 use Rattle.world.specs.State.{WorldValue}
 use Rattle.world.specs.declared.packet.Packet.{Packet}
 
-take_front : {X : Type 0} (n : ℕ) (xs ys : List X) → n ≤ length xs → take n (xs ++ ys) ≡ take n xs
-take_front zero xs ys h = refl
-take_front (suc n) [] ys h = absurd (omega (arith, h))
-take_front (suc n) (x ∷ xs) ys h = ap (λ zs. x ∷ zs) (take_front n xs ys (omega (arith, h)))
-
-size_more : {X : Type 0} (xs ys : List X) → length xs ≤ length (xs ++ ys)
-size_more [] ys = omega arith
-size_more (x ∷ xs) ys = let a = size_more xs ys in omega (arith, a)
-
--- more packets leave those that are settled
-pub settled_more : (n : ℕ) (xs ys : List Packet) → AreSettled n xs → AreSettled n (xs ++ ys)
-settled_more n xs ys h = record {
-  within = le_trans h.within (size_more xs ys);
-  all = subst (AllByRecursion (λ p. was_delivered p ≡ true)) (sym (take_front n xs ys h.within)) h.all;
-}
-
-map_both : {X Y : Type 0} (f : X → Y) (xs ys : List X) → map f (xs ++ ys) ≡ map f xs ++ map f ys
+pub map_both : {X Y : Type 0} (f : X → Y) (xs ys : List X) → map f (xs ++ ys) ≡ map f xs ++ map f ys
 map_both f [] ys = refl
 map_both f (x ∷ xs) ys = ap (λ zs. f x ∷ zs) (map_both f xs ys)
 
 posted_new : (server : ServerId) (sends : List Sent) → map was_delivered (posted server sends) ≡ replicate (length sends) false
 posted_new server [] = refl
 posted_new server (s ∷ sends) = ap (λ bs. false ∷ bs) (posted_new server sends)
+
+still : (bs cs : List Bool) (k : ℕ) → slice_index_or bs k false ≡ true → slice_index_or (bs ++ cs) k false ≡ true
+still [] cs k h = absurd (let clash : false ≡ true = h in cc)
+still (b ∷ bs) cs zero h = h
+still (b ∷ bs) cs (suc k) h = still bs cs k h
+
+-- more packets leave those that are settled
+pub settled_more : (n : ℕ) (xs ys : List Packet) → AreSettled n (map was_delivered xs) → AreSettled n (map was_delivered (xs ++ ys))
+settled_more n xs ys h k below =
+    ap (λ bs. slice_index_or bs k false) (map_both was_delivered xs ys) ∙ still (map was_delivered xs) (map was_delivered ys) k (h k below)
 
 -- the fields of the world after the outputs were put
 pub given_is : (w w' : WorldValue) (server : ServerId) (outs : Outputs) (packets packets' : List Packet) → w'.leader ≡ w.leader → w'.partner ≡ w.partner → w'.clocks ≡ w.clocks → w'.halted ≡ w.halted
@@ -62,7 +55,7 @@ given_is w w' server outs packets packets' l p c h a b a' b' e book =
 pub none_shown : (server : ServerId) (before now : StateLine) → same_state before now ≡ true → [] ≡ state_lines (place_of server) before now
 none_shown server before now e = rw e refl
 
-id_back : (server : ServerId) → id_of (place_of server) ≡ server
+pub id_back : (server : ServerId) → id_of (place_of server) ≡ server
 id_back server.Zero = refl
 id_back server.One = refl
 id_back server.Two = refl

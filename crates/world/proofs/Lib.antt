@@ -1,8 +1,13 @@
-pub mod Loops
-pub mod OutputLists
+pub mod Due
 pub mod Giving
-pub mod PacketLists
+pub mod Loops
 pub mod Making
+pub mod OutputLists
+pub mod PacketLists
+pub mod Plays
 pub mod Saying
-pub mod ServerMoves
+pub mod Scenes
 pub mod ServerBook
+pub mod ServerMoves
+pub mod Serving
+pub mod Refusing

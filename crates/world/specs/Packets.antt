@@ -1,10 +1,10 @@
 -- Packets on their way, as the machine has them.
-use Rattle.std.specs.Prelude.{◌≡◌, ℕ, ◌≤◌, ◌++◌, Bool, true, false, List, length, map, take}
-use Rattle.std.specs.List.{AllByRecursion}
+use Rattle.std.specs.Prelude.{◌≡◌, ℕ, ◌<◌, ◌++◌, Bool, true, false, List, length, map, Option, None, Some, slice_get, slice_index_or}
 use Rattle.file_tree.specs.Book.{Entry}
 use Rattle.group_model.specs.Names.{place_of}
 use Rattle.group_model.specs.State.{Packet as Sent}
 use Rattle.harp_base.specs.declared.server.ServerId.{ServerId}
+use Rattle.group_run.specs.Run.{is_among}
 use Rattle.replica.specs.Said.{heard}
 use Rattle.replica.specs.declared.outputs.Sent.{Sent as Posted}
 use Rattle.world.specs.declared.packet.Packet.{Packet}
@@ -15,10 +15,28 @@ packet_of p = record { from = place_of p.from; to = place_of p.to; body = heard 
 abbrev pub was_delivered : Packet → Bool
 was_delivered p = p.delivered
 
--- no packet with a lower number is undelivered
-pub record AreSettled (settled : ℕ) (packets : List Packet) : Type 0 where
-  pub within : settled ≤ length packets
-  pub all : AllByRecursion (λ p. was_delivered p ≡ true) (take settled packets)
+-- each packet below a number was delivered
+abbrev pub AreSettled : ℕ → List Bool → Type 0
+AreSettled settled delivered = (n : ℕ) → n < settled → slice_index_or delivered n false ≡ true
+
+-- each packet among two servers below a number was delivered
+abbrev pub AreSettledAmong : Option (ServerId × ServerId) → List (Sent Entry) → List Bool → ℕ → Type 0
+AreSettledAmong among packets delivered settled = (n : ℕ) → n < settled → (p : Sent Entry) → slice_get packets n ≡ Some p
+    → is_among among p ≡ true → slice_index_or delivered n false ≡ true
+
+-- a packet among two servers that was never delivered
+pub record IsDueOf (among : Option (ServerId × ServerId)) (packets : List (Sent Entry)) (delivered : List Bool) (n : ℕ)
+    : Type 0 where
+  pub packet : Sent Entry
+  pub sent_as : slice_get packets n ≡ Some packet
+  pub is : is_among among packet ≡ true
+  pub waits : slice_index_or delivered n false ≡ false
+
+-- the first such packet, or none
+abbrev pub IsFirstDue : Option (ServerId × ServerId) → List (Sent Entry) → List Bool → Option ℕ → Type 0
+IsFirstDue among packets delivered (Some n) =
+    IsDueOf among packets delivered n × AreSettledAmong among packets delivered n
+IsFirstDue among packets delivered None = AreSettledAmong among packets delivered (length packets)
 
 -- a message that is on its way
 abbrev pub posted_one : ServerId → Posted → Packet

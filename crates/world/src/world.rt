@@ -18,9 +18,10 @@ ghost use Rattle.world.specs.Served.{Gives, refusal_in, server_in};
 ghost use Rattle.world.specs.State.{AreReadings, IsLeftBy, Plays, Refused, clocks_after, first_world};
 
 mod serving;
+mod taking;
 
 use crate::given::{put, show_state};
-use crate::packet::Packet;
+use crate::packet::{Packet, first_due};
 use crate::refusal::Refusal;
 use harp_base::{Held, Mode, Role, ServerId, StateLine, Trio, ViewNo};
 use replica::{Leader, Outputs, Partner};
@@ -43,8 +44,7 @@ pub struct World {
 }
 
 impl Model for World {
-    ghost use Rattle.std.specs.Prelude.{◌≡◌, ◌<◌, ◌≤◌, ℕ, length, map, take, true};
-    ghost use Rattle.std.specs.List.{AllByRecursion};
+    ghost use Rattle.std.specs.Prelude.{◌≡◌, ◌<◌, ℕ, map, true};
     ghost use Rattle.replica.specs.Said.{entered};
     ghost use Rattle.world.specs.State.{WorldValue};
     ghost use Rattle.world.specs.Packets.{packet_of, was_delivered, AreSettled};
@@ -61,7 +61,7 @@ impl Model for World {
         halted = w.halted;
     } };
 
-    ghost invariant = { λ w. AreSettled w.settled w.packets.items };
+    ghost invariant = { λ w. AreSettled w.settled (map was_delivered w.packets.items) };
 }
 
 impl World {
@@ -83,6 +83,57 @@ impl World {
             book: Vec::new(alloc),
             halted: false,
         })
+    }
+
+    /// Takes a step, and gives its lines. Every step after want of memory is answered with it.
+    pub fn step(&mut self, alloc: Global, step: Step) -> Result<Vec<Line>, Refusal>
+        requires elementary { is_elementary step ≡ true }
+        requires readings { AreReadings (clocks_after self.old.clocks step) }
+        requires now { AreReadings self.old.clocks }
+        ensures ok { IfOk result (λ lines. Plays self.old self.new step lines.items) }
+        ensures err { IfErr result (λ r. Refused self.old self.new step r) }
+        ensures halted { self.old.halted ≡ true → IsErr result }
+    {
+        if self.halted {
+            return Err(Refusal::NoMemory);
+        }
+        if let Some(refusal) = self.refusal(&step) {
+            return Err(refusal);
+        }
+        match self.take(alloc, step) {
+            Ok(lines) => Ok(lines),
+            Err(_) => {
+                self.halted = true;
+                Err(Refusal::NoMemory)
+            }
+        }
+    }
+
+    /// Why a step isn't taken.
+    fn refusal(&self, step: &Step) -> Option<Refusal>
+        requires readings { AreReadings (clocks_after self.now.clocks step.now) }
+        requires now { AreReadings self.now.clocks }
+        ensures { result ≡ refusal_in self.now step.now }
+    {
+        match step {
+            Step::Deliver { packet } => {
+                if *packet < self.packets.len() as u64 {
+                    None
+                } else {
+                    Some(Refusal::NoPacket)
+                }
+            }
+            Step::Clock { server, reading } => self.clock_refusal(*server, *reading),
+            _ => None,
+        }
+    }
+
+    /// The lowest number of a packet that was never delivered, among two servers where they are given. None comes
+    /// exactly where there is none.
+    pub fn next(&self, among: Option<(ServerId, ServerId)>) -> Option<u64>
+        ensures { (ss : List Taken) → IsLeftBy ss self.now → result ≡ due among (run first_scene ss) }
+    {
+        first_due(self.packets.as_slice(), self.settled, among)
     }
 
     /// The book: the calls that were entered, with their replies.

@@ -7,7 +7,8 @@ use Rattle.group_run.specs.Lines.{entered_lines, state_lines}
 use Rattle.group_run.specs.Shown.{state_of}
 use Rattle.replica.specs.Said.{entered}
 use Rattle.world.specs.Given.{answered_lines, reads_in, refused_lines, sent_lines}
-use Rattle.world.specs.Packets.{AreSettled, packet_of}
+use Rattle.world.specs.Packets.{AreSettled, packet_of, was_delivered}
+use Rattle.world.specs.declared.packet.Packet.{Packet}
 use Rattle.world.specs.Served.{server_in}
 use Rattle.world.specs.State.{WorldValue}
 use Rattle.world.proofs.Giving.{four, given_is, lines_put, settled_more, size_of}
@@ -16,7 +17,7 @@ use Rattle.world.proofs.world.World.give.Goals as goal
 pub invariant_of-self : goal.invariant_of-self
 invariant_of-self c =
     let more = c.put.ensures.more in
-    subst (AreSettled c.self.inside.settled) (sym more.1) (settled_more c.self.inside.settled c.self.inside.packets.items more.0 c.self.invariant)
+    subst (λ (ps : List Packet). AreSettled c.self.inside.settled (map was_delivered ps)) (sym more.1) (settled_more c.self.inside.settled c.self.inside.packets.items more.0 c.self.invariant)
 
 pub returns : goal.returns
 returns c =

@@ -1,7 +1,7 @@
 use Rattle.std.proofs.Common.{◌≡◌, sym, ap, ◌∙◌, subst, [], true, if◌then◌else◌}
 use Rattle.group_model.specs.FixedStart.{view_one}
 use Rattle.group_model.specs.Names.{number_of_view, place_of}
-use Rattle.group_model.specs.Places.{One, get}
+use Rattle.group_model.specs.Places.{Zero, One, get}
 use Rattle.group_model.specs.State.{Beat}
 use Rattle.world.specs.Served.{Made, message_moves, server_in}
 use Rattle.world.specs.State.{WorldValue}
