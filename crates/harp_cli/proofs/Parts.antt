@@ -1,72 +1,73 @@
--- A play that has come to some lines, and what the next one makes of it.
-use Rattle.std.proofs.Common.{◌≡◌, ◌≢◌, ℕ, ◌+◌, ◌≤◌, false, List, [], ◌∷◌, ◌++◌, length, refl, sym, ap, ◌∙◌, subst, append_assoc, Option, Some, None, Result, Ok, Err, arith}
-use Rattle.std.specs.Prelude.{nat_lt}
+-- A play that has come to some place, and what the next step makes of it.
+use Rattle.std.proofs.Common.{◌≡◌, ◌≢◌, ℕ, List, [], ◌∷◌, ◌++◌, append-nil, length, sym, ap, ◌∙◌, subst, append_assoc, Option, Some, None}
 use Rattle.std.specs.Io.KnownBytes.{Appends}
-use Rattle.std.proofs.lemmas.List.{append-nil}
-use Rattle.std.proofs.lemmas.Bool.{ltb-true, false_from_ne_true}
 use Rattle.harp_base.specs.Streams.{GrewByPart}
 use Rattle.trace_lines.specs.declared.step.Step.{Step}
-use Rattle.trace_lines.specs.declared.line.Line.{Line}
 use Rattle.trace_lines.specs.declared.line.LineFault.{LineFault}
-use Rattle.trace_lines.specs.declared.line.LineFault.TheVariants as fault
 use Rattle.harp_trace.specs.Trace.{Trace, entries}
-use Rattle.harp_trace.proofs.Places.{entries-append}
-use Rattle.schedule_text.specs.Reading.{meaning_of}
-use Rattle.world.specs.State.{WorldValue}
-use Rattle.world.specs.Run.{step_lines, run_lines}
-use Rattle.world.specs.World.{Plays}
-use Rattle.harp_cli.specs.declared.exit.Exit.TheVariants as exit
+use Rattle.group_run.specs.Run.{Scene, first_scene, next, refusal, run, run_lines, step_lines}
+use Rattle.group_run.proofs.RunLaws.{run_right}
+use Rattle.world.specs.declared.refusal.Refusal.{Refusal}
+use Rattle.world.specs.State.{IsLeftBy, Plays, Refused, WorldValue}
 use Rattle.harp_cli.specs.declared.exit.Stop.{Stop}
 use Rattle.harp_cli.specs.declared.exit.Stop.TheVariants as stop
 use Rattle.harp_cli.specs.Exit.{exit_of}
-use Rattle.harp_cli.specs.Play.{Reading, given_by, step_or_fault, read_on, reading, reading_from, last_line, trace_of, trace_of_reading, trace_text}
-use Rattle.harp_cli.specs.Ends.{IsLeftBy, EndsWhole, EndsEarly, PlayEnds, HasCome}
-use Rattle.harp_cli.proofs.TraceTexts.{trace_text-append, run_lines-append, appends-twice, grew-first, grew-second, grew-more}
+use Rattle.harp_cli.specs.Play.{Reading, last_line, reading, refused_at, then_read, trace_of, trace_of_reading, trace_text}
+use Rattle.harp_cli.specs.Ends.{EndsEarly, EndsWhole, PlayEnds}
+use Rattle.harp_cli.specs.OnTheWay.{HasCome, unless_refused, with_step}
+use Rattle.harp_cli.proofs.TakenLaws.{taken-rest}
+use Rattle.harp_cli.proofs.TraceTexts.{appends-twice, grew-first, grew-more, grew-second, run-append, run_lines-append, trace_text-append}
 
 -- ---- the trace of a text, from where a play has come to
 
 -- the lines that the rest of the reading gives
 abbrev rest_lines : List Step → Reading → Trace
-rest_lines done r = run_lines (entries (run_lines [] done)) r.steps ++ last_line (length (entries (run_lines [] (done ++ r.steps)))) r.refused ∷ []
+rest_lines done r =
+    run_lines (run first_scene done) r.steps
+    ++ last_line (length (entries (run_lines first_scene (done ++ r.steps)))) r.refused ∷ []
 
-trace_of-parts : (done : List Step) (r : Reading) → trace_of_reading (record { steps = done ++ r.steps; refused = r.refused }) ≡ run_lines [] done ++ rest_lines done r
+trace_of-parts : (done : List Step) (r : Reading) → trace_of_reading
+    (then_read done r) ≡ run_lines first_scene done ++ rest_lines done r
 trace_of-parts done r =
-    ap (λ ls. ls ++ last_line (length (entries (run_lines [] (done ++ r.steps)))) r.refused ∷ []) (run_lines-append [] done r.steps)
-    ∙ append_assoc (run_lines [] done) (run_lines (entries (run_lines [] done)) r.steps) (last_line (length (entries (run_lines [] (done ++ r.steps)))) r.refused ∷ [])
+    let last = last_line (length (entries (run_lines first_scene (done ++ r.steps)))) r.refused in
+    ap (λ ls. ls ++ last ∷ []) (run_lines-append first_scene done r.steps)
+    ∙ append_assoc (run_lines first_scene done) (run_lines (run first_scene done) r.steps) (last ∷ [])
 
-pub text-parts : (text : List ℕ) (done : List Step) (r : Reading) → (reading text).steps ≡ done ++ r.steps → (reading text).refused ≡ r.refused
-    → trace_text (trace_of text) ≡ trace_text (run_lines [] done) ++ trace_text (rest_lines done r)
-text-parts text done r s f =
-    let same : reading text ≡ record { steps = done ++ r.steps; refused = r.refused } = rw (sym s, sym f) refl in
-    ap (λ x. trace_text (trace_of_reading x)) same ∙ ap trace_text (trace_of-parts done r) ∙ trace_text-append (run_lines [] done) (rest_lines done r)
+text-parts : (text : List ℕ) (done : List Step) (r : Reading) → reading text ≡ then_read done r
+    → trace_text (trace_of text) ≡ trace_text (run_lines first_scene done) ++ trace_text (rest_lines done r)
+text-parts text done r is =
+    ap (λ x. trace_text (trace_of_reading x)) is ∙ ap trace_text (trace_of-parts done r)
+    ∙ trace_text-append (run_lines first_scene done) (rest_lines done r)
+
+-- what is still read may be said in other words
+pub comes : (text : List ℕ) (here there : Scene → Reading) (before after : Option (List ℕ)) (world : WorldValue)
+    → (h : HasCome text here before after world) → here (run first_scene h.done) ≡ there (run first_scene h.done)
+    → HasCome text there before after world
+comes text here there before after world h is = record {
+  done = h.done;
+  reading_is = h.reading_is ∙ ap (λ r. then_read h.done r) is;
+  wrote = h.wrote;
+  left = h.left;
+}
 
 -- ---- stops
 
-pub early : (text : List ℕ) (number : ℕ) (lines : List (List ℕ)) (before mid after : Option (List ℕ)) (world : WorldValue) (next : List ℕ)
-    → (h : HasCome text number lines before mid world) → (more : List ℕ) → trace_text (rest_lines h.done (reading_from number lines)) ≡ next ++ more
-    → GrewByPart mid after next → EndsEarly text before after world
-early text number lines before mid after world next h more is grew = record {
-  wrote = subst (GrewByPart before after) (sym (text-parts text h.done (reading_from number lines) h.steps_are h.refused_is))
-      (grew-second before mid after (trace_text (run_lines [] h.done)) (trace_text (rest_lines h.done (reading_from number lines))) h.wrote
-      (subst (GrewByPart mid after) (sym is) (grew-more mid after next more grew)));
-  done = h.done;
-  later = (reading_from number lines).steps;
-  parts = h.steps_are;
-  left = h.left;
-}
+pub early-now : (text : List ℕ) (rest : Scene → Reading) (before mid : Option (List ℕ)) (world : WorldValue)
+    → HasCome text rest before mid world → EndsEarly text before mid world
+early-now text rest before mid world h =
+    let r = rest (run first_scene h.done) in
+    record {
+      wrote = subst (GrewByPart before mid) (sym (text-parts text h.done r h.reading_is))
+          (grew-first before mid (trace_text (run_lines first_scene h.done))
+          (trace_text (rest_lines h.done r)) h.wrote);
+      done = h.done;
+      later = r.steps;
+      parts = ap (λ x. x.steps) h.reading_is;
+      left = h.left;
+    }
 
-pub early-now : (text : List ℕ) (number : ℕ) (lines : List (List ℕ)) (before mid : Option (List ℕ)) (world : WorldValue)
-    → HasCome text number lines before mid world → EndsEarly text before mid world
-early-now text number lines before mid world h = record {
-  wrote = subst (GrewByPart before mid) (sym (text-parts text h.done (reading_from number lines) h.steps_are h.refused_is))
-      (grew-first before mid (trace_text (run_lines [] h.done)) (trace_text (rest_lines h.done (reading_from number lines))) h.wrote);
-  done = h.done;
-  later = (reading_from number lines).steps;
-  parts = h.steps_are;
-  left = h.left;
-}
-
-pub stopped : (text : List ℕ) (before after : Option (List ℕ)) (world : WorldValue) (s : Stop) → EndsEarly text before after world
+pub stopped : (text : List ℕ) (before after : Option (List ℕ)) (world : WorldValue) (s : Stop)
+    → EndsEarly text before after world
     → PlayEnds text before after world (exit_of s)
 stopped text before after world stop.SourceFailed e = e
 stopped text before after world stop.SinkFailed e = e
@@ -74,111 +75,147 @@ stopped text before after world stop.NoMemory e = e.wrote
 
 -- ---- the last line
 
+abbrev ends_read : Option (ℕ × LineFault) → Reading
+ends_read refused = record { steps = []; refused = refused }
+
 -- where no step is left, the last line ends the trace
-last_text : (text : List ℕ) (number : ℕ) (lines : List (List ℕ)) (before mid : Option (List ℕ)) (world : WorldValue) (refused : Option (ℕ × LineFault))
-    → (h : HasCome text number lines before mid world) → reading_from number lines ≡ record { steps = []; refused = refused }
-    → trace_text (rest_lines h.done (reading_from number lines)) ≡ trace_text (last_line (length world.book) refused ∷ [])
+last_text : (done : List Step) (world : WorldValue) (refused : Option (ℕ × LineFault)) → IsLeftBy done world
+    → trace_text (rest_lines done (ends_read refused)) ≡ trace_text (last_line (length world.book) refused ∷ [])
 unfolding run_lines
-last_text text number lines before mid world refused h is =
-    rw (is, append-nil h.done) (ap (λ es. trace_text (last_line (length es) refused ∷ [])) (sym h.left.book_is))
+last_text done world refused left =
+    let book : entries (run_lines first_scene done) ≡ world.book = (run_right done left.taken).book ∙ left.looks.book in
+    rw (append-nil done) (ap (λ es. trace_text (last_line (length es) refused ∷ [])) book)
 
-pub ends-whole : (text : List ℕ) (number : ℕ) (lines : List (List ℕ)) (before mid after : Option (List ℕ)) (world : WorldValue) (refused : Option (ℕ × LineFault))
-    → HasCome text number lines before mid world → reading_from number lines ≡ record { steps = []; refused = refused }
+pub ends-whole : (text : List ℕ) (before mid after : Option (List ℕ)) (world : WorldValue)
+    (refused : Option (ℕ × LineFault))
+    → HasCome text (λ w. record { steps = []; refused = refused }) before mid world
     → Appends mid after (trace_text (last_line (length world.book) refused ∷ [])) → EndsWhole text before after world
-ends-whole text number lines before mid after world refused h is wrote = record {
-  wrote = subst (Appends before after)
-      (sym (text-parts text h.done (reading_from number lines) h.steps_are h.refused_is ∙ ap (λ s. trace_text (run_lines [] h.done) ++ s) (last_text text number lines before mid world refused h is)))
-      (appends-twice before mid after (trace_text (run_lines [] h.done)) (trace_text (last_line (length world.book) refused ∷ [])) h.wrote wrote);
-  left = subst (λ ss. IsLeftBy ss world) (sym (h.steps_are ∙ rw (is, append-nil h.done) refl)) h.left;
-}
-
-pub ends-early : (text : List ℕ) (number : ℕ) (lines : List (List ℕ)) (before mid after : Option (List ℕ)) (world : WorldValue) (refused : Option (ℕ × LineFault))
-    → HasCome text number lines before mid world → reading_from number lines ≡ record { steps = []; refused = refused }
-    → GrewByPart mid after (trace_text (last_line (length world.book) refused ∷ [])) → EndsEarly text before after world
-ends-early text number lines before mid after world refused h is grew =
-    early text number lines before mid after world (trace_text (last_line (length world.book) refused ∷ [])) h []
-    (last_text text number lines before mid world refused h is ∙ sym (append-nil (trace_text (last_line (length world.book) refused ∷ [])))) grew
-
--- ---- the next line
-
-pub reading-next : (number : ℕ) (line : List ℕ) (lines : List (List ℕ)) → reading_from number (line ∷ lines) ≡ read_on number (given_by number line) (reading_from (number + 1) lines)
-unfolding reading_from
-reading-next number line lines = refl
-
-pub reading-none : (number : ℕ) → reading_from number [] ≡ record { steps = []; refused = None }
-unfolding reading_from
-reading-none number = refl
-
--- a line within the limits gives what it means
-pub given-short : (number : ℕ) (line : List ℕ) → number ≤ 50000 → length line ≤ 20000 → given_by number line ≡ step_or_fault (meaning_of line)
-unfolding given_by
-given-short number line few short =
-    let known : nat_lt 50000 number ≡ false = false_from_ne_true (nat_lt 50000 number) (λ t. absurd (omega (arith, ltb-true 50000 number t))) in
-    let fits : nat_lt 20000 (length line) ≡ false = false_from_ne_true (nat_lt 20000 (length line)) (λ t. absurd (omega (arith, ltb-true 20000 (length line) t))) in
-    rw (known, fits) refl
-
--- a line that gives nothing
-pub passes : (text : List ℕ) (number : ℕ) (line : List ℕ) (lines : List (List ℕ)) (before mid : Option (List ℕ)) (world : WorldValue)
-    → HasCome text number (line ∷ lines) before mid world → given_by number line ≡ Ok None → HasCome text (number + 1) lines before mid world
-passes text number line lines before mid world h gives =
-    let same : reading_from number (line ∷ lines) ≡ reading_from (number + 1) lines = reading-next number line lines ∙ rw gives refl in
+ends-whole text before mid after world refused h wrote =
+    let first = trace_text (run_lines first_scene h.done) in
+    let whole = text-parts text h.done (ends_read refused) h.reading_is ∙ ap (λ s. first ++ s)
+    (last_text h.done world refused h.left) in
     record {
+      wrote = subst (Appends before after) (sym whole)
+          (appends-twice before mid after first (trace_text (last_line (length world.book) refused ∷ [])) h.wrote
+          wrote);
+      left = subst (λ ss. IsLeftBy ss world) (sym (ap (λ x. x.steps) h.reading_is ∙ append-nil h.done)) h.left;
+    }
+
+pub ends-early : (text : List ℕ) (before mid after : Option (List ℕ)) (world : WorldValue)
+    (refused : Option (ℕ × LineFault))
+    → HasCome text (λ w. record { steps = []; refused = refused }) before mid world
+    → GrewByPart mid after (trace_text (last_line (length world.book) refused ∷ [])) → EndsEarly text before after world
+ends-early text before mid after world refused h grew =
+    let first = trace_text (run_lines first_scene h.done) in
+    let whole = text-parts text h.done (ends_read refused) h.reading_is ∙ ap (λ s. first ++ s)
+    (last_text h.done world refused h.left) in
+    record {
+      wrote = subst (GrewByPart before after) (sym whole)
+          (grew-second before mid after first (trace_text (last_line (length world.book) refused ∷ [])) h.wrote grew);
       done = h.done;
-      steps_are = h.steps_are ∙ rw same refl;
-      refused_is = h.refused_is ∙ rw same refl;
-      wrote = h.wrote;
+      later = [];
+      parts = ap (λ x. x.steps) h.reading_is;
       left = h.left;
     }
 
--- the lines of one more step
-run_lines-more : (done : List Step) (s : Step) → run_lines [] (done ++ s ∷ []) ≡ run_lines [] done ++ step_lines (entries (run_lines [] done)) s
-unfolding run_lines
-run_lines-more done s = run_lines-append [] done (s ∷ []) ∙ ap (λ ls. run_lines [] done ++ ls) (append-nil (step_lines (entries (run_lines [] done)) s))
+pub refused-is : (text : List ℕ) (before after : Option (List ℕ)) (world : WorldValue)
+    (refused : Option (ℕ × LineFault))
+    → HasCome text (λ w. record { steps = []; refused = refused }) before after world → (reading text).refused ≡ refused
+refused-is text before after world refused h = ap (λ x. x.refused) h.reading_is
 
-left-more : (done : List Step) (s : Step) (world next : WorldValue) (lines : Trace) → IsLeftBy done world → Plays world next s lines → IsLeftBy (done ++ s ∷ []) next
-left-more done s world next lines h p = record {
-  book_is = p.book_is ∙ rw h.book_is (sym (entries-append (run_lines [] done) (step_lines (entries (run_lines [] done)) s))) ∙ ap entries (sym (run_lines-more done s));
-  stands = p.stands;
-  awake = p.awake;
-}
+some_other : {A : Type 0} (x : A) (o : Option A) → o ≡ Some x → o ≢ None
+some_other x o is none = let no : None ≡ Some x = sym none ∙ is in absurd cc
+
+pub some-refused : (text : List ℕ) (before after : Option (List ℕ)) (world : WorldValue) (number : ℕ)
+    (fault : LineFault)
+    → HasCome text (λ w. refused_at number fault) before after world → (reading text).refused ≢ None
+some-refused text before after world number fault h =
+    some_other (number, fault) (reading text).refused (refused-is text before after world (Some (number, fault)) h)
+
+-- ---- a step
+
+-- a step is refused for this fault, and the world stays
+pub record IsRefusedBy (world new : WorldValue) (s : Step) (fault : LineFault) : Type 0 where
+  pub same : new ≡ world
+  pub why : (ss : List Step) → IsLeftBy ss world → refusal (run first_scene ss).group s ≡ Some fault
+
+-- a step that was taken isn't refused
+not_refused : (done : List Step) (s : Step) (world new : WorldValue) (ls : Trace) → IsLeftBy done world
+    → Plays world new s ls
+    → refusal (run first_scene done).group s ≡ None
+not_refused done s world new ls left p = (taken-rest first_scene done (s ∷ []) (p.left done left).taken).0
+
+run_more : (done : List Step) (s : Step) → next (run first_scene done) s ≡ run first_scene (done ++ s ∷ [])
+unfolding run
+run_more done s = sym (run-append first_scene done (s ∷ []))
+
+-- the reading goes on behind the step
+read_more : (text : List ℕ) (number : ℕ) (s : Step) (rest : Scene → Reading) (done : List Step)
+    → reading text ≡ then_read done (with_step number s rest (run first_scene done))
+    → refusal (run first_scene done).group s ≡ None
+    → reading text ≡ then_read (done ++ s ∷ []) (rest (run first_scene (done ++ s ∷ [])))
+read_more text number s rest done is taken =
+    let r = rest (next (run first_scene done) s) in
+    is ∙ ap (λ o. then_read done (unless_refused number o (then_read (s ∷ []) r))) taken
+    ∙ ap (λ ss. record { steps = ss; refused = r.refused }) (sym (append_assoc done (s ∷ []) r.steps))
+    ∙ ap (λ w. then_read (done ++ s ∷ []) (rest w)) (run_more done s)
 
 -- the lines of a step are the text that comes next
-step_text_next : (done : List Step) (s : Step) (world next : WorldValue) (lines : Trace) → IsLeftBy done world → Plays world next s lines
-    → trace_text (run_lines [] done) ++ trace_text lines ≡ trace_text (run_lines [] (done ++ s ∷ []))
-step_text_next done s world next lines h p =
-    sym (trace_text-append (run_lines [] done) lines) ∙ ap trace_text (rw (p.lines_are, h.book_is) (sym (run_lines-more done s)))
+step_text_next : (done : List Step) (s : Step) (world new : WorldValue) (ls : Trace) → IsLeftBy done world
+    → Plays world new s ls
+    → trace_text (run_lines first_scene done) ++ trace_text ls ≡ trace_text (run_lines first_scene (done ++ s ∷ []))
+unfolding run_lines
+step_text_next done s world new ls left p =
+    let w = run first_scene done in
+    sym (trace_text-append (run_lines first_scene done) ls)
+    ∙ ap (λ x. trace_text (run_lines first_scene done ++ x))
+    (p.lines_are done left ∙ sym (append-nil (step_lines w.group s)))
+    ∙ ap trace_text (sym (run_lines-append first_scene done (s ∷ [])))
 
 -- a step was taken and its lines written
-pub steps-on : (text : List ℕ) (number : ℕ) (line : List ℕ) (lines : List (List ℕ)) (before mid after : Option (List ℕ)) (world next : WorldValue) (s : Step) (ls : Trace)
-    → HasCome text number (line ∷ lines) before mid world → given_by number line ≡ Ok (Some s) → Plays world next s ls → Appends mid after (trace_text ls)
-    → HasCome text (number + 1) lines before after next
-steps-on text number line lines before mid after world next s ls h gives p wrote =
-    let same : reading_from number (line ∷ lines) ≡ read_on number (Ok (Some s)) (reading_from (number + 1) lines) = reading-next number line lines ∙ rw gives refl in
-    record {
-      done = h.done ++ s ∷ [];
-      steps_are = h.steps_are ∙ rw same (sym (append_assoc h.done (s ∷ []) (reading_from (number + 1) lines).steps));
-      refused_is = h.refused_is ∙ rw same refl;
-      wrote = subst (Appends before after) (step_text_next h.done s world next ls h.left p)
-          (appends-twice before mid after (trace_text (run_lines [] h.done)) (trace_text ls) h.wrote wrote);
-      left = left-more h.done s world next ls h.left p;
-    }
+pub steps-on : (text : List ℕ) (number : ℕ) (rest : Scene → Reading) (before mid after : Option (List ℕ))
+    (world new : WorldValue) (s : Step) (ls : Trace)
+    → HasCome text (with_step number s rest) before mid world → Plays world new s ls → Appends mid after (trace_text ls)
+    → HasCome text rest before after new
+steps-on text number rest before mid after world new s ls h p wrote = record {
+  done = h.done ++ s ∷ [];
+  reading_is = read_more text number s rest h.done h.reading_is (not_refused h.done s world new ls h.left p);
+  wrote = subst (Appends before after) (step_text_next h.done s world new ls h.left p)
+      (appends-twice before mid after (trace_text (run_lines first_scene h.done)) (trace_text ls) h.wrote wrote);
+  left = p.left h.done h.left;
+}
 
 -- a step was taken, and a first part of its lines written
-pub steps-early : (text : List ℕ) (number : ℕ) (line : List ℕ) (lines : List (List ℕ)) (before mid after : Option (List ℕ)) (world next : WorldValue) (s : Step) (ls : Trace)
-    → HasCome text number (line ∷ lines) before mid world → given_by number line ≡ Ok (Some s) → Plays world next s ls → GrewByPart mid after (trace_text ls)
-    → EndsEarly text before after next
-steps-early text number line lines before mid after world next s ls h gives p grew =
-    let r = reading_from (number + 1) lines in
-    let same : reading_from number (line ∷ lines) ≡ read_on number (Ok (Some s)) r = reading-next number line lines ∙ rw gives refl in
-    let parts : (reading text).steps ≡ (h.done ++ s ∷ []) ++ r.steps = h.steps_are ∙ rw same (sym (append_assoc h.done (s ∷ []) r.steps)) in
-    let refused : (reading text).refused ≡ r.refused = h.refused_is ∙ rw same refl in
+pub steps-early : (text : List ℕ) (number : ℕ) (rest : Scene → Reading) (before mid after : Option (List ℕ))
+    (world new : WorldValue) (s : Step) (ls : Trace)
+    → HasCome text (with_step number s rest) before mid world → Plays world new s ls
+    → GrewByPart mid after (trace_text ls)
+    → EndsEarly text before after new
+steps-early text number rest before mid after world new s ls h p grew =
+    let done = h.done ++ s ∷ [] in
+    let r = rest (run first_scene done) in
+    let is = read_more text number s rest h.done h.reading_is (not_refused h.done s world new ls h.left p) in
+    let first = trace_text (run_lines first_scene h.done) in
     record {
-      wrote = subst (GrewByPart before after) (sym (text-parts text (h.done ++ s ∷ []) r parts refused))
-          (grew-more before after (trace_text (run_lines [] (h.done ++ s ∷ []))) (trace_text (rest_lines (h.done ++ s ∷ []) r))
-          (subst (GrewByPart before after) (step_text_next h.done s world next ls h.left p)
-          (grew-second before mid after (trace_text (run_lines [] h.done)) (trace_text ls) h.wrote grew)));
-      done = h.done ++ s ∷ [];
+      wrote = subst (GrewByPart before after) (sym (text-parts text done r is))
+          (grew-more before after (trace_text (run_lines first_scene done)) (trace_text (rest_lines done r))
+          (subst (GrewByPart before after) (step_text_next h.done s world new ls h.left p)
+          (grew-second before mid after first (trace_text ls) h.wrote grew)));
+      done = done;
       later = r.steps;
-      parts = parts;
-      left = left-more h.done s world next ls h.left p;
+      parts = ap (λ x. x.steps) is;
+      left = p.left h.done h.left;
     }
+
+-- a step was refused
+pub step-refused : (text : List ℕ) (number : ℕ) (rest : Scene → Reading) (before mid : Option (List ℕ))
+    (world new : WorldValue) (s : Step) (r x : Refusal)
+    (fault : LineFault) → HasCome text (with_step number s rest) before mid world → Refused world new s r → r ≡ x
+    → (Refused world new s x → IsRefusedBy world new s fault) → HasCome text
+    (λ w. refused_at number fault) before mid new
+step-refused text number rest before mid world new s r x fault h refused is says =
+    let by = says (subst (Refused world new s) is refused) in
+    let w = run first_scene h.done in
+    subst (λ v. HasCome text (λ w. refused_at number fault) before mid v) (sym by.same)
+    (comes text (with_step number s rest) (λ w. refused_at number fault) before mid world h
+    (ap (λ o. unless_refused number o (then_read (s ∷ []) (rest (next w s)))) (by.why h.done h.left)))

@@ -1,20 +1,19 @@
 -- What a play keeps from line to line.
-use Rattle.std.proofs.Common.{◌≡◌, ℕ, ◌+◌, ◌<◌, ◌≤◌, List, [], ◌∷◌, ◌++◌, length, refl, sym, ap, ◌∙◌, subst, Option, Some, None, arith}
+use Rattle.std.proofs.Common.{◌≡◌, ℕ, ◌≤◌, List, [], append-nil, refl, sym, subst, Option, Some, None, arith}
 use Rattle.std.specs.Io.KnownBytes.{Appends}
-use Rattle.std.proofs.lemmas.List.{append-nil, length-replicate}
 use Rattle.line_reader.specs.Lines.{lines_of}
 use Rattle.line_reader.specs.Reading.{text_left}
-use Rattle.file_tree.specs.Tree.{first_tree}
-use Rattle.world.specs.State.{WorldValue, Stands, first_world}
-use Rattle.world.proofs.ClientLemmas.{nothing_kept}
-use Rattle.world.specs.Run.{run_lines}
-use Rattle.harp_cli.specs.Play.{trace_text}
-use Rattle.harp_cli.specs.Ends.{IsLeftBy, HasCome, GoesOn}
+use Rattle.group_model.specs.Places.{Zero, One, Two, Place, get}
+use Rattle.group_run.specs.Run.{first_scene, run, run_lines}
+use Rattle.world.specs.State.{IsLeftBy, LooksAs, WorldValue, first_world}
+use Rattle.harp_cli.specs.Play.{reading_from, trace_text}
+use Rattle.harp_cli.specs.OnTheWay.{AreBelow, GoesOn, HasCome}
 
 -- before the line with this number
-pub record Keeps (number : ℕ) (told written0 left written : Option (List ℕ)) (world : WorldValue) (source0 source sink0 sink : ℕ) : Type 0 where
+pub record Keeps (number : ℕ) (told written0 left written : Option (List ℕ)) (world : WorldValue)
+    (source0 source sink0 sink : ℕ) : Type 0 where
   pub within : number ≤ 50001
-  pub few : length world.book < number
+  pub below : AreBelow number world.clocks
   pub goes : (text : List ℕ) → told ≡ Some text → GoesOn text number left written0 written world
   pub source_count : source0 ≤ source
   pub sink_count : sink0 ≤ sink
@@ -23,27 +22,42 @@ same : (w : Option (List ℕ)) → Appends w w []
 same None = tt
 same (Some w) = sym (append-nil w)
 
-new_stands : Stands first_tree first_world.clients []
-new_stands = record { tree_is = refl; places = refl; clients_are = λ client. nothing_kept 4096 client }
+first_looks : LooksAs first_scene first_world
+first_looks = record {
+  leader = refl;
+  partner = refl;
+  witness = refl;
+  packets = refl;
+  flags = refl;
+  delivered = search;
+  clocks = zeros;
+  book = refl;
+}
+  where
+    zeros : (q : Place) → first_scene.group.clock q ≡ get first_world.clocks q
+    zeros Zero = refl
+    zeros One = refl
+    zeros Two = refl
+
+first_left : IsLeftBy [] first_world
+unfolding run
+first_left = record { taken = tt; looks = first_looks; awake = refl }
 
 -- a play has come to all lines of its text at the beginning
-come_first : (text : List ℕ) (w : Option (List ℕ)) → HasCome text 1 (lines_of text) w w first_world
-unfolding run_lines trace_text
-come_first text w = record {
-  done = [];
-  steps_are = refl;
-  refused_is = refl;
-  wrote = same w;
-  left = record { book_is = refl; stands = new_stands; awake = refl };
-}
+come_first : (text : List ℕ) (w : Option (List ℕ)) → HasCome text (reading_from 1 (lines_of text)) w w first_world
+unfolding run run_lines trace_text
+come_first text w = record { done = []; reading_is = refl; wrote = same w; left = first_left }
 
-pub goes-first : (text : List ℕ) (told : Option (List ℕ)) (held : List ℕ) (w : Option (List ℕ)) (world : WorldValue) → told ≡ Some text → held ≡ [] → world ≡ first_world
+pub goes-first : (text : List ℕ) (told : Option (List ℕ)) (held : List ℕ) (w : Option (List ℕ)) (world : WorldValue)
+    → told ≡ Some text → held ≡ [] → world ≡ first_world
     → GoesOn text 1 (text_left held told) w w world
 goes-first text told held w world is nothing first = record {
   rest = text;
   left_is = rw (is, nothing) refl;
-  come = subst (λ (x : WorldValue). HasCome text 1 (lines_of text) w w x) (sym first) (come_first text w);
+  come = subst (λ (x : WorldValue). HasCome text (reading_from 1 (lines_of text)) w w x) (sym first)
+      (come_first text w);
 }
 
-pub fewer : (world : WorldValue) → world ≡ first_world → length world.book < 1
-fewer world first = rw first (omega arith)
+pub below-first : (world : WorldValue) → world ≡ first_world → AreBelow 1 world.clocks
+below-first world first =
+    subst (λ (x : WorldValue). AreBelow 1 x.clocks) (sym first) (omega arith, omega arith, omega arith)

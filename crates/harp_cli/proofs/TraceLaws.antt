@@ -1,32 +1,37 @@
 -- The trace of every text.
-use Rattle.std.proofs.Common.{◌≡◌, ℕ, List, [], ◌∷◌, ◌++◌, length, refl, ap, ◌∙◌, Option, Some, None}
-use Rattle.std.proofs.lemmas.List.{append-nil}
+use Rattle.std.proofs.Common.{◌≡◌, ℕ, List, [], ◌∷◌, ◌++◌, append-nil, length, refl, ap, ◌∙◌, Option, Some, None}
+use Rattle.line_reader.specs.Lines.{lines_of}
 use Rattle.trace_lines.specs.declared.line.LineFault.{LineFault}
-use Rattle.harp_trace.specs.Trace.{entries, steps, Ends, IsClosed}
-use Rattle.harp_trace.specs.Faithful.{IsFaithful}
+use Rattle.harp_trace.specs.Trace.{Ends, entries, steps}
 use Rattle.harp_trace.proofs.Places.{steps-append}
-use Rattle.world.specs.Run.{run_lines}
-use Rattle.world.proofs.Runs.{steps-run, closed-run, faithful-run}
-use Rattle.harp_cli.specs.Play.{reading, last_line, trace_of}
+use Rattle.group_run.specs.Laws.{IsRight, RunIsRight}
+use Rattle.group_run.specs.Run.{first_scene, run_lines}
+use Rattle.group_run.proofs.RunLaws.{run_right}
+use Rattle.harp_cli.specs.Play.{last_line, reading, trace_of}
+use Rattle.harp_cli.proofs.TakenLaws.{reading_taken}
 
 ends_last : (entered : ℕ) (refused : Option (ℕ × LineFault)) → Ends entered (last_line entered refused)
 ends_last entered None = refl
 ends_last entered (Some x) = tt
 
-steps_last : (entered : ℕ) (refused : Option (ℕ × LineFault)) → steps (last_line entered refused ∷ []) ≡ []
-steps_last entered None = refl
-steps_last entered (Some x) = refl
+begins_none : (entered : ℕ) (refused : Option (ℕ × LineFault)) → steps (last_line entered refused ∷ []) ≡ []
+begins_none entered None = refl
+begins_none entered (Some x) = refl
 
-pub closed : (text : List ℕ) → IsClosed (trace_of text)
-closed text = let r = reading text in
-    closed-run r.steps (last_line (length (entries (run_lines [] r.steps))) r.refused) (ends_last (length (entries (run_lines [] r.steps))) r.refused)
+-- the run of a text's steps
+run_of : (text : List ℕ) → RunIsRight (reading text).steps
+run_of text = run_right (reading text).steps (reading_taken 1 (lines_of text) first_scene)
+
+pub right : (text : List ℕ) → IsRight (trace_of text)
+right text =
+    let r = reading text in
+    let n = length (entries (run_lines first_scene r.steps)) in
+    (run_of text).right (last_line n r.refused) (ends_last n r.refused)
 
 pub events : (text : List ℕ) → steps (trace_of text) ≡ (reading text).steps
-events text = let r = reading text in
-    let n = length (entries (run_lines [] r.steps)) in
-    steps-append (run_lines [] r.steps) (last_line n r.refused ∷ []) ∙ ap (λ ss. steps (run_lines [] r.steps) ++ ss) (steps_last n r.refused)
-    ∙ append-nil (steps (run_lines [] r.steps)) ∙ steps-run [] r.steps
-
-pub faithful : (text : List ℕ) → IsFaithful (trace_of text)
-faithful text = let r = reading text in
-    faithful-run r.steps (last_line (length (entries (run_lines [] r.steps))) r.refused) (ends_last (length (entries (run_lines [] r.steps))) r.refused)
+events text =
+    let r = reading text in
+    let lines = run_lines first_scene r.steps in
+    let n = length (entries lines) in
+    steps-append lines (last_line n r.refused ∷ []) ∙ ap (λ ss. steps lines ++ ss) (begins_none n r.refused)
+    ∙ append-nil (steps lines) ∙ (run_of text).events

@@ -1,19 +1,16 @@
 -- The texts of traces and of their parts.
-use Rattle.std.proofs.Common.{◌≡◌, ℕ, ◌+◌, ◌≤◌, List, [], ◌∷◌, ◌++◌, length, take, refl, sym, ap, ◌∙◌, subst, append_assoc, Option, Some, None, arith, inl, inr}
-use Rattle.std.specs.Prelude.{min}
+use Rattle.std.proofs.Common.{◌≡◌, ℕ, ◌+◌, List, [], ◌∷◌, ◌++◌, length, take, refl, sym, ap, ◌∙◌, subst, append_assoc, Option, Some, None, arith, inl, inr}
 use Rattle.std.specs.Io.KnownBytes.{Appends}
-use Rattle.std.proofs.lemmas.List.{append-nil, take-append-le, take_all}
+use Rattle.std.proofs.lemmas.List.{take-append-le, take_all}
 use Rattle.std.proofs.Math.Seq.{take-append_seam, take-append-add}
 use Rattle.std.proofs.lemmas.Bool.{cases_lt}
 use Rattle.std.proofs.lemmas.Grind.{flat_map-append}
 use Rattle.harp_base.specs.Streams.{GrewByPart}
 use Rattle.trace_lines.specs.declared.step.Step.{Step}
 use Rattle.trace_lines.specs.declared.line.Line.{Line}
-use Rattle.harp_trace.specs.Trace.{Trace, entries}
-use Rattle.harp_trace.proofs.Places.{entries-append}
-use Rattle.schedule_text.specs.Lines.{line_text}
-use Rattle.file_tree.specs.Book.{Entry}
-use Rattle.world.specs.Run.{answer, step_lines, book_after, run_lines}
+use Rattle.harp_trace.specs.Trace.{Trace}
+use Rattle.spelling.specs.Lines.{line_text}
+use Rattle.group_run.specs.Run.{Scene, next, run, run_lines, step_lines}
 use Rattle.harp_cli.specs.Play.{trace_text}
 
 pub trace_text-append : (xs ys : Trace) → trace_text (xs ++ ys) ≡ trace_text xs ++ trace_text ys
@@ -24,18 +21,18 @@ pub trace_text-cons : (l : Line) (ls : Trace) → trace_text (l ∷ ls) ≡ (lin
 unfolding trace_text
 trace_text-cons l ls = refl
 
-pub run_lines-append : (book : List Entry) (done later : List Step)
-    → run_lines book (done ++ later) ≡ run_lines book done ++ run_lines (book ++ entries (run_lines book done)) later
-unfolding run_lines
-run_lines-append book [] later = ap (λ b. run_lines b later) (sym (append-nil book))
-run_lines-append book (s ∷ done) later =
-    let next = book_after book s in
-    let book_is : next ++ entries (run_lines next done) ≡ book ++ entries (step_lines book s ++ run_lines next done) =
-    append_assoc book (entries (answer book s)) (entries (run_lines next done))
-    ∙ ap (λ es. book ++ es) (sym (entries-append (step_lines book s) (run_lines next done))) in
-    ap (λ ls. step_lines book s ++ ls) (run_lines-append next done later)
-    ∙ sym (append_assoc (step_lines book s) (run_lines next done) (run_lines (next ++ entries (run_lines next done)) later))
-    ∙ ap (λ b. (step_lines book s ++ run_lines next done) ++ run_lines b later) book_is
+pub run-append : (w : Scene) (done later : List Step) → run w (done ++ later) ≡ run (run w done) later
+unfolding run
+run-append w [] later = refl
+run-append w (s ∷ done) later = run-append (next w s) done later
+
+pub run_lines-append : (w : Scene) (done later : List Step)
+    → run_lines w (done ++ later) ≡ run_lines w done ++ run_lines (run w done) later
+unfolding run run_lines
+run_lines-append w [] later = refl
+run_lines-append w (s ∷ done) later =
+    ap (λ ls. step_lines w.group s ++ ls) (run_lines-append (next w s) done later)
+    ∙ sym (append_assoc (step_lines w.group s) (run_lines (next w s) done) (run_lines (run (next w s) done) later))
 
 -- what is appended in two writes
 pub appends-twice : (a b c : Option (List ℕ)) (x y : List ℕ) → Appends a b x → Appends b c y → Appends a c (x ++ y)

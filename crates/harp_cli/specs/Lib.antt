@@ -1,3 +1,4 @@
 pub mod Exit
 pub mod Play
 pub mod Ends
+pub mod OnTheWay

@@ -9,11 +9,11 @@ use Rattle.trace_lines.specs.declared.line.LineFault.{LineFault}
 use Rattle.trace_lines.specs.declared.line.LineFault.TheVariants as fault
 use Rattle.harp_trace.specs.Trace.{Trace, entries}
 use Rattle.line_reader.specs.Lines.{lines_of}
-use Rattle.schedule_text.specs.declared.fault.TextFault.{TextFault}
-use Rattle.schedule_text.specs.declared.fault.TextFault.TheVariants as text
-use Rattle.schedule_text.specs.Lines.{line_text}
+use Rattle.text_fields.specs.declared.fault.TextFault.{TextFault}
+use Rattle.text_fields.specs.declared.fault.TextFault.TheVariants as text
+use Rattle.spelling.specs.Lines.{line_text}
 use Rattle.schedule_text.specs.Reading.{meaning_of}
-use Rattle.world.specs.Run.{run_lines}
+use Rattle.group_run.specs.Run.{Scene, first_scene, refusal, run, run_lines, spelled_out}
 
 abbrev pub step_or_fault : Result (Option Step) TextFault → Result (Option Step) LineFault
 step_or_fault (Ok step) = Ok step
@@ -28,23 +28,45 @@ given_by number line =
     else (if nat_lt 20000 (length line) then Err fault.TooLong
     else step_or_fault (meaning_of line))
 
--- the steps that are read, and the number and the fault of the line that is refused, where there is one
+abbrev pub unless : Option LineFault → List Step → Result (List Step) LineFault
+unless None ss = Ok ss
+unless (Some fault) ss = Err fault
+
+-- the elementary steps that are taken for what a line gives, or why it is refused
+abbrev pub steps_given : Scene → Result (Option Step) LineFault → Result (List Step) LineFault
+steps_given w (Ok None) = Ok []
+steps_given w (Ok (Some s)) = unless (refusal w.group s) (spelled_out w s)
+steps_given w (Err fault) = Err fault
+
+-- the elementary steps that are taken, and the number and the fault of the line that is refused, where there is one
 pub record Reading : Type 0 where
   pub steps : List Step
   pub refused : Option (ℕ × LineFault)
 
-abbrev pub read_on : ℕ → Result (Option Step) LineFault → Reading → Reading
-read_on number (Ok None) rest = rest
-read_on number (Ok (Some step)) rest = record { steps = step ∷ rest.steps; refused = rest.refused }
-read_on number (Err fault) rest = record { steps = []; refused = Some (number, fault) }
+-- nothing more is read
+abbrev pub all_read : Reading
+all_read = record { steps = []; refused = None }
 
--- the steps of these lines, of which the first has this number, up to the first refused line
-unfoldable pub reading_from : ℕ → List (List ℕ) → Reading
-reading_from number [] = record { steps = []; refused = None }
-reading_from number (line ∷ lines) = read_on number (given_by number line) (reading_from (number + 1) lines)
+-- the line with this number is refused
+abbrev pub refused_at : ℕ → LineFault → Reading
+refused_at number fault = record { steps = []; refused = Some (number, fault) }
+
+-- first these steps, and then what is read further
+abbrev pub then_read : List Step → Reading → Reading
+then_read ss rest = record { steps = ss ++ rest.steps; refused = rest.refused }
+
+abbrev pub read_on : ℕ → Result (List Step) LineFault → (List Step → Reading) → Reading
+read_on number (Ok ss) rest = then_read ss (rest ss)
+read_on number (Err fault) rest = refused_at number fault
+
+-- what is read in a scene of these lines, of which the first has this number, up to the first refused line
+unfoldable pub reading_from : ℕ → List (List ℕ) → Scene → Reading
+reading_from number [] w = all_read
+reading_from number (line ∷ lines) w =
+    read_on number (steps_given w (given_by number line)) (λ ss. reading_from (number + 1) lines (run w ss))
 
 abbrev pub reading : List ℕ → Reading
-reading text = reading_from 1 (lines_of text)
+reading text = reading_from 1 (lines_of text) first_scene
 
 -- the last line of a trace: how many lines were entered, or which line is refused
 abbrev pub last_line : ℕ → Option (ℕ × LineFault) → Line
@@ -53,7 +75,8 @@ last_line entered (Some refused) = line.Bad refused.0 refused.1
 
 -- the lines of the run of these steps, and the last line
 abbrev pub trace_of_reading : Reading → Trace
-trace_of_reading r = run_lines [] r.steps ++ last_line (length (entries (run_lines [] r.steps))) r.refused ∷ []
+trace_of_reading r =
+    run_lines first_scene r.steps ++ last_line (length (entries (run_lines first_scene r.steps))) r.refused ∷ []
 
 -- the trace of a schedule's text
 abbrev pub trace_of : List ℕ → Trace

@@ -6,7 +6,6 @@ ghost use Rattle.harp_cli.specs.Exit.{status_of};
 use harp_base::SinkFault;
 use line_reader::ReadFault;
 use std::alloc::AllocError;
-use world::Refusal;
 
 /// How a command ended.
 #[derive(Clone, Copy, Debug, PartialEq, Eq)]
@@ -95,18 +94,6 @@ impl From<SinkFault> for Stop {
         match fault {
             SinkFault::Failed => Stop::SinkFailed,
             SinkFault::NoMemory => Stop::NoMemory,
-        }
-    }
-}
-
-impl From<Refusal> for Stop {
-    ghost use Rattle.harp_cli.specs.declared.exit.Stop.TheVariants.{NoMemory};
-
-    ghost from_gives = { λ _ stop. stop ≡ NoMemory };
-
-    fn from(refusal: Refusal) -> Stop {
-        match refusal {
-            Refusal::NoMemory => Stop::NoMemory,
         }
     }
 }

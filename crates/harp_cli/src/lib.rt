@@ -3,8 +3,10 @@
 
 mod exit;
 mod play;
+mod step;
 mod text;
 mod top;
+mod turn;
 
 pub use exit::Exit;
 pub use top::harp;

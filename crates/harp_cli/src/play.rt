@@ -1,104 +1,28 @@
-//! Playing a schedule: its steps are taken one after the other, and each step's lines are written before the next line is
-//! read.
+//! Playing a schedule: its steps are taken one after the other, and each step's lines are written before the next line
+//! is read.
 
-ghost use Rattle.std.specs.Prelude.{◌≡◌, ◌≢◌, ◌<◌, ◌≤◌, ◌+◌, ◌^◌, ◌∷◌, [], ℕ, List, Option, length, OnOk, OnErr, IfOk, IfErr, IfSome, MatchResult, Some, None, Ok, Err};
+ghost use Rattle.std.specs.Prelude.{◌≡◌, ◌≢◌, ◌<◌, ◌≤◌, ◌+◌, ℕ, List, Option, length, IfOk, MatchResult, Some, Ok, Err};
 ghost use Rattle.harp_base.specs.Streams.{Rose};
 ghost use Rattle.line_reader.specs.Reading.{text_left};
-ghost use Rattle.world.specs.State.{WorldValue, first_world};
-ghost use Rattle.harp_cli.specs.declared.exit.Exit.TheVariants as exit;
+ghost use Rattle.group_run.specs.Run.{Scene};
+ghost use Rattle.world.specs.State.{first_world};
 ghost use Rattle.harp_cli.specs.Exit.{exit_of};
-ghost use Rattle.harp_cli.specs.Play.{given_by};
-ghost use Rattle.harp_cli.specs.Ends.{PlayEnds, IsWhole, HasCome, GoesOn, TurnGives, LineGives};
+ghost use Rattle.harp_cli.specs.Play.{Reading, given_by};
+ghost use Rattle.harp_cli.specs.Ends.{IsWhole, PlayEnds};
+ghost use Rattle.harp_cli.specs.OnTheWay.{AreBelow, GoesOn, HasCome, LineGives, TurnGives, with_given};
 
 use crate::exit::{Exit, Stop};
-use crate::text::{write_last, write_lines};
+use crate::step::take_step;
+use crate::turn::{Turn, end, refuse};
 use harp_base::{Sink, Source};
-use trace_lines::{Line, LineFault, Step};
 use line_reader::{LineReader, Next, ReadFault};
 use schedule_text::{TextFault, read_step};
 use std::alloc::Global;
-use world::{Refusal, World};
+use trace_lines::LineFault;
+use world::World;
 
 /// The most lines of a schedule.
 const LINES: u64 = 50_000;
-
-/// What a line led to.
-#[derive(Clone, Copy, Debug, PartialEq, Eq)]
-pub enum Turn {
-    /// The next line is to be read.
-    GoesOn,
-    /// The last line was written, at the end of the input.
-    Ended,
-    /// The last line was written, of a line that is refused.
-    Refused,
-}
-
-/// Writes the last line at the end of the input.
-fn end<K: Sink>(alloc: Global, world: &World, sink: &mut K) -> Result<Turn, Stop>
-    ensures ends { (text : List ℕ) (number : ℕ) (before : Option (List ℕ))
-        → HasCome text number [] before (K.written sink.old) world.now
-        → MatchResult result (TurnGives text number [] before (K.written sink.new) world.now)
-        (λ stop. PlayEnds text before (K.written sink.new) world.now (exit_of stop)) }
-    ensures rose { result ≡ Err Stop.SinkFailed → Rose (K.faults sink.old) (K.faults sink.new) }
-    ensures count { K.faults sink.old ≤ K.faults sink.new }
-    ensures own { result ≡ Err Stop.SourceFailed → ⊥ }
-    ensures last { IfOk result (λ turn. turn ≢ Turn.GoesOn) }
-{
-    let last = Line::End {
-        entered: world.book().len() as u64,
-    };
-    match write_last(alloc, last, sink) {
-        Ok(()) => Ok(Turn::Ended),
-        Err(stop) => Err(stop),
-    }
-}
-
-/// Writes the last line, of a line of the schedule that is refused.
-fn refuse<K: Sink>(alloc: Global, number: u64, fault: LineFault, sink: &mut K) -> Result<Turn, Stop>
-    ensures ends { (text line : List ℕ) (lines : List (List ℕ)) (before : Option (List ℕ)) (world : WorldValue)
-        → HasCome text number (line ∷ lines) before (K.written sink.old) world → given_by number line ≡ Err fault
-        → MatchResult result (TurnGives text number lines before (K.written sink.new) world)
-        (λ stop. PlayEnds text before (K.written sink.new) world (exit_of stop)) }
-    ensures rose { result ≡ Err Stop.SinkFailed → Rose (K.faults sink.old) (K.faults sink.new) }
-    ensures count { K.faults sink.old ≤ K.faults sink.new }
-    ensures own { result ≡ Err Stop.SourceFailed → ⊥ }
-    ensures last { IfOk result (λ turn. turn ≢ Turn.GoesOn) }
-{
-    let last = Line::Bad {
-        line: number,
-        fault,
-    };
-    match write_last(alloc, last, sink) {
-        Ok(()) => Ok(Turn::Refused),
-        Err(stop) => Err(stop),
-    }
-}
-
-/// Takes a step and writes its lines.
-fn take_step<K: Sink>(
-    alloc: Global,
-    step: Step,
-    world: &mut World,
-    sink: &mut K,
-) -> Result<Turn, Stop>
-    requires { length world.old.book < 2 ^ 40 }
-    ensures ends { (text line : List ℕ) (number : ℕ) (lines : List (List ℕ)) (before : Option (List ℕ))
-        → HasCome text number (line ∷ lines) before (K.written sink.old) world.old → given_by number line ≡ Ok (Some step)
-        → MatchResult result (TurnGives text number lines before (K.written sink.new) world.new)
-        (λ stop. PlayEnds text before (K.written sink.new) world.new (exit_of stop)) }
-    ensures grows { OnOk result (length world.new.book ≤ length world.old.book + 1) }
-    ensures rose { result ≡ Err Stop.SinkFailed → Rose (K.faults sink.old) (K.faults sink.new) }
-    ensures count { K.faults sink.old ≤ K.faults sink.new }
-    ensures own { result ≡ Err Stop.SourceFailed → ⊥ }
-{
-    match world.step(alloc, step) {
-        Ok(lines) => match write_lines(alloc, lines.as_slice(), sink) {
-            Ok(()) => Ok(Turn::GoesOn),
-            Err(stop) => Err(stop),
-        },
-        Err(Refusal::NoMemory) => Err(Stop::NoMemory),
-    }
-}
 
 /// Why a line with this number is refused that is too long: past the limit no line is looked at.
 fn fault_of_long_line(number: u64) -> LineFault
@@ -120,12 +44,12 @@ fn take_line<K: Sink>(
     sink: &mut K,
 ) -> Result<Turn, Stop>
     requires short { length line.now ≤ 20000 }
-    requires few { length world.old.book < 2 ^ 40 }
-    ensures ends { (text : List ℕ) (lines : List (List ℕ)) (before : Option (List ℕ))
-        → HasCome text number (line.now ∷ lines) before (K.written sink.old) world.old
-        → MatchResult result (TurnGives text number lines before (K.written sink.new) world.new)
+    requires below { AreBelow number world.old.clocks }
+    ensures ends { (text : List ℕ) (rest : Scene → Reading) (before : Option (List ℕ))
+        → HasCome text (with_given number (given_by number line.now) rest) before (K.written sink.old) world.old
+        → MatchResult result (TurnGives text rest before (K.written sink.new) world.new)
         (λ stop. PlayEnds text before (K.written sink.new) world.new (exit_of stop)) }
-    ensures grows { OnOk result (length world.new.book ≤ length world.old.book + 1) }
+    ensures below { result ≡ Ok Turn.GoesOn → AreBelow (number + 1) world.new.clocks }
     ensures rose { result ≡ Err Stop.SinkFailed → Rose (K.faults sink.old) (K.faults sink.new) }
     ensures count { K.faults sink.old ≤ K.faults sink.new }
     ensures own { result ≡ Err Stop.SourceFailed → ⊥ }
@@ -136,7 +60,7 @@ fn take_line<K: Sink>(
     }
     match read_step(alloc, line) {
         Ok(None) => Ok(Turn::GoesOn),
-        Ok(Some(step)) => take_step(alloc, step, world, sink),
+        Ok(Some(step)) => take_step(alloc, number, step, world, sink),
         Err(TextFault::Grammar(_)) => refuse(alloc, number, LineFault::Grammar, sink),
         Err(TextFault::Unbuilt) => refuse(alloc, number, LineFault::Unbuilt, sink),
         Err(TextFault::NoMemory) => Err(Stop::NoMemory),
@@ -152,13 +76,14 @@ fn play_line<S: Source, K: Sink>(
     source: &mut S,
     sink: &mut K,
 ) -> Result<Turn, Stop>
-    requires { length world.old.book < 2 ^ 40 }
+    requires { AreBelow number world.old.clocks }
     ensures ends { (text : List ℕ) (before : Option (List ℕ))
         → GoesOn text number (text_left reader.old (S.left source.old)) before (K.written sink.old) world.old
-        → MatchResult result (LineGives text number (text_left reader.new (S.left source.new)) before (K.written sink.new) world.new)
+        → MatchResult result
+        (LineGives text number (text_left reader.new (S.left source.new)) before (K.written sink.new) world.new)
         (λ stop. PlayEnds text before (K.written sink.new) world.new (exit_of stop)) }
     ensures last { 50000 < number → IfOk result (λ turn. turn ≢ Turn.GoesOn) }
-    ensures grows { OnOk result (length world.new.book ≤ length world.old.book + 1) }
+    ensures below { result ≡ Ok Turn.GoesOn → AreBelow (number + 1) world.new.clocks }
     ensures source_rose { result ≡ Err Stop.SourceFailed → Rose (S.faults source.old) (S.faults source.new) }
     ensures sink_rose { result ≡ Err Stop.SinkFailed → Rose (K.faults sink.old) (K.faults sink.new) }
     ensures source_count { S.faults source.old ≤ S.faults source.new }

@@ -7,9 +7,9 @@ ghost use Rattle.harp_cli.specs.Play.{trace_text};
 
 use crate::exit::Stop;
 use harp_base::{Bytes, Sink, write_all};
-use trace_lines::Line;
-use schedule_text::write_line;
 use std::alloc::{AllocError, Global};
+use trace_lines::Line;
+use trace_text::write_line;
 
 /// The text of these lines, each with its line feed.
 fn text_of(alloc: Global, lines: &[Line]) -> Result<Bytes, AllocError>

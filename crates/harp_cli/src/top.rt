@@ -2,8 +2,9 @@
 
 ghost use Rattle.std.specs.Prelude.{◌≡◌, ◌≢◌, ℕ, List, Option, MatchOption, Some};
 ghost use Rattle.harp_base.specs.Streams.{Rose};
-ghost use Rattle.harp_trace.specs.Trace.{steps, IsClosed};
+ghost use Rattle.harp_trace.specs.Acknowledged.{AreAcknowledged, AreAnsweredAtOnce};
 ghost use Rattle.harp_trace.specs.Faithful.{IsFaithful};
+ghost use Rattle.harp_trace.specs.Trace.{steps, IsClosed};
 ghost use Rattle.schedule_text.specs.Grammar.{Explains};
 ghost use Rattle.schedule_text.specs.Reading.{meaning_of};
 ghost use Rattle.world.specs.State.{first_world};
@@ -49,9 +50,9 @@ fn write_usage<K: Sink>(sink: &mut K) -> Exit
 /// Does what the words ask for, and gives the exit status: 0 done, 2 the words are refused, 3 the source failed, 4 the
 /// sink failed, 5 a line is refused, 6 there was no memory.
 ///
-/// `play` plays the schedule of the source in the world, which is new, and writes its trace to the sink. On other words the
-/// usage text is written and the world stays. Want of memory ends each of them. Nothing is said of the bytes of a source or
-/// a sink that doesn't tell them.
+/// `play` plays the schedule of the source in the world, which is new, and writes its trace to the sink. On other words
+/// the usage text is written and the world stays. Want of memory ends each of them. Nothing is said of the bytes of a
+/// source or a sink that doesn't tell them.
 pub fn harp<R: Threads + Sync, S: Source, K: Sink>(
     _rt: &R,
     alloc: Global,
@@ -63,9 +64,11 @@ pub fn harp<R: Threads + Sync, S: Source, K: Sink>(
     requires { world.old ≡ first_world }
     // Which status comes, what was written by then, and which world is left.
     ensures play { IsPlay words.now → (text : List ℕ) → S.left source.old ≡ Some text
-        → (exit : Exit) × (result ≡ status_of exit) × PlayEnds text (K.written sink.old) (K.written sink.new) world.new exit }
+        → (exit : Exit) × (result ≡ status_of exit)
+        × PlayEnds text (K.written sink.old) (K.written sink.new) world.new exit }
     ensures usage { (IsPlay words.now → ⊥)
-        → (exit : Exit) × (result ≡ status_of exit) × UsageEnds (K.written sink.old) (K.written sink.new) exit × (world.new ≡ world.old) }
+        → (exit : Exit) × (result ≡ status_of exit)
+        × UsageEnds (K.written sink.old) (K.written sink.new) exit × (world.new ≡ world.old) }
     // The causes that hold of a source that tells no bytes too.
     ensures refused_words { result ≡ 2 → IsPlay words.now → ⊥ }
     ensures source_failed { result ≡ 3 → Rose (S.faults source.old) (S.faults source.new) }
@@ -76,6 +79,8 @@ pub fn harp<R: Threads + Sync, S: Source, K: Sink>(
     ensures closed { (text : List ℕ) → IsClosed (trace_of text) }
     ensures events { (text : List ℕ) → steps (trace_of text) ≡ (reading text).steps }
     ensures faithful { (text : List ℕ) → IsFaithful (trace_of text) }
+    ensures acknowledged { (text : List ℕ) → AreAcknowledged (trace_of text) }
+    ensures answered_at_once { (text : List ℕ) → AreAnsweredAtOnce (trace_of text) }
 {
     match command_of(words) {
         Some(Command::Play) => play(alloc, world, source, sink).status(),

@@ -1,4 +1,4 @@
-//! What no clause says: that calls succeed with ample memory, known bytes and texts, and whole runs of the top call.
+//! What no clause says: that calls succeed with ample memory, and known bytes and texts.
 #![tactic(auto)]
 
 #[cfg(test)]
@@ -8,10 +8,8 @@ mod cells;
 #[cfg(test)]
 mod logs;
 #[cfg(test)]
-mod plays;
+mod text_forms;
 #[cfg(test)]
 mod texts;
 #[cfg(test)]
 mod tree;
-#[cfg(test)]
-mod view;

@@ -1,10 +1,12 @@
 //! Lines of schedules and traces.
 
 use harp_base::{Bounded, Bytes, DirEntry, Entries, Reply, ServerId};
-use trace_lines::{Cause, Line, LineFault};
-use schedule_text::{TextFault, read_step, write_line, write_step};
+use schedule_text::read_step;
 use std::alloc::Global;
 use std::test::Fail;
+use text_fields::TextFault;
+use trace_lines::{Cause, Line, LineFault};
+use trace_text::{write_line, write_step};
 
 /// What reading a line gives.
 #[derive(Clone, Copy, Debug, PartialEq, Eq)]
@@ -56,11 +58,7 @@ ask 0 7 1 mkdir 1 61 -,0
 ask 0 7 1 mkdir 1 61 755,0,0,5,1:2
 ask 0 7 1 mkdir 1 61 -,-,-,-,4294967295:5,5:4294967295";
 
-const UNBUILT: &[u8] = b"tick 0
-pump
-noise  x
-ask 1 9 1 lookup 1 -
-ask 2 9 1
+const UNBUILT: &[u8] = b"noise  x
 ask 0 9 1 null x
 ask 0 9 1 statfs";
 
@@ -79,7 +77,7 @@ ask 0 9 1
 asks 0 9 1
 ask 1 9 1x
 ask 0 9 1 nullx
-ticks 0
+noises 0
 ask 0 7 1 mkdir 1 61 755,-
 ask 0 7 1 mkdir 1 61 -,-,-,-,-,4294967295:4294967295
 ask 0 7 1 mkdir 1 61 755,4294967295

@@ -1,5 +1,5 @@
 -- Words of a line, and the names that stand there.
-use Rattle.std.proofs.Common.{◌≡◌, ℕ, suc, ◌+◌, ◌≤◌, Bool, true, false, cond, eqb, ◌&&◌, List, [], ◌∷◌, ◌++◌, length, get_or, drop, refl, sym, ap, subst, ◌∙◌, arith}
+use Rattle.std.proofs.Common.{◌≡◌, ℕ, suc, ◌+◌, ◌≤◌, Bool, true, false, cond, eqb, ◌&&◌, List, [], ◌∷◌, ◌++◌, length, get_or, drop, Option, Some, None, refl, sym, ap, subst, ◌∙◌, arith}
 use Rattle.std.specs.Prelude.{nat_le, not, codes, Contains}
 use Rattle.std.specs.List.{prefix_len, take_while}
 use Rattle.std.specs.Str.{bytes_eq}
@@ -10,9 +10,11 @@ use Rattle.std.proofs.lemmas.List.Folds.{length-prefix_len, list_any-from_Any}
 use Rattle.std.proofs.lemmas.List.Elements.{All-contains}
 use Rattle.std.proofs.lemmas.Map.Views.{Contains-from_any}
 use Rattle.std.proofs.lemmas.Slice.Eq.{bytes_eq-Decides}
-use Rattle.schedule_text.specs.Grammar.{EndsWord}
-use Rattle.schedule_text.specs.Reading.{not_space, word_at, unbuilt_steps, unbuilt_calls, is_among}
-use Rattle.schedule_text.proofs.Places.{Spells}
+use Rattle.text_fields.specs.Fields.{EndsWord, not_space, word_at}
+use Rattle.text_fields.proofs.Places.{Spells}
+use Rattle.schedule_text.specs.declared.form.Form.{Form}
+use Rattle.schedule_text.specs.declared.form.Form.TheVariants as form
+use Rattle.schedule_text.specs.Reading.{unbuilt_steps, unbuilt_calls, is_among, form_of}
 
 -- ---- where a word ends
 
@@ -20,24 +22,32 @@ ends_here : (rest : List ℕ) → EndsWord (drop (prefix_len not_space rest) res
 ends_here [] = tt
 ends_here (b ∷ rest) = by (eqb b 32) refl (ends_here rest)
   where
-    by : (space : Bool) → eqb b 32 ≡ space → EndsWord (drop (prefix_len not_space rest) rest) → EndsWord (drop (cond (not space) (1 + prefix_len not_space rest) 0) (b ∷ rest))
+    by : (space : Bool) → eqb b 32 ≡ space → EndsWord (drop (prefix_len not_space rest) rest)
+        → EndsWord (drop (cond (not space) (1 + prefix_len not_space rest) 0) (b ∷ rest))
     by true is more = eqb-true b 32 is
-    by false is more = subst (λ n. EndsWord (drop n (b ∷ rest))) {x = suc (prefix_len not_space rest)} (omega arith) more
+    by false is more =
+        subst (λ n. EndsWord (drop n (b ∷ rest))) {x = suc (prefix_len not_space rest)} (omega arith) more
 
 pub word_spells : (line : List ℕ) (at : ℕ) → Spells line at (word_at line at) (at + length (word_at line at))
 word_spells line at =
     let rest = drop at line in
     let n = prefix_len not_space rest in
     let len : length (word_at line at) ≡ n = length-prefix_len not_space rest in
-    let behind : drop (at + length (word_at line at)) line ≡ drop n rest = ap (λ k. drop (at + k) line) len ∙ sym (drop-drop n at line) in
-    record { parts = sym (take-append-drop n rest) ∙ ap (λ (l : List ℕ). word_at line at ++ l) (sym behind); length_is = refl }
+    let behind : drop (at + length (word_at line at)) line ≡ drop n rest = ap (λ k. drop (at + k) line) len
+    ∙ sym (drop-drop n at line) in
+    record {
+      parts = sym (take-append-drop n rest)
+          ∙ ap (λ (l : List ℕ). word_at line at ++ l) (sym behind);
+      length_is = refl;
+    }
 
 pub word_ends : (line : List ℕ) (at : ℕ) → EndsWord (drop (at + length (word_at line at)) line)
 word_ends line at =
     let rest = drop at line in
     let n = prefix_len not_space rest in
     let len : length (word_at line at) ≡ n = length-prefix_len not_space rest in
-    let behind : drop n rest ≡ drop (at + length (word_at line at)) line = drop-drop n at line ∙ ap (λ k. drop (at + k) line) (sym len) in
+    let behind : drop n rest ≡ drop (at + length (word_at line at)) line = drop-drop n at line
+    ∙ ap (λ k. drop (at + k) line) (sym len) in
     subst EndsWord behind (ends_here rest)
 
 -- ---- a word that stands
@@ -54,7 +64,9 @@ is_name (b ∷ bytes) = nat_le 97 b && letters bytes
 
 none_left : (rest : List ℕ) → EndsWord rest → take_while not_space rest ≡ []
 none_left [] ends = refl
-none_left (b ∷ rest) ends = take_while-cons not_space b rest ∙ ap (λ (c : Bool). cond (not c) (b ∷ take_while not_space rest) []) (eq-eqb b 32 ends)
+none_left (b ∷ rest) ends =
+    take_while-cons not_space b rest ∙ ap (λ (c : Bool). cond (not c) (b ∷ take_while not_space rest) [])
+    (eq-eqb b 32 ends)
 
 letter : (b : ℕ) → nat_le 97 b ≡ true → 97 ≤ b
 letter b e = leb-true 97 b e
@@ -64,15 +76,18 @@ letters_taken [] rest all ends = none_left rest ends
 letters_taken (b ∷ word) rest all ends =
     let parts = and_parts (nat_le 97 b) (letters word) all in
     let above = letter b parts.0 in
-    take_while-cons not_space b (word ++ rest) ∙ ap (λ (c : Bool). cond (not c) (b ∷ take_while not_space (word ++ rest)) []) (ne_eqb b 32 (λ e. omega arith))
+    take_while-cons not_space b (word ++ rest)
+    ∙ ap (λ (c : Bool). cond (not c) (b ∷ take_while not_space (word ++ rest)) []) (ne_eqb b 32 (λ e. omega arith))
     ∙ ap (λ (l : List ℕ). b ∷ l) (letters_taken word rest parts.1 ends)
 
 name_letters : (word : List ℕ) → is_name word ≡ true → letters word ≡ true
 name_letters [] name = absurd cc
 name_letters (b ∷ word) name = name
 
-pub word_stands : (line : List ℕ) (at : ℕ) (word rest : List ℕ) → is_name word ≡ true → EndsWord rest → drop at line ≡ word ++ rest → word_at line at ≡ word
-word_stands line at word rest name ends e = ap (take_while not_space) e ∙ letters_taken word rest (name_letters word name) ends
+pub word_stands : (line : List ℕ) (at : ℕ) (word rest : List ℕ) → is_name word ≡ true → EndsWord rest
+    → drop at line ≡ word ++ rest → word_at line at ≡ word
+word_stands line at word rest name ends e =
+    ap (take_while not_space) e ∙ letters_taken word rest (name_letters word name) ends
 
 -- a name begins with a letter
 pub name_first : (word rest : List ℕ) → is_name word ≡ true → 97 ≤ get_or (word ++ rest) 0 0
@@ -90,9 +105,64 @@ listed names word e = Contains-from_any same_word word names e
 pub among : (names : List (List ℕ)) (word : List ℕ) → Contains names word → is_among names word ≡ true
 among names word c = list_any-from_Any (bytes_eq word) names (c.0, word, c.1, c.2, (bytes_eq-Decides word word).1 refl)
 
--- a name that is none of the names that are built
-abbrev other_step : List ℕ → Bool
-other_step name = is_name name && not (bytes_eq name (codes "ask"))
+-- ---- the forms of steps
+
+-- the names of a form
+abbrev pub Named : List ℕ → Form → Type 0
+Named word form.Ask = word ≡ codes "ask"
+Named word form.Deliver = word ≡ codes "deliver"
+Named word form.Pump = word ≡ codes "pump"
+Named word form.Tick = word ≡ codes "tick"
+Named word form.Clock = word ≡ codes "clock"
+Named word form.Advance = word ≡ codes "advance"
+Named word form.Later = Contains unbuilt_steps word
+
+abbrev pub NamedBy : List ℕ → Option Form → Type 0
+NamedBy word None = Unit {0}
+NamedBy word (Some f) = Named word f
+
+one_form : (b : Bool) (word : List ℕ) (f : Form) (other : Option Form) → (b ≡ true → Named word f)
+    → NamedBy word other → NamedBy word (cond b (Some f) other)
+one_form true word f other is more = is refl
+one_form false word f other is more = more
+
+pub form_names : (word : List ℕ) → NamedBy word (form_of word)
+form_names word =
+    one_form (bytes_eq word (codes "ask")) word form.Ask _ (same_word word (codes "ask"))
+    (one_form (bytes_eq word (codes "deliver")) word form.Deliver _ (same_word word (codes "deliver"))
+    (one_form (bytes_eq word (codes "pump")) word form.Pump _ (same_word word (codes "pump"))
+    (one_form (bytes_eq word (codes "tick")) word form.Tick _ (same_word word (codes "tick"))
+    (one_form (bytes_eq word (codes "clock")) word form.Clock _ (same_word word (codes "clock"))
+    (one_form (bytes_eq word (codes "advance")) word form.Advance _ (same_word word (codes "advance"))
+    (one_form (is_among unbuilt_steps word) word form.Later None (listed unbuilt_steps word) tt))))))
+
+-- whether a form is that of a later stage
+abbrev is_later : Option Form → Bool
+is_later (Some form.Later) = true
+is_later o = false
+
+later_is : (o : Option Form) → is_later o ≡ true → o ≡ Some form.Later
+later_is None e = absurd cc
+later_is (Some form.Ask) e = absurd cc
+later_is (Some form.Deliver) e = absurd cc
+later_is (Some form.Pump) e = absurd cc
+later_is (Some form.Tick) e = absurd cc
+later_is (Some form.Clock) e = absurd cc
+later_is (Some form.Advance) e = absurd cc
+later_is (Some form.Later) e = refl
+
+abbrev later_step : List ℕ → Bool
+later_step name = is_name name && is_later (form_of name)
+
+pub unbuilt_step : (name : List ℕ) → Contains unbuilt_steps name
+    → (is_name name ≡ true) × (form_of name ≡ Some form.Later)
+unbuilt_step name c =
+    let all = All-contains (λ x. later_step x ≡ true) unbuilt_steps name
+    (AllPass-from_list_all later_step unbuilt_steps refl) c in
+    let parts = and_parts (is_name name) (is_later (form_of name)) all in
+    (parts.0, later_is (form_of name) parts.1)
+
+-- ---- the calls that aren't built
 
 abbrev other_call : List ℕ → Bool
 other_call name = is_name name && (not (bytes_eq name (codes "mkdir")) && not (bytes_eq name (codes "lookup")))
@@ -101,15 +171,12 @@ not_true : (b : Bool) → not b ≡ true → b ≡ false
 not_true true e = absurd cc
 not_true false e = refl
 
-pub unbuilt_step : (name : List ℕ) → Contains unbuilt_steps name → (is_name name ≡ true) × (bytes_eq name (codes "ask") ≡ false)
-unbuilt_step name c =
-    let all = All-contains (λ x. other_step x ≡ true) unbuilt_steps name (AllPass-from_list_all other_step unbuilt_steps refl) c in
-    let parts = and_parts (is_name name) (not (bytes_eq name (codes "ask"))) all in
-    (parts.0, not_true (bytes_eq name (codes "ask")) parts.1)
-
-pub unbuilt_call : (name : List ℕ) → Contains unbuilt_calls name → (is_name name ≡ true) × (bytes_eq name (codes "mkdir") ≡ false) × (bytes_eq name (codes "lookup") ≡ false)
+pub unbuilt_call : (name : List ℕ) → Contains unbuilt_calls name
+    → (is_name name ≡ true) × (bytes_eq name (codes "mkdir") ≡ false) × (bytes_eq name (codes "lookup") ≡ false)
 unbuilt_call name c =
-    let all = All-contains (λ x. other_call x ≡ true) unbuilt_calls name (AllPass-from_list_all other_call unbuilt_calls refl) c in
-    let parts = and_parts (is_name name) (not (bytes_eq name (codes "mkdir")) && not (bytes_eq name (codes "lookup"))) all in
+    let all = All-contains (λ x. other_call x ≡ true) unbuilt_calls name
+    (AllPass-from_list_all other_call unbuilt_calls refl) c in
+    let parts = and_parts (is_name name)
+    (not (bytes_eq name (codes "mkdir")) && not (bytes_eq name (codes "lookup"))) all in
     let others = and_parts (not (bytes_eq name (codes "mkdir"))) (not (bytes_eq name (codes "lookup"))) parts.1 in
     (parts.0, not_true (bytes_eq name (codes "mkdir")) others.0, not_true (bytes_eq name (codes "lookup")) others.1)

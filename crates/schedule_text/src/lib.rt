@@ -1,17 +1,11 @@
-//! The text of schedules and traces.
+//! The steps of a schedule, read from its lines.
 #![tactic(auto)]
 
-mod fault;
-mod fields;
-mod name;
-mod number;
-mod put;
+mod call;
+mod form;
 mod reading;
-mod write_attr;
-mod write_call;
-mod write_reply;
-mod writing;
+mod step;
+mod word;
 
-pub use fault::TextFault;
 pub use reading::read_step;
-pub use writing::{texts_are_lines, write_line, write_step};
+pub use text_fields::TextFault;

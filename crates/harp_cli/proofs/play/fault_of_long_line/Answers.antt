@@ -1,4 +1,4 @@
-use Rattle.std.proofs.Common.{◌≡◌, arith}
+use Rattle.std.proofs.Common.{arith}
 use Rattle.harp_cli.proofs.NextLines.{given-long, given-past}
 use Rattle.harp_cli.proofs.play.fault_of_long_line.Goals as goal
 

@@ -1,17 +1,16 @@
-use Rattle.std.proofs.Common.{◌≡◌, ◌<◌, ◌≤◌, refl, sym, ap, ◌∙◌, subst, length, ◌+◌, arith, inl, inr, ℕ}
+use Rattle.std.proofs.Common.{ap, subst, arith, inl, inr, Ok}
 use Rattle.std.proofs.lemmas.Bool.{cases_lt}
 use Rattle.line_reader.specs.Reading.{text_left}
-use Rattle.world.specs.State.{WorldValue}
-use Rattle.harp_cli.specs.Ends.{LineGives, GoesOn}
-use Rattle.harp_cli.specs.declared.play.Turn.TheVariants as turn
-use Rattle.harp_cli.proofs.PlayLoop.{Keeps, goes-first, fewer}
+use Rattle.harp_cli.specs.OnTheWay.{LineGives}
+use Rattle.harp_cli.proofs.PlayLoop.{below-first, goes-first}
 use Rattle.harp_cli.proofs.play.play_lines.Goals as goal
 
 pub loop-number-init : goal.loop-number-init
 loop-number-init g c = record {
   within = omega arith;
-  few = fewer c.args.world.now c.requires;
-  goes = λ text told. goes-first text (g.S.Source.left c.args.source.now) c.in-Ok.reader (g.K.Sink.written c.args.sink.now) c.args.world.now told c.in-Ok.ensures c.requires;
+  below = below-first c.args.world.now c.requires;
+  goes = λ text told. goes-first text (g.S.Source.left c.args.source.now) c.in-Ok.reader
+      (g.K.Sink.written c.args.sink.now) c.args.world.now told c.in-Ok.ensures c.requires;
   source_count = omega arith;
   sink_count = omega arith;
 }
@@ -22,9 +21,10 @@ loop-number-preserved g c = record {
     | inl past ↦ absurd (c.in-Ok-GoesOn.ensures.last past c.in-Ok-GoesOn.field-0-is)
     | inr within ↦ omega arith
   ];
-  few = omega (arith, c.in-Ok-GoesOn.ensures.grows, c.loop-number.invariant.few);
+  below = c.in-Ok-GoesOn.ensures.below (ap Ok c.in-Ok-GoesOn.field-0-is);
   goes = λ text told.
-      subst (LineGives text c.loop-number.number (text_left c.play_line.new.reader (g.S.Source.left c.play_line.new.source)) (g.K.Sink.written c.args.sink.now)
+      subst (LineGives text c.loop-number.number (text_left c.play_line.new.reader
+      (g.S.Source.left c.play_line.new.source)) (g.K.Sink.written c.args.sink.now)
       (g.K.Sink.written c.play_line.new.sink) c.play_line.new.world) c.in-Ok-GoesOn.field-0-is
       (c.in-Ok-GoesOn.ensures.ends text (g.K.Sink.written c.args.sink.now) (c.loop-number.invariant.goes text told));
   source_count = omega (arith, c.loop-number.invariant.source_count, c.in-Ok-GoesOn.ensures.source_count);
@@ -33,13 +33,15 @@ loop-number-preserved g c = record {
 
 pub returns-in-Ok-Ended-clause-ends : goal.returns-in-Ok-Ended-clause-ends
 returns-in-Ok-Ended-clause-ends g c = λ text told.
-    subst (LineGives text c.loop-number.number (text_left c.play_line.new.reader (g.S.Source.left c.play_line.new.source)) (g.K.Sink.written c.args.sink.now)
+    subst (LineGives text c.loop-number.number (text_left c.play_line.new.reader
+    (g.S.Source.left c.play_line.new.source)) (g.K.Sink.written c.args.sink.now)
     (g.K.Sink.written c.play_line.new.sink) c.play_line.new.world) c.in-Ok-Ended.field-0-is
     (c.in-Ok-Ended.ensures.ends text (g.K.Sink.written c.args.sink.now) (c.loop-number.invariant.goes text told))
 
 pub returns-in-Ok-Refused-clause-ends : goal.returns-in-Ok-Refused-clause-ends
 returns-in-Ok-Refused-clause-ends g c = λ text told.
-    subst (LineGives text c.loop-number.number (text_left c.play_line.new.reader (g.S.Source.left c.play_line.new.source)) (g.K.Sink.written c.args.sink.now)
+    subst (LineGives text c.loop-number.number (text_left c.play_line.new.reader
+    (g.S.Source.left c.play_line.new.source)) (g.K.Sink.written c.args.sink.now)
     (g.K.Sink.written c.play_line.new.sink) c.play_line.new.world) c.in-Ok-Refused.field-0-is
     (c.in-Ok-Refused.ensures.ends text (g.K.Sink.written c.args.sink.now) (c.loop-number.invariant.goes text told))
 

@@ -1,25 +1,29 @@
-use Rattle.std.proofs.Common.{◌≡◌, ◌++◌, ◌∷◌, [], refl, sym, ap, ◌∙◌, subst, append_assoc, drop, length, List, ℕ, get_or, ◌+◌, ◌<◌}
+use Rattle.std.proofs.Common.{◌≡◌, ◌++◌, ◌∷◌, [], sym, ap, ◌∙◌, append_assoc, drop, length, List, ℕ, get_or, ◌+◌, ◌<◌}
 use Rattle.std.proofs.lemmas.List.{at_drop_more, at_drop_all, append-nil}
 use Rattle.trace_lines.specs.declared.line.Line.{Line}
 use Rattle.harp_trace.specs.Trace.{Trace}
-use Rattle.schedule_text.specs.Lines.{line_text}
+use Rattle.spelling.specs.Lines.{line_text}
 use Rattle.harp_cli.specs.Play.{trace_text}
 use Rattle.harp_cli.proofs.TraceTexts.{trace_text-cons}
 use Rattle.harp_cli.proofs.text.text_of.Goals as goal
 
 -- the text of a line goes from what is left to what was made
 moved : (made : List ℕ) (lines : Trace) (i : ℕ) (x : Line) (all : List ℕ) → i < length lines → x ≡ get_or lines i x
-    → made ++ trace_text (drop i lines) ≡ all → ((made ++ line_text x) ++ 10 ∷ []) ++ trace_text (drop (i + 1) lines) ≡ all
+    → made ++ trace_text (drop i lines) ≡ all → ((made ++ line_text x) ++ 10 ∷ []) ++ trace_text
+    (drop (i + 1) lines) ≡ all
 moved made lines i x all below is h =
     let later = trace_text (drop (i + 1) lines) in
     let next : trace_text (drop i lines) ≡ (line_text x ++ 10 ∷ []) ++ later =
-    at_drop_more trace_text lines i x below ∙ ap (λ (y : Line). trace_text (y ∷ drop (i + 1) lines)) (sym is) ∙ trace_text-cons x (drop (i + 1) lines) in
-    ap (λ s. s ++ later) (append_assoc made (line_text x) (10 ∷ [])) ∙ append_assoc made (line_text x ++ 10 ∷ []) later ∙ ap (λ s. made ++ s) (sym next) ∙ h
+    at_drop_more trace_text lines i x below ∙ ap (λ (y : Line). trace_text (y ∷ drop (i + 1) lines)) (sym is)
+    ∙ trace_text-cons x (drop (i + 1) lines) in
+    ap (λ s. s ++ later) (append_assoc made (line_text x) (10 ∷ [])) ∙ append_assoc made
+    (line_text x ++ 10 ∷ []) later ∙ ap (λ s. made ++ s) (sym next) ∙ h
 
 pub loop-line-preserved : goal.loop-line-preserved
 loop-line-preserved c =
     rw (c.in_ok-extend.ensures.ok, c.in_ok-write_line.ensures.ok)
-    (moved c.loop-line.text c.args.lines.now c.loop-line.line-index c.line-item.result _ c.loop-line-test.true c.line-item.is c.loop-line.invariant)
+    (moved c.loop-line.text c.args.lines.now c.loop-line.line-index c.line-item.result _ c.loop-line-test.true
+    c.line-item.is c.loop-line.invariant)
 
 pub returns : goal.returns
 unfolding trace_text

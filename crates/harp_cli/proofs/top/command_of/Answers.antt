@@ -1,6 +1,5 @@
-use Rattle.std.proofs.Common.{◌≡◌, ◌∙◌, ap, sym, ◌∷◌, [], List, arith}
-use Rattle.std.specs.Prelude.{map, codes, String, string_bytes}
-use Rattle.std.specs.Global.{Global}
+use Rattle.std.proofs.Common.{◌∙◌, ap, sym, ◌∷◌, [], arith}
+use Rattle.std.specs.Prelude.{map, codes, string_bytes}
 use Rattle.std.specs.Cmp.Lexicographic.{same_text}
 use Rattle.harp_cli.proofs.Words.{one_word}
 use Rattle.harp_cli.proofs.top.command_of.Goals as goal

@@ -1,0 +1,15 @@
+use Rattle.harp_cli.proofs.NextSteps.{gave-step, is-alone}
+use Rattle.harp_cli.proofs.step.take_step.Goals as goal
+
+pub returns-in_default : goal.returns-in_default
+returns-in_default g c =
+    let alone = is-alone c.args.step c.in_default.not-Pump in
+    record {
+      ends = λ text rest before h. c.take_elementary.ensures.ends text rest before
+          (gave-step text c.args.number c.args.step rest before
+          (g.K.Sink.written c.args.sink.now) c.args.world.now alone h);
+      clocks = c.take_elementary.ensures.clocks;
+      rose = c.take_elementary.ensures.rose;
+      count = c.take_elementary.ensures.count;
+      own = c.take_elementary.ensures.own;
+    }

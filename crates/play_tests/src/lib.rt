@@ -1,0 +1,5 @@
+//! Whole runs of the top call, and ends that fail.
+#![tactic(auto)]
+
+#[cfg(test)]
+mod plays;

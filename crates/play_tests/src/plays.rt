@@ -1,0 +1,196 @@
+//! The worked rows of three servers, compared whole, and ends that fail.
+
+use harp_base::{Bytes, MemSink, MemSource};
+use harp_cli::harp;
+use std::alloc::Global;
+use std::test::Fail;
+use std::thread::Threads;
+use world::World;
+
+/// A schedule with its whole trace and the exit status.
+struct Row {
+    schedule: &'static [u8],
+    trace: &'static [u8],
+    status: u8,
+}
+
+/// The exit status of a command, and what it wrote.
+fn result_of<R: Threads + Sync + AllocGlobal>(
+    rt: &R,
+    word: &str,
+    schedule: &[u8],
+    source_fails: &[u64],
+    sink_fails: &[u64],
+) -> Result<(u8, MemSink), Fail> {
+    let alloc = rt.alloc();
+    let words = vec![in alloc; String::from_str(alloc, word)?]?;
+    let mut left = Bytes::new(alloc);
+    left.extend(schedule)?;
+    let mut world = World::new(alloc)?;
+    let mut source = MemSource::new(left, Vec::from_slice(alloc, source_fails)?);
+    let mut sink = MemSink::new(alloc, Vec::from_slice(alloc, sink_fails)?)?;
+    let status = harp(
+        rt,
+        alloc,
+        words.as_slice(),
+        &mut world,
+        &mut source,
+        &mut sink,
+    );
+    Ok((status, sink))
+}
+
+const ROWS: [Row; 13] = [
+    // Nothing.
+    Row {
+        schedule: b"",
+        trace: b"end 0\n",
+        status: 0,
+    },
+    // An update goes to the partner, and is answered when its acknowledgement comes.
+    Row {
+        schedule: b"ask 0 7 1 mkdir 1 61 755\npump\n",
+        trace: b"> ask 0 7 1 mkdir 1 61 755\nsend 0 0 1 event 1.0 1 0 0 7 1\nstate 0 open 1.0 1.0 leads 1 held 0 0 0 0 1\n> deliver 0\nsend 1 1 0 ack 1.0 1 0 2000\nstate 1 live 1.0 1.0 follows 0 held 0 0 0 0 1\n> deliver 1\nentered 1 1 7 1 0 mkdir 1 61 755 = node 2 2,755,2,0,0,0,0,2,0:0,0:0,0:0\nanswered 0 7 1 1 node 2 2,755,2,0,0,0,0,2,0:0,0:0,0:0\nstate 0 open 1.0 1.0 leads 1 held 0 0 0 1 1\nend 1\n",
+        status: 0,
+    },
+    // Packets that come again are acknowledged again, and answer nothing twice.
+    Row {
+        schedule: b"ask 0 7 1 mkdir 1 61 755\ndeliver 0\ndeliver 0\ndeliver 2\ndeliver 1\ndeliver 1\ndeliver 0\n",
+        trace: b"> ask 0 7 1 mkdir 1 61 755\nsend 0 0 1 event 1.0 1 0 0 7 1\nstate 0 open 1.0 1.0 leads 1 held 0 0 0 0 1\n> deliver 0\nsend 1 1 0 ack 1.0 1 0 2000\nstate 1 live 1.0 1.0 follows 0 held 0 0 0 0 1\n> deliver 0\nsend 2 1 0 ack 1.0 1 0 2000\n> deliver 2\nentered 1 1 7 1 0 mkdir 1 61 755 = node 2 2,755,2,0,0,0,0,2,0:0,0:0,0:0\nanswered 0 7 1 1 node 2 2,755,2,0,0,0,0,2,0:0,0:0,0:0\nstate 0 open 1.0 1.0 leads 1 held 0 0 0 1 1\n> deliver 1\n> deliver 1\n> deliver 0\nsend 3 1 0 ack 1.0 1 0 2000\nend 1\n",
+        status: 0,
+    },
+    // A tick sends the record again.
+    Row {
+        schedule: b"ask 0 7 1 mkdir 1 61 755\ntick 0\n",
+        trace: b"> ask 0 7 1 mkdir 1 61 755\nsend 0 0 1 event 1.0 1 0 0 7 1\nstate 0 open 1.0 1.0 leads 1 held 0 0 0 0 1\n> tick 0\nsend 1 0 1 beat 1.0 0 0\nsend 2 0 1 event 1.0 1 0 0 7 1\nend 0\n",
+        status: 0,
+    },
+    // A clock goes back.
+    Row {
+        schedule: b"clock 0 10\nclock 0 9\n",
+        trace: b"> clock 0 10\nbad 2 clock-back\n",
+        status: 5,
+    },
+    // Two clocks are too far apart.
+    Row {
+        schedule: b"clock 0 51\n",
+        trace: b"bad 1 clock-apart\n",
+        status: 5,
+    },
+    // No such server.
+    Row {
+        schedule: b"ask 3 9 1 lookup 1 -\n",
+        trace: b"bad 1 grammar\n",
+        status: 5,
+    },
+    // No such server, of a tick.
+    Row {
+        schedule: b"tick 3\n",
+        trace: b"bad 1 grammar\n",
+        status: 5,
+    },
+    // No such packet.
+    Row {
+        schedule: b"deliver 0\n",
+        trace: b"bad 1 no-packet\n",
+        status: 5,
+    },
+    // Clocks just near enough.
+    Row {
+        schedule: b"clock 0 50\n",
+        trace: b"> clock 0 50\nend 0\n",
+        status: 0,
+    },
+    // A step of a later stage ends the run; the update before it stands.
+    Row {
+        schedule: b"ask 0 7 1 mkdir 1 61 755\nsuspect 0\n",
+        trace: b"> ask 0 7 1 mkdir 1 61 755\nsend 0 0 1 event 1.0 1 0 0 7 1\nstate 0 open 1.0 1.0 leads 1 held 0 0 0 0 1\nbad 2 unbuilt\n",
+        status: 5,
+    },
+    // Pumps among two servers: first none is due among these, and then two are.
+    Row {
+        schedule: b"ask 0 7 1 mkdir 1 61 755\npump 02\npump 01\n",
+        trace: b"> ask 0 7 1 mkdir 1 61 755\nsend 0 0 1 event 1.0 1 0 0 7 1\nstate 0 open 1.0 1.0 leads 1 held 0 0 0 0 1\n> deliver 0\nsend 1 1 0 ack 1.0 1 0 2000\nstate 1 live 1.0 1.0 follows 0 held 0 0 0 0 1\n> deliver 1\nentered 1 1 7 1 0 mkdir 1 61 755 = node 2 2,755,2,0,0,0,0,2,0:0,0:0,0:0\nanswered 0 7 1 1 node 2 2,755,2,0,0,0,0,2,0:0,0:0,0:0\nstate 0 open 1.0 1.0 leads 1 held 0 0 0 1 1\nend 1\n",
+        status: 0,
+    },
+    // A pump writes its deliveries before the next line is refused.
+    Row {
+        schedule: b"ask 0 7 1 mkdir 1 61 755\npump\npump 10\n",
+        trace: b"> ask 0 7 1 mkdir 1 61 755\nsend 0 0 1 event 1.0 1 0 0 7 1\nstate 0 open 1.0 1.0 leads 1 held 0 0 0 0 1\n> deliver 0\nsend 1 1 0 ack 1.0 1 0 2000\nstate 1 live 1.0 1.0 follows 0 held 0 0 0 0 1\n> deliver 1\nentered 1 1 7 1 0 mkdir 1 61 755 = node 2 2,755,2,0,0,0,0,2,0:0,0:0,0:0\nanswered 0 7 1 1 node 2 2,755,2,0,0,0,0,2,0:0,0:0,0:0\nstate 0 open 1.0 1.0 leads 1 held 0 0 0 1 1\nbad 3 grammar\n",
+        status: 5,
+    },
+];
+
+#[test]
+fn plays_the_worked_rows(rt: HostRuntime) -> Result<(), Fail> {
+    for row in &ROWS {
+        let (status, sink) = result_of(&rt, "play", row.schedule, &[], &[])?;
+        assert_eq!(rt; sink.written(), row.trace);
+        assert_eq!(rt; status, row.status);
+    }
+    Ok(())
+}
+
+/// These bytes, so many times.
+fn repeated(alloc: Global, bytes: &[u8], times: u32) -> Result<Bytes, Fail> {
+    let mut all = Bytes::new(alloc);
+    for _ in 0..times {
+        all.extend(bytes)?;
+    }
+    Ok(all)
+}
+
+#[test]
+fn plays_no_line_past_the_limit(rt: HostRuntime) -> Result<(), Fail> {
+    let schedule = repeated(rt.alloc(), b"clock 0 0\n", 50_001)?;
+    let mut trace = repeated(rt.alloc(), b"> clock 0 0\n", 50_000)?;
+    trace.extend(b"bad 50001 too-many\n")?;
+    let (status, sink) = result_of(&rt, "play", schedule.as_slice(), &[], &[])?;
+    assert_eq!(rt; status, 5);
+    assert!(rt; sink.written() == trace.as_slice());
+    Ok(())
+}
+
+#[test]
+fn plays_no_line_that_is_too_long(rt: HostRuntime) -> Result<(), Fail> {
+    let fits = repeated(rt.alloc(), b"#", 20_000)?;
+    let (status, sink) = result_of(&rt, "play", fits.as_slice(), &[], &[])?;
+    assert_eq!(rt; status, 0);
+    assert_eq!(rt; sink.written(), b"end 0\n".as_slice());
+    let long = repeated(rt.alloc(), b"#", 20_001)?;
+    let (status, sink) = result_of(&rt, "play", long.as_slice(), &[], &[])?;
+    assert_eq!(rt; status, 5);
+    assert_eq!(rt; sink.written(), b"bad 1 too-long\n".as_slice());
+    Ok(())
+}
+
+/// A comment of more than one read, and an update with its two deliveries.
+fn long_schedule(alloc: Global) -> Result<Bytes, Fail> {
+    let mut schedule = repeated(alloc, b"#########", 600)?;
+    schedule.extend(b"\nask 0 7 1 mkdir 1 61 755\npump\n")?;
+    Ok(schedule)
+}
+
+#[test]
+fn tells_which_end_failed(rt: HostRuntime) -> Result<(), Fail> {
+    let schedule = long_schedule(rt.alloc())?;
+    let (done, whole) = result_of(&rt, "play", schedule.as_slice(), &[], &[])?;
+    assert_eq!(rt; done, 0);
+    for call in 1..4u64 {
+        let (status, sink) = result_of(&rt, "play", schedule.as_slice(), &[call], &[])?;
+        assert_eq!(rt; status, 3);
+        assert!(rt; whole.written().starts_with(sink.written()));
+        let (status, sink) = result_of(&rt, "play", schedule.as_slice(), &[], &[call])?;
+        assert_eq!(rt; status, 4);
+        assert!(rt; whole.written().starts_with(sink.written()));
+    }
+    Ok(())
+}
+
+#[test]
+fn refuses_other_words(rt: HostRuntime) -> Result<(), Fail> {
+    let (status, sink) = result_of(&rt, "check", b"", &[], &[])?;
+    assert_eq!(rt; status, 2);
+    assert_eq!(rt; sink.written(), b"usage: harp play\n".as_slice());
+    Ok(())
+}

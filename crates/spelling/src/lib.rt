@@ -1,0 +1,6 @@
+//! The one spelling of each step of a schedule and of each line of a trace. There are hardly more than definitions.
+#![tactic(auto)]
+
+mod left;
+
+pub use left::{LEFT, is_left_time};

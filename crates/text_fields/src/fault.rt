@@ -1,0 +1,33 @@
+//! Why a line of a schedule is no step.
+
+ghost use Rattle.std.specs.Prelude.{◌≡◌};
+ghost use Rattle.text_fields.specs.declared.fault.TextFault.TheVariants.{NoMemory};
+
+use std::alloc::{AllocError, AllocFailed};
+
+/// Why a line of a schedule gives no step.
+#[derive(Debug, Drop)]
+pub enum TextFault {
+    /// No step is spelled so. The place is 0 until the reader tells the first byte at which no step goes on.
+    Grammar(usize),
+    /// The step or the call is one of a later stage.
+    Unbuilt,
+    /// Memory ran out.
+    NoMemory,
+}
+
+impl From<AllocError> for TextFault {
+    ghost from_gives = { λ _ e. e ≡ NoMemory };
+
+    fn from(_e: AllocError) -> TextFault {
+        TextFault::NoMemory
+    }
+}
+
+impl<T: Drop> From<AllocFailed<T>> for TextFault {
+    ghost from_gives = { λ _ e. e ≡ NoMemory };
+
+    fn from(_e: AllocFailed<T>) -> TextFault {
+        TextFault::NoMemory
+    }
+}

@@ -1,0 +1,12 @@
+//! The fields of a schedule's lines: words, numbers, names and the fields of SETATTR, read from places of a line.
+#![tactic(auto)]
+
+mod fault;
+mod fields;
+mod name;
+mod number;
+
+pub use fault::TextFault;
+pub use fields::set_attr_at;
+pub use name::hex_at;
+pub use number::{count_at, number_at, peek, server_at, space_at, u32_at, word_at};

@@ -1,0 +1,87 @@
+//! Names and contents that are read.
+
+ghost use Rattle.std.specs.Prelude.{◌≡◌, ◌+◌, ◌<◌, ◌≤◌, length, slice_index, IfOk, IsSome};
+ghost use Rattle.text_fields.specs.Fields.{Gives, hex_value, pair_at, pairs_from, is_odd_at, hex_at};
+
+use crate::fault::TextFault;
+use crate::number::peek;
+use harp_base::Bounded;
+use std::alloc::{AllocError, Global};
+
+/// The value of a lower-case hexadecimal digit.
+fn hex_value(b: u8) -> Option<u8>
+    ensures { result ≡ hex_value b }
+{
+    match b {
+        b'0'..=b'9' => Some(b - 48),
+        b'a'..=b'f' => Some(b - 87),
+        _ => None,
+    }
+}
+
+/// The byte of two digits.
+fn pair_at(bytes: &[u8], at: usize) -> Option<u8>
+    requires { at ≤ length bytes.now }
+    ensures step { result ≡ pair_at bytes.now at }
+    ensures within { IsSome result → at + 2 ≤ length bytes.now }
+{
+    let high = hex_value(peek(bytes, at))?;
+    let low = hex_value(peek(bytes, at + 1))?;
+    Some(16 * high + low)
+}
+
+/// Pairs of digits, at most `most`, and the place after them.
+#[tactic(auto, unfolding(crate::specs::Fields::pairs_from))]
+fn pairs_from(
+    alloc: Global,
+    bytes: &[u8],
+    most: usize,
+    at: usize,
+) -> Result<(Vec<u8>, usize), AllocError>
+    requires { at ≤ length bytes.now }
+    ensures value { IfOk result (λ x. (x.0.items, x.1) ≡ pairs_from most bytes.now at) }
+    ensures within { IfOk result (λ x. x.1 ≤ length bytes.now) }
+    ensures bound { IfOk result (λ x. length x.0.items ≤ most) }
+{
+    let mut items = Vec::new(alloc);
+    let mut place = at;
+    for _k in 0..most {
+        let Some(b) = pair_at(bytes, place) else {
+            return Ok((items, place));
+        };
+        items.push(b)?;
+        place += 2;
+    }
+    Ok((items, place))
+}
+
+/// Whether one digit is left over.
+fn is_odd_at(bytes: &[u8], most: usize, items: &[u8], at: usize) -> bool
+    ensures { result ≡ is_odd_at most bytes.now (items.now, at) }
+{
+    items.len() < most && hex_value(peek(bytes, at)).is_some()
+}
+
+/// At most MOST bytes in hexadecimal digits, or a dash for none.
+#[tactic(auto, unfolding(crate::specs::Fields::hex_at))]
+pub fn hex_at<const MOST: usize>(
+    alloc: Global,
+    bytes: &[u8],
+    at: usize,
+) -> Result<(Bounded<MOST>, usize), TextFault>
+    requires { at ≤ length bytes.now }
+    ensures step { Gives (λ x. x) result (hex_at MOST bytes.now at) }
+    ensures within { IfOk result (λ x. x.1 ≤ length bytes.now) }
+{
+    if peek(bytes, at) == b'-' {
+        return Ok((Bounded::new(Vec::new(alloc)), at + 1));
+    }
+    let (items, end) = pairs_from(alloc, bytes, MOST, at)?;
+    if is_odd_at(bytes, MOST, items.as_slice(), end) {
+        return Err(TextFault::Grammar(end + 1));
+    }
+    if end == at {
+        return Err(TextFault::Grammar(at));
+    }
+    Ok((Bounded::new(items), end))
+}
