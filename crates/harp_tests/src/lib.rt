@@ -13,3 +13,5 @@ mod text_forms;
 mod texts;
 #[cfg(test)]
 mod tree;
+#[cfg(test)]
+mod view;
