@@ -1,0 +1,5 @@
+mod Places
+mod BlockCells
+mod PutLaws
+mod CutLaws
+mod TreeLaws
