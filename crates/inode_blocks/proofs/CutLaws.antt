@@ -3,7 +3,7 @@ use Rattle.std.proofs.Common.{◌≡◌, ℕ, ◌+◌, ◌-◌, ◌*◌, ◌/◌
 use Rattle.std.specs.Bool.{if◌then◌else◌}
 use Rattle.std.specs.Prelude.{nat_lt, fold}
 use Rattle.std.proofs.lemmas.Bool.{cases_lt, cases_eq, lt-ltb, le-ltb}
-use Rattle.std.proofs.lemmas.List.{get_or-take, get_or_past, length-take, append-nil}
+use Rattle.std.proofs.lemmas.List.{get_or-take, get_or_past, length-take, append_assoc}
 use Rattle.std.proofs.lemmas.List.Sums.{fold-append}
 use Rattle.file_tree.specs.Tree.{blocks_of}
 use Rattle.file_tree.specs.Outcome.{resized}
@@ -249,3 +249,12 @@ lead cells object old wanted holds = elim (cases_lt wanted (length old)) [
 pub cuts_lead : (cells : Cells) (object size : ℕ) (old : List ℕ) (wanted : ℕ) → HoldsBytes cells object old → length old ≡ size
     → LeadTo (cuts object size wanted (kept_in cells object wanted)) cells object size (resized old wanted)
 cuts_lead cells object size old wanted holds is = subst (λ (n : ℕ). LeadTo (cuts object n wanted (kept_in cells object wanted)) cells object n (resized old wanted)) is (lead cells object old wanted holds)
+
+-- the Put and the erasure, one after the other
+pub cut_joined : (old mid new : List Change) (object size wanted : ℕ) (kept : Option (List ℕ)) → mid ≡ old ++ put_kept object (wanted / 4096) kept
+    → new ≡ mid ++ erasure object size wanted → wanted < size → new ≡ old ++ cuts object size wanted kept
+cut_joined old mid new object size wanted kept first second cut =
+    second
+    ∙ ap (λ (xs : List Change). xs ++ erasure object size wanted) first
+    ∙ append_assoc old (put_kept object (wanted / 4096) kept) (erasure object size wanted)
+    ∙ ap (λ (t : Bool). old ++ (if◌then◌else◌ {A = List Change} t (put_kept object (wanted / 4096) kept ++ erasure object size wanted) [])) (sym (lt-ltb wanted size cut))

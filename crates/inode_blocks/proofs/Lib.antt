@@ -3,3 +3,4 @@ mod BlockCells
 mod PutLaws
 mod CutLaws
 mod TreeLaws
+mod Steps

@@ -60,7 +60,7 @@ stored_in_cases : (b : Bool) (xs : List ℕ) → length xs ≤ 4096 → length (
 stored_in_cases true xs fits = fits
 stored_in_cases false xs fits = omega arith
 
-stored_in_fits : (cells : Cells) (object size block : ℕ) → length (stored_in cells object size block) ≤ 4096
+pub stored_in_fits : (cells : Cells) (object size block : ℕ) → length (stored_in cells object size block) ≤ 4096
 stored_in_fits cells object size block = stored_in_cases (nat_lt (4096 * block) size) (stored (cells (cell.Block object block))) (stored_fits (cells (cell.Block object block)))
 
 -- each byte of the file stands at its place

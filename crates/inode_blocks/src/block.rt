@@ -21,7 +21,6 @@ pub fn blocks_of(size: u32) -> u32
 }
 
 /// The bytes that stand in a block, none where it is absent.
-#[tactic(auto, using(std::proofs::lemmas::List::take_all))]
 pub fn stored(value: Option<&Value>) -> &[u8]
     ensures value { result.now ≡ stored (option_copied value.entry) }
     ensures most { length result.now ≤ 4096 }
