@@ -3,7 +3,7 @@ use Rattle.std.proofs.Common.{◌≡◌, ℕ, ◌+◌, ◌<◌, ◌≤◌, zero,
 use Rattle.std.specs.Bool.{if◌then◌else◌}
 use Rattle.std.specs.Prelude.{nat_le, fold}
 use Rattle.std.specs.List.{range_with_len}
-use Rattle.std.proofs.lemmas.Bool.{eq-eqb, ne_eqb, eqb-true, le-leb, lt-leb, leb-true, cases_eq, and_left, and_right, cases_Bool}
+use Rattle.std.proofs.lemmas.Bool.{eq-eqb, ne_eqb, eqb-false, le-leb, lt-leb, leb-true, cases_eq, and_left, and_right, cases_Bool}
 use Rattle.harp_cells.specs.declared.cell.Cell.{Cell}
 use Rattle.harp_cells.specs.declared.cell.Cell.TheVariants as cell
 use Rattle.harp_cells.specs.declared.value.Value.{Value}
@@ -11,7 +11,7 @@ use Rattle.harp_cells.specs.declared.value.Value.TheVariants as value
 use Rattle.harp_cells.specs.declared.change.Change.{Change}
 use Rattle.harp_cells.specs.declared.change.Change.TheVariants as change
 use Rattle.harp_cells.specs.Effect.{is_cell, is_block_from, changed}
-use Rattle.inode_blocks.specs.Changes.{put}
+use Rattle.inode_blocks.specs.Changes.{is_block_of, put}
 
 and_both : (a b : Bool) → a ≡ true → true && a && b ≡ b
 and_both true b h = refl
@@ -45,16 +45,12 @@ erased_before object first b h before =
 
 -- ---- cells that are no block of the object
 
-apart_keys : (object o a b : ℕ) → true && (o == object) && nat_le 0 b ≡ false → true && (object == o) && (a == b) ≡ false
-apart_keys object o a b h = elim (cases_eq object o) [
-  | inl same ↦ let yes : (o == object) ≡ true = eq-eqb o object (sym same) in
-      let all = and_both (o == object) (nat_le 0 b) yes ∙ le-leb 0 b (omega arith) in absurd (cc)
-  | inr other ↦ ap (λ (t : Bool). true && t && (a == b)) (ne_eqb object o other)
-]
+apart_keys : (object o a b : ℕ) → (o == object) ≡ false → true && (object == o) && (a == b) ≡ false
+apart_keys object o a b h = ap (λ (t : Bool). true && t && (a == b)) (ne_eqb object o (λ e. eqb-false o object h (sym e)))
 
 -- a cell that is no block of the object
-pub apart : (object a : ℕ) (c : Cell) → is_block_from object 0 c ≡ false → is_cell (cell.Block object a) c ≡ false
-unfolding is_cell is_block_from
+apart : (object a : ℕ) (c : Cell) → is_block_of object c ≡ false → is_cell (cell.Block object a) c ≡ false
+unfolding is_cell
 apart object a cell.Meta h = refl
 apart object a (cell.Object o) h = refl
 apart object a (cell.Block o b) h = apart_keys object o a b h
@@ -62,26 +58,19 @@ apart object a (cell.Slot o s) h = refl
 apart object a (cell.Client n) h = refl
 apart object a (cell.Saved p) h = refl
 
-apart_key_from : (object o first b : ℕ) → true && (o == object) && nat_le 0 b ≡ false → true && (o == object) && nat_le first b ≡ false
-apart_key_from object o first b h = elim (cases_eq o object) [
-  | inl same ↦ let yes : (o == object) ≡ true = eq-eqb o object same in
-      let all = and_both (o == object) (nat_le 0 b) yes ∙ le-leb 0 b (omega arith) in absurd (cc)
-  | inr other ↦ ap (λ (t : Bool). true && t && nat_le first b) (ne_eqb o object other)
-]
-
-pub apart_from : (object first : ℕ) (c : Cell) → is_block_from object 0 c ≡ false → is_block_from object first c ≡ false
+apart_from : (object first : ℕ) (c : Cell) → is_block_of object c ≡ false → is_block_from object first c ≡ false
 unfolding is_block_from
 apart_from object first cell.Meta h = refl
 apart_from object first (cell.Object o) h = refl
-apart_from object first (cell.Block o b) h = apart_key_from object o first b h
+apart_from object first (cell.Block o b) h = ap (λ (t : Bool). true && t && nat_le first b) h
 apart_from object first (cell.Slot o s) h = refl
 apart_from object first (cell.Client n) h = refl
 apart_from object first (cell.Saved p) h = refl
 
-pub put_apart : (object a : ℕ) (bytes : List ℕ) (c : Cell) (h : Option Value) → is_block_from object 0 c ≡ false → changed c h (put object a bytes) ≡ h
+pub put_apart : (object a : ℕ) (bytes : List ℕ) (c : Cell) (h : Option Value) → is_block_of object c ≡ false → changed c h (put object a bytes) ≡ h
 put_apart object a bytes c h beside = ap (λ (t : Bool). if◌then◌else◌ {A = Option Value} t (Some (value.Block bytes)) h) (apart object a c beside)
 
-pub erased_apart : (object first : ℕ) (c : Cell) (h : Option Value) → is_block_from object 0 c ≡ false → changed c h (change.EraseFrom object first) ≡ h
+pub erased_apart : (object first : ℕ) (c : Cell) (h : Option Value) → is_block_of object c ≡ false → changed c h (change.EraseFrom object first) ≡ h
 erased_apart object first c h beside = ap (λ (t : Bool). if◌then◌else◌ {A = Option Value} t None h) (apart_from object first c beside)
 
 -- ---- a Put of each block of a range
@@ -119,7 +108,7 @@ puts_at object bytes b h a (suc n) from to = elim (cases_eq a b) [
       ∙ puts_at object bytes b h (a + 1) n (omega (arith, other)) (omega arith)
 ]
 
-pub puts_apart : (object : ℕ) (bytes : ℕ → List ℕ) (c : Cell) (h : Option Value) (a n : ℕ) → is_block_from object 0 c ≡ false
+pub puts_apart : (object : ℕ) (bytes : ℕ → List ℕ) (c : Cell) (h : Option Value) (a n : ℕ) → is_block_of object c ≡ false
     → fold (changed c) h (puts_over object bytes (range_with_len a n)) ≡ h
 puts_apart object bytes c h a zero beside = refl
 puts_apart object bytes c h a (suc n) beside =

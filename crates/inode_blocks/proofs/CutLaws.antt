@@ -13,9 +13,9 @@ use Rattle.harp_cells.specs.declared.value.Value.{Value}
 use Rattle.harp_cells.specs.declared.value.Value.TheVariants as value
 use Rattle.harp_cells.specs.declared.change.Change.{Change}
 use Rattle.harp_cells.specs.declared.change.Change.TheVariants as change
-use Rattle.harp_cells.specs.Effect.{Cells, changed, after, is_block_from}
+use Rattle.harp_cells.specs.Effect.{Cells, changed, after}
 use Rattle.inode_blocks.specs.Holds.{stored, IsBlock, HoldsBytes, EndsAt}
-use Rattle.inode_blocks.specs.Changes.{LeadTo, put, kept_of, kept_in, put_kept, erasure, cuts}
+use Rattle.inode_blocks.specs.Changes.{LeadTo, is_block_of, put, kept_of, kept_in, put_kept, erasure, cuts}
 use Rattle.inode_blocks.proofs.Places.{length-resized, resized_at, resized_past}
 use Rattle.inode_blocks.proofs.BlockCells.{put_here, put_elsewhere, put_apart, erased_from, erased_before, erased_apart}
 
@@ -97,11 +97,11 @@ none_goes : (object size wanted block : ℕ) (was : Option Value) → size ≤ 4
 none_goes object size wanted block was none =
     ap (λ (t : Bool). fold (changed (cell.Block object block)) was (erasure_if t object (blocks_of wanted))) (le-ltb (4096 * blocks_of wanted) size none)
 
-apart_if : (t : Bool) (object first : ℕ) (c : Cell) (h : Option Value) → is_block_from object 0 c ≡ false → fold (changed c) h (erasure_if t object first) ≡ h
+apart_if : (t : Bool) (object first : ℕ) (c : Cell) (h : Option Value) → is_block_of object c ≡ false → fold (changed c) h (erasure_if t object first) ≡ h
 apart_if true object first c h beside = erased_apart object first c h beside
 apart_if false object first c h beside = refl
 
-kept_apart : (object cut : ℕ) (kept : Option (List ℕ)) (c : Cell) (h : Option Value) → is_block_from object 0 c ≡ false → fold (changed c) h (put_kept object cut kept) ≡ h
+kept_apart : (object cut : ℕ) (kept : Option (List ℕ)) (c : Cell) (h : Option Value) → is_block_of object c ≡ false → fold (changed c) h (put_kept object cut kept) ≡ h
 kept_apart object cut None c h beside = refl
 kept_apart object cut (Some bytes) c h beside = put_apart object cut bytes c h beside
 

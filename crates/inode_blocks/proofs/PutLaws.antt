@@ -11,7 +11,7 @@ use Rattle.harp_cells.specs.declared.cell.Cell.TheVariants as cell
 use Rattle.harp_cells.specs.declared.value.Value.{Value}
 use Rattle.harp_cells.specs.declared.value.Value.TheVariants as value
 use Rattle.harp_cells.specs.declared.change.Change.{Change}
-use Rattle.harp_cells.specs.Effect.{Cells, after, is_block_from}
+use Rattle.harp_cells.specs.Effect.{Cells, after}
 use Rattle.inode_blocks.specs.Holds.{stored, bytes_within, IsBlock, HoldsBytes, EndsAt}
 use Rattle.inode_blocks.specs.Changes.{LeadTo, put, blocks_met, part_in, stored_in, block_written, puts}
 use Rattle.inode_blocks.proofs.Places.{block_at, block_fits, length-written, written_before, written_after, written_nothing}
@@ -26,7 +26,7 @@ met_count offset count = if count == 0 then 0 else blocks_of (offset + count) - 
 met_some : (offset count : ℕ) → 0 < count → met_count offset count ≡ blocks_of (offset + count) - offset / 4096
 met_some offset count some = ap (λ (t : Bool). if t then 0 else blocks_of (offset + count) - offset / 4096) (ne_eqb count 0 (λ e. omega arith))
 
-met_none : (offset count : ℕ) → count ≡ 0 → met_count offset count ≡ 0
+pub met_none : (offset count : ℕ) → count ≡ 0 → met_count offset count ≡ 0
 met_none offset count none = ap (λ (t : Bool). if t then 0 else blocks_of (offset + count) - offset / 4096) (eq-eqb count 0 none)
 
 record Meets (offset count block : ℕ) : Type 0 where

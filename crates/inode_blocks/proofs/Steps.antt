@@ -4,8 +4,8 @@ use Rattle.std.specs.Bool.{if◌then◌else◌}
 use Rattle.std.specs.List.{range_with_len}
 use Rattle.std.proofs.Math.Seq.{take-add}
 use Rattle.std.proofs.lemmas.Bool.{cases_eq, eq-eqb, ne_eqb}
-use Rattle.std.proofs.lemmas.List.{append_assoc, get_or-take, get_or-drop, length-take, length-drop, drop-drop, drop_at, take_all, take_min, take-append-le, ext_get_or}
-use Rattle.std.proofs.lemmas.List.FromFn.{map-range_with_len_more}
+use Rattle.std.proofs.lemmas.List.{append_assoc, get_or-take, get_or-drop, length-append, length-map, length-take, length-drop, drop-drop, drop_at, take_all, take_min, take-append-le, ext_get_or}
+use Rattle.std.proofs.lemmas.List.FromFn.{length-range_with_len, map-range_with_len_more}
 use Rattle.file_tree.specs.Tree.{blocks_of}
 use Rattle.file_tree.specs.Outcome.{resized, written}
 use Rattle.harp_cells.specs.declared.cell.Cell.TheVariants as cell
@@ -29,11 +29,11 @@ piece : (held : Cells) (object : ℕ) (old : List ℕ) (at count : ℕ) → Hold
 piece held object old at count holds fits inside = ext_get_or 0 (resized (drop (at % 4096) (stored (held (cell.Block object (at / 4096))))) count) (take count (drop at old))
     (length-resized (drop (at % 4096) (stored (held (cell.Block object (at / 4096))))) count ∙ sym (length-take count (drop at old) ∙ (omega (arith, length-drop at old))))
     (λ i within. let short : i < count = omega (arith, length-resized (drop (at % 4096) (stored (held (cell.Block object (at / 4096))))) count) in
-      resized_at (drop (at % 4096) (stored (held (cell.Block object (at / 4096))))) count i short
-      ∙ get_or-drop (at % 4096) (stored (held (cell.Block object (at / 4096)))) i 0
-      ∙ holds.byte (at / 4096) (at % 4096 + i) (omega arith)
-      ∙ ap (λ (n : ℕ). get_or old n 0) (omega arith)
-      ∙ sym (get_or-take count (drop at old) i 0 short ∙ get_or-drop at old i 0))
+    resized_at (drop (at % 4096) (stored (held (cell.Block object (at / 4096))))) count i short
+    ∙ get_or-drop (at % 4096) (stored (held (cell.Block object (at / 4096)))) i 0
+    ∙ holds.byte (at / 4096) (at % 4096 + i) (omega arith)
+    ∙ ap (λ (n : ℕ). get_or old n 0) (omega arith)
+    ∙ sym (get_or-take count (drop at old) i 0 short ∙ get_or-drop at old i 0))
 
 more_taken : (xs : List ℕ) (offset at count : ℕ) → offset ≤ at → take (at - offset) (drop offset xs) ++ take count (drop at xs) ≡ take (at + count - offset) (drop offset xs)
 more_taken xs offset at count from =
@@ -96,9 +96,17 @@ pub met_is : (offset count past block : ℕ) → past ≡ (if count == 0 then of
     → block - offset / 4096 ≡ met_count offset count
 met_is offset count past block is from to = elim (cases_eq count 0) [
   | inl none ↦ let e = is ∙ ap (λ (t : Bool). if t then offset / 4096 else blocks_of (offset + count)) (eq-eqb count 0 none) in
-    let f = ap (λ (t : Bool). if t then 0 else blocks_of (offset + count) - offset / 4096) (eq-eqb count 0 none) in
-    let last = to (omega (arith, e)) in omega (arith, e, f, last)
+      let f = ap (λ (t : Bool). if t then 0 else blocks_of (offset + count) - offset / 4096) (eq-eqb count 0 none) in
+      let last = to (omega (arith, e)) in omega (arith, e, f, last)
   | inr some ↦ let e = is ∙ ap (λ (t : Bool). if t then offset / 4096 else blocks_of (offset + count)) (ne_eqb count 0 some) in
-    let f = ap (λ (t : Bool). if t then 0 else blocks_of (offset + count) - offset / 4096) (ne_eqb count 0 some) in
-    let last = to (omega (arith, e)) in omega (arith, e, f, last)
+      let f = ap (λ (t : Bool). if t then 0 else blocks_of (offset + count) - offset / 4096) (ne_eqb count 0 some) in
+      let last = to (omega (arith, e)) in omega (arith, e, f, last)
 ]
+
+-- where no block is met, nothing is appended
+pub nothing_added : {X : Type 0} (f : Change → X) (g : ℕ → X) (old new : List Change) (first n : ℕ) → map f new ≡ map f old ++ map g (range_with_len first n) → n ≡ 0
+    → BeginsWith new old → new ≡ old
+nothing_added f g old new first n same none begins =
+    let e = ap length same in
+    let short : length new ≤ length old = omega (arith, simp (length-map, length-append, length-range_with_len) at e) in
+    sym (take_all (length old) new short) ∙ begins

@@ -1,18 +1,20 @@
 -- Cells of a tree hold the bytes of its files, and cells that hold them stand for it.
 use Rattle.std.proofs.Common.{◌≡◌, ℕ, ◌+◌, ◌-◌, ◌*◌, ◌<◌, ◌≤◌, max, Bool, true, false, List, [], ◌∷◌, ◌++◌, length, take, drop, replicate, get_or, Option, Some, None, refl, sym, ap, ◌∙◌, arith, inl, inr, subst}
 use Rattle.std.specs.Bool.{if◌then◌else◌}
-use Rattle.std.proofs.lemmas.Bool.{cases_lt}
-use Rattle.std.proofs.lemmas.List.{get_or-take, get_or-drop, get_or_past, get_or_append_left, get_or-append_right, length-take, length-append, length-replicate, ext_get_or}
+use Rattle.std.proofs.lemmas.Bool.{cases_eq, cases_lt}
+use Rattle.std.proofs.lemmas.List.{get_or-take, get_or-drop, get_or_past, get_or_append_left, get_or-append_right, length-take, length-append, length-replicate, ext_get_or, drop_all, take_all}
 use Rattle.file_tree.specs.Tree.{Tree, place}
+use Rattle.harp_cells.specs.declared.cell.Cell.{Cell}
 use Rattle.harp_cells.specs.declared.cell.Cell.TheVariants as cell
 use Rattle.harp_cells.specs.declared.value.Value.{Value}
 use Rattle.harp_cells.specs.declared.value.Value.TheVariants as value
-use Rattle.harp_cells.specs.Effect.{Cells}
+use Rattle.harp_cells.specs.Effect.{Cells, after, changed}
 use Rattle.harp_cells.specs.CellsOfTree.{StandForTree, content_of, block_of, block_value, full_value, zero_block, is_regular_at, stands_for}
-use Rattle.inode_blocks.specs.Holds.{stored, IsBlock, HoldsBytes}
-use Rattle.inode_blocks.specs.Laws.{TreesHold, FilesStand, HolesAreZeros, ErasureEnds}
+use Rattle.inode_blocks.specs.Holds.{stored, IsBlock, HoldsBytes, EndsAt}
+use Rattle.inode_blocks.specs.Changes.{is_block_of, put, text_put}
+use Rattle.inode_blocks.specs.Laws.{TreesHold, FilesStand, OthersAreExact, ErasuresLead, TextsLead}
 use Rattle.inode_blocks.proofs.Places.{zero_at}
-use Rattle.inode_blocks.proofs.BlockCells.{erased_from}
+use Rattle.inode_blocks.proofs.BlockCells.{put_here, put_elsewhere, put_apart, erased_from, erased_apart}
 
 -- ---- bytes with zeros up to the end of a block
 
@@ -149,7 +151,46 @@ files_stand cells tree object regular holds block =
     ∙ ap Some (file_block cells object (content_of (place tree object)) block holds)
     ∙ sym (stands_is tree object block (block_value (block_of (content_of (place tree object)) block)) true (sym regular))
 
--- ---- objects without blocks
+-- ---- other objects
 
-pub erasure_ends : ErasureEnds
-erasure_ends cells object block past = erased_from object 0 block (cells (cell.Block object block)) (omega arith)
+past_end : (bytes : List ℕ) (block : ℕ) → length bytes ≤ 4096 * block → block_value (block_of bytes block) ≡ None
+past_end bytes block past = ap (λ (xs : List ℕ). block_value (take 4096 xs)) (drop_all (4096 * block) bytes past)
+
+exact : (cells : Cells) (tree : Tree) (stamp object : ℕ) → StandForTree cells tree stamp → is_regular_at (place tree object) ≡ false
+    → (block : ℕ) → cells (cell.Block object block) ≡ block_value (block_of (content_of (place tree object)) block)
+unfolding stands_if
+exact cells tree stamp object stand other block =
+    sym (stands_is tree object block (cells (cell.Block object block)) false (sym other))
+    ∙ stand.block object block
+    ∙ stands_is tree object block (block_value (block_of (content_of (place tree object)) block)) false (sym other)
+
+pub others_are_exact : OthersAreExact
+others_are_exact cells tree stamp stand object other = (
+  exact cells tree stamp object stand other,
+  λ block past. exact cells tree stamp object stand other block ∙ past_end (content_of (place tree object)) block past,
+)
+
+pub erasures_lead : ErasuresLead
+erasures_lead cells object = (
+  λ block past. erased_from object 0 block (cells (cell.Block object block)) (omega arith),
+  λ c other. erased_apart object 0 c (cells c) other,
+)
+
+-- ---- the text of a link
+
+text_block : (cells : Cells) (object : ℕ) (text : List ℕ) → EndsAt cells object 0 → length text ≤ 4096
+    → (block : ℕ) → after (text_put object text) cells (cell.Block object block) ≡ block_value (block_of text block)
+text_block cells object [] ends short block = ends block (omega arith) ∙ sym (past_end [] block (omega arith))
+text_block cells object (b ∷ bytes) ends short block = elim (cases_eq 0 block) [
+  | inl first ↦ subst (λ (k : ℕ). changed (cell.Block object k) (cells (cell.Block object k)) (put object 0 (b ∷ bytes)) ≡ block_value (block_of (b ∷ bytes) k)) first
+      (put_here object 0 (b ∷ bytes) (cells (cell.Block object 0)) ∙ ap block_value (sym (take_all 4096 (b ∷ bytes) short)))
+  | inr other ↦ put_elsewhere object 0 block (b ∷ bytes) (cells (cell.Block object block)) other
+      ∙ ends block (omega arith) ∙ sym (past_end (b ∷ bytes) block (omega (arith, other)))
+]
+
+text_apart : (cells : Cells) (object : ℕ) (text : List ℕ) (c : Cell) → is_block_of object c ≡ false → after (text_put object text) cells c ≡ cells c
+text_apart cells object [] c other = refl
+text_apart cells object (b ∷ bytes) c other = put_apart object 0 (b ∷ bytes) c (cells c) other
+
+pub texts_lead : TextsLead
+texts_lead cells object text ends short = (text_block cells object text ends short, λ c other. text_apart cells object text c other)

@@ -9,7 +9,7 @@ use Rattle.harp_cells.specs.declared.value.Value.{Value}
 use Rattle.harp_cells.specs.declared.value.Value.TheVariants as value
 use Rattle.harp_cells.specs.declared.change.Change.{Change}
 use Rattle.harp_cells.specs.declared.change.Change.TheVariants as change
-use Rattle.harp_cells.specs.Effect.{Cells, after, is_block_from}
+use Rattle.harp_cells.specs.Effect.{Cells, after}
 use Rattle.inode_blocks.specs.Holds.{stored, HoldsBytes, EndsAt}
 
 -- ---- lists of changes
@@ -22,11 +22,19 @@ added old new = drop (length old) new
 abbrev pub BeginsWith : List Change → List Change → Type 0
 BeginsWith new old = take (length old) new ≡ old
 
+abbrev pub is_block_of : ℕ → Cell → Bool
+is_block_of object (cell.Block of block) = of == object
+is_block_of object cell.Meta = false
+is_block_of object (cell.Object of) = false
+is_block_of object (cell.Slot of slot) = false
+is_block_of object (cell.Client client) = false
+is_block_of object (cell.Saved at) = false
+
 -- changes make the blocks of an object hold these bytes, and leave every other cell; where no block stood past the size
 -- before, none stands past the end of these bytes
 pub record LeadTo (changes : List Change) (cells : Cells) (object size : ℕ) (bytes : List ℕ) : Type 0 where
   pub holds : HoldsBytes (after changes cells) object bytes
-  pub others : (c : Cell) → is_block_from object 0 c ≡ false → after changes cells c ≡ cells c
+  pub others : (c : Cell) → is_block_of object c ≡ false → after changes cells c ≡ cells c
   pub ends : EndsAt cells object size → EndsAt (after changes cells) object (length bytes)
 
 abbrev pub put : ℕ → ℕ → List ℕ → Change
@@ -63,6 +71,11 @@ block_written cells object size offset bytes block = written (stored_in cells ob
 -- a Put of each block that the range meets
 abbrev pub puts : Cells → ℕ → ℕ → ℕ → List ℕ → List Change
 puts cells object size offset bytes = map (λ block. put object block (block_written cells object size offset bytes block)) (blocks_met offset (length bytes))
+
+-- the text of a new link as its block 0, where it isn't empty
+abbrev pub text_put : ℕ → List ℕ → List Change
+text_put object [] = []
+text_put object (b ∷ bytes) = put object 0 (b ∷ bytes) ∷ []
 
 -- ---- cutting
 

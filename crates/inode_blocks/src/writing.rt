@@ -82,6 +82,7 @@ pub fn write_bytes<R: CellRead>(
     ensures leads { (held : Cells) (old : List ℕ) → R.cells cells.old ≡ Some held → HoldsBytes held object old → length old ≡ size
         → OnOk result (LeadTo (added changes.old.items changes.new.items) held object size (written old offset bytes.now)) }
     ensures blocks { OnOk result (map block_put changes.new.items ≡ map block_put changes.old.items ++ map (λ block. Some (object, block)) (blocks_met offset (length bytes.now))) }
+    ensures nothing { length bytes.now ≡ 0 → OnOk result (changes.new.items ≡ changes.old.items) }
     ensures front { BeginsWith changes.new.items changes.old.items }
     ensures kept { R.cells cells.new ≡ R.cells cells.old }
     ensures rose { result ≡ Err CellFault.StoreFailed → Rose (R.faults cells.old) (R.faults cells.new) }
