@@ -4,6 +4,8 @@
 #[cfg(test)]
 mod base;
 #[cfg(test)]
+mod blocks;
+#[cfg(test)]
 mod cells;
 #[cfg(test)]
 mod logs;
