@@ -1,6 +1,6 @@
 //! Files in blocks.
 
-ghost use Rattle.std.specs.Prelude.{◌≤◌, ◌+◌, ◌-◌, ◌^◌, length};
+ghost use Rattle.std.specs.Prelude.{◌≡◌, ◌≤◌, ◌+◌, ◌-◌, ◌^◌, IfOk, length};
 
 use harp_cells::{Cell, CellFault, CellRead, Change, MemCells, Value};
 use inode_blocks::{cut_to, read_bytes, write_bytes};
@@ -98,7 +98,9 @@ fn file(alloc: Global, offset: u32, bytes: &[u8]) -> Result<MemCells, Fail>
 }
 
 /// So many zeros and the byte 41 (hex).
-fn zeros_and_byte(alloc: Global, zeros: usize) -> Result<Vec<u8>, Fail> {
+fn zeros_and_byte(alloc: Global, zeros: usize) -> Result<Vec<u8>, Fail>
+    ensures { IfOk result (λ v. length v.items ≡ zeros + 1) }
+{
     let mut bytes = vec![in alloc; 0; zeros]?;
     bytes.push(0x41)?;
     Ok(bytes)
