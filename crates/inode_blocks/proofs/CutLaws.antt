@@ -1,5 +1,5 @@
 -- The changes of a cut lead to the bytes that are kept.
-use Rattle.std.proofs.Common.{◌≡◌, ℕ, ◌+◌, ◌-◌, ◌*◌, ◌/◌, ◌%◌, ◌<◌, ◌≤◌, Bool, true, false, List, [], ◌∷◌, ◌++◌, length, take, get_or, Option, Some, None, refl, sym, ap, ◌∙◌, arith, inl, inr, subst, ◌&&◌, ◌⊎◌}
+use Rattle.std.proofs.Common.{◌≡◌, ℕ, ◌+◌, ◌*◌, ◌/◌, ◌%◌, ◌<◌, ◌≤◌, Bool, true, false, List, [], ◌∷◌, ◌++◌, length, take, get_or, Option, Some, None, refl, sym, ap, ◌∙◌, arith, inl, inr, subst, ◌&&◌, ◌⊎◌}
 use Rattle.std.specs.Bool.{if◌then◌else◌}
 use Rattle.std.specs.Prelude.{nat_lt, fold}
 use Rattle.std.proofs.lemmas.Bool.{cases_lt, cases_eq, lt-ltb, le-ltb}
@@ -15,7 +15,7 @@ use Rattle.harp_cells.specs.declared.change.Change.{Change}
 use Rattle.harp_cells.specs.declared.change.Change.TheVariants as change
 use Rattle.harp_cells.specs.Effect.{Cells, changed, after}
 use Rattle.inode_blocks.specs.Holds.{stored, IsBlock, HoldsBytes, EndsAt}
-use Rattle.inode_blocks.specs.Changes.{LeadTo, is_block_of, put, kept_of, kept_in, put_kept, erasure, cuts}
+use Rattle.inode_blocks.specs.Changes.{LeadTo, is_block_of, kept_of, kept_in, put_kept, erasure, cuts}
 use Rattle.inode_blocks.proofs.Places.{length-resized, resized_at, resized_past}
 use Rattle.inode_blocks.proofs.BlockCells.{put_here, put_elsewhere, put_apart, erased_from, erased_before, erased_apart}
 

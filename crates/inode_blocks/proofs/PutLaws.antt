@@ -1,19 +1,17 @@
 -- The Puts of a write lead to the bytes written.
-use Rattle.std.proofs.Common.{◌≡◌, ℕ, ◌+◌, ◌-◌, ◌*◌, ◌/◌, ◌<◌, ◌≤◌, min, max, zero, suc, Bool, true, false, List, [], ◌∷◌, ◌++◌, length, take, drop, map, get_or, Option, Some, None, refl, sym, ap, ◌∙◌, arith, inl, inr, subst, ◌==◌, ◌⊎◌}
+use Rattle.std.proofs.Common.{◌≡◌, ℕ, ◌+◌, ◌-◌, ◌*◌, ◌/◌, ◌<◌, ◌≤◌, Bool, true, false, List, [], length, get_or, Option, Some, None, sym, ap, ◌∙◌, arith, inl, inr, subst, ◌==◌, ◌⊎◌}
 use Rattle.std.specs.Bool.{if◌then◌else◌}
 use Rattle.std.specs.Prelude.{nat_lt}
 use Rattle.std.proofs.lemmas.Bool.{cases_lt, eq-eqb, lt-ltb, le-ltb, ne_eqb}
 use Rattle.std.proofs.lemmas.List.{get_or-take, get_or_past, length-take}
 use Rattle.file_tree.specs.Tree.{blocks_of}
 use Rattle.file_tree.specs.Outcome.{written}
-use Rattle.harp_cells.specs.declared.cell.Cell.{Cell}
 use Rattle.harp_cells.specs.declared.cell.Cell.TheVariants as cell
 use Rattle.harp_cells.specs.declared.value.Value.{Value}
 use Rattle.harp_cells.specs.declared.value.Value.TheVariants as value
-use Rattle.harp_cells.specs.declared.change.Change.{Change}
 use Rattle.harp_cells.specs.Effect.{Cells, after}
-use Rattle.inode_blocks.specs.Holds.{stored, bytes_within, IsBlock, HoldsBytes, EndsAt}
-use Rattle.inode_blocks.specs.Changes.{LeadTo, put, blocks_met, part_in, stored_in, block_written, puts}
+use Rattle.inode_blocks.specs.Holds.{stored, IsBlock, HoldsBytes, EndsAt}
+use Rattle.inode_blocks.specs.Changes.{LeadTo, blocks_met, stored_in, block_written, puts}
 use Rattle.inode_blocks.proofs.Places.{block_at, block_fits, length-written, written_before, written_after, written_nothing}
 use Rattle.inode_blocks.proofs.BlockCells.{puts_over, puts_before, puts_behind, puts_at, puts_apart}
 

@@ -1,5 +1,5 @@
 -- One more turn of reading and writing.
-use Rattle.std.proofs.Common.{◌≡◌, ℕ, ◌+◌, ◌-◌, ◌*◌, ◌/◌, ◌%◌, ◌<◌, ◌≤◌, min, max, Bool, true, false, List, [], ◌∷◌, ◌++◌, length, take, drop, map, get_or, Option, Some, None, refl, sym, ap, ◌∙◌, arith, inl, inr, subst, ◌==◌}
+use Rattle.std.proofs.Common.{◌≡◌, ℕ, ◌+◌, ◌-◌, ◌*◌, ◌/◌, ◌%◌, ◌<◌, ◌≤◌, min, Bool, List, [], ◌∷◌, ◌++◌, length, take, drop, map, get_or, Option, Some, refl, sym, ap, ◌∙◌, arith, inl, inr, subst, ◌==◌}
 use Rattle.std.specs.Bool.{if◌then◌else◌}
 use Rattle.std.specs.List.{range_with_len}
 use Rattle.std.proofs.Math.Seq.{take-add}
@@ -14,7 +14,7 @@ use Rattle.harp_cells.specs.declared.value.Value.TheVariants as value
 use Rattle.harp_cells.specs.declared.change.Change.{Change}
 use Rattle.harp_cells.specs.Effect.{Cells}
 use Rattle.inode_blocks.specs.Holds.{stored, HoldsBytes}
-use Rattle.inode_blocks.specs.Changes.{BeginsWith, LeadTo, added, put, part_in, stored_in, block_written}
+use Rattle.inode_blocks.specs.Changes.{BeginsWith, LeadTo, added, part_in, stored_in, block_written}
 use Rattle.inode_blocks.proofs.Places.{length-resized, resized_at}
 use Rattle.inode_blocks.proofs.PutLaws.{met_count}
 

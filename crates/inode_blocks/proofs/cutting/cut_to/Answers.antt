@@ -1,4 +1,4 @@
-use Rattle.std.proofs.Common.{◌≡◌, ◌++◌, ◌∙◌, ap, arith}
+use Rattle.std.proofs.Common.{◌++◌, ◌∙◌, ap, arith}
 use Rattle.std.specs.Option.{option_map}
 use Rattle.inode_blocks.specs.Changes.{cuts, kept_in}
 use Rattle.inode_blocks.proofs.CutLaws.{cut_joined, cuts_lead}

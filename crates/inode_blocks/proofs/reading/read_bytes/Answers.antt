@@ -1,4 +1,4 @@
-use Rattle.std.proofs.Common.{◌/◌, ◌%◌, arith, rules, ◌∙◌}
+use Rattle.std.proofs.Common.{◌/◌, ◌%◌, arith, ◌∙◌}
 use Rattle.inode_blocks.proofs.Steps.{read_more}
 use Rattle.inode_blocks.proofs.reading.read_bytes.Goals as goal
 

@@ -1,4 +1,4 @@
-use Rattle.std.proofs.Common.{◌≡◌, ◌-◌, ◌*◌, ◌++◌, ◌/◌, ℕ, List, length, map, Some, arith, refl, ap, ◌∙◌}
+use Rattle.std.proofs.Common.{◌-◌, ◌++◌, ◌/◌, length, map, Some, arith, refl, ap, ◌∙◌}
 use Rattle.std.specs.List.{range_with_len}
 use Rattle.std.proofs.lemmas.List.{map_push}
 use Rattle.inode_blocks.specs.Changes.{block_put, block_written, put, puts}

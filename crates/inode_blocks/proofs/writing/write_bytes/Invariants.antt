@@ -1,4 +1,4 @@
-use Rattle.std.proofs.Common.{◌≡◌, ◌≤◌, ◌-◌, ◌/◌, ◌++◌, ℕ, List, map, Some}
+use Rattle.std.proofs.Common.{◌≡◌, ◌≤◌, ◌-◌, ◌/◌, ◌++◌, map, Some}
 use Rattle.std.specs.List.{range_with_len}
 use Rattle.harp_cells.specs.Effect.{Cells}
 use Rattle.inode_blocks.specs.Changes.{BeginsWith, block_put, block_written, put}
