@@ -27,26 +27,33 @@ from_block object first b = and_both (object == object) (nat_le first b) (eq-eqb
 
 -- ---- one change
 
-pub put_here : (object b : ℕ) (bytes : List ℕ) (h : Option Value) → changed (cell.Block object b) h (put object b bytes) ≡ Some (value.Block bytes)
+pub put_here : (object b : ℕ) (bytes : List ℕ) (h : Option Value)
+    → changed (cell.Block object b) h (put object b bytes) ≡ Some (value.Block bytes)
 put_here object b bytes h =
-    ap (λ (t : Bool). if◌then◌else◌ {A = Option Value} t (Some (value.Block bytes)) h) (same_block object b b ∙ eq-eqb b b refl)
+    ap (λ (t : Bool). if◌then◌else◌ {A = Option Value} t (Some (value.Block bytes)) h)
+    (same_block object b b ∙ eq-eqb b b refl)
 
-pub put_elsewhere : (object a b : ℕ) (bytes : List ℕ) (h : Option Value) → (a ≡ b → ⊥) → changed (cell.Block object b) h (put object a bytes) ≡ h
+pub put_elsewhere : (object a b : ℕ) (bytes : List ℕ) (h : Option Value) → (a ≡ b → ⊥)
+    → changed (cell.Block object b) h (put object a bytes) ≡ h
 put_elsewhere object a b bytes h other =
-    ap (λ (t : Bool). if◌then◌else◌ {A = Option Value} t (Some (value.Block bytes)) h) (same_block object a b ∙ ne_eqb a b other)
+    ap (λ (t : Bool). if◌then◌else◌ {A = Option Value} t (Some (value.Block bytes)) h)
+    (same_block object a b ∙ ne_eqb a b other)
 
-pub erased_from : (object first b : ℕ) (h : Option Value) → first ≤ b → changed (cell.Block object b) h (change.EraseFrom object first) ≡ None
+pub erased_from : (object first b : ℕ) (h : Option Value) → first ≤ b
+    → changed (cell.Block object b) h (change.EraseFrom object first) ≡ None
 erased_from object first b h from =
     ap (λ (t : Bool). if◌then◌else◌ {A = Option Value} t None h) (from_block object first b ∙ le-leb first b from)
 
-pub erased_before : (object first b : ℕ) (h : Option Value) → b < first → changed (cell.Block object b) h (change.EraseFrom object first) ≡ h
+pub erased_before : (object first b : ℕ) (h : Option Value) → b < first
+    → changed (cell.Block object b) h (change.EraseFrom object first) ≡ h
 erased_before object first b h before =
     ap (λ (t : Bool). if◌then◌else◌ {A = Option Value} t None h) (from_block object first b ∙ lt-leb first b before)
 
 -- ---- cells that are no block of the object
 
 apart_keys : (object o a b : ℕ) → (o == object) ≡ false → true && (object == o) && (a == b) ≡ false
-apart_keys object o a b h = ap (λ (t : Bool). true && t && (a == b)) (ne_eqb object o (λ e. eqb-false o object h (sym e)))
+apart_keys object o a b h = ap (λ (t : Bool). true && t && (a == b))
+    (ne_eqb object o (λ e. eqb-false o object h (sym e)))
 
 -- a cell that is no block of the object
 apart : (object a : ℕ) (c : Cell) → is_block_of object c ≡ false → is_cell (cell.Block object a) c ≡ false
@@ -67,36 +74,44 @@ apart_from object first (cell.Slot o s) h = refl
 apart_from object first (cell.Client n) h = refl
 apart_from object first (cell.Saved p) h = refl
 
-pub put_apart : (object a : ℕ) (bytes : List ℕ) (c : Cell) (h : Option Value) → is_block_of object c ≡ false → changed c h (put object a bytes) ≡ h
-put_apart object a bytes c h beside = ap (λ (t : Bool). if◌then◌else◌ {A = Option Value} t (Some (value.Block bytes)) h) (apart object a c beside)
+pub put_apart : (object a : ℕ) (bytes : List ℕ) (c : Cell) (h : Option Value) → is_block_of object c ≡ false
+    → changed c h (put object a bytes) ≡ h
+put_apart object a bytes c h beside = ap
+    (λ (t : Bool). if◌then◌else◌ {A = Option Value} t (Some (value.Block bytes)) h) (apart object a c beside)
 
-pub erased_apart : (object first : ℕ) (c : Cell) (h : Option Value) → is_block_of object c ≡ false → changed c h (change.EraseFrom object first) ≡ h
-erased_apart object first c h beside = ap (λ (t : Bool). if◌then◌else◌ {A = Option Value} t None h) (apart_from object first c beside)
+pub erased_apart : (object first : ℕ) (c : Cell) (h : Option Value) → is_block_of object c ≡ false
+    → changed c h (change.EraseFrom object first) ≡ h
+erased_apart object first c h beside = ap (λ (t : Bool). if◌then◌else◌ {A = Option Value} t None h)
+    (apart_from object first c beside)
 
 -- ---- a Put of each block of a range
 
 abbrev pub puts_over : ℕ → (ℕ → List ℕ) → List ℕ → List Change
 puts_over object bytes blocks = map (λ b. put object b (bytes b)) blocks
 
-go_on : (c : Cell) (h k : Option Value) (rest : List Change) → h ≡ k → fold (changed c) h rest ≡ fold (changed c) k rest
+go_on : (c : Cell) (h k : Option Value) (rest : List Change) → h ≡ k
+    → fold (changed c) h rest ≡ fold (changed c) k rest
 go_on c h k rest e = ap (λ (v : Option Value). fold (changed c) v rest) e
 
 pub puts_before : (object : ℕ) (bytes : ℕ → List ℕ) (b : ℕ) (h : Option Value) (a n : ℕ) → b < a
     → fold (changed (cell.Block object b)) h (puts_over object bytes (range_with_len a n)) ≡ h
 puts_before object bytes b h a zero before = refl
 puts_before object bytes b h a (suc n) before =
-    go_on (cell.Block object b) _ h (puts_over object bytes (range_with_len (a + 1) n)) (put_elsewhere object a b (bytes a) h (λ e. omega arith))
+    go_on (cell.Block object b) _ h (puts_over object bytes (range_with_len (a + 1) n))
+    (put_elsewhere object a b (bytes a) h (λ e. omega arith))
     ∙ puts_before object bytes b h (a + 1) n (omega arith)
 
 pub puts_behind : (object : ℕ) (bytes : ℕ → List ℕ) (b : ℕ) (h : Option Value) (a n : ℕ) → a + n ≤ b
     → fold (changed (cell.Block object b)) h (puts_over object bytes (range_with_len a n)) ≡ h
 puts_behind object bytes b h a zero behind = refl
 puts_behind object bytes b h a (suc n) behind =
-    go_on (cell.Block object b) _ h (puts_over object bytes (range_with_len (a + 1) n)) (put_elsewhere object a b (bytes a) h (λ e. omega arith))
+    go_on (cell.Block object b) _ h (puts_over object bytes (range_with_len (a + 1) n))
+    (put_elsewhere object a b (bytes a) h (λ e. omega arith))
     ∙ puts_behind object bytes b h (a + 1) n (omega arith)
 
 pub puts_at : (object : ℕ) (bytes : ℕ → List ℕ) (b : ℕ) (h : Option Value) (a n : ℕ) → a ≤ b → b < a + n
-    → fold (changed (cell.Block object b)) h (puts_over object bytes (range_with_len a n)) ≡ Some (value.Block (bytes b))
+    → fold (changed (cell.Block object b)) h (puts_over object bytes (range_with_len a n)) ≡ Some
+    (value.Block (bytes b))
 puts_at object bytes b h a zero from to = absurd (omega arith)
 puts_at object bytes b h a (suc n) from to = elim (cases_eq a b) [
   | inl here ↦
@@ -104,11 +119,13 @@ puts_at object bytes b h a (suc n) from to = elim (cases_eq a b) [
       (ap (λ (k : ℕ). changed (cell.Block object b) h (put object k (bytes k))) here ∙ put_here object b (bytes b) h)
       ∙ puts_before object bytes b (Some (value.Block (bytes b))) (a + 1) n (omega arith)
   | inr other ↦
-      go_on (cell.Block object b) _ h (puts_over object bytes (range_with_len (a + 1) n)) (put_elsewhere object a b (bytes a) h other)
+      go_on (cell.Block object b) _ h (puts_over object bytes (range_with_len (a + 1) n))
+      (put_elsewhere object a b (bytes a) h other)
       ∙ puts_at object bytes b h (a + 1) n (omega (arith, other)) (omega arith)
 ]
 
-pub puts_apart : (object : ℕ) (bytes : ℕ → List ℕ) (c : Cell) (h : Option Value) (a n : ℕ) → is_block_of object c ≡ false
+pub puts_apart : (object : ℕ) (bytes : ℕ → List ℕ) (c : Cell) (h : Option Value) (a n : ℕ)
+    → is_block_of object c ≡ false
     → fold (changed c) h (puts_over object bytes (range_with_len a n)) ≡ h
 puts_apart object bytes c h a zero beside = refl
 puts_apart object bytes c h a (suc n) beside =

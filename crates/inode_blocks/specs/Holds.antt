@@ -36,7 +36,8 @@ IsBlock (Some v) = IsBlockValue v
 -- end of a block or in an absent one, and those past the end of the bytes, are zeros
 pub record HoldsBytes (cells : Cells) (object : ℕ) (bytes : List ℕ) : Type 0 where
   pub blocks : (block : ℕ) → IsBlock (cells (cell.Block object block))
-  pub byte : (block at : ℕ) → at < 4096 → slice_index_or (stored (cells (cell.Block object block))) at 0 ≡ slice_index_or bytes (4096 * block + at) 0
+  pub byte : (block at : ℕ) → at < 4096
+      → slice_index_or (stored (cells (cell.Block object block))) at 0 ≡ slice_index_or bytes (4096 * block + at) 0
 
 -- each block at or past this size is absent
 abbrev pub EndsAt : Cells → ℕ → ℕ → Type 0

@@ -11,20 +11,25 @@ use Rattle.inode_blocks.specs.Changes.{is_block_of, text_put}
 
 -- cells that stand for a tree hold the bytes of each regular file, and the text of each symbolic link
 abbrev pub TreesHold : Type 0
-TreesHold = (cells : Cells) (tree : Tree) (stamp : ℕ) → StandForTree cells tree stamp → (object : ℕ) → HoldsBytes cells object (content_of (place tree object))
+TreesHold = (cells : Cells) (tree : Tree) (stamp : ℕ) → StandForTree cells tree stamp → (object : ℕ)
+    → HoldsBytes cells object (content_of (place tree object))
 
 -- cells that hold the bytes of a regular file stand for them in a tree
 abbrev pub FilesStand : Type 0
-FilesStand = (cells : Cells) (tree : Tree) (object : ℕ) → is_regular_at (place tree object) ≡ true → HoldsBytes cells object (content_of (place tree object))
-    → (block : ℕ) → StandForSame tree (cell.Block object block) (cells (cell.Block object block)) (block_value (block_of (content_of (place tree object)) block))
+FilesStand = (cells : Cells) (tree : Tree) (object : ℕ) → is_regular_at (place tree object) ≡ true
+    → HoldsBytes cells object (content_of (place tree object))
+    → (block : ℕ) → StandForSame tree (cell.Block object block) (cells (cell.Block object block))
+    (block_value (block_of (content_of (place tree object)) block))
 
 -- an object without blocks holds zeros, as many as there may be
 abbrev pub HolesAreZeros : Type 0
-HolesAreZeros = (cells : Cells) (object count : ℕ) → EndsAt cells object 0 → HoldsBytes cells object (replicate count 0)
+HolesAreZeros = (cells : Cells) (object count : ℕ) → EndsAt cells object 0
+    → HoldsBytes cells object (replicate count 0)
 
 -- the blocks of a directory, a link and what isn't live are exactly those of the tree, and end with them
 abbrev pub OthersAreExact : Type 0
-OthersAreExact = (cells : Cells) (tree : Tree) (stamp : ℕ) → StandForTree cells tree stamp → (object : ℕ) → is_regular_at (place tree object) ≡ false
+OthersAreExact = (cells : Cells) (tree : Tree) (stamp : ℕ) → StandForTree cells tree stamp → (object : ℕ)
+    → is_regular_at (place tree object) ≡ false
     → ((block : ℕ) → cells (cell.Block object block) ≡ block_value (block_of (content_of (place tree object)) block))
     × EndsAt cells object (length (content_of (place tree object)))
 

@@ -8,7 +8,8 @@ invariant-loop-at g l = record {
   from : l.fn.offset ≤ l.at;
   to : l.at ≤ max l.end l.fn.offset;
   size : length l.bytes.items ≡ l.at - l.fn.offset;
-  range : (held : Cells) (old : List ℕ) → g.R.CellRead.cells l.fn.cells ≡ Some held → HoldsBytes held l.fn.object old → length old ≡ l.fn.size
+  range : (held : Cells) (old : List ℕ) → g.R.CellRead.cells l.fn.cells ≡ Some held
+      → HoldsBytes held l.fn.object old → length old ≡ l.fn.size
       → l.bytes.items ≡ take (l.at - l.fn.offset) (drop l.fn.offset old);
   kept : g.R.CellRead.cells l.cells ≡ g.R.CellRead.cells l.fn.cells;
   count : g.R.CellRead.faults l.fn.cells ≤ g.R.CellRead.faults l.cells;
