@@ -1,5 +1,5 @@
 -- What changes make of the cells of blocks.
-use Rattle.std.proofs.Common.{◌≡◌, ℕ, ◌+◌, ◌<◌, ◌≤◌, zero, suc, Bool, true, false, List, map, Option, Some, None, refl, sym, ap, ◌∙◌, arith, inl, inr, ◌==◌, ◌&&◌}
+use Rattle.std.proofs.Common.{get_or, subst, ◌≡◌, ℕ, ◌+◌, ◌<◌, ◌≤◌, zero, suc, Bool, true, false, List, map, Option, Some, None, refl, sym, ap, ◌∙◌, arith, inl, inr, ◌==◌, ◌&&◌}
 use Rattle.std.specs.Bool.{if◌then◌else◌}
 use Rattle.std.specs.Prelude.{nat_le, fold}
 use Rattle.std.specs.List.{range_with_len}
@@ -11,6 +11,7 @@ use Rattle.harp_cells.specs.declared.value.Value.TheVariants as value
 use Rattle.harp_cells.specs.declared.change.Change.{Change}
 use Rattle.harp_cells.specs.declared.change.Change.TheVariants as change
 use Rattle.harp_cells.specs.Effect.{is_cell, is_block_from, changed}
+use Rattle.inode_blocks.specs.Holds.{stored, IsBlock}
 use Rattle.inode_blocks.specs.Changes.{is_block_of, put}
 
 and_both : (a b : Bool) → a ≡ true → true && a && b ≡ b
@@ -131,3 +132,14 @@ puts_apart object bytes c h a zero beside = refl
 puts_apart object bytes c h a (suc n) beside =
     go_on c _ h (puts_over object bytes (range_with_len (a + 1) n)) (put_apart object a (bytes a) c h beside)
     ∙ puts_apart object bytes c h (a + 1) n beside
+
+-- ---- one block of a file
+
+-- a cell of a block holds its bytes of a file
+pub record HoldsBlock (v : Option Value) (bytes : List ℕ) (start : ℕ) : Type 0 where
+  pub kind : IsBlock v
+  pub byte : (at : ℕ) → at < 4096 → get_or (stored v) at 0 ≡ get_or bytes (start + at) 0
+
+pub holds_along : (v w : Option Value) (bytes : List ℕ) (start : ℕ) → v ≡ w → HoldsBlock w bytes start
+    → HoldsBlock v bytes start
+holds_along v w bytes start e h = subst (λ (u : Option Value). HoldsBlock u bytes start) (sym e) h

@@ -17,7 +17,7 @@ use Rattle.harp_cells.specs.Effect.{Cells, changed, after}
 use Rattle.inode_blocks.specs.Holds.{stored, IsBlock, HoldsBytes, EndsAt}
 use Rattle.inode_blocks.specs.Changes.{LeadTo, is_block_of, kept_of, kept_in, put_kept, erasure, cuts}
 use Rattle.inode_blocks.proofs.Places.{length-resized, resized_at, resized_past}
-use Rattle.inode_blocks.proofs.BlockCells.{put_here, put_elsewhere, put_apart, erased_from, erased_before, erased_apart}
+use Rattle.inode_blocks.proofs.BlockCells.{HoldsBlock, holds_along, put_here, put_elsewhere, put_apart, erased_from, erased_before, erased_apart}
 
 -- ---- the Put
 
@@ -127,15 +127,6 @@ kept_apart object cut None c h beside = refl
 kept_apart object cut (Some bytes) c h beside = put_apart object cut bytes c h beside
 
 -- ---- one block after a cut
-
--- a cell of a block holds its bytes of a file
-record HoldsBlock (v : Option Value) (bytes : List ℕ) (start : ℕ) : Type 0 where
-  kind : IsBlock v
-  byte : (at : ℕ) → at < 4096 → get_or (stored v) at 0 ≡ get_or bytes (start + at) 0
-
-holds_along : (v w : Option Value) (bytes : List ℕ) (start : ℕ) → v ≡ w → HoldsBlock w bytes start
-    → HoldsBlock v bytes start
-holds_along v w bytes start e h = subst (λ (u : Option Value). HoldsBlock u bytes start) (sym e) h
 
 gone_holds : (old : List ℕ) (wanted start : ℕ) → wanted ≤ start → HoldsBlock None (resized old wanted) start
 gone_holds old wanted start past = record

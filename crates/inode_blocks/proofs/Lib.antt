@@ -1,6 +1,6 @@
-mod Places
-mod BlockCells
-mod PutLaws
-mod CutLaws
-mod TreeLaws
-mod Steps
+pub mod Places
+pub mod BlockCells
+pub mod PutLaws
+pub mod CutLaws
+pub mod TreeLaws
+pub mod Steps

@@ -13,7 +13,7 @@ use Rattle.harp_cells.specs.Effect.{Cells, after}
 use Rattle.inode_blocks.specs.Holds.{stored, IsBlock, HoldsBytes, EndsAt}
 use Rattle.inode_blocks.specs.Changes.{LeadTo, blocks_met, stored_in, block_written, puts}
 use Rattle.inode_blocks.proofs.Places.{block_at, block_fits, length-written, written_before, written_after, written_nothing}
-use Rattle.inode_blocks.proofs.BlockCells.{puts_over, puts_before, puts_behind, puts_at, puts_apart}
+use Rattle.inode_blocks.proofs.BlockCells.{HoldsBlock, holds_along, puts_over, puts_before, puts_behind, puts_at, puts_apart}
 
 -- ---- which blocks a range meets
 
@@ -81,20 +81,11 @@ stored_in_at cells object old block at holds within = elim (cases_lt (4096 * blo
 
 -- ---- one block after the Puts
 
--- a cell of a block holds its bytes of a file
-record HoldsBlock (v : Option Value) (bytes : List ℕ) (start : ℕ) : Type 0 where
-  kind : IsBlock v
-  byte : (at : ℕ) → at < 4096 → get_or (stored v) at 0 ≡ get_or bytes (start + at) 0
-
 put_holds : (new bytes : List ℕ) (start : ℕ) → length new ≤ 4096
     → ((at : ℕ) → at < 4096 → get_or new at 0 ≡ get_or bytes (start + at) 0)
     → HoldsBlock (Some (value.Block new)) bytes start
 put_holds new bytes start fits same = record
     { kind = fits; byte = λ at within. get_or-take 4096 new at 0 within ∙ same at within }
-
-holds_along : (v w : Option Value) (bytes : List ℕ) (start : ℕ) → v ≡ w → HoldsBlock w bytes start
-    → HoldsBlock v bytes start
-holds_along v w bytes start e h = subst (λ (u : Option Value). HoldsBlock u bytes start) (sym e) h
 
 as_before : (cells : Cells) (object : ℕ) (old new : List ℕ) (block : ℕ) → HoldsBytes cells object old
     → ((at : ℕ) → at < 4096 → get_or new (4096 * block + at) 0 ≡ get_or old (4096 * block + at) 0)

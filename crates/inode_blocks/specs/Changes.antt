@@ -54,8 +54,8 @@ block_put (change.EraseFrom object first) = None
 
 -- the blocks that a range meets, ascending
 abbrev pub blocks_met : ℕ → ℕ → List ℕ
-blocks_met offset count = range_with_len (offset / 4096)
-    (if count == 0 then 0 else blocks_of (offset + count) - offset / 4096)
+blocks_met offset count =
+    range_with_len (offset / 4096) (if count == 0 then 0 else blocks_of (offset + count) - offset / 4096)
 
 -- the part of bytes written at an offset that comes into a block
 abbrev pub part_in : ℕ → List ℕ → ℕ → List ℕ
@@ -63,18 +63,18 @@ part_in offset bytes block = take (4096 - (offset - 4096 * block)) (drop (4096 *
 
 -- what stands in a block of a file of a size: nothing past its end
 abbrev pub stored_in : Cells → ℕ → ℕ → ℕ → List ℕ
-stored_in cells object size block = if nat_lt (4096 * block) size then stored (cells (cell.Block object block)) else
-    []
+stored_in cells object size block =
+    if nat_lt (4096 * block) size then stored (cells (cell.Block object block)) else []
 
 -- the bytes of a block after a write: what stood there before and behind those written, and zeros between
 abbrev pub block_written : Cells → ℕ → ℕ → ℕ → List ℕ → ℕ → List ℕ
-block_written cells object size offset bytes block = written (stored_in cells object size block)
-    (offset - 4096 * block) (part_in offset bytes block)
+block_written cells object size offset bytes block =
+    written (stored_in cells object size block) (offset - 4096 * block) (part_in offset bytes block)
 
 -- a Put of each block that the range meets
 abbrev pub puts : Cells → ℕ → ℕ → ℕ → List ℕ → List Change
-puts cells object size offset bytes = map
-    (λ block. put object block (block_written cells object size offset bytes block))
+puts cells object size offset bytes =
+    map (λ block. put object block (block_written cells object size offset bytes block))
     (blocks_met offset (length bytes))
 
 -- the text of a new link as its block 0, where it isn't empty
@@ -97,10 +97,10 @@ put_kept object block (Some bytes) = put object block bytes ∷ []
 
 -- an erasure, where whole blocks go
 abbrev pub erasure : ℕ → ℕ → ℕ → List Change
-erasure object size wanted = if nat_lt (4096 * blocks_of wanted) size then change.EraseFrom object
-    (blocks_of wanted) ∷ [] else []
+erasure object size wanted =
+    if nat_lt (4096 * blocks_of wanted) size then change.EraseFrom object (blocks_of wanted) ∷ [] else []
 
 -- a Put of what is kept of the block that is cut, and an erasure; nothing where the file isn't cut
 abbrev pub cuts : ℕ → ℕ → ℕ → Option (List ℕ) → List Change
-cuts object size wanted kept = if nat_lt wanted size then put_kept object (wanted / 4096) kept ++ erasure object
-    size wanted else []
+cuts object size wanted kept =
+    if nat_lt wanted size then put_kept object (wanted / 4096) kept ++ erasure object size wanted else []

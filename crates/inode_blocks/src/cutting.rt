@@ -20,7 +20,8 @@ fn kept_part<R: CellRead>(
     object: u32,
     wanted: u32,
 ) -> Result<Option<Vec<u8>>, CellFault>
-    ensures value { (held : Cells) → R.cells cells.old ≡ Some held → IfOk result (λ kept. option_map (λ v. v.items) kept ≡ kept_in held object wanted) }
+    ensures value { (held : Cells) → R.cells cells.old ≡ Some held
+        → IfOk result (λ kept. option_map (λ v. v.items) kept ≡ kept_in held object wanted) }
     ensures least { IfOk result (λ kept. IfSome kept (λ v. 1 ≤ length v.items)) }
     ensures most { IfOk result (λ kept. IfSome kept (λ v. length v.items ≤ 4096)) }
     ensures kept { R.cells cells.new ≡ R.cells cells.old }
@@ -49,7 +50,8 @@ fn append_kept(
 ) -> Result<(), CellFault>
     requires least { IfSome kept (λ v. 1 ≤ length v.items) }
     requires most { IfSome kept (λ v. length v.items ≤ 4096) }
-    ensures ok { OnOk result (changes.new.items ≡ changes.old.items ++ put_kept object block (option_map (λ v. v.items) kept)) }
+    ensures ok { OnOk result (changes.new.items ≡ changes.old.items
+        ++ put_kept object block (option_map (λ v. v.items) kept)) }
     ensures err { OnErr result (changes.new.items ≡ changes.old.items) }
     ensures cause { OnErr result (result ≡ Err CellFault.NoMemory) }
 {
@@ -91,10 +93,13 @@ pub fn cut_to<R: CellRead>(
     changes: &mut Vec<Change>,
 ) -> Result<(), CellFault>
     requires { wanted ≤ 2 ^ 31 - 1 }
-    ensures cuts { (held : Cells) → R.cells cells.old ≡ Some held → OnOk result (changes.new.items ≡ changes.old.items ++ cuts object size wanted (kept_in held object wanted)) }
-    ensures leads { (held : Cells) (old : List ℕ) → R.cells cells.old ≡ Some held → HoldsBytes held object old → length old ≡ size
+    ensures cuts { (held : Cells) → R.cells cells.old ≡ Some held
+        → OnOk result (changes.new.items ≡ changes.old.items ++ cuts object size wanted (kept_in held object wanted)) }
+    ensures leads { (held : Cells) (old : List ℕ) → R.cells cells.old ≡ Some held
+        → HoldsBytes held object old → length old ≡ size
         → OnOk result (LeadTo (added changes.old.items changes.new.items) held object size (resized old wanted)) }
-    ensures kinds { OnOk result ((kept : Option (List ℕ)) × (changes.new.items ≡ changes.old.items ++ cuts object size wanted kept)) }
+    ensures kinds { OnOk result ((kept : Option (List ℕ)) × (changes.new.items ≡ changes.old.items
+        ++ cuts object size wanted kept)) }
     ensures still { size ≤ wanted → changes.new.items ≡ changes.old.items }
     ensures front { BeginsWith changes.new.items changes.old.items }
     ensures kept { R.cells cells.new ≡ R.cells cells.old }

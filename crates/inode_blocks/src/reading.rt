@@ -20,7 +20,8 @@ fn read_part<R: CellRead>(
     bytes: &mut Vec<u8>,
 ) -> Result<(), CellFault>
     requires { count ≤ 4096 }
-    ensures part { (held : Cells) → R.cells cells.old ≡ Some held → OnOk result (bytes.new.items ≡ bytes.old.items ++ resized (drop within (stored (held cell))) count) }
+    ensures part { (held : Cells) → R.cells cells.old ≡ Some held
+        → OnOk result (bytes.new.items ≡ bytes.old.items ++ resized (drop within (stored (held cell))) count) }
     ensures size { OnOk result (length bytes.new.items ≡ length bytes.old.items + count) }
     ensures kept { R.cells cells.new ≡ R.cells cells.old }
     ensures rose { result ≡ Err CellFault.StoreFailed → Rose (R.faults cells.old) (R.faults cells.new) }
@@ -46,7 +47,8 @@ pub fn read_bytes<R: CellRead>(
     offset: u32,
     count: u32,
 ) -> Result<Bytes, CellFault>
-    ensures range { (held : Cells) (bytes : List ℕ) → R.cells cells.old ≡ Some held → HoldsBytes held object bytes → length bytes ≡ size → IfOk result (λ r. r ≡ take count (drop offset bytes)) }
+    ensures range { (held : Cells) (bytes : List ℕ) → R.cells cells.old ≡ Some held
+        → HoldsBytes held object bytes → length bytes ≡ size → IfOk result (λ r. r ≡ take count (drop offset bytes)) }
     ensures size { IfOk result (λ r. length r ≡ min count (size - offset)) }
     ensures kept { R.cells cells.new ≡ R.cells cells.old }
     ensures rose { result ≡ Err CellFault.StoreFailed → Rose (R.faults cells.old) (R.faults cells.new) }

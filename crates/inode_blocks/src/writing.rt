@@ -49,7 +49,8 @@ fn block_bytes<R: CellRead>(
 ) -> Result<Vec<u8>, CellFault>
     requires fits { within + length bytes.now ≤ 4096 }
     requires small { block < 2 ^ 20 }
-    ensures bytes { (held : Cells) → R.cells cells.old ≡ Some held → IfOk result (λ v. v.items ≡ written (stored_in held object size block) within bytes.now) }
+    ensures bytes { (held : Cells) → R.cells cells.old ≡ Some held
+        → IfOk result (λ v. v.items ≡ written (stored_in held object size block) within bytes.now) }
     ensures size { IfOk result (λ v. (within + length bytes.now ≤ length v.items) × (length v.items ≤ 4096)) }
     ensures kept { R.cells cells.new ≡ R.cells cells.old }
     ensures rose { result ≡ Err CellFault.StoreFailed → Rose (R.faults cells.old) (R.faults cells.new) }
@@ -78,10 +79,14 @@ pub fn write_bytes<R: CellRead>(
     changes: &mut Vec<Change>,
 ) -> Result<(), CellFault>
     requires { offset + length bytes.now ≤ 2 ^ 31 - 1 }
-    ensures puts { (held : Cells) → R.cells cells.old ≡ Some held → OnOk result (changes.new.items ≡ changes.old.items ++ puts held object size offset bytes.now) }
-    ensures leads { (held : Cells) (old : List ℕ) → R.cells cells.old ≡ Some held → HoldsBytes held object old → length old ≡ size
-        → OnOk result (LeadTo (added changes.old.items changes.new.items) held object size (written old offset bytes.now)) }
-    ensures blocks { OnOk result (map block_put changes.new.items ≡ map block_put changes.old.items ++ map (λ block. Some (object, block)) (blocks_met offset (length bytes.now))) }
+    ensures puts { (held : Cells) → R.cells cells.old ≡ Some held
+        → OnOk result (changes.new.items ≡ changes.old.items ++ puts held object size offset bytes.now) }
+    ensures leads { (held : Cells) (old : List ℕ) → R.cells cells.old ≡ Some held
+        → HoldsBytes held object old → length old ≡ size
+        → OnOk result (LeadTo (added changes.old.items changes.new.items) held object size
+        (written old offset bytes.now)) }
+    ensures blocks { OnOk result (map block_put changes.new.items ≡ map block_put changes.old.items
+        ++ map (λ block. Some (object, block)) (blocks_met offset (length bytes.now))) }
     ensures nothing { length bytes.now ≡ 0 → OnOk result (changes.new.items ≡ changes.old.items) }
     ensures front { BeginsWith changes.new.items changes.old.items }
     ensures kept { R.cells cells.new ≡ R.cells cells.old }
