@@ -10,7 +10,7 @@ use Rattle.harp_cells.specs.declared.cell.Cell.TheVariants as cell
 use Rattle.harp_cells.specs.declared.value.Value.{Value}
 use Rattle.harp_cells.specs.declared.value.Value.TheVariants as value
 use Rattle.harp_cells.specs.Effect.{Cells, after}
-use Rattle.inode_blocks.specs.Holds.{stored, IsBlock, HoldsBytes, EndsAt}
+use Rattle.inode_blocks.specs.Holds.{stored, HoldsBytes, EndsAt}
 use Rattle.inode_blocks.specs.Changes.{LeadTo, blocks_met, stored_in, block_written, puts}
 use Rattle.inode_blocks.proofs.Places.{block_at, block_fits, length-written, written_before, written_after, written_nothing}
 use Rattle.inode_blocks.proofs.BlockCells.{HoldsBlock, holds_along, puts_over, puts_before, puts_behind, puts_at, puts_apart}
@@ -166,3 +166,10 @@ pub puts_lead : (cells : Cells) (object size : ℕ) (old : List ℕ) (offset : �
 puts_lead cells object size old offset bytes holds is = subst
     (λ (n : ℕ). LeadTo (puts cells object n offset bytes) cells object n (written old offset bytes)) is
     (lead cells object old offset bytes holds)
+
+-- past the end of the file nothing stands
+pub past_written : (cells : Cells) (object size block within : ℕ) (bytes : List ℕ) → size ≤ 4096 * block
+    → written [] within bytes ≡ written (stored_in cells object size block) within bytes
+past_written cells object size block within bytes past =
+    ap (λ (t : Bool). written (if◌then◌else◌ {A = List ℕ} t (stored (cells (cell.Block object block))) []) within bytes)
+    (sym (le-ltb (4096 * block) size past))

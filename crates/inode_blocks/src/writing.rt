@@ -56,10 +56,7 @@ fn block_bytes<R: CellRead>(
     ensures rose { result ≡ Err CellFault.StoreFailed → Rose (R.faults cells.old) (R.faults cells.new) }
     ensures count { R.faults cells.old ≤ R.faults cells.new }
 {
-    if size <= block * BLOCK {
-        return Ok(written(alloc, &[], within, bytes)?);
-    }
-    if bytes.len() == BLOCK as usize {
+    if size <= block * BLOCK || bytes.len() == BLOCK as usize {
         return Ok(written(alloc, &[], within, bytes)?);
     }
     cells.fetch(Cell::Block { object, block })?;
