@@ -1,0 +1,6 @@
+pub mod HeldSlots
+pub mod Searches
+pub mod WayUp
+pub mod PageSteps
+pub mod TreeCells
+pub mod SlotChanges
