@@ -46,7 +46,7 @@ impl CellRead for Limited {
 }
 
 /// Cells of which so many fetches succeed.
-fn limited(cells: MemCells, left: u32) -> Limited {
+fn with_limit(cells: MemCells, left: u32) -> Limited {
     Limited {
         cells,
         left,
@@ -194,11 +194,11 @@ fn four_slots(alloc: Global) -> Result<MemCells, Fail> {
 #[test]
 fn fetches_only_its_slots(rt: HostRuntime) -> Result<(), Fail> {
     let alloc = rt.alloc();
-    let mut enough = limited(four_slots(alloc)?, 3);
+    let mut enough = with_limit(four_slots(alloc)?, 3);
     let page = list_from(alloc, &mut enough, 1, 1, 4, 3, 20)?;
     assert!(rt; matches!(page.entries.as_slice(), [e] if is_entry(e, 3, b"b", 4)));
     assert!(rt; !page.eof);
-    let mut first = limited(four_slots(alloc)?, 1);
+    let mut first = with_limit(four_slots(alloc)?, 1);
     let dots = list_from(alloc, &mut first, 1, 1, 4, 0, 40)?;
     assert!(rt; dots.entries.len() == 2 && !dots.eof);
     Ok(())
@@ -207,7 +207,7 @@ fn fetches_only_its_slots(rt: HostRuntime) -> Result<(), Fail> {
 #[test]
 fn hands_on_failures(rt: HostRuntime) -> Result<(), Fail> {
     let alloc = rt.alloc();
-    let mut cells = limited(small_root(alloc)?, 0);
+    let mut cells = with_limit(small_root(alloc)?, 0);
     assert!(rt; find(&mut cells, 1, 1, b"a") == Err(CellFault::StoreFailed));
     assert!(rt; slot_for(&mut cells, 1, 1) == Err(CellFault::StoreFailed));
     assert!(rt; is_below(&mut cells, 2, 1) == Err(CellFault::StoreFailed));

@@ -4,3 +4,5 @@ pub mod WayUp
 pub mod PageSteps
 pub mod TreeCells
 pub mod SlotChanges
+pub mod SlotCounts
+pub mod Below

@@ -18,7 +18,7 @@ page_take : (above room : ℕ) (e : DirEntry) (es : List DirEntry) → above < e
 unfolding page_of
 page_take above room e es lt fits = grind (arith, nat_tests)
 
-page_stop : (above room : ℕ) (e : DirEntry) (es : List DirEntry) → above < e.cookie → room < entry_size e → page_of above room (e ∷ es) ≡ ([], false)
+pub page_stop : (above room : ℕ) (e : DirEntry) (es : List DirEntry) → above < e.cookie → room < entry_size e → page_of above room (e ∷ es) ≡ ([], false)
 unfolding page_of
 page_stop above room e es lt full = grind (arith, nat_tests)
 

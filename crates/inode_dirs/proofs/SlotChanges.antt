@@ -10,12 +10,14 @@ use Rattle.file_tree.specs.Tree.{Slots, entry_from, entry, free_from, with_entry
 use Rattle.file_tree.specs.Sound.{has_name}
 use Rattle.file_tree.proofs.FreeSlots.{with_entry_set, with_entry_push}
 use Rattle.file_tree.proofs.SlotLaws.{found}
+use Rattle.harp_cells.specs.declared.cell.Cell.{Cell}
 use Rattle.harp_cells.specs.declared.cell.Cell.TheVariants as cell
+use Rattle.harp_cells.specs.declared.change.Change.TheVariants as change
 use Rattle.harp_cells.specs.declared.value.Value.{Value}
-use Rattle.harp_cells.specs.Effect.{Cells, is_cell}
+use Rattle.harp_cells.specs.Effect.{Cells, is_cell, is_block_from}
 use Rattle.harp_cells.specs.CellsOfTree.{slot_value}
-use Rattle.inode_dirs.specs.Slots.{HoldsSlots}
-use Rattle.inode_dirs.specs.Laws.{NoneIsNamed, FoundIsNamed, EntersFirstFree, ReplacesSlot, FreesSlot}
+use Rattle.inode_dirs.specs.Slots.{HoldsSlots, is_slot_of}
+use Rattle.inode_dirs.specs.Laws.{NoneIsNamed, FoundIsNamed, EntersFirstFree, ReplacesSlot, FreesSlot, KeepsSlots}
 
 same_slot : (dir i slot : ℕ) → is_cell (cell.Slot dir i) (cell.Slot dir slot) ≡ (i == slot)
 unfolding is_cell
@@ -129,3 +131,20 @@ found_is_named slots name x e =
           ∙ ap (λ (n : List ℕ). slot_with n f.slot.number) f.named
           ∙ ap (slot_with name) f.number,
     )
+
+-- ---- changes of other cells
+
+other_cell : (dir slot : ℕ) (c : Cell) → is_slot_of dir c ≡ false → is_cell c (cell.Slot dir slot) ≡ false
+unfolding is_cell
+other_cell dir slot cell.Meta e = refl
+other_cell dir slot (cell.Object object) e = refl
+other_cell dir slot (cell.Block object block) e = refl
+other_cell dir slot (cell.Slot object at) e = rw e refl
+other_cell dir slot (cell.Client client) e = refl
+other_cell dir slot (cell.Saved place) e = refl
+
+pub keeps_slots : KeepsSlots
+unfolding is_block_from
+keeps_slots cells dir slots (change.Put c v) e holds slot = rw (other_cell dir slot c e) (holds slot)
+keeps_slots cells dir slots (change.Erase c) e holds slot = rw (other_cell dir slot c e) (holds slot)
+keeps_slots cells dir slots (change.EraseFrom object first) e holds slot = holds slot

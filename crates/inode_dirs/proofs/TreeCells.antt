@@ -1,5 +1,5 @@
 -- The cells of a tree, and the slots and parents that they hold.
-use Rattle.std.proofs.Common.{◌≡◌, ℕ, ◌*◌, ◌≤◌, ◌==◌, Bool, true, false, cond, length, get_or, Option, Some, None, refl, sym, ap, ◌∙◌, arith, inl, inr}
+use Rattle.std.proofs.Common.{◌≡◌, ℕ, ◌*◌, ◌≤◌, ◌==◌, Bool, true, false, cond, length, get_or, Option, Some, None, refl, sym, ap, ◌∙◌, subst, arith, inl, inr}
 use Rattle.std.proofs.lemmas.Bool.{cases_eq, cases_Bool, ne_eqb}
 use Rattle.file_tree.specs.declared.object.Object.{Object}
 use Rattle.file_tree.specs.Tree.{Tree, place, slots_of, slots_within, blocks_at, is_directory_at, parent_of}
@@ -10,8 +10,10 @@ use Rattle.harp_cells.specs.declared.value.Value.{Value}
 use Rattle.harp_cells.specs.declared.value.Value.TheVariants as value
 use Rattle.harp_cells.specs.declared.cell.Cell.TheVariants as cell
 use Rattle.harp_cells.specs.CellsOfTree.{object_value, slot_value, stands_for}
+use Rattle.harp_cells.specs.Effect.{Cells}
+use Rattle.inode_dirs.specs.Slots.{HoldsSlots}
 use Rattle.inode_dirs.specs.Parents.{parent_by, next_by}
-use Rattle.inode_dirs.specs.Laws.{SlotsArePlaced, TreesHoldSlots, HeldSlotsStand, TreesHoldParents, StoredParentsAreComputed, CookiesFit, EntriesAreUnderParent}
+use Rattle.inode_dirs.specs.Laws.{TreesTellSlots, TreesTellParents, SlotsArePlaced, TreesHoldSlots, HeldSlotsStand, TreesHoldParents, StoredParentsAreComputed, CookiesFit, EntriesAreUnderParent}
 
 pub slots_placed : SlotsArePlaced
 slots_placed tree dir slots e = let is = directory_is tree dir slots e in ap slots_of is.at ∙ ap slots_within is.body
@@ -81,3 +83,20 @@ stored_in tree number inode (Some o) d e = cc
 pub stored_parents_are_computed : StoredParentsAreComputed
 stored_parents_are_computed cells tree stamp number inode is at d =
     stored_in tree number inode (place tree number) d (ap (stands_for tree (cell.Object number)) (sym at) ∙ is.object number)
+
+-- ---- what they tell
+
+pub trees_tell_slots : TreesTellSlots
+trees_tell_slots told cells tree stamp dir slots are is d = record {
+  cells = cells;
+  are = are;
+  holds = subst (HoldsSlots cells dir) (slots_placed tree dir slots d) (trees_hold_slots cells tree stamp dir is);
+  count = refl;
+}
+
+pub trees_tell_parents : TreesTellParents
+trees_tell_parents told cells tree stamp are sound is = record {
+  cells = cells;
+  are = are;
+  holds = trees_hold_parents cells tree stamp sound.root is;
+}

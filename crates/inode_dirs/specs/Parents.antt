@@ -1,5 +1,5 @@
 -- The parents of directories that cells hold.
-use Rattle.std.specs.Prelude.{◌≡◌, ℕ, ◌==◌, length, Option, Some, None, if◌then◌else◌}
+use Rattle.std.specs.Prelude.{◌≡◌, ℕ, zero, suc, ◌==◌, length, Option, Some, None, if◌then◌else◌}
 use Rattle.file_tree.specs.Tree.{Tree, parent_of}
 use Rattle.harp_cells.specs.declared.value.Value.{Value}
 use Rattle.harp_cells.specs.declared.value.Value.TheVariants as value
@@ -36,3 +36,12 @@ pub record TellsParents (told : Option Cells) (tree : Tree) : Type 0 where
   pub cells : Cells
   pub are : told ≡ Some cells
   pub holds : HoldsParents cells tree
+
+-- the directory so many levels up
+unfoldable pub ancestor : ℕ → Tree → ℕ → ℕ
+ancestor zero tree dir = dir
+ancestor (suc levels) tree dir = ancestor levels tree (parent_of tree dir)
+
+-- a directory that is another one or below it
+abbrev pub IsBelow : Tree → ℕ → ℕ → Type 0
+IsBelow tree dir top = (levels : ℕ) × (ancestor levels tree dir ≡ top)

@@ -1,11 +1,14 @@
 -- The slots of a directory that cells hold.
-use Rattle.std.specs.Prelude.{◌≡◌, ℕ, List, length, slice_index_or, Option, Some, None, if◌then◌else◌}
+use Rattle.std.specs.Prelude.{◌≡◌, ℕ, Bool, false, ◌==◌, List, length, slice_index_or, Option, Some, None, if◌then◌else◌}
 use Rattle.std.specs.Str.{bytes_eq}
 use Rattle.file_tree.specs.declared.object.Slot.{Slot}
 use Rattle.file_tree.specs.Tree.{Slots}
 use Rattle.harp_cells.specs.declared.value.Value.{Value}
 use Rattle.harp_cells.specs.declared.value.Value.TheVariants as value
+use Rattle.harp_cells.specs.declared.cell.Cell.{Cell}
 use Rattle.harp_cells.specs.declared.cell.Cell.TheVariants as cell
+use Rattle.harp_cells.specs.declared.change.Change.{Change}
+use Rattle.harp_cells.specs.declared.change.Change.TheVariants as change
 use Rattle.harp_cells.specs.Effect.{Cells}
 use Rattle.harp_cells.specs.CellsOfTree.{slot_value}
 
@@ -40,3 +43,18 @@ slot_of (Some (value.Saved bytes)) = None
 abbrev pub object_named : List ℕ → Option Slot → Option ℕ
 object_named name None = None
 object_named name (Some s) = if bytes_eq s.name name then Some s.number else None
+
+-- the cell of a slot of the directory
+abbrev pub is_slot_of : ℕ → Cell → Bool
+is_slot_of dir (cell.Slot object slot) = object == dir
+is_slot_of dir cell.Meta = false
+is_slot_of dir (cell.Object object) = false
+is_slot_of dir (cell.Block object block) = false
+is_slot_of dir (cell.Client client) = false
+is_slot_of dir (cell.Saved place) = false
+
+-- a change of a slot of the directory
+abbrev pub changes_slot_of : ℕ → Change → Bool
+changes_slot_of dir (change.Put c v) = is_slot_of dir c
+changes_slot_of dir (change.Erase c) = is_slot_of dir c
+changes_slot_of dir (change.EraseFrom object first) = false

@@ -8,6 +8,6 @@ mod parents;
 mod slot;
 
 pub use entries::{find, slot_for};
-pub use laws::slot_laws;
+pub use laws::{entry_laws, parent_laws, slot_laws};
 pub use page::{DirPage, list_from};
 pub use parents::is_below;
