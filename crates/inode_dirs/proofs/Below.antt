@@ -1,5 +1,6 @@
 -- In a sound tree the way up from a directory meets each directory that it is below.
-use Rattle.std.proofs.Common.{◌≡◌, ◌↔◌, ℕ, zero, suc, ◌==◌, true, length, ◌⊎◌, ap, ◌∙◌, subst, inl, inr, eq-eqb, eqb-true}
+use Rattle.std.proofs.Common.{◌≡◌, ℕ, zero, suc, ◌==◌, true, length, ◌⊎◌, ap, ◌∙◌, subst, inl, inr, eq-eqb}
+use Rattle.std.proofs.Common.{eqb-true}
 use Rattle.std.proofs.lemmas.Bool.{or_cases, or_left, or_right}
 use Rattle.file_tree.specs.Tree.{Tree, place, is_directory_at, parent_of}
 use Rattle.file_tree.specs.Rename.{is_above}
@@ -28,7 +29,8 @@ root_alone zero tree top root h = h
 root_alone (suc levels) tree top root h = elim (or_cases (1 == top) _ h) [
   | inl e ↦ e
   | inr e ↦
-      root_alone levels tree top root (subst (λ (n : ℕ). is_above levels tree top n ≡ true) (parent_of_root tree root) e)
+      root_alone levels tree top root
+      (subst (λ (n : ℕ). is_above levels tree top n ≡ true) (parent_of_root tree root) e)
 ]
 
 -- a directory that is met stands here, or is met on the next level

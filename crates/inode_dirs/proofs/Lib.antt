@@ -4,5 +4,6 @@ pub mod WayUp
 pub mod PageSteps
 pub mod TreeCells
 pub mod SlotChanges
+pub mod EntryLaws
 pub mod SlotCounts
 pub mod Below

@@ -1,15 +1,12 @@
--- What one change of a slot's cell makes of a directory's slots, and what a search of slots says.
-use Rattle.std.proofs.Common.{◌≡◌, ℕ, zero, suc, ◌+◌, ◌<◌, ◌≤◌, ◌==◌, Bool, true, false, List, [], ◌∷◌, ◌++◌, length, get_or, set, Option, Some, None, refl, sym, ap, ◌∙◌, subst, arith, inl, inr}
+-- What one change of a cell makes of a directory's slots.
+use Rattle.std.proofs.Common.{◌≡◌, ℕ, zero, suc, ◌+◌, ◌<◌, ◌≤◌, ◌==◌, Bool, true, false, [], ◌∷◌, ◌++◌, length}
+use Rattle.std.proofs.Common.{get_or, set, Option, Some, None, refl, sym, ap, ◌∙◌, subst, arith, inl, inr}
 use Rattle.std.specs.Bool.{if◌then◌else◌}
-use Rattle.std.specs.Str.{bytes_eq}
-use Rattle.std.proofs.lemmas.Bool.{cases_eq, cases_lt, cases_Bool, eq-eqb, ne_eqb, both_ways}
-use Rattle.std.proofs.lemmas.Slice.Eq.{bytes_eq-Decides}
+use Rattle.std.proofs.lemmas.Bool.{cases_eq, cases_lt, eq-eqb, ne_eqb}
 use Rattle.std.proofs.lemmas.List.{get_or_past, set_past, get_or-set_same, get_or-set_other}
 use Rattle.file_tree.specs.declared.object.Slot.{Slot}
-use Rattle.file_tree.specs.Tree.{Slots, entry_from, entry, free_from, with_entry}
-use Rattle.file_tree.specs.Sound.{has_name}
+use Rattle.file_tree.specs.Tree.{Slots, free_from, with_entry}
 use Rattle.file_tree.proofs.FreeSlots.{with_entry_set, with_entry_push}
-use Rattle.file_tree.proofs.SlotLaws.{found}
 use Rattle.harp_cells.specs.declared.cell.Cell.{Cell}
 use Rattle.harp_cells.specs.declared.cell.Cell.TheVariants as cell
 use Rattle.harp_cells.specs.declared.change.Change.TheVariants as change
@@ -17,24 +14,33 @@ use Rattle.harp_cells.specs.declared.value.Value.{Value}
 use Rattle.harp_cells.specs.Effect.{Cells, is_cell, is_block_from}
 use Rattle.harp_cells.specs.CellsOfTree.{slot_value}
 use Rattle.inode_dirs.specs.Slots.{HoldsSlots, is_slot_of}
-use Rattle.inode_dirs.specs.Laws.{NoneIsNamed, FoundIsNamed, EntersFirstFree, ReplacesSlot, FreesSlot, KeepsSlots}
+use Rattle.inode_dirs.specs.Laws.{EntersFirstFree, ReplacesSlot, FreesSlot, KeepsSlots}
 
 same_slot : (dir i slot : ℕ) → is_cell (cell.Slot dir i) (cell.Slot dir slot) ≡ (i == slot)
 unfolding is_cell
 same_slot dir i slot = let t : (dir == dir) ≡ true = eq-eqb dir dir refl in rw t refl
 
--- one slot read from slots that differ in one place
-pick : (b : Bool) (x y : Option Slot) (v : Option Value) → v ≡ slot_value y → if◌then◌else◌ {A = Option Value} b (slot_value x) v ≡ slot_value (if◌then◌else◌ {A = Option Slot} b x y)
+abbrev pub slot_if : Bool → Option Slot → Option Slot → Option Slot
+slot_if b x y = if b then x else y
+
+abbrev pub value_if : Bool → Option Value → Option Value → Option Value
+value_if b v w = if b then v else w
+
+pick : (b : Bool) (x y : Option Slot) (v : Option Value) → v ≡ slot_value y
+    → value_if b (slot_value x) v ≡ slot_value (slot_if b x y)
 pick true x y v e = refl
 pick false x y v e = e
 
+-- slots that differ from others in one place alone
 abbrev pub DiffersAt : ℕ → Option Slot → Slots → Slots → Type 0
-DiffersAt i x slots new = (slot : ℕ) → get_or new slot None ≡ if◌then◌else◌ {A = Option Slot} (i == slot) x (get_or slots slot None)
+DiffersAt i x slots new = (slot : ℕ) → get_or new slot None ≡ slot_if (i == slot) x (get_or slots slot None)
 
-held_after : (cells : Cells) (dir i : ℕ) (x : Option Slot) (slots new : Slots) → DiffersAt i x slots new → HoldsSlots cells dir slots → (slot : ℕ)
-    → if◌then◌else◌ {A = Option Value} (is_cell (cell.Slot dir i) (cell.Slot dir slot)) (slot_value x) (cells (cell.Slot dir slot)) ≡ slot_value (get_or new slot None)
+held_after : (cells : Cells) (dir i : ℕ) (x : Option Slot) (slots new : Slots) → DiffersAt i x slots new
+    → HoldsSlots cells dir slots → (slot : ℕ)
+    → value_if (is_cell (cell.Slot dir i) (cell.Slot dir slot)) (slot_value x) (cells (cell.Slot dir slot))
+    ≡ slot_value (get_or new slot None)
 held_after cells dir i x slots new differs holds slot =
-    ap (λ (b : Bool). if◌then◌else◌ {A = Option Value} b (slot_value x) (cells (cell.Slot dir slot))) (same_slot dir i slot)
+    ap (λ (b : Bool). value_if b (slot_value x) (cells (cell.Slot dir slot))) (same_slot dir i slot)
     ∙ pick (i == slot) x (get_or slots slot None) (cells (cell.Slot dir slot)) (holds slot)
     ∙ ap slot_value (sym (differs slot))
 
@@ -43,7 +49,9 @@ set_differs i x slots lt slot = elim (cases_eq slot i) [
   | inl e ↦
       let t : (i == slot) ≡ true = eq-eqb i slot (sym e) in
       rw t (ap (λ (k : ℕ). get_or (set slots i x) k None) e ∙ get_or-set_same slots i x None lt)
-  | inr ne ↦ let t : (i == slot) ≡ false = ne_eqb i slot (λ e. ne (sym e)) in rw t (get_or-set_other slots i slot x None ne)
+  | inr ne ↦
+      let t : (i == slot) ≡ false = ne_eqb i slot (λ e. ne (sym e)) in
+      rw t (get_or-set_other slots i slot x None ne)
 ]
 
 past_differs : (i : ℕ) (slots : Slots) → length slots ≤ i → DiffersAt i None slots slots
@@ -62,8 +70,12 @@ both_sucs a b = elim (cases_eq a b) [
 
 push_differs : (x : Option Slot) (slots : Slots) → DiffersAt (length slots) x slots (slots ++ x ∷ [])
 push_differs x [] zero = refl
-push_differs x [] (suc slot) = let t : (0 == suc slot) ≡ false = ne_eqb 0 (suc slot) (λ e. omega (arith, e)) in rw t refl
-push_differs x (s ∷ slots) zero = let t : (suc (length slots) == 0) ≡ false = ne_eqb (suc (length slots)) 0 (λ e. omega (arith, e)) in rw t refl
+push_differs x [] (suc slot) =
+    let t : (0 == suc slot) ≡ false = ne_eqb 0 (suc slot) (λ e. omega (arith, e)) in
+    rw t refl
+push_differs x (s ∷ slots) zero =
+    let t : (suc (length slots) == 0) ≡ false = ne_eqb (suc (length slots)) 0 (λ e. omega (arith, e)) in
+    rw t refl
 push_differs x (s ∷ slots) (suc slot) = rw (both_sucs (length slots) slot) (push_differs x slots slot)
 
 free_within : (i : ℕ) (slots : Slots) → free_from i slots ≤ i + length slots
@@ -74,7 +86,9 @@ free_within i (Some s ∷ slots) = omega (arith, free_within (i + 1) slots)
 
 entry_differs : (slots : Slots) (s : Slot) → DiffersAt (free_from 0 slots) (Some s) slots (with_entry slots s)
 entry_differs slots s = elim (cases_lt (free_from 0 slots) (length slots)) [
-  | inl lt ↦ subst (DiffersAt (free_from 0 slots) (Some s) slots) (with_entry_set slots s lt) (set_differs (free_from 0 slots) (Some s) slots lt)
+  | inl lt ↦
+      subst (DiffersAt (free_from 0 slots) (Some s) slots) (with_entry_set slots s lt)
+      (set_differs (free_from 0 slots) (Some s) slots lt)
   | inr le ↦
       let e : length slots ≡ free_from 0 slots = omega (arith, le, free_within 0 slots) in
       subst (λ (i : ℕ). DiffersAt i (Some s) slots (with_entry slots s)) e
@@ -82,55 +96,19 @@ entry_differs slots s = elim (cases_lt (free_from 0 slots) (length slots)) [
 ]
 
 pub enters_first_free : EntersFirstFree
-enters_first_free cells dir slots s holds slot = held_after cells dir (free_from 0 slots) (Some s) slots (with_entry slots s) (entry_differs slots s) holds slot
+enters_first_free cells dir slots s holds slot =
+    held_after cells dir (free_from 0 slots) (Some s) slots (with_entry slots s) (entry_differs slots s) holds slot
 
 pub replaces_slot : ReplacesSlot
-replaces_slot cells dir i slots s lt holds slot = held_after cells dir i (Some s) slots (set slots i (Some s)) (set_differs i (Some s) slots lt) holds slot
+replaces_slot cells dir i slots s lt holds slot =
+    held_after cells dir i (Some s) slots (set slots i (Some s)) (set_differs i (Some s) slots lt) holds slot
 
 pub frees_slot : FreesSlot
 frees_slot cells dir i slots holds slot = elim (cases_lt i (length slots)) [
   | inl lt ↦ held_after cells dir i None slots (set slots i None) (set_differs i None slots lt) holds slot
-  | inr le ↦ rw (set_past slots i None le) (held_after cells dir i None slots slots (past_differs i slots le) holds slot)
+  | inr le ↦
+      rw (set_past slots i None le) (held_after cells dir i None slots slots (past_differs i slots le) holds slot)
 ]
-
--- ---- searches
-
-none_behind : (s : Slot) (slots : Slots) (name : List ℕ) → bytes_eq s.name name ≡ false → ((slot : ℕ) → has_name name (get_or slots slot None) ≡ false)
-    → (slot : ℕ) → has_name name (get_or (Some s ∷ slots) slot None) ≡ false
-none_behind s slots name t h zero = t
-none_behind s slots name t h (suc slot) = h slot
-
-none_from : (i : ℕ) (slots : Slots) (name : List ℕ) → entry_from i slots name ≡ None → (slot : ℕ) → has_name name (get_or slots slot None) ≡ false
-unfolding entry_from
-none_from i [] name e slot = refl
-none_from i (None ∷ slots) name e zero = refl
-none_from i (None ∷ slots) name e (suc slot) = none_from (i + 1) slots name e slot
-none_from i (Some s ∷ slots) name e slot = elim (cases_Bool (bytes_eq s.name name)) [
-  | inl t ↦ let e' = rw t at e in absurd cc
-  | inr t ↦ none_behind s slots name t (none_from (i + 1) slots name (rw t at e)) slot
-]
-
-none_is : (slots : Slots) (name : List ℕ) (x : Option (ℕ × ℕ)) → entry slots name ≡ x → ((slot : ℕ) → has_name name (get_or slots slot None) ≡ false) → x ≡ None
-none_is slots name None e h = refl
-none_is slots name (Some x) e h =
-    let f = found slots name x e in
-    let here : has_name name (get_or slots x.0 None) ≡ true = ap (has_name name) f.at ∙ (bytes_eq-Decides f.slot.name name).1 f.named in
-    absurd (both_ways _ (h x.0) here)
-
-pub none_is_named : NoneIsNamed
-none_is_named slots name = (none_from 0 slots name, none_is slots name (entry slots name) refl)
-
-abbrev pub slot_with : List ℕ → ℕ → Option Slot
-slot_with name number = Some (record { name = name; number = number })
-
-pub found_is_named : FoundIsNamed
-found_is_named slots name x e =
-    let f = found slots name x e in (
-      f.within,
-      f.at
-          ∙ ap (λ (n : List ℕ). slot_with n f.slot.number) f.named
-          ∙ ap (slot_with name) f.number,
-    )
 
 -- ---- changes of other cells
 

@@ -1,10 +1,9 @@
 -- How a list of slots grows, where it is free, and where it is empty.
-use Rattle.std.proofs.Common.{◌≡◌, ℕ, zero, suc, ◌+◌, ◌<◌, ◌≤◌, min, max, Bool, true, false, List, [], ◌∷◌, ◌++◌, length}
-use Rattle.std.proofs.Common.{set, Option, Some, None, refl, ap, ◌∙◌, arith}
+use Rattle.std.proofs.Common.{◌≡◌, ℕ, zero, suc, ◌+◌, ◌<◌, Bool, List, [], ◌∷◌}
+use Rattle.std.proofs.Common.{set, Some, None, refl, ap, arith}
 use Rattle.harp_base.specs.declared.reply.DirEntry.{DirEntry}
-use Rattle.file_tree.specs.declared.object.Slot.{Slot}
 use Rattle.file_tree.specs.Tree.{Slots, free_from, with_entry}
-use Rattle.file_tree.specs.Outcome.{entry_at, entries_from, page_of, has_no_entry}
+use Rattle.file_tree.specs.Outcome.{entries_from, page_of, has_no_entry}
 use Rattle.inode_dirs.specs.Laws.{EntryGrows, FreedIsFree, EmptyIsLast}
 use Rattle.inode_dirs.proofs.PageSteps.{page_stop}
 
@@ -37,7 +36,8 @@ none_left c [] lt = refl
 none_left c (None ∷ slots) lt = none_left (c + 1) slots (omega (arith, lt))
 none_left c (Some s ∷ slots) lt =
     ap (λ (p : List DirEntry × Bool). p.1)
-    (page_stop 2 0 (record { fileid = s.number; name = s.name; cookie = c }) (entries_from (c + 1) slots) lt (omega arith))
+    (page_stop 2 0 (record { fileid = s.number; name = s.name; cookie = c }) (entries_from (c + 1) slots) lt
+    (omega arith))
 
 pub empty_is_last : EmptyIsLast
 unfolding page_of

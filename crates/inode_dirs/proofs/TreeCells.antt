@@ -1,5 +1,6 @@
 -- The cells of a tree, and the slots and parents that they hold.
-use Rattle.std.proofs.Common.{◌≡◌, ℕ, ◌*◌, ◌≤◌, ◌==◌, Bool, true, false, cond, length, get_or, Option, Some, None, refl, sym, ap, ◌∙◌, subst, arith, inl, inr}
+use Rattle.std.proofs.Common.{◌≡◌, ℕ, ◌*◌, ◌≤◌, ◌==◌, Bool, true, false, cond, length, get_or, Option, Some, None}
+use Rattle.std.proofs.Common.{refl, sym, ap, ◌∙◌, subst, arith, inl, inr}
 use Rattle.std.proofs.lemmas.Bool.{cases_eq, cases_Bool, ne_eqb}
 use Rattle.file_tree.specs.declared.object.Object.{Object}
 use Rattle.file_tree.specs.Tree.{Tree, place, slots_of, slots_within, blocks_at, is_directory_at, parent_of}
@@ -10,10 +11,10 @@ use Rattle.harp_cells.specs.declared.value.Value.{Value}
 use Rattle.harp_cells.specs.declared.value.Value.TheVariants as value
 use Rattle.harp_cells.specs.declared.cell.Cell.TheVariants as cell
 use Rattle.harp_cells.specs.CellsOfTree.{object_value, slot_value, stands_for}
-use Rattle.harp_cells.specs.Effect.{Cells}
 use Rattle.inode_dirs.specs.Slots.{HoldsSlots}
 use Rattle.inode_dirs.specs.Parents.{parent_by, next_by}
-use Rattle.inode_dirs.specs.Laws.{TreesTellSlots, TreesTellParents, SlotsArePlaced, TreesHoldSlots, HeldSlotsStand, TreesHoldParents, StoredParentsAreComputed, CookiesFit, EntriesAreUnderParent}
+use Rattle.inode_dirs.specs.Laws.{TreesTellSlots, TreesTellParents, SlotsArePlaced, TreesHoldSlots, HeldSlotsStand}
+use Rattle.inode_dirs.specs.Laws.{TreesHoldParents, StoredParentsAreComputed, CookiesFit, EntriesAreUnderParent}
 
 pub slots_placed : SlotsArePlaced
 slots_placed tree dir slots e = let is = directory_is tree dir slots e in ap slots_of is.at ∙ ap slots_within is.body
@@ -26,7 +27,9 @@ itself tree dir slot (Some v) = refl
 
 pub trees_hold_slots : TreesHoldSlots
 trees_hold_slots cells tree stamp dir is slot =
-    sym (itself tree dir slot (cells (cell.Slot dir slot))) ∙ is.slot dir slot ∙ itself tree dir slot (slot_value (get_or (slots_of (place tree dir)) slot None))
+    sym (itself tree dir slot (cells (cell.Slot dir slot)))
+    ∙ is.slot dir slot
+    ∙ itself tree dir slot (slot_value (get_or (slots_of (place tree dir)) slot None))
 
 pub held_slots_stand : HeldSlotsStand
 held_slots_stand cells tree dir slot holds = ap (stands_for tree (cell.Slot dir slot)) (holds slot)
@@ -47,15 +50,20 @@ next_itself : (tree : Tree) (v : Option Value) → next_by (stands_for tree cell
 next_itself tree None = refl
 next_itself tree (Some v) = refl
 
-parent_itself : (tree : Tree) (number : ℕ) (v : Option Value) → parent_by number (stands_for tree (cell.Object number) v) ≡ parent_by number v
-parent_itself tree number None = elim (cases_Bool (number == 1)) [ inl t ↦ rw t refl | inr t ↦ rw t (ap (λ (b : Bool). cond b 1 0) t) ]
+parent_itself : (tree : Tree) (number : ℕ) (v : Option Value)
+    → parent_by number (stands_for tree (cell.Object number) v) ≡ parent_by number v
+parent_itself tree number None = elim (cases_Bool (number == 1)) [
+  | inl t ↦ rw t refl
+  | inr t ↦ rw t (ap (λ (b : Bool). cond b 1 0) t)
+]
 parent_itself tree number (Some v) = refl
 
 dead_parent : (tree : Tree) (number : ℕ) → is_directory_at (place tree number) ≡ false → parent_of tree number ≡ 0
 unfolding parent_of
 dead_parent tree number e = rw e refl
 
-placed_parent : (tree : Tree) (number : ℕ) (x : Option Object) → is_directory_at (place tree 1) ≡ true → place tree number ≡ x
+placed_parent : (tree : Tree) (number : ℕ) (x : Option Object) → is_directory_at (place tree 1) ≡ true
+    → place tree number ≡ x
     → parent_by number (object_value tree number x) ≡ parent_of tree number
 placed_parent tree number None root at =
     let no_directory : is_directory_at (place tree number) ≡ false = ap is_directory_at at in
@@ -76,13 +84,15 @@ trees_hold_parents cells tree stamp root is = record {
 }
 
 stored_in : (tree : Tree) (number : ℕ) (inode : Inode) (x : Option Object) → is_directory_at x ≡ true
-    → Some (value.Object inode) ≡ stands_for tree (cell.Object number) (object_value tree number x) → inode.parent ≡ parent_of tree number
+    → Some (value.Object inode) ≡ stands_for tree (cell.Object number) (object_value tree number x)
+    → inode.parent ≡ parent_of tree number
 stored_in tree number inode None d e = absurd cc
 stored_in tree number inode (Some o) d e = cc
 
 pub stored_parents_are_computed : StoredParentsAreComputed
 stored_parents_are_computed cells tree stamp number inode is at d =
-    stored_in tree number inode (place tree number) d (ap (stands_for tree (cell.Object number)) (sym at) ∙ is.object number)
+    let stands = ap (stands_for tree (cell.Object number)) (sym at) ∙ is.object number in
+    stored_in tree number inode (place tree number) d stands
 
 -- ---- what they tell
 

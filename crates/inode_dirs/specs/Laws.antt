@@ -23,7 +23,8 @@ use Rattle.inode_dirs.specs.Pages.{entries_under}
 
 -- a directory's slots are those of its place
 abbrev pub SlotsArePlaced : Type 0
-SlotsArePlaced = (tree : Tree) (dir : ℕ) (slots : Slots) → directory tree dir ≡ Ok slots → slots_of (place tree dir) ≡ slots
+SlotsArePlaced = (tree : Tree) (dir : ℕ) (slots : Slots) → directory tree dir ≡ Ok slots
+    → slots_of (place tree dir) ≡ slots
 
 -- cells that stand for a tree hold the slots of each object
 abbrev pub TreesHoldSlots : Type 0
@@ -34,12 +35,13 @@ TreesHoldSlots = (cells : Cells) (tree : Tree) (stamp dir : ℕ) → StandForTre
 abbrev pub HeldSlotsStand : Type 0
 HeldSlotsStand = (cells : Cells) (tree : Tree) (dir slot : ℕ) → HoldsSlots cells dir (slots_of (place tree dir))
     → StandForSame tree (cell.Slot dir slot) (cells (cell.Slot dir slot))
-      (slot_value (slice_index_or (slots_of (place tree dir)) slot None))
+    (slot_value (slice_index_or (slots_of (place tree dir)) slot None))
 
 -- cells that stand for a tree tell the slots of each directory
 abbrev pub TreesTellSlots : Type 0
 TreesTellSlots = (told : Option Cells) (cells : Cells) (tree : Tree) (stamp dir : ℕ) (slots : Slots)
-    → told ≡ Some cells → StandForTree cells tree stamp → directory tree dir ≡ Ok slots → TellsSlots told dir (length slots) slots
+    → told ≡ Some cells → StandForTree cells tree stamp → directory tree dir ≡ Ok slots
+    → TellsSlots told dir (length slots) slots
 
 -- cells that stand for a tree whose root is a directory hold its parents
 abbrev pub TreesHoldParents : Type 0
@@ -88,7 +90,8 @@ EntryGrows = (slots : Slots) (s : Slot) → length (with_entry slots s) ≡ max 
 
 -- the first free slot after one was freed
 abbrev pub FreedIsFree : Type 0
-FreedIsFree = (slots : Slots) (i : ℕ) → i < length slots → free_from 0 (slice_set slots i None) ≡ min i (free_from 0 slots)
+FreedIsFree = (slots : Slots) (i : ℕ) → i < length slots
+    → free_from 0 (slice_set slots i None) ≡ min i (free_from 0 slots)
 
 -- in a sound tree, as many levels as there are objects are enough on the way up from a directory
 abbrev pub AboveIsBelow : Type 0
@@ -101,13 +104,13 @@ AboveIsBelow = (tree : Tree) (top dir : ℕ) → IsSound tree → is_directory_a
 abbrev pub EntersFirstFree : Type 0
 EntersFirstFree = (cells : Cells) (dir : ℕ) (slots : Slots) (s : Slot) → HoldsSlots cells dir slots
     → HoldsSlots (after (change.Put (cell.Slot dir (free_from 0 slots)) (value.Slot s.number s.name) ∷ []) cells) dir
-      (with_entry slots s)
+    (with_entry slots s)
 
 -- a slot's entry is replaced
 abbrev pub ReplacesSlot : Type 0
 ReplacesSlot = (cells : Cells) (dir i : ℕ) (slots : Slots) (s : Slot) → i < length slots → HoldsSlots cells dir slots
     → HoldsSlots (after (change.Put (cell.Slot dir i) (value.Slot s.number s.name) ∷ []) cells) dir
-      (slice_set slots i (Some s))
+    (slice_set slots i (Some s))
 
 -- a slot is freed
 abbrev pub FreesSlot : Type 0

@@ -7,7 +7,9 @@ use Rattle.file_tree.specs.Outcome.{entries_from, page_of}
 -- `.`, `..` and the slots of a directory with this parent, each with its cookie
 abbrev pub entries_under : ℕ → ℕ → Slots → List DirEntry
 entries_under dir parent slots =
-    record { fileid = dir; name = 46 ∷ []; cookie = 1 } ∷ record { fileid = parent; name = 46 ∷ 46 ∷ []; cookie = 2 } ∷ entries_from 3 slots
+    record { fileid = dir; name = 46 ∷ []; cookie = 1 }
+    ∷ record { fileid = parent; name = 46 ∷ 46 ∷ []; cookie = 2 }
+    ∷ entries_from 3 slots
 
 abbrev pub entry_list : Option DirEntry → List DirEntry
 entry_list None = []

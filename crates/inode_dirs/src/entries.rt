@@ -16,7 +16,8 @@ pub fn find<R: CellRead>(
     slots: u32,
     name: &[u8],
 ) -> Result<Option<(u32, u32)>, CellFault>
-    ensures found { (held : Slots) → TellsSlots (R.cells cells.old) dir slots held → IfOk result (λ x. x ≡ entry held name.now) }
+    ensures found { (held : Slots) → TellsSlots (R.cells cells.old) dir slots held
+        → IfOk result (λ x. x ≡ entry held name.now) }
     ensures kept { R.cells cells.new ≡ R.cells cells.old }
     ensures rose { result ≡ Err CellFault.StoreFailed → Rose (R.faults cells.old) (R.faults cells.new) }
     ensures count { R.faults cells.old ≤ R.faults cells.new }
@@ -32,7 +33,8 @@ pub fn find<R: CellRead>(
 /// The slot for a new entry in a directory of so many slots: the first free one, else one behind the last. The slots
 /// are fetched in order, as far as that one.
 pub fn slot_for<R: CellRead>(cells: &mut R, dir: u32, slots: u32) -> Result<u32, CellFault>
-    ensures free { (held : Slots) → TellsSlots (R.cells cells.old) dir slots held → IfOk result (λ slot. slot ≡ free_from 0 held) }
+    ensures free { (held : Slots) → TellsSlots (R.cells cells.old) dir slots held
+        → IfOk result (λ slot. slot ≡ free_from 0 held) }
     ensures within { IfOk result (λ slot. slot ≤ slots) }
     ensures kept { R.cells cells.new ≡ R.cells cells.old }
     ensures rose { result ≡ Err CellFault.StoreFailed → Rose (R.faults cells.old) (R.faults cells.new) }

@@ -1,6 +1,7 @@
 //! Pages of a directory.
 
-ghost use Rattle.std.specs.Prelude.{◌≡◌, ◌≤◌, ◌<◌, ◌+◌, ◌*◌, ◌∷◌, ◌++◌, ◌^◌, List, length, replicate, min, false, IfOk, Err, if◌then◌else◌};
+ghost use Rattle.std.specs.Prelude.{◌≡◌, ◌≤◌, ◌<◌, ◌+◌, ◌*◌, ◌∷◌, ◌++◌, ◌^◌, List, length, replicate, min, false};
+ghost use Rattle.std.specs.Prelude.{IfOk, Err, if◌then◌else◌};
 ghost use Rattle.harp_base.specs.Streams.{Rose};
 ghost use Rattle.harp_base.specs.declared.reply.DirEntry.{DirEntry as Listed};
 ghost use Rattle.file_tree.specs.Tree.{Slots};
@@ -41,8 +42,10 @@ impl Filling {
     #[tactic(auto, using(crate::proofs::PageSteps::offer_steps))]
     fn offer(&mut self, entry: DirEntry) -> Result<bool, AllocError>
         ensures above { self.new.above ≡ self.old.above }
-        ensures page { IfOk result (λ goes. (more : List Listed) → page_after self.old.entries.items self.old.above self.old.room (entry ∷ more)
-            ≡ (if goes then page_after self.new.entries.items self.new.above self.new.room more else (self.new.entries.items, false))) }
+        ensures page { IfOk result (λ goes. (more : List Listed)
+            → page_after self.old.entries.items self.old.above self.old.room (entry ∷ more)
+            ≡ (if goes then page_after self.new.entries.items self.new.above self.new.room more
+            else (self.new.entries.items, false))) }
     {
         if entry.cookie <= self.above {
             return Ok(true);
@@ -59,8 +62,10 @@ impl Filling {
     /// Adds the entry of a slot, where it has one.
     fn offer_some(&mut self, entry: Option<DirEntry>) -> Result<bool, AllocError>
         ensures above { self.new.above ≡ self.old.above }
-        ensures page { IfOk result (λ goes. (more : List Listed) → page_after self.old.entries.items self.old.above self.old.room (entry_list entry ++ more)
-            ≡ (if goes then page_after self.new.entries.items self.new.above self.new.room more else (self.new.entries.items, false))) }
+        ensures page { IfOk result (λ goes. (more : List Listed)
+            → page_after self.old.entries.items self.old.above self.old.room (entry_list entry ++ more)
+            ≡ (if goes then page_after self.new.entries.items self.new.above self.new.room more
+            else (self.new.entries.items, false))) }
     {
         match entry {
             None => Ok(true),
@@ -71,8 +76,10 @@ impl Filling {
     /// Adds `.` and `..`.
     fn offer_dots(&mut self, alloc: Global, dir: u32, parent: u32) -> Result<bool, AllocError>
         ensures above { self.new.above ≡ self.old.above }
-        ensures page { IfOk result (λ goes. (slots : Slots) → page_after self.old.entries.items self.old.above self.old.room (entries_under dir parent slots)
-            ≡ (if goes then page_after self.new.entries.items self.new.above self.new.room (entries_from 3 slots) else (self.new.entries.items, false))) }
+        ensures page { IfOk result (λ goes. (slots : Slots)
+            → page_after self.old.entries.items self.old.above self.old.room (entries_under dir parent slots)
+            ≡ (if goes then page_after self.new.entries.items self.new.above self.new.room (entries_from 3 slots)
+            else (self.new.entries.items, false))) }
     {
         if !self.offer(dots(alloc, dir, 1)?)? {
             return Ok(false);
@@ -102,7 +109,8 @@ fn list_slots<R: CellRead>(
     page: &mut Filling,
 ) -> Result<bool, CellFault>
     ensures page { (held : Slots) → TellsSlots (R.cells cells.old) dir slots held → slots + 2 < 2 ^ 32
-        → IfOk result (λ eof. page_after page.old.entries.items page.old.above page.old.room (entries_from 3 held) ≡ (page.new.entries.items, eof)) }
+        → IfOk result (λ eof. page_after page.old.entries.items page.old.above page.old.room (entries_from 3 held)
+        ≡ (page.new.entries.items, eof)) }
     ensures kept { R.cells cells.new ≡ R.cells cells.old }
     ensures rose { result ≡ Err CellFault.StoreFailed → Rose (R.faults cells.old) (R.faults cells.new) }
     ensures count { R.faults cells.old ≤ R.faults cells.new }
@@ -129,7 +137,8 @@ pub fn list_from<R: CellRead>(
     count: u32,
 ) -> Result<DirPage, CellFault>
     ensures page { (held : Slots) → TellsSlots (R.cells cells.old) dir slots held → slots + 2 < 2 ^ 32
-        → IfOk result (λ page. (page.entries.items, page.eof) ≡ page_of cookie (min count 8192) (entries_under dir parent held)) }
+        → IfOk result (λ page. (page.entries.items, page.eof)
+        ≡ page_of cookie (min count 8192) (entries_under dir parent held)) }
     ensures few { IfOk result (λ page. length page.entries.items ≤ 512) }
     ensures kept { R.cells cells.new ≡ R.cells cells.old }
     ensures rose { result ≡ Err CellFault.StoreFailed → Rose (R.faults cells.old) (R.faults cells.new) }

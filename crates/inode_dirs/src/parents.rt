@@ -33,7 +33,8 @@ fn parent_found<R: CellRead>(cells: &R, number: u32) -> u32
 
 /// The parent of a directory; 0 of any other number.
 fn parent_at<R: CellRead>(cells: &mut R, number: u32) -> Result<u32, CellFault>
-    ensures parent { (tree : Tree) → TellsParents (R.cells cells.old) tree → IfOk result (λ parent. parent ≡ parent_of tree number) }
+    ensures parent { (tree : Tree) → TellsParents (R.cells cells.old) tree
+        → IfOk result (λ parent. parent ≡ parent_of tree number) }
     ensures kept { R.cells cells.new ≡ R.cells cells.old }
     ensures rose { result ≡ Err CellFault.StoreFailed → Rose (R.faults cells.old) (R.faults cells.new) }
     ensures count { R.faults cells.old ≤ R.faults cells.new }
@@ -78,7 +79,8 @@ fn next_number<R: CellRead>(cells: &mut R) -> Result<u32, CellFault>
 /// Whether a directory is `top` or below it. The parents are followed up to the root, and on no more levels than there
 /// are objects, so that the walk ends on any cells; those of no tree may be answered falsely.
 pub fn is_below<R: CellRead>(cells: &mut R, dir: u32, top: u32) -> Result<bool, CellFault>
-    ensures below { (tree : Tree) → TellsParents (R.cells cells.old) tree → IfOk result (λ below. below ≡ is_above (length tree) tree top dir) }
+    ensures below { (tree : Tree) → TellsParents (R.cells cells.old) tree
+        → IfOk result (λ below. below ≡ is_above (length tree) tree top dir) }
     ensures kept { R.cells cells.new ≡ R.cells cells.old }
     ensures rose { result ≡ Err CellFault.StoreFailed → Rose (R.faults cells.old) (R.faults cells.new) }
     ensures count { R.faults cells.old ≤ R.faults cells.new }

@@ -44,7 +44,8 @@ pub fn object_at<R: CellRead>(
     slot: u32,
     name: &[u8],
 ) -> Result<Option<u32>, CellFault>
-    ensures found { (s : Option Slot) → TellsSlot (R.cells cells.old) dir slot s → IfOk result (λ x. x ≡ object_named name.now s) }
+    ensures found { (s : Option Slot) → TellsSlot (R.cells cells.old) dir slot s
+        → IfOk result (λ x. x ≡ object_named name.now s) }
     ensures kept { R.cells cells.new ≡ R.cells cells.old }
     ensures rose { result ≡ Err CellFault.StoreFailed → Rose (R.faults cells.old) (R.faults cells.new) }
     ensures count { R.faults cells.old ≤ R.faults cells.new }
@@ -55,7 +56,8 @@ pub fn object_at<R: CellRead>(
 
 /// Whether a slot is free.
 pub fn is_free_at<R: CellRead>(cells: &mut R, dir: u32, slot: u32) -> Result<bool, CellFault>
-    ensures free { (s : Option Slot) → TellsSlot (R.cells cells.old) dir slot s → IfOk result (λ free. free ≡ not (is_some s)) }
+    ensures free { (s : Option Slot) → TellsSlot (R.cells cells.old) dir slot s
+        → IfOk result (λ free. free ≡ not (is_some s)) }
     ensures kept { R.cells cells.new ≡ R.cells cells.old }
     ensures rose { result ≡ Err CellFault.StoreFailed → Rose (R.faults cells.old) (R.faults cells.new) }
     ensures count { R.faults cells.old ≤ R.faults cells.new }

@@ -8,5 +8,6 @@ abbrev pub invariant-loop : goal.invariant-loop
 invariant-loop g l = record {
   kept : g.R.CellRead.cells l.cells ≡ g.R.CellRead.cells l.fn.cells;
   count : g.R.CellRead.faults l.fn.cells ≤ g.R.CellRead.faults l.cells;
-  above : (tree : Tree) → TellsParents (g.R.CellRead.cells l.fn.cells) tree → is_above (length tree - l.counter) tree l.top l.at ≡ is_above (length tree) tree l.top l.dir;
+  above : (tree : Tree) → TellsParents (g.R.CellRead.cells l.fn.cells) tree
+      → is_above (length tree - l.counter) tree l.top l.at ≡ is_above (length tree) tree l.top l.dir;
 }
