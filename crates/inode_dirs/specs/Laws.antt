@@ -55,7 +55,8 @@ TreesTellParents = (told : Option Cells) (cells : Cells) (tree : Tree) (stamp : 
 
 -- a directory's parent that is stored is the computed one
 abbrev pub StoredParentsAreComputed : Type 0
-StoredParentsAreComputed = (cells : Cells) (tree : Tree) (stamp number : ℕ) (inode : Inode) → StandForTree cells tree stamp
+StoredParentsAreComputed = (cells : Cells) (tree : Tree) (stamp number : ℕ) (inode : Inode)
+    → StandForTree cells tree stamp
     → cells (cell.Object number) ≡ Some (value.Object inode) → is_directory_at (place tree number) ≡ true
     → inode.parent ≡ parent_of tree number
 
