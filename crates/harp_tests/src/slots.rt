@@ -5,7 +5,7 @@ ghost use Rattle.harp_cells.specs.declared.value.Value.{Value as CellValue};
 ghost use Rattle.harp_cells.specs.Memory.{fetched_in};
 
 use harp_base::{DirEntry, Kind, Time};
-use harp_cells::{Cell, CellFault, CellRead, Inode, MemCells, NonEmpty, Stamp, Value};
+use harp_cells::{Cell, CellFault, CellRead, Inode, MemCells, NonEmpty, Value};
 use inode_dirs::{DirPage, find, is_below, list_from, slot_for};
 use std::alloc::Global;
 use std::test::Fail;
@@ -105,15 +105,6 @@ fn put_dir(cells: &mut MemCells, object: u32, parent: u32) -> Result<(), Fail> {
 /// The directories 2, which is /61, and 3, which is /61/62.
 fn nested(alloc: Global) -> Result<MemCells, Fail> {
     let mut cells = MemCells::new(alloc);
-    let stamp = Stamp::of(0).ok_or("no stamp")?;
-    cells.put(
-        Cell::Meta,
-        Value::Meta {
-            next: 4,
-            used: 2,
-            stamp,
-        },
-    )?;
     put_dir(&mut cells, 2, 1)?;
     put_dir(&mut cells, 3, 2)?;
     Ok(cells)

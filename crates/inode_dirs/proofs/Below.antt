@@ -1,12 +1,15 @@
 -- In a sound tree the way up from a directory meets each directory that it is below.
-use Rattle.std.proofs.Common.{◌≡◌, ℕ, zero, suc, ◌==◌, true, length, ◌⊎◌, ap, ◌∙◌, subst, inl, inr, eq-eqb}
+use Rattle.std.proofs.Common.{◌≡◌, ℕ, zero, suc, ◌≤◌, ◌==◌, Bool, true, false, length, refl, sym, ◌⊎◌, ap, ◌∙◌, subst}
+use Rattle.std.proofs.Common.{inl, inr, eq-eqb}
 use Rattle.std.proofs.Common.{eqb-true}
 use Rattle.std.proofs.lemmas.Bool.{or_cases, or_left, or_right}
 use Rattle.file_tree.specs.Tree.{Tree, place, is_directory_at, parent_of}
 use Rattle.file_tree.specs.Rename.{is_above}
+use Rattle.file_tree.specs.Sound.{IsSound}
 use Rattle.file_tree.proofs.Holders.{parent_of_root}
 use Rattle.inode_dirs.specs.Parents.{ancestor, IsBelow}
 use Rattle.inode_dirs.specs.Laws.{AboveIsBelow}
+use Rattle.inode_dirs.proofs.Levels.{root_met}
 
 below : (levels : ℕ) (tree : Tree) (top dir : ℕ) → is_above levels tree top dir ≡ true → IsBelow tree dir top
 unfolding is_above ancestor
@@ -64,3 +67,16 @@ above_is_below tree top dir is d = (
   below (length tree) tree top dir,
   λ b. met (length tree) b.0 tree top dir is.root (is.reaches dir d) (above b.0 tree top dir b.1),
 )
+
+same_test : (a b : Bool) → (a ≡ true → b ≡ true) → (b ≡ true → a ≡ true) → a ≡ b
+same_test true b h k = sym (h refl)
+same_test false true h k = k refl
+same_test false false h k = refl
+
+-- as many levels as there can be blocks are enough too
+pub enough_levels : (levels : ℕ) (tree : Tree) (top dir : ℕ) → 65536 ≤ levels → IsSound tree
+    → is_directory_at (place tree dir) ≡ true → is_above levels tree top dir ≡ is_above (length tree) tree top dir
+enough_levels levels tree top dir enough is d =
+    same_test (is_above levels tree top dir) (is_above (length tree) tree top dir)
+    (met (length tree) levels tree top dir is.root (is.reaches dir d))
+    (met levels (length tree) tree top dir is.root (root_met levels tree dir enough is d))

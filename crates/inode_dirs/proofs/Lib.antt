@@ -7,3 +7,4 @@ pub mod SlotChanges
 pub mod EntryLaws
 pub mod SlotCounts
 pub mod Below
+pub mod Levels

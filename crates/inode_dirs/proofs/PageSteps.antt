@@ -91,12 +91,11 @@ pub after_slots : (front : List DirEntry) (above room : ℕ) (slots : Slots) (i 
 unfolding page_of
 after_slots front above room slots i le = rw (none_behind slots i le, append-nil) refl
 
--- where the entry of the next slot was offered
-pub after_offered : (front : List DirEntry) (above room : ℕ) (slots : Slots) (i : ℕ) (e : Option DirEntry)
-    → (all out : List DirEntry × Bool) → i < length slots → entry_list e ≡ entry_at (i + 3) (get_or slots i None)
-    → page_after front above room (entries_at i slots) ≡ all
-    → page_after front above room (entry_list e ++ entries_at (i + 1) slots) ≡ out → all ≡ out
-after_offered front above room slots i e all out lt is before offered =
-    let next : entries_at i slots ≡ entry_list e ++ entries_at (i + 1) slots =
-    slot_first slots i lt ∙ ap (λ (es : List DirEntry). es ++ entries_at (i + 1) slots) (sym is) in
-    sym before ∙ ap (page_after front above room) next ∙ offered
+-- the next slot's entry is offered next
+pub after_next : (front : List DirEntry) (above room : ℕ) (slots : Slots) (i : ℕ) (e : Option DirEntry)
+    → i < length slots → entry_list e ≡ entry_at (i + 3) (get_or slots i None)
+    → page_after front above room (entries_at i slots)
+    ≡ page_after front above room (entry_list e ++ entries_at (i + 1) slots)
+after_next front above room slots i e lt is =
+    ap (page_after front above room)
+    (slot_first slots i lt ∙ ap (λ (es : List DirEntry). es ++ entries_at (i + 1) slots) (sym is))

@@ -12,7 +12,7 @@ use Rattle.harp_cells.specs.declared.value.Value.TheVariants as value
 use Rattle.harp_cells.specs.declared.cell.Cell.TheVariants as cell
 use Rattle.harp_cells.specs.CellsOfTree.{object_value, slot_value, stands_for}
 use Rattle.inode_dirs.specs.Slots.{HoldsSlots}
-use Rattle.inode_dirs.specs.Parents.{parent_by, next_by}
+use Rattle.inode_dirs.specs.Parents.{parent_by}
 use Rattle.inode_dirs.specs.Laws.{TreesTellSlots, TreesTellParents, SlotsArePlaced, TreesHoldSlots, HeldSlotsStand}
 use Rattle.inode_dirs.specs.Laws.{TreesHoldParents, StoredParentsAreComputed, CookiesFit, EntriesAreUnderParent}
 
@@ -46,10 +46,6 @@ entries_are_under_parent tree dir slots = refl
 
 -- ---- parents
 
-next_itself : (tree : Tree) (v : Option Value) → next_by (stands_for tree cell.Meta v) ≡ next_by v
-next_itself tree None = refl
-next_itself tree (Some v) = refl
-
 parent_itself : (tree : Tree) (number : ℕ) (v : Option Value)
     → parent_by number (stands_for tree (cell.Object number) v) ≡ parent_by number v
 parent_itself tree number None = elim (cases_Bool (number == 1)) [
@@ -74,14 +70,11 @@ placed_parent tree number None root at =
 placed_parent tree number (Some o) root at = refl
 
 pub trees_hold_parents : TreesHoldParents
-trees_hold_parents cells tree stamp root is = record {
-  next = sym (next_itself tree (cells cell.Meta)) ∙ ap next_by is.meta;
-  parent = λ number.
-      sym (parent_itself tree number (cells (cell.Object number)))
-      ∙ ap (parent_by number) (is.object number)
-      ∙ parent_itself tree number (object_value tree number (place tree number))
-      ∙ placed_parent tree number (place tree number) root refl;
-}
+trees_hold_parents cells tree stamp root is number =
+    sym (parent_itself tree number (cells (cell.Object number)))
+    ∙ ap (parent_by number) (is.object number)
+    ∙ parent_itself tree number (object_value tree number (place tree number))
+    ∙ placed_parent tree number (place tree number) root refl
 
 stored_in : (tree : Tree) (number : ℕ) (inode : Inode) (x : Option Object) → is_directory_at x ≡ true
     → Some (value.Object inode) ≡ stands_for tree (cell.Object number) (object_value tree number x)

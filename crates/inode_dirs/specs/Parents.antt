@@ -1,5 +1,5 @@
 -- The parents of directories that cells hold.
-use Rattle.std.specs.Prelude.{◌≡◌, ℕ, zero, suc, ◌==◌, length, Option, Some, None, if◌then◌else◌}
+use Rattle.std.specs.Prelude.{◌≡◌, ℕ, zero, suc, ◌==◌, Option, Some, None, if◌then◌else◌}
 use Rattle.file_tree.specs.Tree.{Tree, parent_of}
 use Rattle.harp_cells.specs.declared.value.Value.{Value}
 use Rattle.harp_cells.specs.declared.value.Value.TheVariants as value
@@ -16,20 +16,9 @@ parent_by number (Some (value.Slot object name)) = 0
 parent_by number (Some (value.Client n index reply)) = 0
 parent_by number (Some (value.Saved bytes)) = 0
 
--- the next object's number by the cell of the whole tree: where it is absent, the root alone stands
-abbrev pub next_by : Option Value → ℕ
-next_by None = 2
-next_by (Some (value.Meta next used stamp)) = next
-next_by (Some (value.Object inode)) = 0
-next_by (Some (value.Block bytes)) = 0
-next_by (Some (value.Slot object name)) = 0
-next_by (Some (value.Client n index reply)) = 0
-next_by (Some (value.Saved bytes)) = 0
-
--- cells hold the next number of a tree and the parent of each of its directories
-pub record HoldsParents (cells : Cells) (tree : Tree) : Type 0 where
-  pub next : next_by (cells cell.Meta) ≡ length tree
-  pub parent : (number : ℕ) → parent_by number (cells (cell.Object number)) ≡ parent_of tree number
+-- cells hold the parent of each directory of a tree
+abbrev pub HoldsParents : Cells → Tree → Type 0
+HoldsParents cells tree = (number : ℕ) → parent_by number (cells (cell.Object number)) ≡ parent_of tree number
 
 -- cells that tell what they hold, and hold the parents of a tree
 pub record TellsParents (told : Option Cells) (tree : Tree) : Type 0 where

@@ -1,10 +1,11 @@
 //! The way up from a directory.
 
-ghost use Rattle.std.specs.Prelude.{◌≡◌, ◌≤◌, IfOk, Err, Some, length};
+ghost use Rattle.std.specs.Prelude.{◌≡◌, ◌≤◌, IfOk, Err, Some, length, true};
 ghost use Rattle.harp_base.specs.Streams.{Rose};
-ghost use Rattle.file_tree.specs.Tree.{Tree, parent_of};
+ghost use Rattle.file_tree.specs.Tree.{Tree, place, is_directory_at, parent_of};
 ghost use Rattle.file_tree.specs.Rename.{is_above};
-ghost use Rattle.inode_dirs.specs.Parents.{TellsParents, parent_by, next_by};
+ghost use Rattle.file_tree.specs.Sound.{IsSound};
+ghost use Rattle.inode_dirs.specs.Parents.{TellsParents, parent_by};
 
 use harp_cells::{Cell, CellFault, CellRead, Value};
 
@@ -43,50 +44,20 @@ fn parent_at<R: CellRead>(cells: &mut R, number: u32) -> Result<u32, CellFault>
     Ok(parent_found(cells, number))
 }
 
-fn next_in(value: &Value) -> u32
-    ensures { result ≡ next_by (Some value.now) }
-{
-    match value {
-        Value::Meta { next, .. } => *next,
-        Value::Object { .. }
-        | Value::Block { .. }
-        | Value::Slot { .. }
-        | Value::Client { .. }
-        | Value::Saved { .. } => 0,
-    }
-}
+/// As many levels as a tree has blocks at most: each directory above another one has a block of its own.
+const MOST_LEVELS: u32 = 65_536;
 
-fn next_found<R: CellRead>(cells: &R) -> u32
-    ensures { result ≡ next_by (R.found cells.now) }
-{
-    match cells.value() {
-        None => 2,
-        Some(value) => next_in(value),
-    }
-}
-
-/// The next object's number.
-fn next_number<R: CellRead>(cells: &mut R) -> Result<u32, CellFault>
-    ensures next { (tree : Tree) → TellsParents (R.cells cells.old) tree → IfOk result (λ next. next ≡ length tree) }
-    ensures kept { R.cells cells.new ≡ R.cells cells.old }
-    ensures rose { result ≡ Err CellFault.StoreFailed → Rose (R.faults cells.old) (R.faults cells.new) }
-    ensures count { R.faults cells.old ≤ R.faults cells.new }
-{
-    cells.fetch(Cell::Meta)?;
-    Ok(next_found(cells))
-}
-
-/// Whether a directory is `top` or below it. The parents are followed up to the root, and on no more levels than there
-/// are objects, so that the walk ends on any cells; those of no tree may be answered falsely.
+/// Whether a directory is `top` or below it. The parents are followed up to the root, and on at most 65,536 levels,
+/// so that the walk ends on any cells; for those of no sound tree the answer says no more than that.
 pub fn is_below<R: CellRead>(cells: &mut R, dir: u32, top: u32) -> Result<bool, CellFault>
-    ensures below { (tree : Tree) → TellsParents (R.cells cells.old) tree
-        → IfOk result (λ below. below ≡ is_above (length tree) tree top dir) }
+    ensures below { (tree : Tree) → IsSound tree → is_directory_at (place tree dir) ≡ true
+        → TellsParents (R.cells cells.old) tree → IfOk result (λ below. below ≡ is_above (length tree) tree top dir) }
     ensures kept { R.cells cells.new ≡ R.cells cells.old }
     ensures rose { result ≡ Err CellFault.StoreFailed → Rose (R.faults cells.old) (R.faults cells.new) }
     ensures count { R.faults cells.old ≤ R.faults cells.new }
 {
     let mut at = dir;
-    for _ in 0..next_number(cells)? {
+    for _ in 0..MOST_LEVELS {
         if at == top {
             return Ok(true);
         }

@@ -1,7 +1,7 @@
 use Rattle.std.proofs.Common.{◌+◌, ◌<◌, ◌≤◌, length, get_or, drop, None, arith, refl, sym, ◌∙◌}
 use Rattle.file_tree.specs.Outcome.{entries_from}
 use Rattle.inode_dirs.proofs.HeldSlots.{slot_then}
-use Rattle.inode_dirs.proofs.PageSteps.{after_skipped, after_slots, after_offered}
+use Rattle.inode_dirs.proofs.PageSteps.{after_skipped, after_slots, after_next}
 use Rattle.inode_dirs.proofs.page.list_slots.Goals as goal
 
 pub loop-slot-init : goal.loop-slot-init
@@ -22,8 +22,9 @@ returns-then-not-branch-clause-page g c held t fits =
     let within : at < length held = omega (arith, t.count, c.loop-slot-test.true) in
     let more = entries_from (at + 1 + 3) (drop (at + 1) held) in
     let offered = rw c.if-not-branch.true at (c.in_ok-offer_some.ensures.page more) in
-    after_offered page.entries.items page.above page.room held at c.in_ok-entry.entry _ _
-    within is (c.loop-slot.invariant.page held t fits) offered
+    sym (c.loop-slot.invariant.page held t fits)
+    ∙ after_next page.entries.items page.above page.room held at c.in_ok-entry.entry within is
+    ∙ offered
 
 pub loop-slot-preserved : goal.loop-slot-preserved
 loop-slot-preserved g c = record {
@@ -37,8 +38,9 @@ loop-slot-preserved g c = record {
       let within : at < length held = omega (arith, t.count, c.loop-slot-test.true) in
       let more = entries_from (at + 1 + 3) (drop (at + 1) held) in
       let offered = rw c.if-not-branch.false at (c.in_ok-offer_some.ensures.page more) in
-      sym (after_offered page.entries.items page.above page.room held at c.in_ok-entry.entry _ _
-      within is (c.loop-slot.invariant.page held t fits) offered);
+      sym offered
+      ∙ sym (after_next page.entries.items page.above page.room held at c.in_ok-entry.entry within is)
+      ∙ c.loop-slot.invariant.page held t fits;
 }
 
 pub returns-clause-page : goal.returns-clause-page
