@@ -1,10 +1,11 @@
 -- How a list of slots grows, where it is free, and where it is empty.
 use Rattle.std.proofs.Common.{◌≡◌, ℕ, zero, suc, ◌+◌, ◌<◌, Bool, List, [], ◌∷◌}
-use Rattle.std.proofs.Common.{set, Some, None, refl, ap, arith}
+use Rattle.std.proofs.Common.{true, get_or, set, Some, None, refl, ap, ◌∙◌, arith}
 use Rattle.harp_base.specs.declared.reply.DirEntry.{DirEntry}
 use Rattle.file_tree.specs.Tree.{Slots, free_from, with_entry}
 use Rattle.file_tree.specs.Outcome.{entries_from, page_of, has_no_entry}
-use Rattle.inode_dirs.specs.Laws.{EntryGrows, FreedIsFree, EmptyIsLast}
+use Rattle.inode_dirs.specs.Laws.{EntryGrows, FreedIsFree, EmptyIsLast, EmptyHoldsNone}
+use Rattle.harp_cells.specs.CellsOfTree.{slot_value}
 use Rattle.inode_dirs.proofs.PageSteps.{page_stop}
 
 free_shift : (i : ℕ) (slots : Slots) → free_from (suc i) slots ≡ suc (free_from i slots)
@@ -42,3 +43,12 @@ none_left c (Some s ∷ slots) lt =
 pub empty_is_last : EmptyIsLast
 unfolding page_of
 empty_is_last dir parent slots = none_left 3 slots (omega arith)
+
+each_free : (slots : Slots) (slot : ℕ) → has_no_entry slots ≡ true → get_or slots slot None ≡ None
+each_free [] slot e = refl
+each_free (None ∷ slots) zero e = refl
+each_free (None ∷ slots) (suc slot) e = each_free slots slot e
+each_free (Some s ∷ slots) slot e = absurd cc
+
+pub empty_holds_none : EmptyHoldsNone
+empty_holds_none cells dir slots e holds slot = holds slot ∙ ap slot_value (each_free slots slot e)

@@ -37,6 +37,11 @@ HeldSlotsStand = (cells : Cells) (tree : Tree) (dir slot : ℕ) → HoldsSlots c
     → StandForSame tree (cell.Slot dir slot) (cells (cell.Slot dir slot))
     (slot_value (slice_index_or (slots_of (place tree dir)) slot None))
 
+-- a directory without an entry has no cell of a slot
+abbrev pub EmptyHoldsNone : Type 0
+EmptyHoldsNone = (cells : Cells) (dir : ℕ) (slots : Slots) → has_no_entry slots ≡ true → HoldsSlots cells dir slots
+    → HoldsSlots cells dir []
+
 -- cells that stand for a tree tell the slots of each directory
 abbrev pub TreesTellSlots : Type 0
 TreesTellSlots = (told : Option Cells) (cells : Cells) (tree : Tree) (stamp dir : ℕ) (slots : Slots)

@@ -1,6 +1,6 @@
 //! Entries by their names, and free slots.
 
-ghost use Rattle.std.specs.Prelude.{◌≡◌, ◌≤◌, IfOk, Err};
+ghost use Rattle.std.specs.Prelude.{◌≡◌, ◌<◌, ◌≤◌, IfOk, IfSome, Err};
 ghost use Rattle.harp_base.specs.Streams.{Rose};
 ghost use Rattle.file_tree.specs.Tree.{Slots, entry, free_from};
 ghost use Rattle.inode_dirs.specs.Slots.{TellsSlots};
@@ -18,6 +18,7 @@ pub fn find<R: CellRead>(
 ) -> Result<Option<(u32, u32)>, CellFault>
     ensures found { (held : Slots) → TellsSlots (R.cells cells.old) dir slots held
         → IfOk result (λ x. x ≡ entry held name.now) }
+    ensures within { IfOk result (λ x. IfSome x (λ entry. entry.0 < slots)) }
     ensures kept { R.cells cells.new ≡ R.cells cells.old }
     ensures rose { result ≡ Err CellFault.StoreFailed → Rose (R.faults cells.old) (R.faults cells.new) }
     ensures count { R.faults cells.old ≤ R.faults cells.new }

@@ -1,6 +1,6 @@
 //! What the cells of a tree say of its directories.
 
-ghost use Rattle.inode_dirs.specs.Laws.{SlotsArePlaced, TreesHoldSlots, HeldSlotsStand, TreesTellSlots};
+ghost use Rattle.inode_dirs.specs.Laws.{SlotsArePlaced, TreesHoldSlots, HeldSlotsStand, EmptyHoldsNone, TreesTellSlots};
 ghost use Rattle.inode_dirs.specs.Laws.{TreesHoldParents, TreesTellParents, StoredParentsAreComputed, AboveIsBelow};
 ghost use Rattle.inode_dirs.specs.Laws.{CookiesFit, EntriesAreUnderParent, EmptyIsLast};
 ghost use Rattle.inode_dirs.specs.Laws.{NoneIsNamed, FoundIsNamed, EntryGrows, FreedIsFree};
@@ -12,6 +12,7 @@ pub fn slot_laws()
     ensures placed { SlotsArePlaced }
     ensures held { TreesHoldSlots }
     ensures stand { HeldSlotsStand }
+    ensures empty { EmptyHoldsNone }
     ensures told { TreesTellSlots }
     ensures enters { EntersFirstFree }
     ensures replaces { ReplacesSlot }
