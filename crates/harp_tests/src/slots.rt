@@ -65,7 +65,10 @@ fn put_slot(
     byte: u8,
 ) -> Result<(), Fail> {
     let name = NonEmpty::of(vec![in alloc; byte; 1]?).ok_or("no name")?;
-    cells.put(Cell::Slot { object: dir, slot }, Value::Slot { object, name })?;
+    cells.put(
+        Cell::Slot { object: dir, slot },
+        Value::Slot { object, name },
+    )?;
     Ok(())
 }
 

@@ -99,8 +99,7 @@ fn dots(alloc: Global, fileid: u32, count: usize) -> Result<DirEntry, AllocError
     })
 }
 
-/// Adds the entries of a directory's slots, and gives whether none is left. No slot is fetched whose cookie isn't
-/// above, and none behind the first entry that doesn't fit.
+/// Adds the entries of a directory's slots, and gives whether none is left.
 fn list_slots<R: CellRead>(
     alloc: Global,
     cells: &mut R,
@@ -126,7 +125,9 @@ fn list_slots<R: CellRead>(
 
 /// READDIR (RFC 1094, section 2.2.17) of a directory with so many slots: the entries with a cookie above the one
 /// given, `.`, `..` and those of the slots, as many as fit into `count` bytes, of which 8192 count at most. An entry
-/// takes 16 bytes and its name, rounded up to a multiple of 4.
+/// takes 16 bytes and its name, rounded up to a multiple of 4. Slots are fetched in order from the first one with such
+/// a cookie on, as far as the first entry that doesn't fit. Cookies fit 32 bits where there are fewer than 2^32 - 2
+/// slots.
 pub fn list_from<R: CellRead>(
     alloc: Global,
     cells: &mut R,
