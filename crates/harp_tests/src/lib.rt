@@ -12,6 +12,8 @@ mod logs;
 #[cfg(test)]
 mod plays;
 #[cfg(test)]
+mod repeats;
+#[cfg(test)]
 mod slots;
 #[cfg(test)]
 mod texts;
