@@ -1,0 +1,40 @@
+//! Changes that are appended to a list.
+
+ghost use Rattle.std.specs.Prelude.{◌≡◌, ◌≤◌, ◌++◌, ◌∷◌, [], length, OnOk, OnErr, Err, MatchResult};
+ghost use Rattle.inode_blocks.specs.Changes.{put};
+
+use harp_cells::{Cell, CellFault, Change, NonEmpty, Value};
+
+/// Appends a change. Where memory runs out, the changes are as before.
+pub fn append(changes: &mut Vec<Change>, change: Change) -> Result<(), CellFault>
+    ensures ok { OnOk result (changes.new.items ≡ changes.old.items ++ change ∷ []) }
+    ensures err { OnErr result (changes.new.items ≡ changes.old.items) }
+    ensures cause { OnErr result (result ≡ Err CellFault.NoMemory) }
+{
+    match changes.push(change) {
+        Ok(()) => Ok(()),
+        Err(_) => Err(CellFault::NoMemory),
+    }
+}
+
+/// Appends a Put of a block with these bytes.
+pub fn append_put(
+    changes: &mut Vec<Change>,
+    object: u32,
+    block: u32,
+    bytes: Vec<u8>,
+) -> Result<(), CellFault>
+    requires least { 1 ≤ length bytes.items }
+    requires most { length bytes.items ≤ 4096 }
+    ensures ok { OnOk result (changes.new.items ≡ changes.old.items ++ put object block bytes.items ∷ []) }
+    ensures err { OnErr result (changes.new.items ≡ changes.old.items) }
+    ensures cause { OnErr result (result ≡ Err CellFault.NoMemory) }
+{
+    let change = Change::Put {
+        cell: Cell::Block { object, block },
+        value: Value::Block {
+            bytes: NonEmpty::new(bytes),
+        },
+    };
+    append(changes, change)
+}

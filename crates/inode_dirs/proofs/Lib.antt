@@ -1,0 +1,10 @@
+pub mod HeldSlots
+pub mod Searches
+pub mod WayUp
+pub mod PageSteps
+pub mod TreeCells
+pub mod SlotChanges
+pub mod EntryLaws
+pub mod SlotCounts
+pub mod Below
+pub mod Levels

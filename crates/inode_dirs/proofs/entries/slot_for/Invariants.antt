@@ -1,0 +1,12 @@
+use Rattle.std.proofs.Common.{◌≡◌, ◌≤◌, drop}
+use Rattle.file_tree.specs.Tree.{Slots, free_from}
+use Rattle.inode_dirs.specs.Slots.{TellsSlots}
+use Rattle.inode_dirs.proofs.entries.slot_for.Given as goal
+
+abbrev pub invariant-loop-slot : goal.invariant-loop-slot
+invariant-loop-slot g l = record {
+  kept : g.R.CellRead.cells l.cells ≡ g.R.CellRead.cells l.fn.cells;
+  count : g.R.CellRead.faults l.fn.cells ≤ g.R.CellRead.faults l.cells;
+  free : (held : Slots) → TellsSlots (g.R.CellRead.cells l.fn.cells) l.dir l.slots held
+      → free_from l.slot (drop l.slot held) ≡ free_from 0 held;
+}

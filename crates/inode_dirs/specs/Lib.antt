@@ -1,0 +1,4 @@
+pub mod Slots
+pub mod Parents
+pub mod Pages
+pub mod Laws
