@@ -1,24 +1,20 @@
 -- What a server's outputs come to in the world.
-use Rattle.std.proofs.Common.{◌≡◌, ℕ, zero, suc, ◌+◌, ◌<◌, ◌≤◌, Bool, true, false, List, [], ◌∷◌, ◌++◌, append_assoc, append-nil, length, take, map, replicate, slice_index_or, refl, sym, ap, ◌∙◌, subst, arith, if◌then◌else◌, le_trans, inl, inr}
+use Rattle.std.proofs.Common.{◌≡◌, ℕ, zero, suc, Bool, true, false, List, [], ◌∷◌, ◌++◌, append_assoc, length, map, replicate, slice_index_or, refl, sym, ap, ◌∙◌}
 use Rattle.harp_base.specs.declared.server.ServerId.{ServerId}
 use Rattle.harp_base.specs.declared.server.ServerId.TheVariants as server
 use Rattle.harp_base.specs.declared.state.StateLine.{StateLine}
 use Rattle.trace_lines.specs.declared.line.Line.{Line}
 use Rattle.trace_lines.specs.declared.line.Line.TheVariants as line
-use Rattle.trace_lines.specs.declared.line.BookEntry.{BookEntry}
 use Rattle.trace_lines.specs.declared.step.Step.{Step}
-use Rattle.file_tree.specs.Book.{Entry}
 use Rattle.group_model.specs.Names.{id_of, place_of}
-use Rattle.group_model.specs.Places.{Place, Trio}
-use Rattle.group_model.specs.State.{Server}
 use Rattle.group_run.specs.Lines.{entered_lines, state_lines}
-use Rattle.group_run.specs.Shown.{same_state, state_of}
+use Rattle.group_run.specs.Shown.{same_state}
 use Rattle.replica.specs.Said.{entered}
 use Rattle.replica.specs.declared.outputs.Outputs.{Outputs}
 use Rattle.replica.specs.declared.outputs.Sent.{Sent}
 use Rattle.world.specs.Given.{answered_lines, reads_in, refused_lines, sent_lines}
-use Rattle.world.specs.Packets.{AreSettled, packet_of, posted, posted_one, was_delivered}
-use Rattle.world.specs.Served.{Gives, given, server_in}
+use Rattle.world.specs.Packets.{AreSettled, packet_of, posted, was_delivered}
+use Rattle.world.specs.Served.{given}
 use Rattle.world.specs.State.{WorldValue}
 use Rattle.world.specs.declared.packet.Packet.{Packet}
 
@@ -48,7 +44,7 @@ pub given_is : (w w' : WorldValue) (server : ServerId) (outs : Outputs) (packets
 given_is w w' server outs packets packets' l p c h a b a' b' e book =
     let ps : w'.packets ≡ w.packets ++ map packet_of (posted server outs.sends.items) = a' ∙ ap (map packet_of) e ∙ map_both packet_of packets _ ∙ ap (λ x. x ++ map packet_of (posted server outs.sends.items)) (sym a) in
     let ds : w'.delivered ≡ w.delivered ++ replicate (length outs.sends.items) false =
-        b' ∙ ap (map was_delivered) e ∙ map_both was_delivered packets _ ∙ ap (λ x. x ++ map was_delivered (posted server outs.sends.items)) (sym b) ∙ ap (λ x. w.delivered ++ x) (posted_new server outs.sends.items) in
+    b' ∙ ap (map was_delivered) e ∙ map_both was_delivered packets _ ∙ ap (λ x. x ++ map was_delivered (posted server outs.sends.items)) (sym b) ∙ ap (λ x. w.delivered ++ x) (posted_new server outs.sends.items) in
     rw (sym l, sym p, sym c, sym h, sym ps, sym ds, sym book) refl
 
 -- the state's line, or none

@@ -1,23 +1,22 @@
 -- What a call of the leader or of the partner makes of the world.
-use Rattle.std.proofs.Common.{◌≡◌, ℕ, zero, suc, ◌+◌, ◌-◌, ◌<◌, ◌≤◌, Bool, true, false, List, [], ◌∷◌, ◌++◌, length, take, drop, map, refl, sym, ap, ◌∙◌, subst, arith, nat_lt, if◌then◌else◌}
+use Rattle.std.proofs.Common.{◌≡◌, ℕ, zero, suc, ◌+◌, ◌-◌, ◌≤◌, List, [], ◌∷◌, length, take, drop, map, refl, sym, ap, subst, arith, nat_lt}
 use Rattle.std.specs.List.{flat_map}
 use Rattle.harp_base.specs.declared.peer.Peer.{Peer}
 use Rattle.file_tree.specs.Book.{Entry}
 use Rattle.group_model.specs.FixedStart.{view_one}
-use Rattle.group_model.specs.Limits.{is_open}
 use Rattle.group_model.specs.Moves.{Move, Noting, Committing}
 use Rattle.group_model.specs.Names.{id_of}
 use Rattle.group_model.specs.Places.{Zero, One, Two, Place, all_of, get, partner, same}
 use Rattle.group_model.specs.Replicate.{ack_tests, answers, is_in_view, on_ack, on_event}
-use Rattle.group_model.specs.State.{Beat, Server}
+use Rattle.group_model.specs.State.{Server}
 use Rattle.group_model.specs.Tick.{events, tick}
 use Rattle.group_model.proofs.Common.{by_if}
 use Rattle.replica.specs.Said.{Makes, answered_by, entered, refused_by, sent}
-use Rattle.replica.specs.Servers.{IsLeading, leading}
+use Rattle.replica.specs.Servers.{IsLeading}
 use Rattle.replica.specs.declared.outputs.Outputs.{Outputs}
 use Rattle.replica.proofs.Ticks.{tick_is}
 use Rattle.world.specs.Given.{answered_lines as answered_lines_of, reads_in, refused_lines as refused_lines_of}
-use Rattle.world.specs.Served.{Made, moved, server_in}
+use Rattle.world.specs.Served.{Made, moved}
 use Rattle.world.specs.State.{WorldValue}
 use Rattle.world.proofs.Saying.{AreNone, HasPeers, makes_says}
 

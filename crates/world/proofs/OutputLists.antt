@@ -1,5 +1,5 @@
 -- What the lists of a step's outputs make, as loops go over them.
-use Rattle.std.proofs.Common.{◌≡◌, ℕ, suc, ◌+◌, List, [], ◌∷◌, ◌++◌, append_assoc, append-nil, length, Option, None, Some, map, refl, sym, ap, ◌∙◌, arith}
+use Rattle.std.proofs.Common.{◌≡◌, ℕ, suc, ◌+◌, List, [], ◌∷◌, ◌++◌, append_assoc, length, map, refl, sym, ap, ◌∙◌, arith}
 use Rattle.std.proofs.lemmas.List.{length-append}
 use Rattle.harp_base.specs.declared.server.ServerId.{ServerId}
 use Rattle.trace_lines.specs.declared.line.BookEntry.{BookEntry}

@@ -39,9 +39,9 @@ pub among_next : (among : Option (ServerId × ServerId)) (ps : List Packet) (n :
 among_next among ps n x h is due old k below p sent a = elim (cases_lt k n) [
   | inl less ↦ old k less p sent a
   | inr more ↦
-    let same : k ≡ n = omega (arith, below, more) in
-    let its : packet_of x ≡ p = let e : Some (packet_of x) ≡ Some p = sym (got ps n x h is) ∙ ap (slice_get (map packet_of ps)) (sym same) ∙ sent in cc in
-    rw same (mapped ps n x h is ∙ delivered (was_delivered x) (sym (ap (λ b. b && not (was_delivered x)) (ap (is_among among) its ∙ a)) ∙ due))
+      let same : k ≡ n = omega (arith, below, more) in
+      let its : packet_of x ≡ p = let e : Some (packet_of x) ≡ Some p = sym (got ps n x h is) ∙ ap (slice_get (map packet_of ps)) (sym same) ∙ sent in cc in
+      rw same (mapped ps n x h is ∙ delivered (was_delivered x) (sym (ap (λ b. b && not (was_delivered x)) (ap (is_among among) its ∙ a)) ∙ due))
 ]
   where
     delivered : (b : Bool) → (true && not b) ≡ false → b ≡ true

@@ -1,5 +1,5 @@
 -- Steps that are refused.
-use Rattle.std.proofs.Common.{◌≡◌, ℕ, List, Option, Some, None, refl, length, nat_lt, if◌then◌else◌}
+use Rattle.std.proofs.Common.{◌≡◌, Option, Some, None, refl, length, nat_lt}
 use Rattle.trace_lines.specs.declared.step.Step.{Step}
 use Rattle.trace_lines.specs.declared.step.Step.TheVariants as step
 use Rattle.group_model.specs.Names.{place_of}

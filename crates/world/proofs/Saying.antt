@@ -1,27 +1,24 @@
 -- What the outputs of a server's call say, in lines.
-use Rattle.std.proofs.Common.{◌≡◌, ℕ, zero, suc, ◌+◌, ◌-◌, ◌<◌, ◌≤◌, ◌||◌, ◌==◌, Bool, true, false, List, [], ◌∷◌, ◌++◌, append-nil, length, take, drop, map, Option, None, Some, option_map, refl, sym, ap, ◌∙◌, subst, arith, nat_lt, nat_le, if◌then◌else◌}
+use Rattle.std.proofs.Common.{◌≡◌, ℕ, ◌≤◌, ◌||◌, ◌==◌, Bool, true, false, List, [], ◌∷◌, ◌++◌, length, map, Option, None, Some, option_map, refl, ap, ◌∙◌, arith, nat_lt, nat_le, if◌then◌else◌}
 use Rattle.std.specs.List.{flat_map}
 use Rattle.harp_base.specs.declared.call.Call.{Call}
 use Rattle.harp_base.specs.declared.peer.Peer.{Peer}
-use Rattle.harp_base.specs.declared.server.ServerId.{ServerId}
 use Rattle.harp_base.specs.Update.{is_update}
 use Rattle.trace_lines.specs.declared.line.Line.{Line}
 use Rattle.trace_lines.specs.declared.line.Line.TheVariants as line
 use Rattle.file_tree.specs.Book.{Entry, last_of}
-use Rattle.group_model.specs.Ask.{append, hint_of, new_entry, on_ask, read_entry, read_moves, refuse, update_moves}
-use Rattle.group_model.specs.FreeReads.{on_free_ask, on_read}
+use Rattle.group_model.specs.Ask.{append, new_entry, read_entry, read_moves, refuse, update_moves}
+use Rattle.group_model.specs.FreeReads.{on_free_ask}
 use Rattle.group_model.specs.Limits.{is_active, is_open, limit, room}
-use Rattle.group_model.specs.Moves.{Appending, Move, Reading, Saying, Sending}
+use Rattle.group_model.specs.Moves.{Move, Reading, Saying}
 use Rattle.group_model.specs.Names.{id_of}
 use Rattle.group_model.specs.Places.{Place, all_of, leader, same}
-use Rattle.group_model.specs.State.{Answers, BadClient, Cause, Event, Lists, LogFull, NotLeader, NotYetOpen, Old, Refuses, Server, top}
+use Rattle.group_model.specs.State.{Answers, BadClient, Cause, Lists, NotLeader, Refuses, Server, top}
 use Rattle.group_model.proofs.Common.{by_if}
-use Rattle.group_run.specs.Lines.{answered_by as answered_line_by, answered_lines, refused_by as refused_line_by, refused_lines}
+use Rattle.group_run.specs.Lines.{answered_lines, refused_lines}
 use Rattle.group_run.specs.Shown.{cause_of}
 use Rattle.replica.specs.Said.{Answer, Makes, Refusal, answered, answered_by, answers_of, committed_of, entered, in_turn, refusals_of, refused, refused_by, sends_of, sent}
-use Rattle.replica.specs.declared.outputs.Answered.{Answered}
 use Rattle.replica.specs.declared.outputs.Outputs.{Outputs}
-use Rattle.replica.specs.declared.outputs.Refused.{Refused}
 use Rattle.world.specs.Given.{answered_line, answered_lines as answered_lines_of, read_in, reads_in, refused_line, refused_lines as refused_lines_of}
 use Rattle.world.specs.Served.{RefusesAsk, Says, cause_shown, read_by, reads_of, refuse_moves}
 use Rattle.trace_lines.specs.declared.line.Cause.TheVariants as causes

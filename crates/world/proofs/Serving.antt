@@ -1,30 +1,29 @@
 -- What a server's moves leave, once what they give was put into the world.
-use Rattle.std.proofs.Common.{◌≡◌, ℕ, ◌+◌, ◌*◌, ◌/◌, ◌%◌, arith, Bool, false, List, [], ◌∷◌, ◌++◌, length, map, replicate, refl, sym, ap, ◌∙◌, subst}
+use Rattle.std.proofs.Common.{◌≡◌, ℕ, ◌+◌, ◌*◌, ◌/◌, ◌%◌, arith, Bool, List, [], ◌∷◌, ◌++◌, length, map, refl, sym, ap, ◌∙◌}
 use Rattle.std.proofs.lemmas.List.{length-map}
 use Rattle.harp_base.specs.declared.server.ServerId.{ServerId}
-use Rattle.harp_base.specs.declared.state.StateLine.{StateLine}
 use Rattle.trace_lines.specs.declared.line.Line.{Line}
 use Rattle.trace_lines.specs.declared.line.Line.TheVariants as line
 use Rattle.trace_lines.specs.declared.step.Step.{Step}
 use Rattle.trace_lines.specs.declared.step.Step.TheVariants as step
 use Rattle.file_tree.specs.Book.{Entry}
-use Rattle.group_model.specs.Moves.{Move, Sending, acts}
-use Rattle.group_model.specs.Names.{id_of, number_of_view, place_of, view_of}
-use Rattle.group_model.specs.Places.{Zero, One, Two, Place, coordinator, get}
-use Rattle.group_model.specs.State.{Message, Packet, Server}
-use Rattle.group_run.specs.Lines.{answered_lines, entered_lines, refused_lines, sent_line, sent_lines, state_lines}
+use Rattle.group_model.specs.Moves.{Move, Sending}
+use Rattle.group_model.specs.Names.{number_of_view, place_of, view_of}
+use Rattle.group_model.specs.Places.{Zero, One, Two, Place, get}
+use Rattle.group_model.specs.State.{Message}
+use Rattle.group_run.specs.Lines.{sent_line, sent_lines}
 use Rattle.group_run.specs.Shown.{state_of}
 use Rattle.harp_base.specs.Server.{number_of}
 use Rattle.harp_base.specs.View.{View}
 use Rattle.harp_base.specs.declared.server.ServerId.TheVariants as server
-use Rattle.replica.specs.Said.{committed_of, entered, heard, sends_of, sent}
+use Rattle.replica.specs.Said.{heard, sends_of, sent}
 use Rattle.replica.specs.declared.outputs.Outputs.{Outputs}
 use Rattle.replica.specs.declared.outputs.Sent.{Sent}
 use Rattle.wire.specs.declared.message.Message.{Message as Wire}
 use Rattle.wire.specs.declared.message.Message.TheVariants as wire
-use Rattle.world.specs.Given.{answered_lines as answered_lines_of, reads_in, refused_lines as refused_lines_of, sent_lines as sent_lines_of, shown_of}
+use Rattle.world.specs.Given.{answered_lines as answered_lines_of, refused_lines as refused_lines_of, sent_lines as sent_lines_of, shown_of}
 use Rattle.world.specs.Packets.{packet_of, posted}
-use Rattle.world.specs.Served.{Gives, Made, message_moves, Says, Serves, given, moved, reads_of, sent_from, served, server_in}
+use Rattle.world.specs.Served.{Gives, Made, message_moves, Serves, given, moved, sent_from, served, server_in}
 use Rattle.world.specs.State.{WorldValue}
 use Rattle.world.proofs.Giving.{id_back}
 

@@ -1,5 +1,5 @@
 -- The lines that the outputs of a server's call write.
-use Rattle.std.specs.Prelude.{ℕ, ◌+◌, List, [], ◌∷◌, ◌++◌, Option, None, Some, map, length}
+use Rattle.std.specs.Prelude.{ℕ, ◌+◌, List, [], ◌∷◌, None, Some, map}
 use Rattle.std.specs.List.{flat_map}
 use Rattle.harp_base.specs.declared.server.ServerId.{ServerId}
 use Rattle.trace_lines.specs.declared.line.Line.{Line}

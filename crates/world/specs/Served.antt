@@ -150,10 +150,10 @@ pub record Gives (old new : WorldValue) (s : Step) (server : ServerId) (before :
     (lines : List Line) : Type 0 where
   pub world : new ≡ given old server outs
   pub lines_are : lines ≡ line.Event s
-    ∷ (entered_lines (length old.book) (map entered outs.committed.items ++ reads_in outs.answers.items)
-    ++ (answered_lines_of server outs.answers.items ++ (refused_lines_of server outs.refusals.items
-    ++ (sent_lines_of server (length old.packets) outs.sends.items
-    ++ state_lines (place_of server) before (state_of (server_in old (place_of server)))))))
+      ∷ (entered_lines (length old.book) (map entered outs.committed.items ++ reads_in outs.answers.items)
+      ++ (answered_lines_of server outs.answers.items ++ (refused_lines_of server outs.refusals.items
+      ++ (sent_lines_of server (length old.packets) outs.sends.items
+      ++ state_lines (place_of server) before (state_of (server_in old (place_of server)))))))
 
 -- ---- refusals
 

@@ -1,7 +1,6 @@
 -- What a world is, and which runs leave it.
-use Rattle.std.specs.Prelude.{◌≡◌, ℕ, ◌+◌, ◌<◌, ◌≤◌, ◌^◌, ◌==◌, Bool, true, false, List, [], ◌∷◌, ◌++◌, length, replicate, reverse, slice_index_or, Option, Some, None, if◌then◌else◌}
+use Rattle.std.specs.Prelude.{◌≡◌, ℕ, ◌+◌, ◌<◌, ◌^◌, ◌==◌, Bool, true, false, List, [], ◌∷◌, ◌++◌, length, reverse, slice_index_or, Option, Some, None}
 use Rattle.std.specs.List.{list_any}
-use Rattle.harp_base.specs.declared.server.ServerId.{ServerId}
 use Rattle.trace_lines.specs.declared.step.Step.{Step}
 use Rattle.trace_lines.specs.declared.step.Step.TheVariants as step
 use Rattle.trace_lines.specs.declared.line.Line.{Line}
@@ -10,7 +9,7 @@ use Rattle.group_model.specs.FixedStart.{starting}
 use Rattle.group_model.specs.Names.{place_of}
 use Rattle.group_model.specs.Places.{Zero, One, Two, Place, Trio, get, with_at}
 use Rattle.group_model.specs.State.{Packet, Server}
-use Rattle.group_run.specs.Run.{AreTaken, Scene, due, first_scene, refusal, run, step_lines}
+use Rattle.group_run.specs.Run.{AreTaken, Scene, first_scene, refusal, run, step_lines}
 use Rattle.world.specs.declared.refusal.Refusal.{Refusal}
 use Rattle.world.specs.declared.refusal.Refusal.TheVariants as refusals
 use Rattle.trace_lines.specs.declared.line.LineFault.{LineFault}

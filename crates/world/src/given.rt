@@ -133,11 +133,7 @@ fn show_answers(
 }
 
 /// The line of a refusal.
-fn show_refusal(
-    server: ServerId,
-    refusal: Refused,
-    lines: &mut Vec<Line>,
-) -> Result<(), AllocError>
+fn show_refusal(server: ServerId, refusal: Refused, lines: &mut Vec<Line>) -> Result<(), AllocError>
     ensures { OnOk result (lines.new.items ≡ lines.old.items ++ refused_line server refusal ∷ []) }
 {
     lines.push(Line::Refused {

@@ -52,13 +52,13 @@ impl Model for World {
     ghost Value = { WorldValue };
 
     ghost view = { λ w. record {
-        leader = w.leader.server;
-        partner = w.partner;
-        packets = map packet_of w.packets.items;
-        delivered = map was_delivered w.packets.items;
-        clocks = record { zero_th = w.clocks.zero; one_th = w.clocks.one; two_th = w.clocks.two };
-        book = map entered w.book.items;
-        halted = w.halted;
+      leader = w.leader.server;
+      partner = w.partner;
+      packets = map packet_of w.packets.items;
+      delivered = map was_delivered w.packets.items;
+      clocks = record { zero_th = w.clocks.zero; one_th = w.clocks.one; two_th = w.clocks.two };
+      book = map entered w.book.items;
+      halted = w.halted;
     } };
 
     ghost invariant = { λ w. AreSettled w.settled (map was_delivered w.packets.items) };
@@ -169,7 +169,14 @@ impl World {
     {
         let mut lines = Vec::new(alloc);
         lines.push(Line::Event { step })?;
-        put(alloc, server, &outs, &mut self.book, &mut self.packets, &mut lines)?;
+        put(
+            alloc,
+            server,
+            &outs,
+            &mut self.book,
+            &mut self.packets,
+            &mut lines,
+        )?;
         let now = self.state_line(server);
         show_state(server, before, now, &mut lines)?;
         Ok(lines)

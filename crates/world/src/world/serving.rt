@@ -60,7 +60,8 @@ impl World {
     {
         let now = self.clocks.zero;
         let mut outs = Outputs::new(alloc);
-        self.leader.ask(alloc, CLIENT, client, number, call, now, &mut outs)?;
+        self.leader
+            .ask(alloc, CLIENT, client, number, call, now, &mut outs)?;
         Ok(outs)
     }
 
@@ -197,7 +198,8 @@ impl World {
         }
         let now = self.clocks.one;
         let mut outs = Outputs::new(alloc);
-        self.partner.event(cp, base, item.copy(alloc)?, now, &mut outs)?;
+        self.partner
+            .event(cp, base, item.copy(alloc)?, now, &mut outs)?;
         Ok(outs)
     }
 

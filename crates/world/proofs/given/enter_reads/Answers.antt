@@ -1,7 +1,5 @@
-use Rattle.std.proofs.Common.{◌≡◌, ◌++◌, ◌∙◌, drop, length, ◌+◌, ap, sym, List}
+use Rattle.std.proofs.Common.{length}
 use Rattle.std.specs.Prelude.{map}
-use Rattle.std.proofs.lemmas.List.{length-append, length-map}
-use Rattle.file_tree.specs.Book.{Entry}
 use Rattle.replica.specs.Said.{entered}
 use Rattle.world.specs.Given.{read_in}
 use Rattle.world.proofs.OutputLists.{makes_read_lines, makes_reads, more_by, read_lines_made, reads_made}

@@ -1,4 +1,4 @@
-use Rattle.std.proofs.Common.{◌≡◌, ◌++◌, drop, length, ◌+◌}
+use Rattle.std.proofs.Common.{length}
 use Rattle.std.specs.Prelude.{map}
 use Rattle.replica.specs.Said.{entered}
 use Rattle.world.proofs.OutputLists.{makes_update_lines, makes_updates, update_lines_made, updates_made}

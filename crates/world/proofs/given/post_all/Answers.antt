@@ -1,7 +1,7 @@
-use Rattle.std.proofs.Common.{◌≡◌, ◌++◌, ◌∙◌, drop, length, ◌+◌, ap, sym}
+use Rattle.std.proofs.Common.{◌≡◌, ◌∙◌, length, ◌+◌, ap}
 use Rattle.std.proofs.lemmas.List.{length-append}
 use Rattle.world.proofs.OutputLists.{makes_packets, makes_send_lines, packets_made, send_lines_made}
-use Rattle.world.proofs.PacketLists.{more_then, no_more}
+use Rattle.world.proofs.PacketLists.{more_then}
 use Rattle.world.proofs.Loops.{ended, moved}
 use Rattle.world.proofs.given.post_all.Goals as goal
 

@@ -1,4 +1,4 @@
-use Rattle.std.proofs.Common.{◌≡◌, ◌++◌, ◌∙◌, ap, length}
+use Rattle.std.proofs.Common.{◌++◌, ◌∙◌, ap, length}
 use Rattle.std.specs.Prelude.{map}
 use Rattle.group_run.specs.Lines.{entered_lines}
 use Rattle.replica.specs.Said.{entered}

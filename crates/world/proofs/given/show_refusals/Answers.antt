@@ -1,4 +1,3 @@
-use Rattle.std.proofs.Common.{refl}
 use Rattle.world.proofs.OutputLists.{makes_refusal_lines, refusal_lines_made}
 use Rattle.world.proofs.Loops.{ended, get_again, moved}
 use Rattle.world.proofs.given.show_refusals.Goals as goal

@@ -1,4 +1,4 @@
-use Rattle.std.proofs.Common.{◌≡◌, ◌+◌, ◌<◌, ◌≤◌, true, max, length, arith, ap, sym, ◌∙◌, inl, inr}
+use Rattle.std.proofs.Common.{arith, ap, ◌∙◌, inl, inr}
 use Rattle.std.proofs.lemmas.Bool.{cases_lt}
 use Rattle.world.specs.Packets.{was_delivered}
 use Rattle.world.proofs.PacketLists.{settled_next}

@@ -1,4 +1,4 @@
-use Rattle.std.proofs.Common.{◌≡◌, ◌<◌, length, true, sym, ap, ◌∙◌, subst, Some}
+use Rattle.std.proofs.Common.{◌<◌, length, true, sym, ap, ◌∙◌, subst}
 use Rattle.std.specs.Prelude.{slice_get, slice_set}
 use Rattle.std.proofs.lemmas.List.{length-map}
 use Rattle.std.proofs.lemmas.Result.{IfOk-weaker}
@@ -8,7 +8,7 @@ use Rattle.group_model.specs.Places.{get}
 use Rattle.group_run.specs.Shown.{state_of}
 use Rattle.replica.specs.Said.{heard}
 use Rattle.world.specs.Packets.{packet_of}
-use Rattle.world.specs.Served.{Delivers, Gives, Made, message_moves, server_in}
+use Rattle.world.specs.Served.{Gives, Made, message_moves, server_in}
 use Rattle.world.specs.State.{WorldValue}
 use Rattle.world.proofs.PacketLists.{got}
 use Rattle.world.proofs.Serving.{delivers_aside, serves_is}

@@ -1,17 +1,14 @@
-use Rattle.std.proofs.Common.{◌≡◌, ◌++◌, ◌∷◌, [], ◌∙◌, ap, subst, sym, refl, length, List}
+use Rattle.std.proofs.Common.{◌++◌, ◌∙◌, ap, subst, sym, refl, length, List}
 use Rattle.std.specs.Prelude.{map}
-use Rattle.trace_lines.specs.declared.line.Line.{Line}
-use Rattle.trace_lines.specs.declared.line.Line.TheVariants as line
 use Rattle.group_model.specs.Names.{place_of}
-use Rattle.group_run.specs.Lines.{entered_lines, state_lines}
 use Rattle.group_run.specs.Shown.{state_of}
 use Rattle.replica.specs.Said.{entered}
-use Rattle.world.specs.Given.{answered_lines, reads_in, refused_lines, sent_lines}
+use Rattle.world.specs.Given.{reads_in}
 use Rattle.world.specs.Packets.{AreSettled, packet_of, was_delivered}
 use Rattle.world.specs.declared.packet.Packet.{Packet}
 use Rattle.world.specs.Served.{server_in}
 use Rattle.world.specs.State.{WorldValue}
-use Rattle.world.proofs.Giving.{four, given_is, lines_put, settled_more, size_of}
+use Rattle.world.proofs.Giving.{given_is, lines_put, settled_more, size_of}
 use Rattle.world.proofs.world.World.give.Goals as goal
 
 pub invariant_of-self : goal.invariant_of-self

@@ -1,4 +1,4 @@
-use Rattle.std.proofs.Common.{◌≡◌, sym, ap, ◌∙◌, subst, [], true, if◌then◌else◌}
+use Rattle.std.proofs.Common.{◌≡◌, sym, ap, ◌∙◌, subst, true}
 use Rattle.group_model.specs.FixedStart.{view_one}
 use Rattle.group_model.specs.Names.{number_of_view, place_of}
 use Rattle.group_model.specs.Places.{Zero, get}
@@ -30,7 +30,7 @@ returns c =
     let v = number_of_view a.view in
     let heeds : heeds_ack Zero w.leader (place_of a.from) v a.top a.lb a.until ≡ true = sym (c.heeds_ack.ensures.tests a.until) ∙ c.if-not-heeds_ack.false in
     let moves : on_ack w.leader view_one a.top a.lb a.until ≡ message_moves Zero (get w.clocks Zero) w.leader (place_of a.from) (Ack v a.top a.lb a.until) =
-        rw heeds (ap (λ v. on_ack w.leader v a.top a.lb a.until) (sym (c.heeds_ack.ensures.view c.if-not-heeds_ack.false))) in
+    rw heeds (ap (λ v. on_ack w.leader v a.top a.lb a.until) (sym (c.heeds_ack.ensures.view c.if-not-heeds_ack.false))) in
     subst (λ (x : WorldValue). Made x (record w { leader = s }) Zero (message_moves Zero (get x.clocks Zero) (server_in x Zero) (place_of a.from) (Ack v a.top a.lb a.until)) c.ack.new.outs) c.self.view_is
     (subst (λ ms. Made w (record w { leader = s }) Zero ms c.ack.new.outs) moves
     (leader_made w s (on_ack w.leader view_one a.top a.lb a.until) _ c.new-outs.result c.ack.new.outs

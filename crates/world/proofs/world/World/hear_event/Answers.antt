@@ -1,4 +1,4 @@
-use Rattle.std.proofs.Common.{◌≡◌, sym, ap, ◌∙◌, subst, [], true, if◌then◌else◌}
+use Rattle.std.proofs.Common.{◌≡◌, sym, ap, ◌∙◌, subst, [], true}
 use Rattle.group_model.specs.FixedStart.{view_one}
 use Rattle.group_model.specs.Names.{number_of_view, place_of}
 use Rattle.group_model.specs.Places.{Zero, One, get}
@@ -36,7 +36,7 @@ returns c =
     let from : place_of a.from ≡ Zero = c.heeds_event.ensures.from c.if-not-heeds_event.false in
     let view : v ≡ view_one = c.heeds_event.ensures.view c.if-not-heeds_event.false in
     let moves : on_event One now w.partner Zero view_one a.cp a.base (taken w.partner a.item.now.index (entry_of a.item.now)) ≡ message_moves One now w.partner (place_of a.from) (Event v a.item.now.index a.cp a.base (entry_of a.item.now)) =
-        rw heeds (ap (λ from. on_event One now w.partner from view_one a.cp a.base (taken w.partner a.item.now.index (entry_of a.item.now))) (sym from) ∙ ap (λ v. on_event One now w.partner (place_of a.from) v a.cp a.base (taken w.partner a.item.now.index (entry_of a.item.now))) (sym view)) in
+    rw heeds (ap (λ from. on_event One now w.partner from view_one a.cp a.base (taken w.partner a.item.now.index (entry_of a.item.now))) (sym from) ∙ ap (λ v. on_event One now w.partner (place_of a.from) v a.cp a.base (taken w.partner a.item.now.index (entry_of a.item.now))) (sym view)) in
     subst (λ (x : WorldValue). Made x (record w { partner = s }) One (message_moves One (get x.clocks One) (server_in x One) (place_of a.from) (Event v a.item.now.index a.cp a.base (entry_of a.item.now))) c.event.new.outs) c.self.view_is
     (subst (λ ms. Made w (record w { partner = s }) One ms c.event.new.outs) moves
     (partner_made w s (on_event One now w.partner Zero view_one a.cp a.base (taken w.partner a.item.now.index (entry_of a.item.now))) [] c.new-outs.result c.event.new.outs

@@ -1,4 +1,4 @@
-use Rattle.std.proofs.Common.{◌≡◌, subst}
+use Rattle.std.proofs.Common.{subst}
 use Rattle.group_model.specs.Places.{Zero, get}
 use Rattle.world.specs.Served.{Made, server_in, tick_moves}
 use Rattle.world.specs.State.{WorldValue}

@@ -1,10 +1,6 @@
-use Rattle.std.proofs.Common.{◌≡◌, Option, map, Some, None, sym, ap, ◌∙◌, subst}
-use Rattle.harp_base.specs.declared.server.ServerId.{ServerId}
-use Rattle.trace_lines.specs.declared.step.Step.{Step}
-use Rattle.group_run.specs.Run.{due, first_scene, run}
+use Rattle.std.proofs.Common.{map, subst}
 use Rattle.world.specs.Packets.{IsFirstDue, packet_of, was_delivered}
-use Rattle.world.specs.State.{IsLeftBy, WorldValue}
-use Rattle.world.specs.contracts.world.World.{the_view}
+use Rattle.world.specs.State.{WorldValue}
 use Rattle.world.proofs.Due.{due_is}
 use Rattle.world.proofs.world.World.next.Goals as goal
 

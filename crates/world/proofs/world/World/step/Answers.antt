@@ -1,4 +1,4 @@
-use Rattle.std.proofs.Common.{◌≡◌, sym, ap, ◌∙◌}
+use Rattle.std.proofs.Common.{sym, ap, ◌∙◌}
 use Rattle.world.specs.State.{WorldValue}
 use Rattle.world.proofs.Plays.{takes_plays}
 use Rattle.world.proofs.Refusing.{refused_so}
