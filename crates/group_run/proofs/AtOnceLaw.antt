@@ -106,7 +106,7 @@ answers_of_moves g g' q ms later h =
     let a = answered_lines q ms in
     let idle = refused_lines q ms ++ (sent_lines (length g.packets) q ms ++ state_lines q (state_of (g.server q)) (state_of (g'.server q))) in
     let quiet : AllByRecursion IsIdle idle = idle_append (refused_lines q ms) _ (refused_idle q ms)
-        (idle_append (sent_lines (length g.packets) q ms) _ (sent_idle (length g.packets) q ms) (state_idle q _ _)) in
+    (idle_append (sent_lines (length g.packets) q ms) _ (sent_idle (length g.packets) q ms) (state_idle q _ _)) in
     ap answers_in_step (append_assoc es (a ++ idle) later) ∙ idle_pass es ((a ++ idle) ++ later) (idle_entered (length g.book) _)
     ∙ ap answers_in_step (append_assoc a idle later) ∙ answers_pass q ms (idle ++ later) h
     ∙ ap (λ xs. by_server q (answered_in ms) ++ xs) (idle_pass idle later quiet)
@@ -145,22 +145,22 @@ delivered_at_once before g h n later none from to view top lb until is open' acc
     let came = ack_came p early from to view top lb until sent.shown_so in
     let i : Input = Comes One (Ack view_one top 0 came.0) in
     let begun : begins g (step.Deliver n) ≡ Some (Zero, i) =
-        ap (option_map {U = Place × Input} (λ (p : Packet Entry). (p.to, Comes p.from p.body))) sent.numbered_so
-        ∙ ap (λ (p : Packet Entry). Some (p.to, Comes p.from p.body)) came.1 in
+    ap (option_map {U = Place × Input} (λ (p : Packet Entry). (p.to, Comes p.from p.body))) sent.numbered_so
+    ∙ ap (λ (p : Packet Entry). Some (p.to, Comes p.from p.body)) came.1 in
     let l = h.early.leads in
     let cp : (last_state before to).cp ≡ (g.server Zero).cp =
-        ap (λ s. (last_state before s).cp) came.2 ∙ ap (λ (st : StateLine). st.cp) (h.states Zero) ∙ ap (λ (s : Server Entry). (state_of s).cp) l.is ∙ sym (ap (λ (s : Server Entry). s.cp) l.is) in
+    ap (λ s. (last_state before s).cp) came.2 ∙ ap (λ (st : StateLine). st.cp) (h.states Zero) ∙ ap (λ (s : Server Entry). (state_of s).cp) l.is ∙ sym (ap (λ (s : Server Entry). s.cp) l.is) in
     let ms = moves_of g Zero i in
     let once = answers_at_once no_size g h.whole n p sent.numbered_so view_one top 0 came.0 in
     let at : p.to ≡ Zero = ap (λ (p : Packet Entry). p.to) came.1 in
     let body : p.body ≡ Ack view_one top 0 came.0 = ap (λ (p : Packet Entry). p.body) came.1 in
     let answered = once.indices body
-        (ap (λ q. (g.server q).up) at ∙ ap (λ (s : Server Entry). s.up) l.is)
-        (ap (λ q. (g.server q).mode) at ∙ ap (λ (s : Server Entry). s.mode) l.is)
-        (ap (λ q. (g.server q).accepted) at ∙ ap (λ (s : Server Entry). s.accepted) l.is)
-        (subst (λ q. (g.server q).cp < top) (sym at) (subst (λ c. c < top) cp low)) in
+    (ap (λ q. (g.server q).up) at ∙ ap (λ (s : Server Entry). s.up) l.is)
+    (ap (λ q. (g.server q).mode) at ∙ ap (λ (s : Server Entry). s.mode) l.is)
+    (ap (λ q. (g.server q).accepted) at ∙ ap (λ (s : Server Entry). s.accepted) l.is)
+    (subst (λ q. (g.server q).cp < top) (sym at) (subst (λ c. c < top) cp low)) in
     let said : answered_in ms ≡ numbers_after (g.server Zero).cp (top - (g.server Zero).cp) =
-        subst (λ (p : Packet Entry). answered_in (moves_of g p.to (Comes p.from p.body)) ≡ numbers_after (g.server p.to).cp (top - (g.server p.to).cp)) came.1 answered in
+    subst (λ (p : Packet Entry). answered_in (moves_of g p.to (Comes p.from p.body)) ≡ numbers_after (g.server p.to).cp (top - (g.server p.to).cp)) came.1 answered in
     ap (λ o. answers_in_step (lines_where g o ++ later)) begun
     ∙ answers_of_moves g (stepped g (Zero, i)) Zero ms later (leader_readless g h.early came.0 top (kind_of g h.early (step.Deliver n) Zero i begun))
     ∙ ap (λ xs. by_server Zero (answered_in ms) ++ xs) none ∙ append-nil (by_server Zero (answered_in ms))

@@ -97,8 +97,7 @@ asks_for g (step.Advance millis) q i e b a = absurd cc
 -- an entry that an ask of this step became was asked for
 pub asked_now : (before : Trace) (g : Group Entry) (s : Step) (q : Place) (i : Input) (e : Entry) → begins g s ≡ Some (q, i) → IsAsked i e → AskedIn (before ++ line.Event s ∷ []) e
 asked_now before g s q i e b a =
-    let ask = asks_for g s q i e b a in
-    (
+    let ask = asks_for g s q i e b a in (
       ask.server,
       subst (λ s. Contains (steps (before ++ line.Event s ∷ [])) (step.Ask ask.server e.client e.number e.call)) (sym ask.is)
           (subst (λ ss. Contains ss (step.Ask ask.server e.client e.number e.call)) (sym (steps-append before (line.Event (step.Ask ask.server e.client e.number e.call) ∷ [])))

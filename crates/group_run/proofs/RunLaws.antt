@@ -131,7 +131,7 @@ run_at_once (s ∷ ss) before w tail h t e k =
     let ls = lines_where g (begins g s) in
     let rest = run_lines (next w s) ss in
     let there = run_at_once ss (before ++ step_lines g s) (next w s) tail (step_stands before g h s t.0 t.1) t.2 e
-        (subst (λ b. AtPlacesAmid AnswersAtOnce b tail) (sym (append_assoc before (step_lines g s) rest)) k) in
+    (subst (λ b. AtPlacesAmid AnswersAtOnce b tail) (sym (append_assoc before (step_lines g s) rest)) k) in
     let all : AtPlacesAmid AnswersAtOnce before (line.Event s ∷ (ls ++ (rest ++ tail))) = (
       at_event before g h s (rest ++ tail) (later_idle ss (next w s) tail e),
       no_event ls (rest ++ tail) (before ++ line.Event s ∷ []) (where_begin g (begins g s))

@@ -178,7 +178,7 @@ answered_step P f before s g g' q ms h =
     let a = answered_lines q ms in
     let rest = refused_lines q ms ++ (sent_lines (length g.packets) q ms ++ state_lines q (state_of (g.server q)) (state_of (g'.server q))) in
     let quiet : AllByRecursion IsNoAnswer rest = all-append IsNoAnswer (refused_lines q ms) _ (refused_no q ms)
-        (all-append IsNoAnswer (sent_lines (length g.packets) q ms) _ (sent_no (length g.packets) q ms) (state_no q _ _)) in (
+    (all-append IsNoAnswer (sent_lines (length g.packets) q ms) _ (sent_no (length g.packets) q ms) (state_no q _ _)) in (
       f before (line.Event s) tt,
       places-append P (before ++ line.Event s ∷ []) es (a ++ rest) (no_answers P f es _ (entered_no (length g.book) _))
           (places-append P (up_to_answers before s g g') a rest h (no_answers P f rest _ quiet)),
@@ -221,8 +221,7 @@ replied_step before g h s q i b = answered_step IsBookReply no_reply before s g 
         (replies_to_updates g s q i b (a.asks n e x)) (answered_well g q ms w k n e x).in_book)
     by _ (reading index e is r) w k =
         let entered : entered_lines (length g.book) (drop (length g.book) (g.book ++ e ∷ [])) ≡ entered_line (length g.book + 1) e ∷ [] = one_entered g e in
-        subst (λ ls. AtPlacesAfter IsBookReply ((before ++ line.Event s ∷ []) ++ ls) (line.Answered (id_of q) e.client e.number index e.reply ∷ [])) (sym entered)
-        (
+        subst (λ ls. AtPlacesAfter IsBookReply ((before ++ line.Event s ∷ []) ++ ls) (line.Answered (id_of q) e.client e.number index e.reply ∷ [])) (sym entered) (
           read_replied (before ++ line.Event s ∷ []) g s q i (length g.book + 1) index e b is r
               (step_under_way-append (before ++ line.Event s ∷ []) (entered_line (length g.book + 1) e ∷ []) ∙ step_under_way-append before (line.Event s ∷ [])),
           tt,
@@ -271,7 +270,7 @@ acknowledged_step before g h s q i b = answered_step IsAcknowledged no_acknowled
       λ update.
           let way = way_there before s g (moved_by g q (g.server q) (Reading index e ∷ [])) [] tt in
           let asks : answers_read (step_under_way (up_to_answers before s g (moved_by g q (g.server q) (Reading index e ∷ [])))) ≡ true =
-              ap answers_read (sym (ap step_under_way (append-nil (up_to_answers before s g (moved_by g q (g.server q) (Reading index e ∷ []))))) ∙ way) ∙ asks_read g s q i e b is r in
+          ap answers_read (sym (ap step_under_way (append-nil (up_to_answers before s g (moved_by g q (g.server q) (Reading index e ∷ []))))) ∙ way) ∙ asks_read g s q i e b is r in
           absurd (true≢false (sym asks ∙ update)),
       tt,
     )

@@ -176,7 +176,9 @@ fn reads_the_tree_at_cp(rt: HostRuntime) -> Result<(), Fail> {
     let (mut leader, _, _) = one_update(alloc)?;
     let after = asked(alloc, &mut leader, 2, &read)?;
     assert!(rt; matches!(&after.answers[..], [a] if a.index == 1 && a.asked.is_some()));
-    assert!(rt; matches!(&after.answers[..], [a] if matches!(&a.reply, Reply::Node { handle: 2, .. })));
+    assert!(rt;
+        matches!(&after.answers[..], [a] if matches!(&a.reply, Reply::Node { handle: 2, .. }))
+    );
     Ok(())
 }
 

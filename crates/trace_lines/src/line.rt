@@ -42,9 +42,7 @@ pub enum Cause {
     /// The client's number is above 4095.
     BadClient,
     /// The server doesn't lead its view; the hint is the server that does.
-    NotLeader {
-        hint: Option<ServerId>,
-    },
+    NotLeader { hint: Option<ServerId> },
     /// The server leads a view that isn't open.
     NotYetOpen,
     /// The partner's promise has run out, so a read can't be answered.
