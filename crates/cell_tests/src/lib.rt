@@ -1,0 +1,11 @@
+//! What no clause says of the tree in cells: that calls succeed with ample memory, and which cells are fetched.
+#![tactic(auto)]
+
+#[cfg(test)]
+mod blocks;
+#[cfg(test)]
+mod calls;
+#[cfg(test)]
+mod cells;
+#[cfg(test)]
+mod slots;

@@ -1,0 +1,2 @@
+pub mod TreeCells
+pub mod Gives

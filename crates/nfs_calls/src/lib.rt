@@ -1,0 +1,13 @@
+//! The calls of NFS version 2 over the cells of a file tree.
+#![tactic(auto)]
+
+mod answering;
+mod directory;
+mod file;
+mod inode;
+mod names;
+mod reads;
+mod refusal;
+mod totals;
+
+pub use answering::answer;

@@ -1,0 +1,52 @@
+//! Names, and refusals by a test.
+
+ghost use Rattle.std.specs.Prelude.{◌≡◌};
+ghost use Rattle.std.specs.List.{list_any};
+ghost use Rattle.file_tree.specs.Steps.{refuse, is_dot, is_dot_dot, is_odd_byte, is_odd, check_name};
+
+use harp_base::Status;
+
+/// A refusal, where its cause holds.
+pub fn refuse(status: Status, when: bool) -> Result<(), Status>
+    ensures { result ≡ refuse status when }
+{
+    if when { Err(status) } else { Ok(()) }
+}
+
+pub fn is_dot(name: &[u8]) -> bool
+    ensures { result ≡ is_dot name.now }
+{
+    name == b".".as_slice()
+}
+
+pub fn is_dot_dot(name: &[u8]) -> bool
+    ensures { result ≡ is_dot_dot name.now }
+{
+    name == b"..".as_slice()
+}
+
+fn is_odd_byte(b: u8) -> bool
+    ensures { result ≡ is_odd_byte b }
+{
+    b == b'/' || b == 0
+}
+
+fn has_odd_byte(name: &[u8]) -> bool
+    ensures { result ≡ list_any is_odd_byte name.now }
+{
+    name.iter().any(|b| is_odd_byte(*b))
+}
+
+fn is_odd(name: &[u8]) -> bool
+    ensures { result ≡ is_odd name.now }
+{
+    name.is_empty() || has_odd_byte(name)
+}
+
+/// A name of 1 to 255 bytes without a slash or a zero.
+pub fn check_name(name: &[u8]) -> Result<(), Status>
+    ensures { result ≡ check_name name.now }
+{
+    refuse(Status::NameTooLong, name.len() > 255)?;
+    refuse(Status::Acces, is_odd(name))
+}

@@ -1,0 +1,136 @@
+//! The calls that change nothing.
+
+ghost use Rattle.std.specs.Prelude.{◌≡◌, ◌≤◌, Some, Err, IfOk};
+ghost use Rattle.harp_base.specs.Streams.{Rose};
+ghost use Rattle.file_tree.specs.Tree.{attr_at};
+ghost use Rattle.file_tree.specs.Outcome.{get_attr, lookup, read_link, read, read_dir, stat_fs};
+ghost use Rattle.nfs_calls.specs.TreeCells.{TreeCells, attr_by};
+ghost use Rattle.nfs_calls.specs.Gives.{Gives};
+
+use crate::directory::{directory, resolve};
+use crate::file::{bytes_in, content, text_in};
+use crate::inode::{attr_at, attr_by, live};
+use crate::refusal::Refusal;
+use crate::totals::read_totals;
+use harp_base::{Bounded, Entries, Reply};
+use harp_cells::{CellFault, CellRead};
+use inode_dirs::list_from;
+use std::alloc::Global;
+
+/// GETATTR (RFC 1094, section 2.2.2).
+#[tactic(auto, using(crate::proofs::Inodes::attr_is), unfolding(file_tree::specs::Outcome::get_attr))]
+pub fn get_attr<R: CellRead>(cells: &mut R, handle: u32) -> Result<Reply, Refusal>
+    ensures reply { (t : TreeCells) → R.cells cells.old ≡ Some t.cells
+        → Gives (λ r. (r, t.tree)) result (get_attr t.tree handle) }
+    ensures kept { R.cells cells.new ≡ R.cells cells.old }
+    ensures rose { result ≡ Err (Refusal.Fault CellFault.StoreFailed) → Rose (R.faults cells.old) (R.faults cells.new) }
+    ensures count { R.faults cells.old ≤ R.faults cells.new }
+{
+    let inode = live(cells, handle)?;
+    Ok(Reply::Attr {
+        attr: attr_by(handle, &inode),
+    })
+}
+
+/// LOOKUP (RFC 1094, section 2.2.5): `.` and `..` stand for the directory and its parent.
+#[tactic(auto, unfolding(file_tree::specs::Outcome::lookup))]
+pub fn lookup<R: CellRead>(cells: &mut R, dir: u32, name: &[u8]) -> Result<Reply, Refusal>
+    ensures reply { (t : TreeCells) → R.cells cells.old ≡ Some t.cells
+        → Gives (λ r. (r, t.tree)) result (lookup t.tree dir name.now) }
+    ensures kept { R.cells cells.new ≡ R.cells cells.old }
+    ensures rose { result ≡ Err (Refusal.Fault CellFault.StoreFailed) → Rose (R.faults cells.old) (R.faults cells.new) }
+    ensures count { R.faults cells.old ≤ R.faults cells.new }
+{
+    let inode = directory(cells, dir)?;
+    let number = resolve(cells, dir, &inode, name)?;
+    let attr = attr_at(cells, number)?;
+    Ok(Reply::Node {
+        handle: number,
+        attr,
+    })
+}
+
+/// READLINK (RFC 1094, section 2.2.6).
+#[tactic(auto, unfolding(file_tree::specs::Outcome::read_link))]
+pub fn read_link<R: CellRead>(alloc: Global, cells: &mut R, handle: u32) -> Result<Reply, Refusal>
+    ensures reply { (t : TreeCells) → R.cells cells.old ≡ Some t.cells
+        → Gives (λ r. (r, t.tree)) result (read_link t.tree handle) }
+    ensures kept { R.cells cells.new ≡ R.cells cells.old }
+    ensures rose { result ≡ Err (Refusal.Fault CellFault.StoreFailed) → Rose (R.faults cells.old) (R.faults cells.new) }
+    ensures count { R.faults cells.old ≤ R.faults cells.new }
+{
+    let inode = live(cells, handle)?;
+    text_in(inode.kind)?;
+    let text = content(alloc, cells, handle, &inode, 0, 1024)?;
+    Ok(Reply::Path {
+        text: Bounded::new(text.into_vec()),
+    })
+}
+
+/// READ (RFC 1094, section 2.2.7): at most 8192 bytes, to the end of the file.
+#[tactic(auto, unfolding(file_tree::specs::Outcome::read))]
+pub fn read<R: CellRead>(
+    alloc: Global,
+    cells: &mut R,
+    handle: u32,
+    offset: u32,
+    count: u32,
+) -> Result<Reply, Refusal>
+    ensures reply { (t : TreeCells) → R.cells cells.old ≡ Some t.cells
+        → Gives (λ r. (r, t.tree)) result (read t.tree handle offset count) }
+    ensures kept { R.cells cells.new ≡ R.cells cells.old }
+    ensures rose { result ≡ Err (Refusal.Fault CellFault.StoreFailed) → Rose (R.faults cells.old) (R.faults cells.new) }
+    ensures count { R.faults cells.old ≤ R.faults cells.new }
+{
+    let inode = live(cells, handle)?;
+    bytes_in(inode.kind)?;
+    let bytes = content(alloc, cells, handle, &inode, offset, count.min(8192))?;
+    Ok(Reply::Bytes {
+        attr: attr_by(handle, &inode),
+        bytes: Bounded::new(bytes.into_vec()),
+    })
+}
+
+/// READDIR (RFC 1094, section 2.2.17).
+#[tactic(auto, unfolding(file_tree::specs::Outcome::read_dir))]
+pub fn read_dir<R: CellRead>(
+    alloc: Global,
+    cells: &mut R,
+    dir: u32,
+    cookie: u32,
+    count: u32,
+) -> Result<Reply, Refusal>
+    ensures reply { (t : TreeCells) → R.cells cells.old ≡ Some t.cells
+        → Gives (λ r. (r, t.tree)) result (read_dir t.tree dir cookie count) }
+    ensures kept { R.cells cells.new ≡ R.cells cells.old }
+    ensures rose { result ≡ Err (Refusal.Fault CellFault.StoreFailed) → Rose (R.faults cells.old) (R.faults cells.new) }
+    ensures count { R.faults cells.old ≤ R.faults cells.new }
+{
+    let inode = directory(cells, dir)?;
+    let page = list_from(alloc, cells, dir, inode.parent, inode.slots, cookie, count)?;
+    Ok(Reply::Page {
+        entries: Entries::new(page.entries),
+        eof: page.eof,
+    })
+}
+
+/// STATFS (RFC 1094, section 2.2.18): in blocks of 4096 bytes.
+#[tactic(auto, unfolding(file_tree::specs::Outcome::stat_fs))]
+pub fn stat_fs<R: CellRead>(cells: &mut R, handle: u32) -> Result<Reply, Refusal>
+    ensures reply { (t : TreeCells) → R.cells cells.old ≡ Some t.cells
+        → Gives (λ r. (r, t.tree)) result (stat_fs t.tree handle) }
+    ensures kept { R.cells cells.new ≡ R.cells cells.old }
+    ensures rose { result ≡ Err (Refusal.Fault CellFault.StoreFailed) → Rose (R.faults cells.old) (R.faults cells.new) }
+    ensures count { R.faults cells.old ≤ R.faults cells.new }
+{
+    live(cells, handle)?;
+    let totals = read_totals(cells)?;
+    let free = 65_536_u32.saturating_sub(totals.used);
+    Ok(Reply::Space {
+        transfer: 8192,
+        block: 4096,
+        blocks: 65_536,
+        free,
+        available: free,
+    })
+}
