@@ -40,7 +40,7 @@ fn result_of<R: Threads + Sync + AllocGlobal>(
     Ok((status, sink))
 }
 
-const ROWS: [Row; 13] = [
+const ROWS: [Row; 14] = [
     // Nothing.
     Row {
         schedule: b"",
@@ -57,6 +57,12 @@ const ROWS: [Row; 13] = [
     Row {
         schedule: b"ask 0 7 1 mkdir 1 61 755\ndeliver 0\ndeliver 0\ndeliver 2\ndeliver 1\ndeliver 1\ndeliver 0\n",
         trace: b"> ask 0 7 1 mkdir 1 61 755\nsend 0 0 1 event 1.0 1 0 0 7 1\nstate 0 open 1.0 1.0 leads 1 held 0 0 0 0 1\n> deliver 0\nsend 1 1 0 ack 1.0 1 0 2000\nstate 1 live 1.0 1.0 follows 0 held 0 0 0 0 1\n> deliver 0\nsend 2 1 0 ack 1.0 1 0 2000\n> deliver 2\nentered 1 1 7 1 0 mkdir 1 61 755 = node 2 2,755,2,0,0,0,0,2,0:0,0:0,0:0\nanswered 0 7 1 1 node 2 2,755,2,0,0,0,0,2,0:0,0:0,0:0\nstate 0 open 1.0 1.0 leads 1 held 0 0 0 1 1\n> deliver 1\n> deliver 1\n> deliver 0\nsend 3 1 0 ack 1.0 1 0 2000\nend 1\n",
+        status: 0,
+    },
+    // After an update: a read, the update again, an older number, and who doesn't answer.
+    Row {
+        schedule: b"ask 0 7 1 mkdir 1 61 755\npump\nask 0 7 2 lookup 1 61\nask 0 7 1 mkdir 1 61 755\nask 0 7 0 mkdir 1 62 755\nask 0 4096 1 lookup 1 61\nask 1 7 1 lookup 1 61\nask 2 7 1 mkdir 1 62 755\n",
+        trace: b"> ask 0 7 1 mkdir 1 61 755\nsend 0 0 1 event 1.0 1 0 0 7 1\nstate 0 open 1.0 1.0 leads 1 held 0 0 0 0 1\n> deliver 0\nsend 1 1 0 ack 1.0 1 0 2000\nstate 1 live 1.0 1.0 follows 0 held 0 0 0 0 1\n> deliver 1\nentered 1 1 7 1 0 mkdir 1 61 755 = node 2 2,755,2,0,0,0,0,2,0:0,0:0,0:0\nanswered 0 7 1 1 node 2 2,755,2,0,0,0,0,2,0:0,0:0,0:0\nstate 0 open 1.0 1.0 leads 1 held 0 0 0 1 1\n> ask 0 7 2 lookup 1 61\nentered 2 0 7 2 0 lookup 1 61 = node 2 2,755,2,0,0,0,0,2,0:0,0:0,0:0\nanswered 0 7 2 1 node 2 2,755,2,0,0,0,0,2,0:0,0:0,0:0\n> ask 0 7 1 mkdir 1 61 755\nanswered 0 7 1 1 node 2 2,755,2,0,0,0,0,2,0:0,0:0,0:0\n> ask 0 7 0 mkdir 1 62 755\nrefused 0 7 0 old\n> ask 0 4096 1 lookup 1 61\nrefused 0 4096 1 bad-client\n> ask 1 7 1 lookup 1 61\nrefused 1 7 1 not-leader 0\n> ask 2 7 1 mkdir 1 62 755\nrefused 2 7 1 not-leader -\nend 2\n",
         status: 0,
     },
     // A tick sends the record again.
