@@ -3,7 +3,7 @@
 use dedup::{Seen, keep, seen};
 use file_tree::PlainTree;
 use harp_base::{Bounded, Bytes, Call, Kind, Reply, SetAttr, Time, is_update, write_reply};
-use harp_cells::{Cell, Change, Inode, MemCells, NonEmpty, Stamp, Value};
+use harp_cells::{Cell, Change, Inode, MemCells, Moment, NonEmpty, Value};
 use nfs_calls::answer;
 use std::alloc::Global;
 use std::test::Fail;
@@ -137,7 +137,7 @@ fn worked_cells(alloc: Global) -> Result<MemCells, Fail> {
     put_block(&mut cells, 3, 0, first)?;
     put_block(&mut cells, 3, 1, vec![in alloc; 0x62; 4]?)?;
     put_block(&mut cells, 4, 0, vec![in alloc; b'x'; 1]?)?;
-    let stamp = Stamp::of(1000).ok_or("no stamp")?;
+    let stamp = Moment::of(1000).ok_or("no stamp")?;
     cells.put(
         Cell::Meta,
         Value::Meta {

@@ -4,5 +4,6 @@
 mod numbers;
 mod record;
 
-pub use numbers::{Index, Moment};
+pub use harp_cells::Moment;
+pub use numbers::Index;
 pub use record::Record;

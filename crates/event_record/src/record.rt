@@ -2,8 +2,9 @@
 
 ghost use Rattle.std.specs.Prelude.{◌≡◌, IfOk};
 
-use crate::numbers::{Index, Moment};
+use crate::numbers::Index;
 use harp_base::{Call, Reply, ViewNo};
+use harp_cells::Moment;
 use std::alloc::{AllocError, Global};
 
 /// An update in the log, with the reply that its client gets once the record is committed (Harp

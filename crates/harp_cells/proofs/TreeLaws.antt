@@ -4,6 +4,7 @@ use Rattle.std.proofs.lemmas.List.{drop_all, get_or_past}
 use Rattle.std.proofs.lemmas.List.Sums.{fold-append}
 use Rattle.file_tree.specs.declared.object.Slot.{Slot}
 use Rattle.file_tree.specs.declared.object.Object.{Object}
+use Rattle.file_tree.specs.Book.{tree_after}
 use Rattle.file_tree.specs.Tree.{first_tree, place, slots_of, used_blocks, links_of, parent_of}
 use Rattle.harp_cells.specs.declared.cell.Cell.TheVariants as cell
 use Rattle.harp_cells.specs.declared.value.Value.{Value}
@@ -32,7 +33,13 @@ dead_are_absent tree stamp last object at dead = (
 
 pub cells_stand : CellsStand
 cells_stand entries = record {
-  tree = record { meta = refl; object = λ object. refl; block = λ object block. refl; slot = λ object slot. refl };
+  tree = record {
+    meta = refl;
+    object = λ object. refl;
+    block = λ object block. refl;
+    ends = λ object block past. past_end (content_of (place (tree_after entries) object)) block past;
+    slot = λ object slot. refl;
+  };
   client = λ client. refl;
 }
 
@@ -62,6 +69,7 @@ no_values_are_first = record {
     meta = first_meta;
     object = first_objects;
     block = λ object block. ap (λ (v : Option Value). stands_for first_tree (cell.Block object block) v) (sym (ap (λ (xs : List ℕ). block_value (block_of xs block)) (first_content object) ∙ past_end [] block (omega arith)));
+    ends = λ object block past. refl;
     slot = λ object slot. ap (λ (v : Option Value). stands_for first_tree (cell.Slot object slot) v) (sym (ap (λ (xs : List (Option Slot)). slot_value (get_or xs slot None)) (first_slots object) ∙ past_slots [] slot (omega arith)));
   };
   client = λ client. refl;

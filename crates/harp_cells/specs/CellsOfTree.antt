@@ -1,5 +1,5 @@
 -- The cells that stand for a tree and its updates.
-use Rattle.std.specs.Prelude.{◌≡◌, ℕ, ◌-◌, ◌*◌, Bool, true, false, ◌==◌, List, [], ◌∷◌, ◌++◌, length, take, drop, replicate, slice_index_or, Option, Some, None, if◌then◌else◌}
+use Rattle.std.specs.Prelude.{◌≡◌, ℕ, ◌-◌, ◌*◌, ◌≤◌, Bool, true, false, ◌==◌, List, [], ◌∷◌, ◌++◌, length, take, drop, replicate, slice_index_or, Option, Some, None, if◌then◌else◌}
 use Rattle.harp_base.specs.declared.attr.Kind.TheVariants as kind
 use Rattle.file_tree.specs.declared.object.Slot.{Slot}
 use Rattle.file_tree.specs.declared.object.Body.TheVariants as body
@@ -125,11 +125,13 @@ stands_for tree c (Some v) = Some (if is_in_file tree c then full_value v else v
 abbrev pub StandForSame : Tree → Cell → Option Value → Option Value → Type 0
 StandForSame tree c v w = stands_for tree c v ≡ stands_for tree c w
 
--- these cells stand for a tree, whose last update has this stamp; those of clients and of saved logs are left aside
+-- these cells stand for a tree, whose last update has this stamp; those of clients and of saved logs are left aside. No
+-- block is there at or past the end of its object's content, be it of zeros
 pub record StandForTree (cells : Cells) (tree : Tree) (stamp : ℕ) : Type 0 where
   pub meta : StandForSame tree cell.Meta (cells cell.Meta) (Some (value.Meta (length tree) (used_blocks tree) stamp))
   pub object : (object : ℕ) → StandForSame tree (cell.Object object) (cells (cell.Object object)) (object_value tree object (place tree object))
   pub block : (object block : ℕ) → StandForSame tree (cell.Block object block) (cells (cell.Block object block)) (block_value (block_of (content_of (place tree object)) block))
+  pub ends : (object block : ℕ) → length (content_of (place tree object)) ≤ 4096 * block → cells (cell.Block object block) ≡ None
   pub slot : (object slot : ℕ) → StandForSame tree (cell.Slot object slot) (cells (cell.Slot object slot)) (slot_value (slice_index_or (slots_of (place tree object)) slot None))
 
 -- these cells stand for the tree and the updates after the entries of a book

@@ -5,39 +5,48 @@ ghost use Rattle.std.specs.Prelude.{◌≡◌, ◌<◌, ◌≤◌, ◌+◌, ◌^
 use std::alloc::{AllocError, Global};
 use std::marker::Model;
 
-/// A point in time in milliseconds, below 2^62 + 2000.
-#[derive(Clone, Copy, Debug, PartialEq, Eq)]
-pub struct Stamp {
+/// A moment in milliseconds of a server's clock, below 2^62 + 2000: a reading is below 2^62, and a
+/// promise runs for 2000 from one on.
+#[derive(Clone, Copy, Debug, PartialEq, Eq, PartialOrd, Ord)]
+pub struct Moment {
     millis: u64,
 }
 
-impl Model for Stamp {
+impl Model for Moment {
     ghost use Rattle.std.specs.Prelude.{ℕ, ◌+◌, ◌<◌, ◌^◌};
 
     ghost Value = { ℕ };
 
-    ghost view = { λ s. s.millis };
+    ghost view = { λ m. m.millis };
 
-    ghost invariant = { λ s. s.millis < 2 ^ 62 + 2000 };
+    ghost invariant = { λ m. m.millis < 2 ^ 62 + 2000 };
 
     ghost inverse = { λ n. record { millis = n } };
 }
 
-impl Stamp {
-    /// The stamp of a number of milliseconds that is below 2^62 + 2000.
-    pub fn of(millis: u64) -> Option<Stamp>
+impl Moment {
+    /// The moment of a number below 2^62 + 2000.
+    pub fn of(millis: u64) -> Option<Moment>
         ensures found { IsSome result ↔ (millis < 2 ^ 62 + 2000) }
-        ensures value { IfSome result (λ s. s ≡ millis) }
+        ensures value { IfSome result (λ m. m ≡ millis) }
     {
         if millis < (1 << 62) + 2000 {
-            Some(Stamp { millis })
+            Some(Moment { millis })
         } else {
             None
         }
     }
 
-    /// The milliseconds.
-    pub fn millis(self) -> u64
+    /// The moment of a number that is known to be below 2^62 + 2000.
+    pub fn new(millis: u64) -> Moment
+        requires { millis < 2 ^ 62 + 2000 }
+        ensures { result ≡ millis }
+    {
+        Moment { millis }
+    }
+
+    /// The number, below 2^62 + 2000.
+    pub fn get(self) -> u64
         ensures value { result ≡ self }
         ensures bound { self < 2 ^ 62 + 2000 }
     {

@@ -10,7 +10,7 @@ mod memory;
 mod reads;
 mod value;
 
-pub use bounds::{NonEmpty, Stamp};
+pub use bounds::{Moment, NonEmpty};
 pub use cell::Cell;
 pub use change::Change;
 pub use laws::cell_laws;

@@ -2,7 +2,7 @@
 
 ghost use Rattle.std.specs.Prelude.{◌≡◌, IfOk};
 
-use crate::bounds::{NonEmpty, Stamp};
+use crate::bounds::{Moment, NonEmpty};
 use harp_base::{Bounded, Kind, Reply, Time};
 use std::alloc::{AllocError, Global};
 
@@ -30,7 +30,7 @@ pub enum Value {
     Meta {
         next: u32,
         used: u32,
-        stamp: Stamp,
+        stamp: Moment,
     },
     /// An object's attributes.
     Object {

@@ -16,7 +16,8 @@ use Rattle.harp_cells.specs.declared.value.Inode.{Inode}
 use Rattle.harp_cells.specs.declared.value.Value.{Value}
 use Rattle.harp_cells.specs.declared.cell.Cell.TheVariants as cell
 use Rattle.harp_cells.specs.CellsOfTree.{object_value, stands_for, inode_of, content_of}
-use Rattle.nfs_calls.specs.TreeCells.{TreeCells, IsInode, inode_found, inode_of_some, inode_placed, totals_found, object_at, object_or_zero, attr_by, root_inode, bytes_within}
+use Rattle.update_changes.specs.TreeCells.{TreeCells}
+use Rattle.nfs_calls.specs.TreeCells.{IsInode, inode_found, inode_of_some, inode_placed, totals_found, object_at, object_or_zero, attr_by, root_inode, bytes_within}
 
 found_itself : (tree : Tree) (number : ℕ) (v : Option Value)
     → inode_found number (stands_for tree (cell.Object number) v) ≡ inode_found number v

@@ -1,2 +1,3 @@
 pub mod TreeCells
 pub mod Gives
+pub mod Plans

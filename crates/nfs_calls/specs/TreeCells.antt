@@ -1,4 +1,4 @@
--- Cells that stand for a sound tree, and what is read in them.
+-- What is read in cells that stand for a tree.
 use Rattle.std.specs.Prelude.{◌≡◌, ℕ, ◌==◌, List, [], Option, Some, None, Ok, if◌then◌else◌}
 use Rattle.harp_base.specs.declared.attr.Attr.{Attr}
 use Rattle.harp_base.specs.declared.attr.Kind.TheVariants as kind
@@ -7,21 +7,11 @@ use Rattle.file_tree.specs.declared.object.Body.TheVariants as body
 use Rattle.file_tree.specs.declared.object.Object.{Object}
 use Rattle.file_tree.specs.Tree.{Tree, place, slots_of, blocks_of, time_zero}
 use Rattle.file_tree.specs.Steps.{directory}
-use Rattle.file_tree.specs.Sound.{IsSound}
 use Rattle.harp_cells.specs.declared.value.Inode.{Inode}
 use Rattle.harp_cells.specs.declared.value.Value.{Value}
 use Rattle.harp_cells.specs.declared.value.Value.TheVariants as value
-use Rattle.harp_cells.specs.Effect.{Cells}
 use Rattle.nfs_calls.specs.declared.totals.Totals.{Totals}
-use Rattle.harp_cells.specs.CellsOfTree.{StandForTree, inode_of}
-
--- cells that stand for a sound tree, whose last update has this stamp
-pub record TreeCells : Type 0 where
-  pub cells : Cells
-  pub tree : Tree
-  pub stamp : ℕ
-  pub stand : StandForTree cells tree stamp
-  pub sound : IsSound tree
+use Rattle.harp_cells.specs.CellsOfTree.{inode_of}
 
 abbrev pub root_inode : Inode
 root_inode = record { kind = kind.Directory; mode = 493; uid = 0; gid = 0; links = 2; parent = 1; size = 0; slots = 0; atime = time_zero; mtime = time_zero; ctime = time_zero }

@@ -6,7 +6,8 @@ ghost use Rattle.file_tree.specs.declared.object.Body.{Body};
 ghost use Rattle.file_tree.specs.Tree.{place, slots_of, slots_within, kind_of, entry};
 ghost use Rattle.file_tree.specs.Steps.{slots_in, directory};
 ghost use Rattle.file_tree.specs.Outcome.{find, resolve, doomed};
-ghost use Rattle.nfs_calls.specs.TreeCells.{TreeCells, IsInode, IsDirectory};
+ghost use Rattle.update_changes.specs.TreeCells.{TreeCells};
+ghost use Rattle.nfs_calls.specs.TreeCells.{IsInode, IsDirectory};
 ghost use Rattle.nfs_calls.specs.Gives.{Gives, Tells};
 
 use crate::inode::live;

@@ -7,7 +7,8 @@ ghost use Rattle.file_tree.specs.declared.object.Body.{Body};
 ghost use Rattle.file_tree.specs.Tree.{place, kind_of};
 ghost use Rattle.file_tree.specs.Steps.{bytes_in, text_in};
 ghost use Rattle.harp_cells.specs.CellsOfTree.{content_of};
-ghost use Rattle.nfs_calls.specs.TreeCells.{TreeCells, IsInode, bytes_within};
+ghost use Rattle.update_changes.specs.TreeCells.{TreeCells};
+ghost use Rattle.nfs_calls.specs.TreeCells.{IsInode, bytes_within};
 ghost use Rattle.nfs_calls.specs.Gives.{Gives, Tells};
 
 use harp_base::{Bytes, Kind, Status};

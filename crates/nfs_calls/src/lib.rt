@@ -6,6 +6,7 @@ mod directory;
 mod file;
 mod inode;
 mod names;
+mod plan;
 mod reads;
 mod refusal;
 mod totals;

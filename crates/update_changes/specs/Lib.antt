@@ -1,0 +1,5 @@
+pub mod TreeCells
+pub mod Table
+pub mod Short
+pub mod Stands
+pub mod Laws

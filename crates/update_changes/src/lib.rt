@@ -1,0 +1,2 @@
+//! The changes of cells that each update of a file tree makes, and what they lead to.
+#![tactic(auto)]
