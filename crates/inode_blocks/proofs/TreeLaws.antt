@@ -181,7 +181,7 @@ files_stand cells tree object regular holds block =
 
 -- ---- other objects
 
-past_end : (bytes : List ℕ) (block : ℕ) → length bytes ≤ 4096 * block → block_value (block_of bytes block) ≡ None
+pub past_end : (bytes : List ℕ) (block : ℕ) → length bytes ≤ 4096 * block → block_value (block_of bytes block) ≡ None
 past_end bytes block past = ap (λ (xs : List ℕ). block_value (take 4096 xs)) (drop_all (4096 * block) bytes past)
 
 exact : (cells : Cells) (tree : Tree) (stamp object : ℕ) → StandForTree cells tree stamp
