@@ -16,7 +16,7 @@ use Rattle.harp_cells.specs.CellsOfTree.{slot_value}
 use Rattle.inode_dirs.specs.Slots.{HoldsSlots, is_slot_of}
 use Rattle.inode_dirs.specs.Laws.{EntersFirstFree, ReplacesSlot, FreesSlot, KeepsSlots}
 
-same_slot : (dir i slot : ℕ) → is_cell (cell.Slot dir i) (cell.Slot dir slot) ≡ (i == slot)
+pub same_slot : (dir i slot : ℕ) → is_cell (cell.Slot dir i) (cell.Slot dir slot) ≡ (i == slot)
 unfolding is_cell
 same_slot dir i slot = let t : (dir == dir) ≡ true = eq-eqb dir dir refl in rw t refl
 

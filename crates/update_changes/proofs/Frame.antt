@@ -27,7 +27,7 @@ use Rattle.update_changes.proofs.Links.{NameSameKinds, links_kept, names_alike, 
 
 -- ---- changes of other cells
 
-other_cell : (number : ℕ) (d c : Cell) → is_cell_of number d ≡ false → is_cell_of number c ≡ true → is_cell d c ≡ false
+pub other_cell : (number : ℕ) (d c : Cell) → is_cell_of number d ≡ false → is_cell_of number c ≡ true → is_cell d c ≡ false
 other_cell number d c other of = false_from_ne_true (is_cell d c) (λ e.
     both_ways (is_cell_of number c) (ap (is_cell_of number) (sym (is_cell_true d c e)) ∙ other) of)
 
