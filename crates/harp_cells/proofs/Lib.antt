@@ -1,2 +1,2 @@
-mod CellLemmas
+pub mod CellLemmas
 mod TreeLaws
