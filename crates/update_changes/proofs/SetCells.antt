@@ -41,7 +41,7 @@ all_from_right cells tree right number = record {
   slot = λ slot. right (cell.Slot number slot);
 }
 
-past_end : (bytes : List ℕ) (block : ℕ) → length bytes ≤ 4096 * block → block_value (block_of bytes block) ≡ None
+pub past_end : (bytes : List ℕ) (block : ℕ) → length bytes ≤ 4096 * block → block_value (block_of bytes block) ≡ None
 past_end bytes block past = ap (λ (xs : List ℕ). block_value (take 4096 xs)) (drop_all (4096 * block) bytes past)
 
 pub right_by : (tree : Tree) (c : Cell) → IsRight tree c (cell_of_tree tree 0 no_updates c)
@@ -132,3 +132,18 @@ pub first_other : (tree : Tree) (c d : Cell) (cells : List Cell) → Spares c (s
 first_other tree c d cells e same =
     let parts = or_parts (is_cell d c) (list_any (λ x. is_cell x c) cells) (spared_cells tree c (d ∷ cells) e) in
     both_ways _ parts.0 (subst (λ (x : Cell). is_cell d x ≡ true) same (is_cell_itself d d refl))
+
+pub rest_spared : (tree : Tree) (c d : Cell) (cells : List Cell) → Spares c (set_by tree (d ∷ cells)) → Spares c (set_by tree cells)
+rest_spared tree c d cells e =
+    (or_parts (sets_cell c (change_to d (cell_of_tree tree 0 no_updates d))) (list_any (sets_cell c) (set_by tree cells)) e).1
+
+-- two cells, or one that both are
+pub pair_other : (tree : Tree) (c : Cell) (same : Bool) (one d e : Cell) → (same ≡ true → d ≡ one) → (same ≡ true → e ≡ one)
+    → Spares c (set_by tree (if same then one ∷ [] else d ∷ e ∷ [])) → (d ≡ c → ⊥) × (e ≡ c → ⊥)
+pair_other tree c true one d e first second spares =
+    let other = first_other tree c one [] spares in
+    (λ x. other (sym (first refl) ∙ x), λ x. other (sym (second refl) ∙ x))
+pair_other tree c false one d e first second spares = (
+  first_other tree c d (e ∷ []) spares,
+  first_other tree c e [] (rest_spared tree c d (e ∷ []) spares),
+)
