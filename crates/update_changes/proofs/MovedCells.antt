@@ -22,7 +22,7 @@ use Rattle.inode_dirs.proofs.TreeCells.{trees_hold_slots}
 use Rattle.update_changes.specs.Table.{set_by, content_size, erases, loses, slot_pair, dir_pair}
 use Rattle.update_changes.specs.Stands.{AllStand, IsUnmoved}
 use Rattle.update_changes.proofs.Frame.{unmoved_inode}
-use Rattle.update_changes.proofs.SetCells.{IsRight, IsBy, Spares, past_end, all_stand_after, by_set, spared_both, first_other, pair_other}
+use Rattle.update_changes.proofs.RightCells.{IsRight, IsBy, Spares, past_end, all_stand_after, by_set, spared_both, first_other, pair_other}
 use Rattle.update_changes.proofs.MovedEntries.{Move, IsAside, IsOtherSlot, AreAlike, IsGone, MovesTo, unmoved}
 
 -- ---- cells that stand already

@@ -28,7 +28,7 @@ use Rattle.harp_cells.specs.CellsOfTree.{StandForTree}
 use Rattle.update_changes.specs.TreeCells.{TreeCells}
 use Rattle.update_changes.specs.Table.{set_by, loses, takes, entry_in, tree_changes}
 use Rattle.update_changes.specs.Stands.{AllStand}
-use Rattle.update_changes.proofs.SetCells.{IsBy, Spares, by_set, spared_both, first_other, rest_spared}
+use Rattle.update_changes.proofs.RightCells.{IsBy, Spares, by_set, spared_both, first_other, rest_spared}
 use Rattle.update_changes.proofs.MovedEntries.{Move, IsSlotOf, IsBefore, MovesTo, alike_reslots, alters_reslots, moves_lost}
 use Rattle.update_changes.proofs.MovedCells.{Covers, move_leads, by_loss, loss_sets, loss_clears}
 
