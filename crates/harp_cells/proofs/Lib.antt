@@ -1,2 +1,2 @@
 pub mod CellLemmas
-mod TreeLaws
+pub mod TreeLaws
