@@ -18,12 +18,13 @@ use Rattle.harp_cells.specs.declared.change.Change.{Change}
 use Rattle.harp_cells.specs.declared.change.Change.TheVariants as change
 use Rattle.harp_cells.specs.Effect.{Cells, is_block_from, changed, after}
 use Rattle.harp_cells.specs.CellsOfTree.{StandForTree, stands_for, object_value, content_of, block_of, block_value, slot_value, is_regular_at}
+use Rattle.harp_cells.proofs.TreeLaws.{dead_are_absent}
 use Rattle.inode_dirs.proofs.TreeCells.{trees_hold_slots}
-use Rattle.update_changes.specs.Table.{set_by, content_size, erases, loses, slot_pair, dir_pair}
+use Rattle.update_changes.specs.Table.{no_updates, set_by, content_size, erases, loses, slot_pair, dir_pair}
 use Rattle.update_changes.specs.Stands.{AllStand, IsUnmoved}
 use Rattle.update_changes.proofs.Frame.{unmoved_inode}
-use Rattle.update_changes.proofs.RightCells.{IsRight, IsBy, Spares, past_end, all_stand_after, by_set, spared_both, first_other, pair_other}
-use Rattle.update_changes.proofs.MovedEntries.{Move, IsAside, IsOtherSlot, AreAlike, IsGone, MovesTo, unmoved}
+use Rattle.update_changes.proofs.RightCells.{IsRight, IsBy, Spares, all_stand_after, by_set, spared_both, first_other, pair_other}
+use Rattle.update_changes.proofs.MovedEntries.{Move, IsAside, IsOtherSlot, AreAlike, MovesTo, unmoved}
 
 -- ---- cells that stand already
 
@@ -67,13 +68,9 @@ right_block cells old new stamp n b stand alike = (
   λ past. stand.ends n b (subst (λ (bytes : List ℕ). length bytes ≤ 4096 * b) alike.content past),
 )
 
-gone_block : (new : Tree) (n b : ℕ) → place new n ≡ None → block_value (block_of (content_of (place new n)) b) ≡ None
-gone_block new n b gone =
-    let empty : length (content_of (place new n)) ≡ 0 = ap (λ (x : Option Object). length (content_of x)) gone in
-    past_end (content_of (place new n)) b (omega (arith, empty))
-
 right_gone : (new : Tree) (n b : ℕ) → place new n ≡ None → IsRight new (cell.Block n b) None
-right_gone new n b gone = (ap (stands_for new (cell.Block n b)) (sym (gone_block new n b gone)), λ past. refl)
+right_gone new n b gone =
+    (ap (stands_for new (cell.Block n b)) (sym (dead_are_absent new 0 no_updates n b gone).1), λ past. refl)
 
 -- no block is there where the old content was empty
 right_none : (cells : Cells) (old new : Tree) (stamp n b : ℕ) → StandForTree cells old stamp
@@ -84,48 +81,76 @@ right_none cells old new stamp n b stand empty gone =
 
 -- ---- what changes cover
 
+-- a cell that a move leaves: neither of the slots, nor the attributes of one of the objects
+pub record IsLeft (m : Move) (c : Cell) : Type 0 where
+  pub slot : cell.Slot m.dir m.slot ≡ c → ⊥
+  pub to_slot : cell.Slot m.to_dir m.to_slot ≡ c → ⊥
+  pub dir : cell.Object m.dir ≡ c → ⊥
+  pub to_dir : cell.Object m.to_dir ≡ c → ⊥
+  pub moved : cell.Object m.moved ≡ c → ⊥
+  pub target : cell.Object m.target ≡ c → ⊥
+
+left_aside : (m : Move) (n : ℕ) → IsLeft m (cell.Object n) → IsAside m n
+left_aside m n is = record {
+  dir = λ e. is.dir (ap cell.Object (sym e));
+  to_dir = λ e. is.to_dir (ap cell.Object (sym e));
+  moved = λ e. is.moved (ap cell.Object (sym e));
+  target = λ e. is.target (ap cell.Object (sym e));
+}
+
+same_slot : (n s dir slot : ℕ) → n ≡ dir → s ≡ slot → cell.Slot dir slot ≡ cell.Slot n s
+same_slot n s dir slot e f = ap (λ (k : ℕ). cell.Slot k slot) (sym e) ∙ ap (cell.Slot n) (sym f)
+
+left_slot : (m : Move) (n s : ℕ) → IsLeft m (cell.Slot n s) → IsOtherSlot m n s
+left_slot m n s is = record {
+  from = λ e f. is.slot (same_slot n s m.dir m.slot e f);
+  to = λ e f. is.to_slot (same_slot n s m.to_dir m.to_slot e f);
+}
+
 -- changes set what a move alters
 pub record Covers (m : Move) (new : Tree) (changes : List Change) : Type 0 where
   pub by : All (IsBy new) changes
-  pub object : (n : ℕ) → Spares (cell.Object n) changes → IsAside m n
-  pub slot : (n s : ℕ) → Spares (cell.Slot n s) changes → IsOtherSlot m n s
+  pub others : (c : Cell) → Spares c changes → IsLeft m c
 
--- where the target is gone, its blocks are erased unless it had none
-abbrev pub Clears : Move → Tree → List Change → Type 0
-Clears m old changes = (b : ℕ) → Spares (cell.Block m.target b) changes → length (content_of (place old m.target)) ≡ 0
+-- the target's content stays, or the target is gone, and with it its blocks, unless it had none
+pub record IsCleared (m : Move) (old new : Tree) (changes : List Change) : Type 0 where
+  pub gone : place new m.target ≡ None
+  pub blocks : (b : ℕ) → Spares (cell.Block m.target b) changes → length (content_of (place old m.target)) ≡ 0
+
+abbrev pub Ends : Move → Tree → Tree → List Change → Type 0
+Ends m old new changes = AreAlike (place old m.target) (place new m.target) ⊎ IsCleared m old new changes
 
 right_target : (cells : Cells) (old new : Tree) (stamp b : ℕ) (m : Move) (changes : List Change)
-    → StandForTree cells old stamp → AreAlike (place old m.target) (place new m.target) ⊎ IsGone m old new
-    → (place new m.target ≡ None → Clears m old changes) → Spares (cell.Block m.target b) changes
+    → StandForTree cells old stamp → Ends m old new changes → Spares (cell.Block m.target b) changes
     → IsRight new (cell.Block m.target b) (cells (cell.Block m.target b))
-right_target cells old new stamp b m changes stand (inl alike) clears spares =
+right_target cells old new stamp b m changes stand (inl alike) spares =
     right_block cells old new stamp m.target b stand alike
-right_target cells old new stamp b m changes stand (inr gone) clears spares =
-    right_none cells old new stamp m.target b stand (clears gone.none b spares) gone.none
+right_target cells old new stamp b m changes stand (inr cleared) spares =
+    right_none cells old new stamp m.target b stand (cleared.blocks b spares) cleared.gone
 
 right_spared : (cells : Cells) (old new : Tree) (stamp : ℕ) (m : Move) (changes : List Change)
-    → StandForTree cells old stamp → MovesTo m old new → Covers m new changes
-    → (place new m.target ≡ None → Clears m old changes) → (c : Cell) → Spares c changes → IsRight new c (cells c)
-right_spared cells old new stamp m changes stand moves covers clears (cell.Object n) spares =
-    right_object cells old new stamp n stand (unmoved m old new moves n (covers.object n spares))
-right_spared cells old new stamp m changes stand moves covers clears (cell.Slot n s) spares =
-    right_slot cells old new stamp n s stand (moves.alters.slot n s (covers.slot n s spares))
-right_spared cells old new stamp m changes stand moves covers clears (cell.Block n b) spares = elim (cases_eq n m.target) [
+    → StandForTree cells old stamp → MovesTo m old new → Covers m new changes → Ends m old new changes
+    → (c : Cell) → Spares c changes → IsRight new c (cells c)
+right_spared cells old new stamp m changes stand moves covers ends (cell.Object n) spares =
+    right_object cells old new stamp n stand (unmoved m old new moves n (left_aside m n (covers.others (cell.Object n) spares)))
+right_spared cells old new stamp m changes stand moves covers ends (cell.Slot n s) spares =
+    right_slot cells old new stamp n s stand (moves.alters.slot n s (left_slot m n s (covers.others (cell.Slot n s) spares)))
+right_spared cells old new stamp m changes stand moves covers ends (cell.Block n b) spares = elim (cases_eq n m.target) [
   | inl e ↦
       let spared : Spares (cell.Block m.target b) changes = subst (λ (k : ℕ). Spares (cell.Block k b) changes) e spares in
       subst (λ (k : ℕ). IsRight new (cell.Block k b) (cells (cell.Block k b))) (sym e)
-      (right_target cells old new stamp b m changes stand moves.target clears spared)
+      (right_target cells old new stamp b m changes stand ends spared)
   | inr ne ↦ right_block cells old new stamp n b stand (moves.alike n ne)
 ]
-right_spared cells old new stamp m changes stand moves covers clears cell.Meta spares = tt
-right_spared cells old new stamp m changes stand moves covers clears (cell.Client client) spares = tt
-right_spared cells old new stamp m changes stand moves covers clears (cell.Saved at) spares = tt
+right_spared cells old new stamp m changes stand moves covers ends cell.Meta spares = tt
+right_spared cells old new stamp m changes stand moves covers ends (cell.Client client) spares = tt
+right_spared cells old new stamp m changes stand moves covers ends (cell.Saved at) spares = tt
 
 pub move_leads : (cells : Cells) (old new : Tree) (stamp : ℕ) (m : Move) (changes : List Change)
-    → StandForTree cells old stamp → MovesTo m old new → Covers m new changes
-    → (place new m.target ≡ None → Clears m old changes) → AllStand (after changes cells) new
-move_leads cells old new stamp m changes stand moves covers clears =
-    all_stand_after cells new changes covers.by (right_spared cells old new stamp m changes stand moves covers clears)
+    → StandForTree cells old stamp → MovesTo m old new → Covers m new changes → Ends m old new changes
+    → AllStand (after changes cells) new
+move_leads cells old new stamp m changes stand moves covers ends =
+    all_stand_after cells new changes covers.by (right_spared cells old new stamp m changes stand moves covers ends)
 
 -- ---- an object that lost an entry
 
@@ -189,12 +214,23 @@ spared_going : (old : Tree) (number b : ℕ) (x : Option Object) → x ≡ None 
 spared_going old number b None gone spares = spared_block old number b spares
 spared_going old number b (Some o) gone spares = absurd cc
 
-pub loss_clears : (old new : Tree) (number b : ℕ) → place new number ≡ None
+loss_clears : (old new : Tree) (number b : ℕ) → place new number ≡ None
     → Spares (cell.Block number b) (loses old new number) → content_size old number ≡ 0
 unfolding loses
 loss_clears old new number b gone spares =
     spared_going old number b (place new number) gone
     (spared_both (cell.Block number b) (goes_with old number (place new number)) (set_by new (cell.Object number ∷ [])) spares).0
+
+-- where a move has the loss among its changes, the target's blocks are erased
+pub loss_ends : (m : Move) (old new : Tree) (changes : List Change) → MovesTo m old new
+    → ((c : Cell) → Spares c changes → Spares c (loses old new m.target)) → Ends m old new changes
+loss_ends m old new changes moves among = elim moves.target [
+  | inl alike ↦ inl alike
+  | inr gone ↦ inr (record {
+    gone = gone.none;
+    blocks = λ b spares. loss_clears old new m.target b gone.none (among (cell.Block m.target b) spares);
+  })
+]
 
 -- ---- pairs of cells that may be one
 

@@ -1,7 +1,7 @@
 -- How a tree is altered where entries of directories go, come or are replaced.
-use Rattle.std.proofs.Common.{◌≡◌, ℕ, zero, suc, ◌+◌, ◌<◌, ◌≤◌, ◌==◌, ◌⊎◌, List, [], ◌∷◌, length, get_or, set}
+use Rattle.std.proofs.Common.{◌≡◌, ℕ, ◌<◌, ◌≤◌, ◌==◌, ◌⊎◌, false, length, get_or, set}
 use Rattle.std.proofs.Common.{Option, Some, None, refl, sym, ap, ◌∙◌, subst, arith, inl, inr}
-use Rattle.std.proofs.lemmas.Bool.{cases_eq, cases_lt, cond_both, eqb-true, eq-eqb}
+use Rattle.std.proofs.lemmas.Bool.{cases_eq, cases_lt, cond_both, eqb-true, eq-eqb, ne_eqb}
 use Rattle.std.proofs.lemmas.List.{get_or_past, get_or-set_same, get_or-set_other, set_past}
 use Rattle.std.proofs.lemmas.List.Sums.{get_or-le-sum_by}
 use Rattle.harp_base.specs.declared.attr.Time.{Time}
@@ -16,6 +16,7 @@ use Rattle.file_tree.proofs.Reslots.{Reslots, other_place, own_place, own_names,
 use Rattle.file_tree.proofs.SoundMoves.{names_at-le}
 use Rattle.file_tree.proofs.WaysUp.{IsBare}
 use Rattle.harp_cells.specs.CellsOfTree.{content_of, is_regular_at}
+use Rattle.inode_dirs.proofs.SlotChanges.{entry_differs}
 use Rattle.update_changes.specs.Stands.{IsUnmoved}
 
 -- ---- what changes
@@ -128,15 +129,11 @@ alters_reslots m old new dir slots after r is = record {
 }
 
 -- a new entry leaves each slot but the first free one
-pub entered_other : (i : ℕ) (slots : Slots) (s : Slot) (k : ℕ) → (i + k ≡ free_from i slots → ⊥)
+pub entered_other : (slots : Slots) (s : Slot) (k : ℕ) → (k ≡ free_from 0 slots → ⊥)
     → get_or (with_entry slots s) k None ≡ get_or slots k None
-unfolding free_from with_entry
-entered_other i [] s zero ne = absurd (ne (omega arith))
-entered_other i [] s (suc k) ne = refl
-entered_other i (None ∷ slots) s zero ne = absurd (ne (omega arith))
-entered_other i (None ∷ slots) s (suc k) ne = refl
-entered_other i (Some t ∷ slots) s zero ne = refl
-entered_other i (Some t ∷ slots) s (suc k) ne = entered_other (i + 1) slots s k (λ e. ne (omega (arith, e)))
+entered_other slots s k ne =
+    let t : (free_from 0 slots == k) ≡ false = ne_eqb (free_from 0 slots) k (λ e. ne (sym e)) in
+    entry_differs slots s k ∙ rw t refl
 
 -- ---- the time of an object
 

@@ -1,11 +1,10 @@
 -- Changes that set cells to their values by a tree: each cell that none of them sets has to stand already.
-use Rattle.std.proofs.Common.{◌≡◌, ℕ, ◌*◌, ◌≤◌, Bool, true, false, List, [], ◌∷◌, ◌++◌, length, take, map, get_or}
+use Rattle.std.proofs.Common.{◌≡◌, ℕ, ◌*◌, ◌≤◌, Bool, true, false, List, [], ◌∷◌, ◌++◌, length, get_or}
 use Rattle.std.proofs.Common.{Option, Some, None, refl, sym, ap, ◌∙◌, subst, inl, inr}
 use Rattle.std.specs.Bool.{if◌then◌else◌}
 use Rattle.std.specs.Prelude.{fold}
 use Rattle.std.specs.List.{All, list_any}
 use Rattle.std.proofs.lemmas.Bool.{cases_Bool, or_from, or_parts, both_ways}
-use Rattle.std.proofs.lemmas.List.{drop_all}
 use Rattle.std.proofs.lemmas.List.Elements.{All-head, All-tail, All-nil, All-cons, All-append}
 use Rattle.std.proofs.lemmas.List.Folds.{list_any-append}
 use Rattle.file_tree.specs.Tree.{Tree, place, slots_of}
@@ -16,6 +15,7 @@ use Rattle.harp_cells.specs.declared.change.Change.{Change}
 use Rattle.harp_cells.specs.declared.change.Change.TheVariants as change
 use Rattle.harp_cells.specs.Effect.{Cells, is_cell, is_block_from, changed, after}
 use Rattle.harp_cells.specs.CellsOfTree.{StandForSame, object_value, content_of, block_of, block_value, slot_value, cell_of_tree}
+use Rattle.harp_cells.proofs.TreeLaws.{blocks_end}
 use Rattle.harp_cells.proofs.CellLemmas.{is_cell_true, is_cell_itself}
 use Rattle.update_changes.specs.Table.{no_updates, change_to, set_by}
 use Rattle.update_changes.specs.Stands.{StandsAt, AllStand}
@@ -41,12 +41,9 @@ all_from_right cells tree right number = record {
   slot = λ slot. right (cell.Slot number slot);
 }
 
-pub past_end : (bytes : List ℕ) (block : ℕ) → length bytes ≤ 4096 * block → block_value (block_of bytes block) ≡ None
-past_end bytes block past = ap (λ (xs : List ℕ). block_value (take 4096 xs)) (drop_all (4096 * block) bytes past)
-
 pub right_by : (tree : Tree) (c : Cell) → IsRight tree c (cell_of_tree tree 0 no_updates c)
 right_by tree (cell.Object n) = refl
-right_by tree (cell.Block n b) = (refl, λ past. past_end (content_of (place tree n)) b past)
+right_by tree (cell.Block n b) = (refl, λ past. blocks_end tree 0 no_updates n b past)
 right_by tree (cell.Slot n s) = refl
 right_by tree cell.Meta = tt
 right_by tree (cell.Client client) = tt

@@ -28,9 +28,9 @@ use Rattle.harp_cells.specs.CellsOfTree.{StandForTree}
 use Rattle.update_changes.specs.TreeCells.{TreeCells}
 use Rattle.update_changes.specs.Table.{set_by, loses, takes, entry_in, tree_changes}
 use Rattle.update_changes.specs.Stands.{AllStand}
-use Rattle.update_changes.proofs.RightCells.{IsBy, Spares, by_set, spared_both, first_other, rest_spared}
+use Rattle.update_changes.proofs.RightCells.{IsBy, by_set, spared_both, first_other, rest_spared}
 use Rattle.update_changes.proofs.MovedEntries.{Move, IsSlotOf, IsBefore, MovesTo, alike_reslots, alters_reslots, moves_lost}
-use Rattle.update_changes.proofs.MovedCells.{Covers, move_leads, by_loss, loss_sets, loss_clears}
+use Rattle.update_changes.proofs.MovedCells.{Covers, move_leads, by_loss, loss_sets, loss_ends}
 
 -- an entry goes, and its object loses it
 abbrev pub taking : ℕ → ℕ × ℕ → Move
@@ -39,18 +39,19 @@ taking dir x = record { dir = dir; slot = x.0; to_dir = dir; to_slot = x.0; move
 -- ---- the tree
 
 -- an object with an entry isn't without any
-bare_apart : (tree : Tree) (number dir k : ℕ) → IsBare tree number → Holds tree dir k → number ≡ dir → ⊥
+pub bare_apart : (tree : Tree) (number dir k : ℕ) → IsBare tree number → Holds tree dir k → number ≡ dir → ⊥
 bare_apart tree number dir k bare held e =
     let none = bare k in
     let some : Holds tree number k = subst (λ (n : ℕ). Holds tree n k) (sym e) held in
     omega (arith, none, some)
 
-clears_slot : (slots : Slots) (name : List ℕ) (dir : ℕ) (x : ℕ × ℕ) → IsFound slots name x
-    → IsSlotOf (taking dir x) dir slots (set slots x.0 None)
-clears_slot slots name dir x f = record {
+-- the slot of the first directory is freed
+pub clears_slot : (m : Move) (slots : Slots) (name : List ℕ) → IsFound slots name (m.slot, m.moved)
+    → IsSlotOf m m.dir slots (set slots m.slot None)
+clears_slot m slots name f = record {
   aside = λ n a. a.dir;
-  others = λ s o. get_or-set_other slots x.0 s None None (o.from refl);
-  names = λ k nm nt. omega (arith, cleared_names slots name x k f, one_other x.1 k nm);
+  others = λ s o. get_or-set_other slots m.slot s None None (o.from refl);
+  names = λ k nm nt. omega (arith, cleared_names slots name (m.slot, m.moved) k f, one_other m.moved k nm);
 }
 
 pub taken : (tree : Tree) (dir : ℕ) (slots : Slots) (name : List ℕ) (x : ℕ × ℕ) (now : Time) → IsDirectoryOf tree dir slots
@@ -61,7 +62,7 @@ taken tree dir slots name x now is f bare =
     let r : Reslots tree cleared dir slots left = reslots_changed tree dir is.object slots x.0 None now is.at is.body in
     let held = found_held tree dir is.object slots name x is.at is.body f in
     moves_lost (taking dir x) tree cleared now (record {
-      alters = alters_reslots (taking dir x) tree cleared dir slots left r (clears_slot slots name dir x f);
+      alters = alters_reslots (taking dir x) tree cleared dir slots left r (clears_slot (taking dir x) slots name f);
       alike = alike_reslots tree cleared dir slots left r;
       others = λ n nd nt. other_place tree cleared dir slots left r n nd;
       bare = λ k. ap (names_at k) (other_place tree cleared dir slots left r x.1 (bare_apart tree x.1 dir x.1 bare held)) ∙ bare k;
@@ -75,23 +76,12 @@ takes_cover old new dir x =
     record {
       by = All-append (IsBy new) first (loses old new x.1)
           (by_set new (cell.Slot dir x.0 ∷ cell.Object dir ∷ [])) (by_loss old new x.1);
-      object = λ n spares.
-          let parts = spared_both (cell.Object n) first (loses old new x.1) spares in
-          let rest = rest_spared new (cell.Object n) (cell.Slot dir x.0) (cell.Object dir ∷ []) parts.0 in
-          let in_dir = first_other new (cell.Object n) (cell.Object dir) [] rest in
-          let lost = loss_sets old new x.1 (cell.Object n) parts.1 in
-          record {
-            dir = λ e. in_dir (ap cell.Object (sym e));
-            to_dir = λ e. in_dir (ap cell.Object (sym e));
-            moved = λ e. lost (ap cell.Object (sym e));
-            target = λ e. lost (ap cell.Object (sym e));
-          };
-      slot = λ n s spares.
-          let parts = spared_both (cell.Slot n s) first (loses old new x.1) spares in
-          let other = first_other new (cell.Slot n s) (cell.Slot dir x.0) (cell.Object dir ∷ []) parts.0 in
-          let apart : n ≡ dir → s ≡ x.0 → ⊥ = λ (e : n ≡ dir) (f : s ≡ x.0).
-          other (ap (λ (k : ℕ). cell.Slot k x.0) (sym e) ∙ ap (cell.Slot n) (sym f)) in
-          record { from = apart; to = apart };
+      others = λ c spares.
+          let parts = spared_both c first (loses old new x.1) spares in
+          let slot = first_other new c (cell.Slot dir x.0) (cell.Object dir ∷ []) parts.0 in
+          let object = first_other new c (cell.Object dir) [] (rest_spared new c (cell.Slot dir x.0) (cell.Object dir ∷ []) parts.0) in
+          let lost = loss_sets old new x.1 c parts.1 in
+          record { slot = slot; to_slot = slot; dir = object; to_dir = object; moved = lost; target = lost };
     }
 
 takes_lead : (cells : Cells) (old new : Tree) (stamp dir : ℕ) (x : ℕ × ℕ) → StandForTree cells old stamp
@@ -99,7 +89,8 @@ takes_lead : (cells : Cells) (old new : Tree) (stamp dir : ℕ) (x : ℕ × ℕ)
 takes_lead cells old new stamp dir x stand moves =
     let first = set_by new (cell.Slot dir x.0 ∷ cell.Object dir ∷ []) in
     move_leads cells old new stamp (taking dir x) (takes old new dir (Some x)) stand moves (takes_cover old new dir x)
-    (λ gone b spares. loss_clears old new x.1 b gone (spared_both (cell.Block x.1 b) first (loses old new x.1) spares).1)
+    (loss_ends (taking dir x) old new (takes old new dir (Some x)) moves
+    (λ c spares. (spared_both c first (loses old new x.1) spares).1))
 
 -- ---- the calls
 
