@@ -40,19 +40,12 @@ no_block : (dir i handle number block : ℕ) → is_among (link_cells dir i hand
 unfolding is_cell
 no_block dir i handle number block = refl
 
-not_of : (dir i handle number : ℕ) → (number ≡ dir → ⊥) → (number ≡ handle → ⊥) → list_any (is_cell_of number) (link_cells dir i handle) ≡ false
+not_of : (dir i handle number : ℕ) → (number ≡ dir → ⊥) → (number ≡ handle → ⊥)
+    → list_any (is_cell_of number) (link_cells dir i handle) ≡ false
 not_of dir i handle number not_dir not_handle =
     let apart : (dir == number) ≡ false = ne_eqb dir number (λ e. not_dir (sym e)) in
     or_from (dir == number) _ apart (or_from (dir == number) _ apart
     (or_from (handle == number) false (ne_eqb handle number (λ e. not_handle (sym e))) refl))
-
--- a directory that gets a further entry of a file or a link
-record IsLinking (tree : Tree) (handle dir : ℕ) (slots : Slots) (name : List ℕ) (now : Time) (new : Tree) : Type 0 where
-  object : Object
-  lives : place tree handle ≡ Some object
-  file : is_directory object.body ≡ false
-  of : IsDirectoryOf tree dir slots
-  becomes : new ≡ change (change tree dir (reslotted now (with_entry slots (record { name = name; number = handle })))) handle (set_ctime now)
 
 -- the slots with the entry, and the tree with them alone
 abbrev entered : Slots → List ℕ → ℕ → Slots
@@ -61,34 +54,52 @@ entered slots name handle = with_entry slots (record { name = name; number = han
 abbrev between : Tree → ℕ → ℕ → Slots → List ℕ → Time → Tree
 between tree handle dir slots name now = change tree dir (reslotted now (entered slots name handle))
 
-apart : (tree : Tree) (handle dir : ℕ) (slots : Slots) (name : List ℕ) (now : Time) (new : Tree) → IsLinking tree handle dir slots name now new
+-- a directory that gets a further entry of a file or a link
+record IsLinking (tree : Tree) (handle dir : ℕ) (slots : Slots) (name : List ℕ) (now : Time)
+    (new : Tree) : Type 0 where
+  object : Object
+  lives : place tree handle ≡ Some object
+  file : is_directory object.body ≡ false
+  of : IsDirectoryOf tree dir slots
+  becomes : new ≡ change (between tree handle dir slots name now) handle (set_ctime now)
+
+apart : (tree : Tree) (handle dir : ℕ) (slots : Slots) (name : List ℕ) (now : Time) (new : Tree)
+    → IsLinking tree handle dir slots name now new
     → handle ≡ dir → ⊥
 apart tree handle dir slots name now new m e =
     let same : Some m.object ≡ Some m.of.object = sym m.lives ∙ ap (place tree) e ∙ m.of.at in
     let one : m.object ≡ m.of.object = cc in
-    let other : is_directory m.object.body ≡ true = ap (λ (o : Object). is_directory o.body) one ∙ ap is_directory m.of.body in
+    let other : is_directory m.object.body ≡ true = ap (λ (o : Object). is_directory o.body) one
+    ∙ ap is_directory m.of.body in
     let file = m.file in
     absurd cc
 
-linking_reslots : (tree : Tree) (handle dir : ℕ) (slots : Slots) (name : List ℕ) (now : Time) (new : Tree) → IsLinking tree handle dir slots name now new
+linking_reslots : (tree : Tree) (handle dir : ℕ) (slots : Slots) (name : List ℕ) (now : Time) (new : Tree)
+    → IsLinking tree handle dir slots name now new
     → Reslots tree (between tree handle dir slots name now) dir slots (entered slots name handle)
-linking_reslots tree handle dir slots name now new m = reslots_reslotted tree dir m.of.object slots (entered slots name handle) now m.of.at m.of.body
+linking_reslots tree handle dir slots name now new m = reslots_reslotted tree dir m.of.object slots
+    (entered slots name handle) now m.of.at m.of.body
 
-between_place : (tree : Tree) (handle dir : ℕ) (slots : Slots) (name : List ℕ) (now : Time) (new : Tree) (m : IsLinking tree handle dir slots name now new)
+between_place : (tree : Tree) (handle dir : ℕ) (slots : Slots) (name : List ℕ) (now : Time) (new : Tree)
+    (m : IsLinking tree handle dir slots name now new)
     → place (between tree handle dir slots name now) handle ≡ Some m.object
 between_place tree handle dir slots name now new m =
-    other_place tree (between tree handle dir slots name now) dir slots (entered slots name handle) (linking_reslots tree handle dir slots name now new m) handle
+    other_place tree (between tree handle dir slots name now) dir slots (entered slots name handle)
+    (linking_reslots tree handle dir slots name now new m) handle
     (apart tree handle dir slots name now new m)
     ∙ m.lives
 
-set_again : (tree : Tree) (handle dir : ℕ) (slots : Slots) (name : List ℕ) (now : Time) (new : Tree) (m : IsLinking tree handle dir slots name now new)
+set_again : (tree : Tree) (handle dir : ℕ) (slots : Slots) (name : List ℕ) (now : Time) (new : Tree)
+    (m : IsLinking tree handle dir slots name now new)
     → new ≡ set (between tree handle dir slots name now) handle (Some (set_ctime now m.object))
 set_again tree handle dir slots name now new m =
     m.becomes
-    ∙ change_is (between tree handle dir slots name now) handle (set_ctime now) m.object (between_place tree handle dir slots name now new m)
+    ∙ change_is (between tree handle dir slots name now) handle (set_ctime now) m.object
+    (between_place tree handle dir slots name now new m)
 
 -- the directory
-linked_dir : (t : TreeCells) (handle dir : ℕ) (slots : Slots) (name : List ℕ) (now : Time) (new : Tree) → IsLinking t.tree handle dir slots name now new
+linked_dir : (t : TreeCells) (handle dir : ℕ) (slots : Slots) (name : List ℕ) (now : Time) (new : Tree)
+    → IsLinking t.tree handle dir slots name now new
     → StandsAt (after (set_by new (link_cells dir (free_slot t.tree dir) handle)) t.cells) new dir
 linked_dir t handle dir slots name now new m =
     let stand = each_stands t.cells t.tree t.stamp t.stand dir in
@@ -96,7 +107,8 @@ linked_dir t handle dir slots name now new m =
     let r = linking_reslots t.tree handle dir slots name now new m in
     let here : place new dir ≡ Some r.becomes =
     ap (λ (x : Tree). place x dir) (set_again t.tree handle dir slots name now new m)
-    ∙ get_or-set_other mid handle dir (Some (set_ctime now m.object)) None (λ e. apart t.tree handle dir slots name now new m (sym e))
+    ∙ get_or-set_other mid handle dir (Some (set_ctime now m.object)) None
+    (λ e. apart t.tree handle dir slots name now new m (sym e))
     ∙ own_place t.tree mid dir slots (entered slots name handle) r in
     let becomes = r.body_after in
     let content : content_of (place new dir) ≡ content_of (place t.tree dir) =
@@ -104,20 +116,27 @@ linked_dir t handle dir slots name now new m =
     ∙ sym (ap content_of m.of.at ∙ ap (λ (b : Body). content_of (Some (record m.object { body = b }))) m.of.body) in
     let kind : is_regular_at (place new dir) ≡ is_regular_at (place t.tree dir) =
     ap is_regular_at here ∙ ap (λ (b : Body). is_regular_at (Some (record m.object { body = b }))) becomes
-    ∙ sym (ap is_regular_at m.of.at ∙ ap (λ (b : Body). is_regular_at (Some (record m.object { body = b }))) m.of.body) in
+    ∙ sym (ap is_regular_at m.of.at
+    ∙ ap (λ (b : Body). is_regular_at (Some (record m.object { body = b }))) m.of.body) in
     let old_slots : slots_of (place t.tree dir) ≡ slots = ap slots_of m.of.at ∙ ap slots_within m.of.body in
-    let new_slots : slots_of (place new dir) ≡ entered slots name handle = ap slots_of here ∙ ap slots_within becomes in
+    let new_slots : slots_of (place new dir) ≡ entered slots name handle = ap slots_of here
+    ∙ ap slots_within becomes in
     touched t.cells new (link_cells dir (free_slot t.tree dir) handle) dir
-    (among_later (cell.Slot dir (free_slot t.tree dir)) (cell.Object dir) (cell.Object dir ∷ cell.Object handle ∷ []) (among_first (cell.Object dir) (cell.Object handle ∷ [])))
+    (among_later (cell.Slot dir (free_slot t.tree dir)) (cell.Object dir) (cell.Object dir ∷ cell.Object handle ∷ [])
+    (among_first (cell.Object dir) (cell.Object handle ∷ [])))
     (λ block. no_block dir (free_slot t.tree dir) handle dir block)
     (blocks_stay t.cells t.tree new dir content kind stand)
-    (slots_set t.cells new (link_cells dir (free_slot t.tree dir) handle) dir slots (subst (HoldsSlots t.cells dir) old_slots stand.slot)
+    (slots_set t.cells new (link_cells dir (free_slot t.tree dir) handle) dir slots
+    (subst (HoldsSlots t.cells dir) old_slots stand.slot)
     (λ slot other. ap (λ (ss : Slots). get_or ss slot None) new_slots
-    ∙ entered_beside dir slots (record { name = name; number = handle }) (cell.Object dir ∷ cell.Object handle ∷ []) slot
-    (subst (λ (ss : Slots). is_among (link_cells dir (free_from 0 ss) handle) (cell.Slot dir slot) ≡ false) old_slots other)))
+    ∙ entered_beside dir slots (record { name = name; number = handle })
+    (cell.Object dir ∷ cell.Object handle ∷ []) slot
+    (subst (λ (ss : Slots). is_among (link_cells dir (free_from 0 ss) handle)
+    (cell.Slot dir slot) ≡ false) old_slots other)))
 
 -- the file or the link
-linked_object : (t : TreeCells) (handle dir : ℕ) (slots : Slots) (name : List ℕ) (now : Time) (new : Tree) → IsLinking t.tree handle dir slots name now new
+linked_object : (t : TreeCells) (handle dir : ℕ) (slots : Slots) (name : List ℕ) (now : Time) (new : Tree)
+    → IsLinking t.tree handle dir slots name now new
     → StandsAt (after (set_by new (link_cells dir (free_slot t.tree dir) handle)) t.cells) new handle
 linked_object t handle dir slots name now new m =
     let stand = each_stands t.cells t.tree t.stamp t.stand handle in
@@ -126,12 +145,17 @@ linked_object t handle dir slots name now new m =
     let here : place new handle ≡ Some (set_ctime now m.object) =
     ap (λ (x : Tree). place x handle) (set_again t.tree handle dir slots name now new m)
     ∙ place_set mid handle m.object (set_ctime now m.object) (between_place t.tree handle dir slots name now new m) in
-    let content : content_of (place new handle) ≡ content_of (place t.tree handle) = ap content_of here ∙ sym (ap content_of m.lives) in
-    let kind : is_regular_at (place new handle) ≡ is_regular_at (place t.tree handle) = ap is_regular_at here ∙ sym (ap is_regular_at m.lives) in
-    let same : slots_of (place new handle) ≡ slots_of (place t.tree handle) = ap slots_of here ∙ sym (ap slots_of m.lives) in
+    let content : content_of (place new handle) ≡ content_of (place t.tree handle) = ap content_of here
+    ∙ sym (ap content_of m.lives) in
+    let kind : is_regular_at (place new handle) ≡ is_regular_at (place t.tree handle) = ap is_regular_at here
+    ∙ sym (ap is_regular_at m.lives) in
+    let same : slots_of (place new handle) ≡ slots_of (place t.tree handle) = ap slots_of here
+    ∙ sym (ap slots_of m.lives) in
     touched t.cells new set handle
-    (among_later (cell.Slot dir (free_slot t.tree dir)) (cell.Object handle) (cell.Object dir ∷ cell.Object handle ∷ [])
-    (among_later (cell.Object dir) (cell.Object handle) (cell.Object handle ∷ []) (among_first (cell.Object handle) [])))
+    (among_later (cell.Slot dir (free_slot t.tree dir)) (cell.Object handle)
+    (cell.Object dir ∷ cell.Object handle ∷ [])
+    (among_later (cell.Object dir) (cell.Object handle) (cell.Object handle ∷ [])
+    (among_first (cell.Object handle) [])))
     (λ block. no_block dir (free_slot t.tree dir) handle handle block)
     (blocks_stay t.cells t.tree new handle content kind stand)
     (slots_set t.cells new set handle (slots_of (place t.tree handle)) stand.slot
@@ -146,16 +170,20 @@ linked_other t handle dir slots name now new number m not_dir not_handle =
     let s : Slot = record { name = name; number = handle } in
     let later : IsUnmoved mid new number =
     rw (set_again t.tree handle dir slots name now new m)
-    (unmoved_set mid handle m.object (set_ctime now m.object) number (between_place t.tree handle dir slots name now new m) refl (λ k. refl) not_handle) in
-    untouched t.cells new (link_cells dir (free_slot t.tree dir) handle) number (not_of dir (free_slot t.tree dir) handle number not_dir not_handle)
+    (unmoved_set mid handle m.object (set_ctime now m.object) number
+    (between_place t.tree handle dir slots name now new m) refl (λ k. refl) not_handle) in
+    untouched t.cells new (link_cells dir (free_slot t.tree dir) handle) number
+    (not_of dir (free_slot t.tree dir) handle number not_dir not_handle)
     (unmoved_still t.cells t.tree new number
     (unmoved_twice t.tree mid new number
-    (unmoved_reslots t.tree mid dir slots (entered slots name handle) number (linking_reslots t.tree handle dir slots name now new m) not_dir
+    (unmoved_reslots t.tree mid dir slots (entered slots name handle) number
+    (linking_reslots t.tree handle dir slots name now new m) not_dir
     (omega (arith, names_entered slots s number, one_other handle number not_handle)))
     later)
     (each_stands t.cells t.tree t.stamp t.stand number))
 
-linked : (t : TreeCells) (handle dir : ℕ) (slots : Slots) (name : List ℕ) (now : Time) (new : Tree) → IsLinking t.tree handle dir slots name now new
+linked : (t : TreeCells) (handle dir : ℕ) (slots : Slots) (name : List ℕ) (now : Time) (new : Tree)
+    → IsLinking t.tree handle dir slots name now new
     → AllStand (after (set_by new (link_cells dir (free_slot t.tree dir) handle)) t.cells) new
 linked t handle dir slots name now new m number = elim (cases_eq number dir) [
   | inl e ↦ subst (StandsAt (after (set_by new (link_cells dir (free_slot t.tree dir) handle)) t.cells) new) (sym e)
@@ -171,16 +199,20 @@ linked t handle dir slots name now new m number = elim (cases_eq number dir) [
 abbrev LinkLeads : TreeCells → ℕ → ℕ → Reply × Tree → Type 0
 LinkLeads t handle dir x = AllStand (after (set_by x.1 (link_cells dir (free_slot t.tree dir) handle)) t.cells) x.1
 
-added : (tree : Tree) (dir : ℕ) (slots : Slots) (s : Slot) (now : Time) (new : Tree) → add_entry tree dir slots s now ≡ Ok new
+added : (tree : Tree) (dir : ℕ) (slots : Slots) (s : Slot) (now : Time) (new : Tree)
+    → add_entry tree dir slots s now ≡ Ok new
     → new ≡ change tree dir (reslotted now (with_entry slots s))
 unfolding add_entry
 added tree dir slots s now new e =
-    given_at (add_entry tree dir slots s now) (λ (x : Tree). x ≡ change tree dir (reslotted now (with_entry slots s))) new
-    (step (room tree dir (264 * length (with_entry slots s))) _ (λ (x : Tree). x ≡ change tree dir (reslotted now (with_entry slots s)))
+    given_at (add_entry tree dir slots s now)
+    (λ (x : Tree). x ≡ change tree dir (reslotted now (with_entry slots s))) new
+    (step (room tree dir (264 * length (with_entry slots s))) _
+    (λ (x : Tree). x ≡ change tree dir (reslotted now (with_entry slots s)))
     (λ u enough. done _ (λ (x : Tree). x ≡ change tree dir (reslotted now (with_entry slots s))) refl)) e
 
 pub link_leads : (t : TreeCells) (handle dir : ℕ) (name : List ℕ) (now : Time) (reply : Reply) (new : Tree)
-    → link t.tree handle dir name now ≡ Ok (reply, new) → AllStand (after (tree_changes t.cells t.tree new (call.Link handle dir name)) t.cells) new
+    → link t.tree handle dir name now ≡ Ok (reply, new)
+    → AllStand (after (tree_changes t.cells t.tree new (call.Link handle dir name)) t.cells) new
 unfolding link tree_changes
 link_leads t handle dir name now reply new e =
     given_at (link t.tree handle dir name now) (LinkLeads t handle dir) (reply, new)
@@ -188,12 +220,14 @@ link_leads t handle dir name now reply new e =
     step (directory t.tree dir) _ (LinkLeads t handle dir) (λ slots d.
     unless Perm (is_directory o.body) _ (LinkLeads t handle dir) (λ file.
     step (free_name slots name) _ (LinkLeads t handle dir) (λ u f.
-    step (add_entry t.tree dir slots (record { name = name; number = handle }) now) _ (LinkLeads t handle dir) (λ mid g.
+    step (add_entry t.tree dir slots (record { name = name; number = handle }) now) _ (LinkLeads t handle dir)
+    (λ mid g.
     done _ (LinkLeads t handle dir)
     (linked t handle dir slots name now (change mid handle (set_ctime now)) (record {
       object = o;
       lives = live_place t.tree handle o lives;
       file = file;
       of = directory_is t.tree dir slots d;
-      becomes = ap (λ (x : Tree). change x handle (set_ctime now)) (added t.tree dir slots (record { name = name; number = handle }) now mid g);
+      becomes = ap (λ (x : Tree). change x handle (set_ctime now))
+          (added t.tree dir slots (record { name = name; number = handle }) now mid g);
     })))))))) e

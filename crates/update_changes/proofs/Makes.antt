@@ -41,22 +41,27 @@ slot_no_block dir i number block = refl
 slot_not_of : (number dir i : ℕ) → (number ≡ dir → ⊥) → list_any (is_cell_of number) (cell.Slot dir i ∷ []) ≡ false
 slot_not_of number dir i other = or_from (dir == number) false (ne_eqb dir number (λ e. other (sym e))) refl
 
-objects_no_block : (a b number block : ℕ) → is_among (cell.Object a ∷ cell.Object b ∷ []) (cell.Block number block) ≡ false
+objects_no_block : (a b number block : ℕ) → is_among (cell.Object a ∷ cell.Object b ∷ [])
+    (cell.Block number block) ≡ false
 unfolding is_cell
 objects_no_block a b number block = refl
 
-objects_no_slot : (a b number slot : ℕ) → is_among (cell.Object a ∷ cell.Object b ∷ []) (cell.Slot number slot) ≡ false
+objects_no_slot : (a b number slot : ℕ) → is_among (cell.Object a ∷ cell.Object b ∷ [])
+    (cell.Slot number slot) ≡ false
 unfolding is_cell
 objects_no_slot a b number slot = refl
 
-objects_not_of : (number a b : ℕ) → (number ≡ a → ⊥) → (number ≡ b → ⊥) → list_any (is_cell_of number) (cell.Object a ∷ cell.Object b ∷ []) ≡ false
+objects_not_of : (number a b : ℕ) → (number ≡ a → ⊥) → (number ≡ b → ⊥)
+    → list_any (is_cell_of number) (cell.Object a ∷ cell.Object b ∷ []) ≡ false
 objects_not_of number a b not_a not_b =
-    or_from (a == number) _ (ne_eqb a number (λ e. not_a (sym e))) (or_from (b == number) false (ne_eqb b number (λ e. not_b (sym e))) refl)
+    or_from (a == number) _ (ne_eqb a number (λ e. not_a (sym e)))
+    (or_from (b == number) false (ne_eqb b number (λ e. not_b (sym e))) refl)
 
 -- ---- a tree with a new object
 
 -- a directory of a tree that gets an entry for a new object without entries of its own
-pub record IsMaking (tree : Tree) (dir : ℕ) (slots : Slots) (name : List ℕ) (o : Object) (now : Time) (new : Tree) : Type 0 where
+pub record IsMaking (tree : Tree) (dir : ℕ) (slots : Slots) (name : List ℕ) (o : Object) (now : Time)
+    (new : Tree) : Type 0 where
   pub directory : Object
   pub at : place tree dir ≡ Some directory
   pub body : directory.body ≡ body.Directory slots
@@ -71,30 +76,42 @@ pushed tree o = tree ++ Some o ∷ []
 abbrev entered : Tree → Slots → List ℕ → Slots
 entered tree slots name = with_entry slots (record { name = name; number = length tree })
 
-making_reslots : (tree : Tree) (dir : ℕ) (slots : Slots) (name : List ℕ) (o : Object) (now : Time) (new : Tree) → IsMaking tree dir slots name o now new
+making_reslots : (tree : Tree) (dir : ℕ) (slots : Slots) (name : List ℕ) (o : Object) (now : Time) (new : Tree)
+    → IsMaking tree dir slots name o now new
     → Reslots (pushed tree o) new dir slots (entered tree slots name)
 making_reslots tree dir slots name o now new m =
     let at = place_push tree (Some o) dir (place_within tree dir m.directory m.at) ∙ m.at in
     rw m.becomes (reslots_reslotted (pushed tree o) dir m.directory slots (entered tree slots name) now at m.body)
 
-new_is_other : (tree : Tree) (dir : ℕ) (slots : Slots) (name : List ℕ) (o : Object) (now : Time) (new : Tree) → IsMaking tree dir slots name o now new
+new_is_other : (tree : Tree) (dir : ℕ) (slots : Slots) (name : List ℕ) (o : Object) (now : Time) (new : Tree)
+    → IsMaking tree dir slots name o now new
     → length tree ≡ dir → ⊥
 new_is_other tree dir slots name o now new m e = omega (arith, e, place_within tree dir m.directory m.at)
 
-pub new_place : (tree : Tree) (dir : ℕ) (slots : Slots) (name : List ℕ) (o : Object) (now : Time) (new : Tree) → IsMaking tree dir slots name o now new
+pub new_place : (tree : Tree) (dir : ℕ) (slots : Slots) (name : List ℕ) (o : Object) (now : Time) (new : Tree)
+    → IsMaking tree dir slots name o now new
     → place new (length tree) ≡ Some o
 new_place tree dir slots name o now new m =
-    other_place (pushed tree o) new dir slots (entered tree slots name) (making_reslots tree dir slots name o now new m) (length tree)
+    other_place (pushed tree o) new dir slots (entered tree slots name)
+    (making_reslots tree dir slots name o now new m) (length tree)
     (new_is_other tree dir slots name o now new m)
     ∙ get_or_push tree (Some o) None (length tree) refl
 
-made_unmoved : (t : TreeCells) (dir : ℕ) (slots : Slots) (name : List ℕ) (o : Object) (now : Time) (new : Tree) (number : ℕ)
-    → IsMaking t.tree dir slots name o now new → (number ≡ dir → ⊥) → (number ≡ length t.tree → ⊥) → IsUnmoved t.tree new number
+made_unmoved : (t : TreeCells) (dir : ℕ) (slots : Slots) (name : List ℕ) (o : Object) (now : Time) (new : Tree)
+    (number : ℕ)
+    → IsMaking t.tree dir slots name o now new → (number ≡ dir → ⊥) → (number ≡ length t.tree → ⊥)
+    → IsUnmoved t.tree new number
 made_unmoved t dir slots name o now new number m not_dir not_new =
     unmoved_twice t.tree (pushed t.tree o) new number
     (unmoved_pushed t.tree o number t.sound (λ k. ap (names_in k) m.bare) not_new)
-    (unmoved_reslots (pushed t.tree o) new dir slots (entered t.tree slots name) number (making_reslots t.tree dir slots name o now new m) not_dir
-    (omega (arith, names_entered slots (record { name = name; number = length t.tree }) number, one_other (length t.tree) number not_new)))
+    (unmoved_reslots (pushed t.tree o) new dir slots (entered t.tree slots name) number
+    (making_reslots t.tree dir slots name o now new m) not_dir
+    (omega (
+      arith,
+      names_entered slots (record { name = name; number = length t.tree }) number,
+      one_other
+          (length t.tree) number not_new,
+    )))
 
 -- ---- what stands after the entry and the text
 
@@ -109,41 +126,50 @@ with_text t dir new text = after (text_put (length t.tree) text) (with_slot t di
 -- no block of a new object is there before its text
 none_yet : (t : TreeCells) (dir : ℕ) (new : Tree) → EndsAt (with_slot t dir new) (length t.tree) 0
 none_yet t dir new block past =
-    set_leaves new (cell.Slot dir (free_slot t.tree dir) ∷ []) t.cells (cell.Block (length t.tree) block) (slot_no_block dir (free_slot t.tree dir) (length t.tree) block)
+    set_leaves new (cell.Slot dir (free_slot t.tree dir) ∷ []) t.cells (cell.Block (length t.tree) block)
+    (slot_no_block dir (free_slot t.tree dir) (length t.tree) block)
     ∙ t.stand.ends (length t.tree) block (rw (get_or_past t.tree (length t.tree) None (omega arith)) (omega arith))
 
 -- nor a slot
 no_slots : (t : TreeCells) → HoldsSlots t.cells (length t.tree) []
 no_slots t slot =
     (each_stands t.cells t.tree t.stamp t.stand (length t.tree)).slot slot
-    ∙ ap (λ (x : Option Object). slot_value (get_or (slots_of x) slot None)) (get_or_past t.tree (length t.tree) None (omega arith))
+    ∙ ap (λ (x : Option Object). slot_value (get_or (slots_of x) slot None))
+    (get_or_past t.tree (length t.tree) None (omega arith))
 
 -- the blocks of the new object stand after its text was put where no block is
 abbrev pub TextStands : ℕ → List ℕ → Tree → Type 0
-TextStands number text new = (cells : Cells) → EndsAt cells number 0 → BlocksStand (after (text_put number text) cells) new number
+TextStands number text new = (cells : Cells) → EndsAt cells number 0
+    → BlocksStand (after (text_put number text) cells) new number
 
 -- ---- each number
 
-entry_others : (t : TreeCells) (dir : ℕ) (new : Tree) (text : List ℕ) (number : ℕ) (c : Cell) → (number ≡ dir → ⊥) → (number ≡ length t.tree → ⊥)
+entry_others : (t : TreeCells) (dir : ℕ) (new : Tree) (text : List ℕ) (number : ℕ) (c : Cell) → (number ≡ dir → ⊥)
+    → (number ≡ length t.tree → ⊥)
     → is_cell_of number c ≡ true → with_text t dir new text c ≡ t.cells c
 entry_others t dir new text number c not_dir not_new of =
     text_apart (with_slot t dir new) (length t.tree) text c (other_blocks number (length t.tree) c not_new of)
     ∙ set_leaves new (cell.Slot dir (free_slot t.tree dir) ∷ []) t.cells c
-    (among_others (cell.Slot dir (free_slot t.tree dir) ∷ []) number c (slot_not_of number dir (free_slot t.tree dir) not_dir) of)
+    (among_others (cell.Slot dir (free_slot t.tree dir) ∷ []) number c
+    (slot_not_of number dir (free_slot t.tree dir) not_dir) of)
 
 -- the directory
-made_dir : (t : TreeCells) (dir : ℕ) (slots : Slots) (name : List ℕ) (o : Object) (now : Time) (new : Tree) (text : List ℕ)
+made_dir : (t : TreeCells) (dir : ℕ) (slots : Slots) (name : List ℕ) (o : Object) (now : Time) (new : Tree)
+    (text : List ℕ)
     → IsMaking t.tree dir slots name o now new
-    → StandsAt (after (set_by new (cell.Object dir ∷ cell.Object (length t.tree) ∷ [])) (with_text t dir new text)) new dir
+    → StandsAt (after (set_by new (cell.Object dir ∷ cell.Object (length t.tree) ∷ []))
+    (with_text t dir new text)) new dir
 made_dir t dir slots name o now new text m =
     let stand = each_stands t.cells t.tree t.stamp t.stand dir in
     let r = making_reslots t.tree dir slots name o now new m in
     let here = own_place (pushed t.tree o) new dir slots (entered t.tree slots name) r in
     let becomes = r.body_after in
-    let same_block : (block : ℕ) → with_text t dir new text (cell.Block dir block) ≡ t.cells (cell.Block dir block) = λ (block : ℕ).
+    let same_block : (block : ℕ) → with_text t dir new text (cell.Block dir block) ≡ t.cells (cell.Block dir block) =
+    λ (block : ℕ).
     text_apart (with_slot t dir new) (length t.tree) text (cell.Block dir block)
     (ne_eqb dir (length t.tree) (λ e. new_is_other t.tree dir slots name o now new m (sym e)))
-    ∙ set_leaves new (cell.Slot dir (free_slot t.tree dir) ∷ []) t.cells (cell.Block dir block) (slot_no_block dir (free_slot t.tree dir) dir block) in
+    ∙ set_leaves new (cell.Slot dir (free_slot t.tree dir) ∷ []) t.cells (cell.Block dir block)
+    (slot_no_block dir (free_slot t.tree dir) dir block) in
     let content : content_of (place new dir) ≡ content_of (place t.tree dir) =
     ap content_of here ∙ ap (λ (b : Body). content_of (Some (record o { body = b }))) becomes
     ∙ sym (ap content_of m.at ∙ ap (λ (b : Body). content_of (Some (record o { body = b }))) m.body) in
@@ -151,61 +177,80 @@ made_dir t dir slots name o now new text m =
     ap is_regular_at here ∙ ap (λ (b : Body). is_regular_at (Some (record o { body = b }))) becomes
     ∙ sym (ap is_regular_at m.at ∙ ap (λ (b : Body). is_regular_at (Some (record o { body = b }))) m.body) in
     let old_slots : slots_of (place t.tree dir) ≡ slots = ap slots_of m.at ∙ ap slots_within m.body in
-    let new_slots : slots_of (place new dir) ≡ entered t.tree slots name = ap slots_of here ∙ ap slots_within becomes in
+    let new_slots : slots_of (place new dir) ≡ entered t.tree slots name = ap slots_of here
+    ∙ ap slots_within becomes in
     let entry : HoldsSlots (with_slot t dir new) dir (slots_of (place new dir)) =
-    slots_set t.cells new (cell.Slot dir (free_slot t.tree dir) ∷ []) dir slots (subst (HoldsSlots t.cells dir) old_slots stand.slot)
+    slots_set t.cells new (cell.Slot dir (free_slot t.tree dir) ∷ []) dir slots
+    (subst (HoldsSlots t.cells dir) old_slots stand.slot)
     (λ slot other. ap (λ (ss : Slots). get_or ss slot None) new_slots
     ∙ entered_beside dir slots (record { name = name; number = length t.tree }) [] slot
-    (subst (λ (ss : Slots). is_among (cell.Slot dir (free_from 0 ss) ∷ []) (cell.Slot dir slot) ≡ false) old_slots other)) in
+    (subst (λ (ss : Slots). is_among (cell.Slot dir (free_from 0 ss) ∷ [])
+    (cell.Slot dir slot) ≡ false) old_slots other)) in
     touched (with_text t dir new text) new (cell.Object dir ∷ cell.Object (length t.tree) ∷ []) dir
-    (among_first (cell.Object dir) (cell.Object (length t.tree) ∷ [])) (λ block. objects_no_block dir (length t.tree) dir block)
-    (blocks_by t.cells (with_text t dir new text) new dir same_block (blocks_stay t.cells t.tree new dir content kind stand))
-    (slots_set (with_text t dir new text) new (cell.Object dir ∷ cell.Object (length t.tree) ∷ []) dir (slots_of (place new dir))
+    (among_first (cell.Object dir) (cell.Object (length t.tree) ∷ []))
+    (λ block. objects_no_block dir (length t.tree) dir block)
+    (blocks_by t.cells (with_text t dir new text) new dir same_block
+    (blocks_stay t.cells t.tree new dir content kind stand))
+    (slots_set (with_text t dir new text) new (cell.Object dir ∷ cell.Object (length t.tree) ∷ []) dir
+    (slots_of (place new dir))
     (λ slot. text_apart (with_slot t dir new) (length t.tree) text (cell.Slot dir slot) refl ∙ entry slot)
     (λ slot other. refl))
 
 -- the new object
-made_new : (t : TreeCells) (dir : ℕ) (slots : Slots) (name : List ℕ) (o : Object) (now : Time) (new : Tree) (text : List ℕ)
+made_new : (t : TreeCells) (dir : ℕ) (slots : Slots) (name : List ℕ) (o : Object) (now : Time) (new : Tree)
+    (text : List ℕ)
     → IsMaking t.tree dir slots name o now new → TextStands (length t.tree) text new
-    → StandsAt (after (set_by new (cell.Object dir ∷ cell.Object (length t.tree) ∷ [])) (with_text t dir new text)) new (length t.tree)
+    → StandsAt (after (set_by new (cell.Object dir ∷ cell.Object (length t.tree) ∷ []))
+    (with_text t dir new text)) new (length t.tree)
 made_new t dir slots name o now new text m stands =
-    let no_slot : slots_of (place new (length t.tree)) ≡ [] = ap slots_of (new_place t.tree dir slots name o now new m) ∙ m.bare in
+    let no_slot : slots_of (place new (length t.tree)) ≡ [] =
+    ap slots_of (new_place t.tree dir slots name o now new m) ∙ m.bare in
     touched (with_text t dir new text) new (cell.Object dir ∷ cell.Object (length t.tree) ∷ []) (length t.tree)
-    (among_later (cell.Object dir) (cell.Object (length t.tree)) (cell.Object (length t.tree) ∷ []) (among_first (cell.Object (length t.tree)) []))
+    (among_later (cell.Object dir) (cell.Object (length t.tree)) (cell.Object (length t.tree) ∷ [])
+    (among_first (cell.Object (length t.tree)) []))
     (λ block. objects_no_block dir (length t.tree) (length t.tree) block)
     (stands (with_slot t dir new) (none_yet t dir new))
     (slots_set (with_text t dir new text) new (cell.Object dir ∷ cell.Object (length t.tree) ∷ []) (length t.tree) []
     (λ slot. text_apart (with_slot t dir new) (length t.tree) text (cell.Slot (length t.tree) slot) refl
     ∙ set_leaves new (cell.Slot dir (free_slot t.tree dir) ∷ []) t.cells (cell.Slot (length t.tree) slot)
     (among_others (cell.Slot dir (free_slot t.tree dir) ∷ []) (length t.tree) (cell.Slot (length t.tree) slot)
-    (slot_not_of (length t.tree) dir (free_slot t.tree dir) (new_is_other t.tree dir slots name o now new m)) (eq-eqb (length t.tree) (length t.tree) refl))
+    (slot_not_of (length t.tree) dir (free_slot t.tree dir) (new_is_other t.tree dir slots name o now new m))
+    (eq-eqb (length t.tree) (length t.tree) refl))
     ∙ no_slots t slot)
     (λ slot other. ap (λ (ss : Slots). get_or ss slot None) no_slot))
 
 -- every other number
-made_other : (t : TreeCells) (dir : ℕ) (slots : Slots) (name : List ℕ) (o : Object) (now : Time) (new : Tree) (text : List ℕ) (number : ℕ)
+made_other : (t : TreeCells) (dir : ℕ) (slots : Slots) (name : List ℕ) (o : Object) (now : Time) (new : Tree)
+    (text : List ℕ) (number : ℕ)
     → IsMaking t.tree dir slots name o now new → (number ≡ dir → ⊥) → (number ≡ length t.tree → ⊥)
-    → StandsAt (after (set_by new (cell.Object dir ∷ cell.Object (length t.tree) ∷ [])) (with_text t dir new text)) new number
+    → StandsAt (after (set_by new (cell.Object dir ∷ cell.Object (length t.tree) ∷ []))
+    (with_text t dir new text)) new number
 made_other t dir slots name o now new text number m not_dir not_new =
     untouched (with_text t dir new text) new (cell.Object dir ∷ cell.Object (length t.tree) ∷ []) number
     (objects_not_of number dir (length t.tree) not_dir not_new)
-    (stands_by t.cells (with_text t dir new text) new number (λ c of. entry_others t dir new text number c not_dir not_new of)
+    (stands_by t.cells (with_text t dir new text) new number
+    (λ c of. entry_others t dir new text number c not_dir not_new of)
     (unmoved_still t.cells t.tree new number (made_unmoved t dir slots name o now new number m not_dir not_new)
     (each_stands t.cells t.tree t.stamp t.stand number)))
 
 -- a new object and its entry
-pub makes_lead : (t : TreeCells) (dir : ℕ) (slots : Slots) (name : List ℕ) (o : Object) (now : Time) (new : Tree) (text : List ℕ)
+pub makes_lead : (t : TreeCells) (dir : ℕ) (slots : Slots) (name : List ℕ) (o : Object) (now : Time) (new : Tree)
+    (text : List ℕ)
     → IsMaking t.tree dir slots name o now new → TextStands (length t.tree) text new
     → AllStand (after (makes t.tree new dir text) t.cells) new
 makes_lead t dir slots name o now new text m stands number =
     in_a_row (set_by new (cell.Slot dir (free_slot t.tree dir) ∷ []))
-    (text_put (length t.tree) text ++ set_by new (cell.Object dir ∷ cell.Object (length t.tree) ∷ [])) t.cells new number
-    (in_a_row (text_put (length t.tree) text) (set_by new (cell.Object dir ∷ cell.Object (length t.tree) ∷ [])) (with_slot t dir new) new number
+    (text_put (length t.tree) text ++ set_by new
+    (cell.Object dir ∷ cell.Object (length t.tree) ∷ [])) t.cells new number
+    (in_a_row (text_put (length t.tree) text) (set_by new (cell.Object dir ∷ cell.Object (length t.tree) ∷ []))
+    (with_slot t dir new) new number
     (elim (cases_eq number dir) [
-      | inl e ↦ subst (StandsAt (after (set_by new (cell.Object dir ∷ cell.Object (length t.tree) ∷ [])) (with_text t dir new text)) new) (sym e)
+      | inl e ↦ subst (StandsAt (after (set_by new (cell.Object dir ∷ cell.Object (length t.tree) ∷ []))
+          (with_text t dir new text)) new) (sym e)
           (made_dir t dir slots name o now new text m)
       | inr not_dir ↦ elim (cases_eq number (length t.tree)) [
-        | inl e ↦ subst (StandsAt (after (set_by new (cell.Object dir ∷ cell.Object (length t.tree) ∷ [])) (with_text t dir new text)) new) (sym e)
+        | inl e ↦ subst (StandsAt (after (set_by new (cell.Object dir ∷ cell.Object (length t.tree) ∷ []))
+            (with_text t dir new text)) new) (sym e)
             (made_new t dir slots name o now new text m stands)
         | inr not_new ↦ made_other t dir slots name o now new text number m not_dir not_new
       ]

@@ -35,10 +35,14 @@ use Rattle.update_changes.proofs.Makes.{IsMaking, TextStands, new_place, makes_l
 
 no_text : (new : Tree) (number : ℕ) → content_of (place new number) ≡ [] → TextStands number [] new
 no_text new number content cells ends =
-    exact_stands cells new number [] content (λ block. ends block (omega arith) ∙ sym (past_end [] block (omega arith)))
+    exact_stands cells new number [] content (λ block. ends block (omega arith)
+    ∙ sym (past_end [] block (omega arith)))
 
-a_text : (new : Tree) (number : ℕ) (text : List ℕ) → content_of (place new number) ≡ text → length text ≤ 4096 → TextStands number text new
-a_text new number text content short cells ends = exact_stands (after (text_put number text) cells) new number text content (texts_lead cells number text ends short).0
+a_text : (new : Tree) (number : ℕ) (text : List ℕ) → content_of (place new number) ≡ text → length text ≤ 4096
+    → TextStands number text new
+a_text new number text content short cells ends =
+    exact_stands (after (text_put number text) cells) new number text content
+    (texts_lead cells number text ends short).0
 
 holes : (cells : Cells) (number count : ℕ) → EndsAt cells number 0 → HoldsBytes cells number (replicate count 0)
 holes cells number count ends = record {
@@ -48,7 +52,8 @@ holes cells number count ends = record {
       ∙ sym (zero_at count (4096 * block + at));
 }
 
-zeros : (new : Tree) (number count : ℕ) (o : Object) → place new number ≡ Some o → o.body ≡ body.Regular (replicate count 0) → TextStands number [] new
+zeros : (new : Tree) (number count : ℕ) (o : Object) → place new number ≡ Some o
+    → o.body ≡ body.Regular (replicate count 0) → TextStands number [] new
 zeros new number count o at is cells ends =
     file_stands cells new number (replicate count 0)
     (ap is_regular_at at ∙ ap is_regular is)
@@ -61,27 +66,34 @@ zeros new number count o at is cells ends =
 abbrev MakesLead : TreeCells → ℕ → List ℕ → Reply × Tree → Type 0
 MakesLead t dir text x = AllStand (after (makes t.tree x.1 dir text) t.cells) x.1
 
-making : (t : TreeCells) (dir : ℕ) (slots full : Slots) (name : List ℕ) (size : ℕ) (o : Object) (now : Time) → IsDirectoryOf t.tree dir slots
-    → room_for t.tree dir slots name size ≡ Ok full → slots_within o.body ≡ [] → IsMaking t.tree dir slots name o now (with_object t.tree dir full o now)
+making : (t : TreeCells) (dir : ℕ) (slots full : Slots) (name : List ℕ) (size : ℕ) (o : Object) (now : Time)
+    → IsDirectoryOf t.tree dir slots
+    → room_for t.tree dir slots name size ≡ Ok full → slots_within o.body ≡ []
+    → IsMaking t.tree dir slots name o now (with_object t.tree dir full o now)
 making t dir slots full name size o now d room bare = record {
   directory = d.object;
   at = d.at;
   body = d.body;
   bare = bare;
-  becomes = ap (λ (ss : Slots). with_object t.tree dir ss o now) (room_for_is t.tree dir slots name size full room).slots_are;
+  becomes = ap (λ (ss : Slots). with_object t.tree dir ss o now)
+      (room_for_is t.tree dir slots name size full room).slots_are;
 }
 
-new_dir : (t : TreeCells) (dir : ℕ) (slots full : Slots) (name : List ℕ) (a : SetAttr) (now : Time) → IsDirectoryOf t.tree dir slots
+new_dir : (t : TreeCells) (dir : ℕ) (slots full : Slots) (name : List ℕ) (a : SetAttr) (now : Time)
+    → IsDirectoryOf t.tree dir slots
     → room_for t.tree dir slots name 0 ≡ Ok full
-    → AllStand (after (makes t.tree (with_object t.tree dir full (made a (body.Directory []) now) now) dir []) t.cells) (with_object t.tree dir full (made a (body.Directory []) now) now)
+    → AllStand (after (makes t.tree (with_object t.tree dir full (made a (body.Directory []) now) now) dir
+    []) t.cells) (with_object t.tree dir full (made a (body.Directory []) now) now)
 new_dir t dir slots full name a now d room =
     let o = made a (body.Directory []) now in
     let new = with_object t.tree dir full o now in
     let m = making t dir slots full name 0 o now d room refl in
-    makes_lead t dir slots name o now new [] m (no_text new (length t.tree) (ap content_of (new_place t.tree dir slots name o now new m)))
+    makes_lead t dir slots name o now new [] m
+    (no_text new (length t.tree) (ap content_of (new_place t.tree dir slots name o now new m)))
 
 pub make_dir_leads : (t : TreeCells) (dir : ℕ) (name : List ℕ) (a : SetAttr) (now : Time) (reply : Reply) (new : Tree)
-    → make_dir t.tree dir name a now ≡ Ok (reply, new) → AllStand (after (tree_changes t.cells t.tree new (call.MkDir dir name a)) t.cells) new
+    → make_dir t.tree dir name a now ≡ Ok (reply, new)
+    → AllStand (after (tree_changes t.cells t.tree new (call.MkDir dir name a)) t.cells) new
 unfolding make_dir tree_changes
 make_dir_leads t dir name a now reply new e =
     given_at (make_dir t.tree dir name a now) (MakesLead t dir []) (reply, new)
@@ -90,18 +102,23 @@ make_dir_leads t dir name a now reply new e =
     step (room_for t.tree dir slots name 0) _ (MakesLead t dir []) (λ full room.
     done _ (MakesLead t dir []) (new_dir t dir slots full name a now (directory_is t.tree dir slots d) room))))) e
 
-new_link : (t : TreeCells) (dir : ℕ) (slots full : Slots) (name text : List ℕ) (a : SetAttr) (now : Time) → IsDirectoryOf t.tree dir slots
+new_link : (t : TreeCells) (dir : ℕ) (slots full : Slots) (name text : List ℕ) (a : SetAttr) (now : Time)
+    → IsDirectoryOf t.tree dir slots
     → room_for t.tree dir slots name (length text) ≡ Ok full → length text ≤ 1024
-    → AllStand (after (makes t.tree (with_object t.tree dir full (made a (body.Link text) now) now) dir text) t.cells) (with_object t.tree dir full (made a (body.Link text) now) now)
+    → AllStand (after (makes t.tree (with_object t.tree dir full (made a (body.Link text) now) now) dir text) t.cells)
+    (with_object t.tree dir full (made a (body.Link text) now) now)
 new_link t dir slots full name text a now d room short =
     let o = made a (body.Link text) now in
     let new = with_object t.tree dir full o now in
     let m = making t dir slots full name (length text) o now d room refl in
     makes_lead t dir slots name o now new text m
-    (a_text new (length t.tree) text (ap content_of (new_place t.tree dir slots name o now new m)) (omega (arith, short)))
+    (a_text new (length t.tree) text (ap content_of (new_place t.tree dir slots name o now new m))
+    (omega (arith, short)))
 
-pub make_link_leads : (t : TreeCells) (dir : ℕ) (name text : List ℕ) (a : SetAttr) (now : Time) (reply : Reply) (new : Tree)
-    → make_link t.tree dir name text a now ≡ Ok (reply, new) → AllStand (after (tree_changes t.cells t.tree new (call.SymLink dir name text a)) t.cells) new
+pub make_link_leads : (t : TreeCells) (dir : ℕ) (name text : List ℕ) (a : SetAttr) (now : Time) (reply : Reply)
+    (new : Tree)
+    → make_link t.tree dir name text a now ≡ Ok (reply, new)
+    → AllStand (after (tree_changes t.cells t.tree new (call.SymLink dir name text a)) t.cells) new
 unfolding make_link tree_changes
 make_link_leads t dir name text a now reply new e =
     given_at (make_link t.tree dir name text a now) (MakesLead t dir text) (reply, new)
@@ -110,21 +127,26 @@ make_link_leads t dir name text a now reply new e =
     unless NameTooLong (nat_lt 1024 (length text)) _ (MakesLead t dir text) (λ short.
     unless Exist (has_entry slots name) _ (MakesLead t dir text) (λ none.
     step (room_for t.tree dir slots name (length text)) _ (MakesLead t dir text) (λ full room.
-    done _ (MakesLead t dir text) (new_link t dir slots full name text a now (directory_is t.tree dir slots d) room (ltb-false _ _ short)))))))) e
+    done _ (MakesLead t dir text) (new_link t dir slots full name text a now (directory_is t.tree dir slots d) room
+    (ltb-false _ _ short)))))))) e
 
 -- ---- CREATE
 
-new_file : (t : TreeCells) (dir : ℕ) (slots full : Slots) (name : List ℕ) (a : SetAttr) (now : Time) (size : ℕ) → IsDirectoryOf t.tree dir slots
+new_file : (t : TreeCells) (dir : ℕ) (slots full : Slots) (name : List ℕ) (a : SetAttr) (now : Time) (size : ℕ)
+    → IsDirectoryOf t.tree dir slots
     → room_for t.tree dir slots name size ≡ Ok full
-    → AllStand (after (makes t.tree (with_object t.tree dir full (made a (body.Regular (replicate size 0)) now) now) dir []) t.cells)
+    → AllStand (after (makes t.tree
+    (with_object t.tree dir full (made a (body.Regular (replicate size 0)) now) now) dir []) t.cells)
     (with_object t.tree dir full (made a (body.Regular (replicate size 0)) now) now)
 new_file t dir slots full name a now size d room =
     let o = made a (body.Regular (replicate size 0)) now in
     let new = with_object t.tree dir full o now in
     let m = making t dir slots full name size o now d room refl in
-    makes_lead t dir slots name o now new [] m (zeros new (length t.tree) size o (new_place t.tree dir slots name o now new m) refl)
+    makes_lead t dir slots name o now new [] m
+    (zeros new (length t.tree) size o (new_place t.tree dir slots name o now new m) refl)
 
-create_new_leads : (t : TreeCells) (dir : ℕ) (slots : Slots) (name : List ℕ) (a : SetAttr) (now : Time) → IsDirectoryOf t.tree dir slots
+create_new_leads : (t : TreeCells) (dir : ℕ) (slots : Slots) (name : List ℕ) (a : SetAttr) (now : Time)
+    → IsDirectoryOf t.tree dir slots
     → Given (create_new t.tree dir slots name a now) (MakesLead t dir [])
 unfolding create_new
 create_new_leads t dir slots name a now d =
@@ -136,7 +158,8 @@ create_new_leads t dir slots name a now d =
 abbrev CreateLeads : TreeCells → ℕ → ℕ → Option (ℕ × ℕ) → Reply × Tree → Type 0
 CreateLeads t dir size found x = AllStand (after (creates t.cells t.tree x.1 dir size found) t.cells) x.1
 
-create_at_leads : (t : TreeCells) (dir : ℕ) (slots : Slots) (name : List ℕ) (found : Option (ℕ × ℕ)) (a : SetAttr) (now : Time) → IsDirectoryOf t.tree dir slots
+create_at_leads : (t : TreeCells) (dir : ℕ) (slots : Slots) (name : List ℕ) (found : Option (ℕ × ℕ)) (a : SetAttr)
+    (now : Time) → IsDirectoryOf t.tree dir slots
     → Given (create_at t.tree dir slots name found a now) (CreateLeads t dir a.size found)
 unfolding create_again
 create_at_leads t dir slots name None a now d = create_new_leads t dir slots name a now d
@@ -146,12 +169,14 @@ create_at_leads t dir slots name (Some x) a now d =
     done _ (CreateLeads t dir a.size (Some x)) (set_fields_leads t x.1 a now new e)))
 
 pub create_leads : (t : TreeCells) (dir : ℕ) (name : List ℕ) (a : SetAttr) (now : Time) (reply : Reply) (new : Tree)
-    → create t.tree dir name a now ≡ Ok (reply, new) → AllStand (after (tree_changes t.cells t.tree new (call.Create dir name a)) t.cells) new
+    → create t.tree dir name a now ≡ Ok (reply, new)
+    → AllStand (after (tree_changes t.cells t.tree new (call.Create dir name a)) t.cells) new
 unfolding create tree_changes
 create_leads t dir name a now reply new e =
     given_at (create t.tree dir name a now) (CreateLeads t dir a.size (entry_in t.tree dir name)) (reply, new)
     (step (directory t.tree dir) _ (CreateLeads t dir a.size (entry_in t.tree dir name)) (λ slots d.
     step (entry_name name) _ (CreateLeads t dir a.size (entry_in t.tree dir name)) (λ u right.
-    subst (λ (found : Option (ℕ × ℕ)). Given (create_at t.tree dir slots name (entry slots name) a now) (CreateLeads t dir a.size found))
+    subst (λ (found : Option (ℕ × ℕ)). Given (create_at t.tree dir slots name (entry slots name) a now)
+    (CreateLeads t dir a.size found))
     (ap (λ (ss : Slots). entry ss name) (sym (slots_placed t.tree dir slots d)))
     (create_at_leads t dir slots name (entry slots name) a now (directory_is t.tree dir slots d))))) e
