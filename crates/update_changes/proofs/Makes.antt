@@ -60,8 +60,10 @@ objects_not_of number a b not_a not_b =
 -- ---- a tree with a new object
 
 -- a directory of a tree that gets an entry for a new object without entries of its own
-pub record IsMaking (tree : Tree) (dir : ℕ) (slots : Slots) (name : List ℕ) (o : Object) (now : Time)
-    (new : Tree) : Type 0 where
+pub record IsMaking (tree : Tree) (dir : ℕ) (o : Object) (new : Tree) : Type 0 where
+  pub slots : Slots
+  pub name : List ℕ
+  pub now : Time
   pub directory : Object
   pub at : place tree dir ≡ Some directory
   pub body : directory.body ≡ body.Directory slots
@@ -76,39 +78,39 @@ pushed tree o = tree ++ Some o ∷ []
 abbrev entered : Tree → Slots → List ℕ → Slots
 entered tree slots name = with_entry slots (record { name = name; number = length tree })
 
-making_reslots : (tree : Tree) (dir : ℕ) (slots : Slots) (name : List ℕ) (o : Object) (now : Time) (new : Tree)
-    → IsMaking tree dir slots name o now new
-    → Reslots (pushed tree o) new dir slots (entered tree slots name)
-making_reslots tree dir slots name o now new m =
+making_reslots : (tree : Tree) (dir : ℕ) (o : Object) (new : Tree)
+    → (m : IsMaking tree dir o new)
+    → Reslots (pushed tree o) new dir m.slots (entered tree m.slots m.name)
+making_reslots tree dir o new m =
     let at = place_push tree (Some o) dir (place_within tree dir m.directory m.at) ∙ m.at in
-    rw m.becomes (reslots_reslotted (pushed tree o) dir m.directory slots (entered tree slots name) now at m.body)
+    rw m.becomes (reslots_reslotted (pushed tree o) dir m.directory m.slots (entered tree m.slots m.name) m.now at m.body)
 
-new_is_other : (tree : Tree) (dir : ℕ) (slots : Slots) (name : List ℕ) (o : Object) (now : Time) (new : Tree)
-    → IsMaking tree dir slots name o now new
+new_is_other : (tree : Tree) (dir : ℕ) (o : Object) (new : Tree)
+    → IsMaking tree dir o new
     → length tree ≡ dir → ⊥
-new_is_other tree dir slots name o now new m e = omega (arith, e, place_within tree dir m.directory m.at)
+new_is_other tree dir o new m e = omega (arith, e, place_within tree dir m.directory m.at)
 
-pub new_place : (tree : Tree) (dir : ℕ) (slots : Slots) (name : List ℕ) (o : Object) (now : Time) (new : Tree)
-    → IsMaking tree dir slots name o now new
+pub new_place : (tree : Tree) (dir : ℕ) (o : Object) (new : Tree)
+    → IsMaking tree dir o new
     → place new (length tree) ≡ Some o
-new_place tree dir slots name o now new m =
-    other_place (pushed tree o) new dir slots (entered tree slots name)
-    (making_reslots tree dir slots name o now new m) (length tree)
-    (new_is_other tree dir slots name o now new m)
+new_place tree dir o new m =
+    other_place (pushed tree o) new dir m.slots (entered tree m.slots m.name)
+    (making_reslots tree dir o new m) (length tree)
+    (new_is_other tree dir o new m)
     ∙ get_or_push tree (Some o) None (length tree) refl
 
-made_unmoved : (t : TreeCells) (dir : ℕ) (slots : Slots) (name : List ℕ) (o : Object) (now : Time) (new : Tree)
+made_unmoved : (t : TreeCells) (dir : ℕ) (o : Object) (new : Tree)
     (number : ℕ)
-    → IsMaking t.tree dir slots name o now new → (number ≡ dir → ⊥) → (number ≡ length t.tree → ⊥)
+    → IsMaking t.tree dir o new → (number ≡ dir → ⊥) → (number ≡ length t.tree → ⊥)
     → IsUnmoved t.tree new number
-made_unmoved t dir slots name o now new number m not_dir not_new =
+made_unmoved t dir o new number m not_dir not_new =
     unmoved_twice t.tree (pushed t.tree o) new number
     (unmoved_pushed t.tree o number t.sound (λ k. ap (names_in k) m.bare) not_new)
-    (unmoved_reslots (pushed t.tree o) new dir slots (entered t.tree slots name) number
-    (making_reslots t.tree dir slots name o now new m) not_dir
+    (unmoved_reslots (pushed t.tree o) new dir m.slots (entered t.tree m.slots m.name) number
+    (making_reslots t.tree dir o new m) not_dir
     (omega (
       arith,
-      names_entered slots (record { name = name; number = length t.tree }) number,
+      names_entered m.slots (record { name = m.name; number = length t.tree }) number,
       one_other
           (length t.tree) number not_new,
     )))
@@ -154,20 +156,20 @@ entry_others t dir new text number c not_dir not_new of =
     (slot_not_of number dir (free_slot t.tree dir) not_dir) of)
 
 -- the directory
-made_dir : (t : TreeCells) (dir : ℕ) (slots : Slots) (name : List ℕ) (o : Object) (now : Time) (new : Tree)
+made_dir : (t : TreeCells) (dir : ℕ) (o : Object) (new : Tree)
     (text : List ℕ)
-    → IsMaking t.tree dir slots name o now new
+    → IsMaking t.tree dir o new
     → StandsAt (after (set_by new (cell.Object dir ∷ cell.Object (length t.tree) ∷ []))
     (with_text t dir new text)) new dir
-made_dir t dir slots name o now new text m =
+made_dir t dir o new text m =
     let stand = each_stands t.cells t.tree t.stamp t.stand dir in
-    let r = making_reslots t.tree dir slots name o now new m in
-    let here = own_place (pushed t.tree o) new dir slots (entered t.tree slots name) r in
+    let r = making_reslots t.tree dir o new m in
+    let here = own_place (pushed t.tree o) new dir m.slots (entered t.tree m.slots m.name) r in
     let becomes = r.body_after in
     let same_block : (block : ℕ) → with_text t dir new text (cell.Block dir block) ≡ t.cells (cell.Block dir block) =
     λ (block : ℕ).
     text_apart (with_slot t dir new) (length t.tree) text (cell.Block dir block)
-    (ne_eqb dir (length t.tree) (λ e. new_is_other t.tree dir slots name o now new m (sym e)))
+    (ne_eqb dir (length t.tree) (λ e. new_is_other t.tree dir o new m (sym e)))
     ∙ set_leaves new (cell.Slot dir (free_slot t.tree dir) ∷ []) t.cells (cell.Block dir block)
     (slot_no_block dir (free_slot t.tree dir) dir block) in
     let content : content_of (place new dir) ≡ content_of (place t.tree dir) =
@@ -176,14 +178,14 @@ made_dir t dir slots name o now new text m =
     let kind : is_regular_at (place new dir) ≡ is_regular_at (place t.tree dir) =
     ap is_regular_at here ∙ ap (λ (b : Body). is_regular_at (Some (record o { body = b }))) becomes
     ∙ sym (ap is_regular_at m.at ∙ ap (λ (b : Body). is_regular_at (Some (record o { body = b }))) m.body) in
-    let old_slots : slots_of (place t.tree dir) ≡ slots = ap slots_of m.at ∙ ap slots_within m.body in
-    let new_slots : slots_of (place new dir) ≡ entered t.tree slots name = ap slots_of here
+    let old_slots : slots_of (place t.tree dir) ≡ m.slots = ap slots_of m.at ∙ ap slots_within m.body in
+    let new_slots : slots_of (place new dir) ≡ entered t.tree m.slots m.name = ap slots_of here
     ∙ ap slots_within becomes in
     let entry : HoldsSlots (with_slot t dir new) dir (slots_of (place new dir)) =
-    slots_set t.cells new (cell.Slot dir (free_slot t.tree dir) ∷ []) dir slots
+    slots_set t.cells new (cell.Slot dir (free_slot t.tree dir) ∷ []) dir m.slots
     (subst (HoldsSlots t.cells dir) old_slots stand.slot)
     (λ slot other. ap (λ (ss : Slots). get_or ss slot None) new_slots
-    ∙ entered_beside dir slots (record { name = name; number = length t.tree }) [] slot
+    ∙ entered_beside dir m.slots (record { name = m.name; number = length t.tree }) [] slot
     (subst (λ (ss : Slots). is_among (cell.Slot dir (free_from 0 ss) ∷ [])
     (cell.Slot dir slot) ≡ false) old_slots other)) in
     touched (with_text t dir new text) new (cell.Object dir ∷ cell.Object (length t.tree) ∷ []) dir
@@ -197,14 +199,14 @@ made_dir t dir slots name o now new text m =
     (λ slot other. refl))
 
 -- the new object
-made_new : (t : TreeCells) (dir : ℕ) (slots : Slots) (name : List ℕ) (o : Object) (now : Time) (new : Tree)
+made_new : (t : TreeCells) (dir : ℕ) (o : Object) (new : Tree)
     (text : List ℕ)
-    → IsMaking t.tree dir slots name o now new → TextStands (length t.tree) text new
+    → IsMaking t.tree dir o new → TextStands (length t.tree) text new
     → StandsAt (after (set_by new (cell.Object dir ∷ cell.Object (length t.tree) ∷ []))
     (with_text t dir new text)) new (length t.tree)
-made_new t dir slots name o now new text m stands =
+made_new t dir o new text m stands =
     let no_slot : slots_of (place new (length t.tree)) ≡ [] =
-    ap slots_of (new_place t.tree dir slots name o now new m) ∙ m.bare in
+    ap slots_of (new_place t.tree dir o new m) ∙ m.bare in
     touched (with_text t dir new text) new (cell.Object dir ∷ cell.Object (length t.tree) ∷ []) (length t.tree)
     (among_later (cell.Object dir) (cell.Object (length t.tree)) (cell.Object (length t.tree) ∷ [])
     (among_first (cell.Object (length t.tree)) []))
@@ -214,31 +216,31 @@ made_new t dir slots name o now new text m stands =
     (λ slot. text_apart (with_slot t dir new) (length t.tree) text (cell.Slot (length t.tree) slot) refl
     ∙ set_leaves new (cell.Slot dir (free_slot t.tree dir) ∷ []) t.cells (cell.Slot (length t.tree) slot)
     (among_others (cell.Slot dir (free_slot t.tree dir) ∷ []) (length t.tree) (cell.Slot (length t.tree) slot)
-    (slot_not_of (length t.tree) dir (free_slot t.tree dir) (new_is_other t.tree dir slots name o now new m))
+    (slot_not_of (length t.tree) dir (free_slot t.tree dir) (new_is_other t.tree dir o new m))
     (eq-eqb (length t.tree) (length t.tree) refl))
     ∙ no_slots t slot)
     (λ slot other. ap (λ (ss : Slots). get_or ss slot None) no_slot))
 
 -- every other number
-made_other : (t : TreeCells) (dir : ℕ) (slots : Slots) (name : List ℕ) (o : Object) (now : Time) (new : Tree)
+made_other : (t : TreeCells) (dir : ℕ) (o : Object) (new : Tree)
     (text : List ℕ) (number : ℕ)
-    → IsMaking t.tree dir slots name o now new → (number ≡ dir → ⊥) → (number ≡ length t.tree → ⊥)
+    → IsMaking t.tree dir o new → (number ≡ dir → ⊥) → (number ≡ length t.tree → ⊥)
     → StandsAt (after (set_by new (cell.Object dir ∷ cell.Object (length t.tree) ∷ []))
     (with_text t dir new text)) new number
-made_other t dir slots name o now new text number m not_dir not_new =
+made_other t dir o new text number m not_dir not_new =
     untouched (with_text t dir new text) new (cell.Object dir ∷ cell.Object (length t.tree) ∷ []) number
     (objects_not_of number dir (length t.tree) not_dir not_new)
     (stands_by t.cells (with_text t dir new text) new number
     (λ c of. entry_others t dir new text number c not_dir not_new of)
-    (unmoved_still t.cells t.tree new number (made_unmoved t dir slots name o now new number m not_dir not_new)
+    (unmoved_still t.cells t.tree new number (made_unmoved t dir o new number m not_dir not_new)
     (each_stands t.cells t.tree t.stamp t.stand number)))
 
 -- a new object and its entry
-pub makes_lead : (t : TreeCells) (dir : ℕ) (slots : Slots) (name : List ℕ) (o : Object) (now : Time) (new : Tree)
+pub makes_lead : (t : TreeCells) (dir : ℕ) (o : Object) (new : Tree)
     (text : List ℕ)
-    → IsMaking t.tree dir slots name o now new → TextStands (length t.tree) text new
+    → IsMaking t.tree dir o new → TextStands (length t.tree) text new
     → AllStand (after (makes t.tree new dir text) t.cells) new
-makes_lead t dir slots name o now new text m stands number =
+makes_lead t dir o new text m stands number =
     in_a_row (set_by new (cell.Slot dir (free_slot t.tree dir) ∷ []))
     (text_put (length t.tree) text ++ set_by new
     (cell.Object dir ∷ cell.Object (length t.tree) ∷ [])) t.cells new number
@@ -247,11 +249,11 @@ makes_lead t dir slots name o now new text m stands number =
     (elim (cases_eq number dir) [
       | inl e ↦ subst (StandsAt (after (set_by new (cell.Object dir ∷ cell.Object (length t.tree) ∷ []))
           (with_text t dir new text)) new) (sym e)
-          (made_dir t dir slots name o now new text m)
+          (made_dir t dir o new text m)
       | inr not_dir ↦ elim (cases_eq number (length t.tree)) [
         | inl e ↦ subst (StandsAt (after (set_by new (cell.Object dir ∷ cell.Object (length t.tree) ∷ []))
             (with_text t dir new text)) new) (sym e)
-            (made_new t dir slots name o now new text m stands)
-        | inr not_new ↦ made_other t dir slots name o now new text number m not_dir not_new
+            (made_new t dir o new text m stands)
+        | inr not_new ↦ made_other t dir o new text number m not_dir not_new
       ]
     ]))

@@ -69,8 +69,11 @@ MakesLead t dir text x = AllStand (after (makes t.tree x.1 dir text) t.cells) x.
 making : (t : TreeCells) (dir : ℕ) (slots full : Slots) (name : List ℕ) (size : ℕ) (o : Object) (now : Time)
     → IsDirectoryOf t.tree dir slots
     → room_for t.tree dir slots name size ≡ Ok full → slots_within o.body ≡ []
-    → IsMaking t.tree dir slots name o now (with_object t.tree dir full o now)
+    → IsMaking t.tree dir o (with_object t.tree dir full o now)
 making t dir slots full name size o now d room bare = record {
+  slots = slots;
+  name = name;
+  now = now;
   directory = d.object;
   at = d.at;
   body = d.body;
@@ -88,8 +91,8 @@ new_dir t dir slots full name a now d room =
     let o = made a (body.Directory []) now in
     let new = with_object t.tree dir full o now in
     let m = making t dir slots full name 0 o now d room refl in
-    makes_lead t dir slots name o now new [] m
-    (no_text new (length t.tree) (ap content_of (new_place t.tree dir slots name o now new m)))
+    makes_lead t dir o new [] m
+    (no_text new (length t.tree) (ap content_of (new_place t.tree dir o new m)))
 
 pub make_dir_leads : (t : TreeCells) (dir : ℕ) (name : List ℕ) (a : SetAttr) (now : Time) (reply : Reply) (new : Tree)
     → make_dir t.tree dir name a now ≡ Ok (reply, new)
@@ -111,8 +114,8 @@ new_link t dir slots full name text a now d room short =
     let o = made a (body.Link text) now in
     let new = with_object t.tree dir full o now in
     let m = making t dir slots full name (length text) o now d room refl in
-    makes_lead t dir slots name o now new text m
-    (a_text new (length t.tree) text (ap content_of (new_place t.tree dir slots name o now new m))
+    makes_lead t dir o new text m
+    (a_text new (length t.tree) text (ap content_of (new_place t.tree dir o new m))
     (omega (arith, short)))
 
 pub make_link_leads : (t : TreeCells) (dir : ℕ) (name text : List ℕ) (a : SetAttr) (now : Time) (reply : Reply)
@@ -142,8 +145,8 @@ new_file t dir slots full name a now size d room =
     let o = made a (body.Regular (replicate size 0)) now in
     let new = with_object t.tree dir full o now in
     let m = making t dir slots full name size o now d room refl in
-    makes_lead t dir slots name o now new [] m
-    (zeros new (length t.tree) size o (new_place t.tree dir slots name o now new m) refl)
+    makes_lead t dir o new [] m
+    (zeros new (length t.tree) size o (new_place t.tree dir o new m) refl)
 
 create_new_leads : (t : TreeCells) (dir : ℕ) (slots : Slots) (name : List ℕ) (a : SetAttr) (now : Time)
     → IsDirectoryOf t.tree dir slots
