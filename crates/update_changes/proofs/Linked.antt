@@ -55,18 +55,20 @@ abbrev between : Tree → ℕ → ℕ → Slots → List ℕ → Time → Tree
 between tree handle dir slots name now = change tree dir (reslotted now (entered slots name handle))
 
 -- a directory that gets a further entry of a file or a link
-record IsLinking (tree : Tree) (handle dir : ℕ) (slots : Slots) (name : List ℕ) (now : Time)
-    (new : Tree) : Type 0 where
+record IsLinking (tree : Tree) (handle dir : ℕ) (new : Tree) : Type 0 where
+  slots : Slots
+  name : List ℕ
+  now : Time
   object : Object
   lives : place tree handle ≡ Some object
   file : is_directory object.body ≡ false
   of : IsDirectoryOf tree dir slots
   becomes : new ≡ change (between tree handle dir slots name now) handle (set_ctime now)
 
-apart : (tree : Tree) (handle dir : ℕ) (slots : Slots) (name : List ℕ) (now : Time) (new : Tree)
-    → IsLinking tree handle dir slots name now new
+apart : (tree : Tree) (handle dir : ℕ) (new : Tree)
+    → IsLinking tree handle dir new
     → handle ≡ dir → ⊥
-apart tree handle dir slots name now new m e =
+apart tree handle dir new m e =
     let same : Some m.object ≡ Some m.of.object = sym m.lives ∙ ap (place tree) e ∙ m.of.at in
     let one : m.object ≡ m.of.object = cc in
     let other : is_directory m.object.body ≡ true = ap (λ (o : Object). is_directory o.body) one
@@ -74,42 +76,42 @@ apart tree handle dir slots name now new m e =
     let file = m.file in
     absurd cc
 
-linking_reslots : (tree : Tree) (handle dir : ℕ) (slots : Slots) (name : List ℕ) (now : Time) (new : Tree)
-    → IsLinking tree handle dir slots name now new
-    → Reslots tree (between tree handle dir slots name now) dir slots (entered slots name handle)
-linking_reslots tree handle dir slots name now new m = reslots_reslotted tree dir m.of.object slots
-    (entered slots name handle) now m.of.at m.of.body
+linking_reslots : (tree : Tree) (handle dir : ℕ) (new : Tree)
+    → (m : IsLinking tree handle dir new)
+    → Reslots tree (between tree handle dir m.slots m.name m.now) dir m.slots (entered m.slots m.name handle)
+linking_reslots tree handle dir new m = reslots_reslotted tree dir m.of.object slots
+    (entered m.slots m.name handle) m.now m.of.at m.of.body
 
-between_place : (tree : Tree) (handle dir : ℕ) (slots : Slots) (name : List ℕ) (now : Time) (new : Tree)
-    (m : IsLinking tree handle dir slots name now new)
-    → place (between tree handle dir slots name now) handle ≡ Some m.object
-between_place tree handle dir slots name now new m =
-    other_place tree (between tree handle dir slots name now) dir slots (entered slots name handle)
-    (linking_reslots tree handle dir slots name now new m) handle
-    (apart tree handle dir slots name now new m)
+between_place : (tree : Tree) (handle dir : ℕ) (new : Tree)
+    (m : IsLinking tree handle dir new)
+    → place (between tree handle dir m.slots m.name m.now) handle ≡ Some m.object
+between_place tree handle dir new m =
+    other_place tree (between tree handle dir m.slots m.name m.now) dir m.slots (entered m.slots m.name handle)
+    (linking_reslots tree handle dir new m) handle
+    (apart tree handle dir new m)
     ∙ m.lives
 
-set_again : (tree : Tree) (handle dir : ℕ) (slots : Slots) (name : List ℕ) (now : Time) (new : Tree)
-    (m : IsLinking tree handle dir slots name now new)
-    → new ≡ set (between tree handle dir slots name now) handle (Some (set_ctime now m.object))
-set_again tree handle dir slots name now new m =
+set_again : (tree : Tree) (handle dir : ℕ) (new : Tree)
+    (m : IsLinking tree handle dir new)
+    → new ≡ set (between tree handle dir m.slots m.name m.now) handle (Some (set_ctime m.now m.object))
+set_again tree handle dir new m =
     m.becomes
-    ∙ change_is (between tree handle dir slots name now) handle (set_ctime now) m.object
-    (between_place tree handle dir slots name now new m)
+    ∙ change_is (between tree handle dir m.slots m.name m.now) handle (set_ctime m.now) m.object
+    (between_place tree handle dir new m)
 
 -- the directory
-linked_dir : (t : TreeCells) (handle dir : ℕ) (slots : Slots) (name : List ℕ) (now : Time) (new : Tree)
-    → IsLinking t.tree handle dir slots name now new
+linked_dir : (t : TreeCells) (handle dir : ℕ) (new : Tree)
+    → IsLinking t.tree handle dir new
     → StandsAt (after (set_by new (link_cells dir (free_slot t.tree dir) handle)) t.cells) new dir
-linked_dir t handle dir slots name now new m =
+linked_dir t handle dir new m =
     let stand = each_stands t.cells t.tree t.stamp t.stand dir in
-    let mid = between t.tree handle dir slots name now in
-    let r = linking_reslots t.tree handle dir slots name now new m in
+    let mid = between t.tree handle dir m.slots m.name m.now in
+    let r = linking_reslots t.tree handle dir new m in
     let here : place new dir ≡ Some r.becomes =
-    ap (λ (x : Tree). place x dir) (set_again t.tree handle dir slots name now new m)
-    ∙ get_or-set_other mid handle dir (Some (set_ctime now m.object)) None
-    (λ e. apart t.tree handle dir slots name now new m (sym e))
-    ∙ own_place t.tree mid dir slots (entered slots name handle) r in
+    ap (λ (x : Tree). place x dir) (set_again t.tree handle dir new m)
+    ∙ get_or-set_other mid handle dir (Some (set_ctime m.now m.object)) None
+    (λ e. apart t.tree handle dir new m (sym e))
+    ∙ own_place t.tree mid dir m.slots (entered m.slots m.name handle) r in
     let becomes = r.body_after in
     let content : content_of (place new dir) ≡ content_of (place t.tree dir) =
     ap content_of here ∙ ap (λ (b : Body). content_of (Some (record m.object { body = b }))) becomes
@@ -118,33 +120,33 @@ linked_dir t handle dir slots name now new m =
     ap is_regular_at here ∙ ap (λ (b : Body). is_regular_at (Some (record m.object { body = b }))) becomes
     ∙ sym (ap is_regular_at m.of.at
     ∙ ap (λ (b : Body). is_regular_at (Some (record m.object { body = b }))) m.of.body) in
-    let old_slots : slots_of (place t.tree dir) ≡ slots = ap slots_of m.of.at ∙ ap slots_within m.of.body in
-    let new_slots : slots_of (place new dir) ≡ entered slots name handle = ap slots_of here
+    let old_slots : slots_of (place t.tree dir) ≡ m.slots = ap slots_of m.of.at ∙ ap slots_within m.of.body in
+    let new_slots : slots_of (place new dir) ≡ entered m.slots m.name handle = ap slots_of here
     ∙ ap slots_within becomes in
     touched t.cells new (link_cells dir (free_slot t.tree dir) handle) dir
     (among_later (cell.Slot dir (free_slot t.tree dir)) (cell.Object dir) (cell.Object dir ∷ cell.Object handle ∷ [])
     (among_first (cell.Object dir) (cell.Object handle ∷ [])))
     (λ block. no_block dir (free_slot t.tree dir) handle dir block)
     (blocks_stay t.cells t.tree new dir content kind stand)
-    (slots_set t.cells new (link_cells dir (free_slot t.tree dir) handle) dir slots
+    (slots_set t.cells new (link_cells dir (free_slot t.tree dir) handle) dir m.slots
     (subst (HoldsSlots t.cells dir) old_slots stand.slot)
     (λ slot other. ap (λ (ss : Slots). get_or ss slot None) new_slots
-    ∙ entered_beside dir slots (record { name = name; number = handle })
+    ∙ entered_beside dir m.slots (record { name = m.name; number = handle })
     (cell.Object dir ∷ cell.Object handle ∷ []) slot
     (subst (λ (ss : Slots). is_among (link_cells dir (free_from 0 ss) handle)
     (cell.Slot dir slot) ≡ false) old_slots other)))
 
 -- the file or the link
-linked_object : (t : TreeCells) (handle dir : ℕ) (slots : Slots) (name : List ℕ) (now : Time) (new : Tree)
-    → IsLinking t.tree handle dir slots name now new
+linked_object : (t : TreeCells) (handle dir : ℕ) (new : Tree)
+    → IsLinking t.tree handle dir new
     → StandsAt (after (set_by new (link_cells dir (free_slot t.tree dir) handle)) t.cells) new handle
-linked_object t handle dir slots name now new m =
+linked_object t handle dir new m =
     let stand = each_stands t.cells t.tree t.stamp t.stand handle in
-    let mid = between t.tree handle dir slots name now in
+    let mid = between t.tree handle dir m.slots m.name m.now in
     let set = link_cells dir (free_slot t.tree dir) handle in
-    let here : place new handle ≡ Some (set_ctime now m.object) =
-    ap (λ (x : Tree). place x handle) (set_again t.tree handle dir slots name now new m)
-    ∙ place_set mid handle m.object (set_ctime now m.object) (between_place t.tree handle dir slots name now new m) in
+    let here : place new handle ≡ Some (set_ctime m.now m.object) =
+    ap (λ (x : Tree). place x handle) (set_again t.tree handle dir new m)
+    ∙ place_set mid handle m.object (set_ctime m.now m.object) (between_place t.tree handle dir new m) in
     let content : content_of (place new handle) ≡ content_of (place t.tree handle) = ap content_of here
     ∙ sym (ap content_of m.lives) in
     let kind : is_regular_at (place new handle) ≡ is_regular_at (place t.tree handle) = ap is_regular_at here
@@ -162,36 +164,36 @@ linked_object t handle dir slots name now new m =
     (λ slot other. ap (λ (ss : Slots). get_or ss slot None) same))
 
 -- every other number
-linked_other : (t : TreeCells) (handle dir : ℕ) (slots : Slots) (name : List ℕ) (now : Time) (new : Tree) (number : ℕ)
-    → IsLinking t.tree handle dir slots name now new → (number ≡ dir → ⊥) → (number ≡ handle → ⊥)
+linked_other : (t : TreeCells) (handle dir : ℕ) (new : Tree) (number : ℕ)
+    → IsLinking t.tree handle dir new → (number ≡ dir → ⊥) → (number ≡ handle → ⊥)
     → StandsAt (after (set_by new (link_cells dir (free_slot t.tree dir) handle)) t.cells) new number
-linked_other t handle dir slots name now new number m not_dir not_handle =
-    let mid = between t.tree handle dir slots name now in
-    let s : Slot = record { name = name; number = handle } in
+linked_other t handle dir new number m not_dir not_handle =
+    let mid = between t.tree handle dir m.slots m.name m.now in
+    let s : Slot = record { name = m.name; number = handle } in
     let later : IsUnmoved mid new number =
-    rw (set_again t.tree handle dir slots name now new m)
-    (unmoved_set mid handle m.object (set_ctime now m.object) number
-    (between_place t.tree handle dir slots name now new m) refl (λ k. refl) not_handle) in
+    rw (set_again t.tree handle dir new m)
+    (unmoved_set mid handle m.object (set_ctime m.now m.object) number
+    (between_place t.tree handle dir new m) refl (λ k. refl) not_handle) in
     untouched t.cells new (link_cells dir (free_slot t.tree dir) handle) number
     (not_of dir (free_slot t.tree dir) handle number not_dir not_handle)
     (unmoved_still t.cells t.tree new number
     (unmoved_twice t.tree mid new number
-    (unmoved_reslots t.tree mid dir slots (entered slots name handle) number
-    (linking_reslots t.tree handle dir slots name now new m) not_dir
-    (omega (arith, names_entered slots s number, one_other handle number not_handle)))
+    (unmoved_reslots t.tree mid dir m.slots (entered m.slots m.name handle) number
+    (linking_reslots t.tree handle dir new m) not_dir
+    (omega (arith, names_entered m.slots s number, one_other handle number not_handle)))
     later)
     (each_stands t.cells t.tree t.stamp t.stand number))
 
-linked : (t : TreeCells) (handle dir : ℕ) (slots : Slots) (name : List ℕ) (now : Time) (new : Tree)
-    → IsLinking t.tree handle dir slots name now new
+linked : (t : TreeCells) (handle dir : ℕ) (new : Tree)
+    → IsLinking t.tree handle dir new
     → AllStand (after (set_by new (link_cells dir (free_slot t.tree dir) handle)) t.cells) new
-linked t handle dir slots name now new m number = elim (cases_eq number dir) [
+linked t handle dir new m number = elim (cases_eq number dir) [
   | inl e ↦ subst (StandsAt (after (set_by new (link_cells dir (free_slot t.tree dir) handle)) t.cells) new) (sym e)
-      (linked_dir t handle dir slots name now new m)
+      (linked_dir t handle dir new m)
   | inr not_dir ↦ elim (cases_eq number handle) [
     | inl e ↦ subst (StandsAt (after (set_by new (link_cells dir (free_slot t.tree dir) handle)) t.cells) new) (sym e)
-        (linked_object t handle dir slots name now new m)
-    | inr not_handle ↦ linked_other t handle dir slots name now new number m not_dir not_handle
+        (linked_object t handle dir new m)
+    | inr not_handle ↦ linked_other t handle dir new number m not_dir not_handle
   ]
 ]
 
@@ -223,7 +225,10 @@ link_leads t handle dir name now reply new e =
     step (add_entry t.tree dir slots (record { name = name; number = handle }) now) _ (LinkLeads t handle dir)
     (λ mid g.
     done _ (LinkLeads t handle dir)
-    (linked t handle dir slots name now (change mid handle (set_ctime now)) (record {
+    (linked t handle dir (change mid handle (set_ctime now)) (record {
+      slots = slots;
+      name = name;
+      now = now;
       object = o;
       lives = live_place t.tree handle o lives;
       file = file;
