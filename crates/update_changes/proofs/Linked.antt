@@ -79,7 +79,7 @@ apart tree handle dir new m e =
 linking_reslots : (tree : Tree) (handle dir : ℕ) (new : Tree)
     → (m : IsLinking tree handle dir new)
     → Reslots tree (between tree handle dir m.slots m.name m.now) dir m.slots (entered m.slots m.name handle)
-linking_reslots tree handle dir new m = reslots_reslotted tree dir m.of.object slots
+linking_reslots tree handle dir new m = reslots_reslotted tree dir m.of.object m.slots
     (entered m.slots m.name handle) m.now m.of.at m.of.body
 
 between_place : (tree : Tree) (handle dir : ℕ) (new : Tree)
