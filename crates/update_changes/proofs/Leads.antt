@@ -4,14 +4,12 @@ use Rattle.std.specs.Bool.{if◌then◌else◌}
 use Rattle.std.specs.Prelude.{fold}
 use Rattle.std.specs.List.{list_all}
 use Rattle.std.proofs.lemmas.Bool.{and_parts, both_ways, false_from_ne_true}
-use Rattle.harp_base.specs.declared.attr.Time.{Time}
 use Rattle.harp_base.specs.declared.call.Call.{Call}
 use Rattle.harp_base.specs.declared.call.Call.TheVariants as call
 use Rattle.harp_base.specs.declared.reply.Reply.{Reply}
 use Rattle.harp_base.specs.Time.{time_of}
 use Rattle.file_tree.specs.Tree.{Tree}
 use Rattle.file_tree.specs.Outcome.{Outcome}
-use Rattle.file_tree.specs.Rename.{rename}
 use Rattle.file_tree.specs.Calls.{answered, settled}
 use Rattle.harp_cells.specs.declared.cell.Cell.{Cell}
 use Rattle.harp_cells.specs.declared.cell.Cell.TheVariants as cell
@@ -32,14 +30,9 @@ use Rattle.update_changes.proofs.Sets.{set_attr_leads, write_leads}
 use Rattle.update_changes.proofs.NewObjects.{create_leads, make_dir_leads, make_link_leads}
 use Rattle.update_changes.proofs.Linked.{link_leads}
 use Rattle.update_changes.proofs.Takes.{remove_leads, remove_dir_leads}
+use Rattle.update_changes.proofs.Renames.{rename_leads}
 
 -- ---- the tree of the outcome
-
-rename_leads : (t : TreeCells) (dir : ℕ) (name : List ℕ) (to_dir : ℕ) (to_name : List ℕ) (now : Time) (reply : Reply)
-    (new : Tree)
-    → rename t.tree dir name to_dir to_name now ≡ Ok (reply, new)
-    → AllStand (after (tree_changes t.cells t.tree new (call.Rename dir name to_dir to_name)) t.cells) new
-rename_leads t dir name to_dir to_name now reply new e = ?
 
 -- where the changes of a call that isn't refused lead to its tree, so do those of the call with the totals; a refused one leaves the tree
 leads : (t : TreeCells) (c : Call) (stamp : ℕ) (r : Outcome)

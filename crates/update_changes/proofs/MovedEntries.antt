@@ -49,7 +49,7 @@ pub record Alters (m : Move) (old new : Tree) : Type 0 where
       → get_or (slots_of (place new dir)) slot None ≡ get_or (slots_of (place old dir)) slot None
   pub names : (dir k : ℕ) → (k ≡ m.moved → ⊥) → (k ≡ m.target → ⊥) → names_at k (place new dir) ≡ names_at k (place old dir)
 
-pub alters_then : (m : Move) (a b c : Tree) → Alters m a b → Alters m b c → Alters m a c
+alters_then : (m : Move) (a b c : Tree) → Alters m a b → Alters m b c → Alters m a c
 alters_then m a b c x y = record {
   stays = λ number aside. y.stays number aside ∙ x.stays number aside;
   slot = λ dir slot other. y.slot dir slot other ∙ x.slot dir slot other;
@@ -62,7 +62,7 @@ pub record AreAlike (p q : Option Object) : Type 0 where
   pub regular : is_regular_at q ≡ is_regular_at p
   pub directory : is_directory_at q ≡ is_directory_at p
 
-pub alike_then : (p q r : Option Object) → AreAlike p q → AreAlike q r → AreAlike p r
+alike_then : (p q r : Option Object) → AreAlike p q → AreAlike q r → AreAlike p r
 alike_then p q r a b = record {
   content = b.content ∙ a.content;
   regular = b.regular ∙ a.regular;
@@ -71,6 +71,17 @@ alike_then p q r a b = record {
 
 alike_itself : (p q : Option Object) → q ≡ p → AreAlike p q
 alike_itself p q e = record { content = ap content_of e; regular = ap is_regular_at e; directory = ap is_directory_at e }
+
+-- only entries and slots of a move are altered, and each object keeps its kind and its content
+pub record KeepsAlike (m : Move) (old new : Tree) : Type 0 where
+  pub alters : Alters m old new
+  pub alike : (n : ℕ) → AreAlike (place old n) (place new n)
+
+pub keeps_then : (m : Move) (a b c : Tree) → KeepsAlike m a b → KeepsAlike m b c → KeepsAlike m a c
+keeps_then m a b c x y = record {
+  alters = alters_then m a b c x.alters y.alters;
+  alike = λ n. alike_then (place a n) (place b n) (place c n) (x.alike n) (y.alike n);
+}
 
 -- ---- other slots of a directory
 
@@ -82,7 +93,7 @@ alike_directories o p slots after was is = record {
   directory = rw (was, is) refl;
 }
 
-pub alike_reslots : (old new : Tree) (dir : ℕ) (slots after : Slots) → Reslots old new dir slots after → (n : ℕ)
+alike_reslots : (old new : Tree) (dir : ℕ) (slots after : Slots) → Reslots old new dir slots after → (n : ℕ)
     → AreAlike (place old n) (place new n)
 alike_reslots old new dir slots after r n = elim (cases_eq n dir) [
   | inl e ↦
@@ -103,7 +114,7 @@ pub record IsSlotOf (m : Move) (dir : ℕ) (slots after : Slots) : Type 0 where
   pub others : (slot : ℕ) → IsOtherSlot m dir slot → get_or after slot None ≡ get_or slots slot None
   pub names : (k : ℕ) → (k ≡ m.moved → ⊥) → (k ≡ m.target → ⊥) → names_in k after ≡ names_in k slots
 
-pub alters_reslots : (m : Move) (old new : Tree) (dir : ℕ) (slots after : Slots) → Reslots old new dir slots after
+alters_reslots : (m : Move) (old new : Tree) (dir : ℕ) (slots after : Slots) → Reslots old new dir slots after
     → IsSlotOf m dir slots after → Alters m old new
 alters_reslots m old new dir slots after r is = record {
   stays = λ number aside. other_place old new dir slots after r number (is.aside number aside);
@@ -126,6 +137,13 @@ alters_reslots m old new dir slots after r is = record {
         subst (λ (d : ℕ). names_at k (place new d) ≡ names_at k (place old d)) (sym e) here
     | inr ne ↦ ap (names_at k) (other_place old new dir slots after r n ne)
   ];
+}
+
+pub keeps_reslots : (m : Move) (old new : Tree) (dir : ℕ) (slots after : Slots) → Reslots old new dir slots after
+    → IsSlotOf m dir slots after → KeepsAlike m old new
+keeps_reslots m old new dir slots after r is = record {
+  alters = alters_reslots m old new dir slots after r is;
+  alike = alike_reslots old new dir slots after r;
 }
 
 -- a new entry leaves each slot but the first free one
@@ -162,7 +180,7 @@ slots_timed : (p : Option Object) (now : Time) → slots_of (changed_at (set_cti
 slots_timed None now = refl
 slots_timed (Some o) now = refl
 
-pub alike_ctime : (tree : Tree) (number : ℕ) (now : Time) (n : ℕ)
+alike_ctime : (tree : Tree) (number : ℕ) (now : Time) (n : ℕ)
     → AreAlike (place tree n) (place (change tree number (set_ctime now)) n)
 alike_ctime tree number now n = elim (cases_eq n number) [
   | inl e ↦
@@ -182,12 +200,19 @@ slots_ctime tree number now n = elim (cases_eq n number) [
   | inr ne ↦ ap slots_of (other_change tree number (set_ctime now) n ne)
 ]
 
-pub alters_ctime : (m : Move) (tree : Tree) (number : ℕ) (now : Time)
+alters_ctime : (m : Move) (tree : Tree) (number : ℕ) (now : Time)
     → ((n : ℕ) → IsAside m n → n ≡ number → ⊥) → Alters m tree (change tree number (set_ctime now))
 alters_ctime m tree number now aside = record {
   stays = λ n is. other_change tree number (set_ctime now) n (aside n is);
   slot = λ n slot other. ap (λ (ss : Slots). get_or ss slot None) (slots_ctime tree number now n);
   names = λ n k nm nt. ap (names_in k) (slots_ctime tree number now n);
+}
+
+keeps_ctime : (m : Move) (tree : Tree) (number : ℕ) (now : Time) → ((n : ℕ) → IsAside m n → n ≡ number → ⊥)
+    → KeepsAlike m tree (change tree number (set_ctime now))
+keeps_ctime m tree number now aside = record {
+  alters = alters_ctime m tree number now aside;
+  alike = alike_ctime tree number now;
 }
 
 -- ---- an object that goes
@@ -264,22 +289,20 @@ unmoved m old new moves number aside = record {
   ];
 }
 
-pub moves_alike : (m : Move) (old new : Tree) → Alters m old new → ((n : ℕ) → AreAlike (place old n) (place new n))
-    → MovesTo m old new
-moves_alike m old new alters alike = record { alters = alters; alike = λ n ne. alike n; target = inl (alike m.target) }
+pub moves_alike : (m : Move) (old new : Tree) → KeepsAlike m old new → MovesTo m old new
+moves_alike m old new is = record { alters = is.alters; alike = λ n ne. is.alike n; target = inl (is.alike m.target) }
 
 -- a tree before its target loses the entry
 pub record IsBefore (m : Move) (old before : Tree) : Type 0 where
-  pub alters : Alters m old before
-  pub alike : (n : ℕ) → AreAlike (place old n) (place before n)
+  pub keeps : KeepsAlike m old before
   pub others : (dir : ℕ) → (dir ≡ m.dir → ⊥) → (dir ≡ m.to_dir → ⊥) → place before dir ≡ place old dir
   pub bare : IsBare before m.target
 
 loses_last : (m : Move) (old before : Tree) → IsBefore m old before → names_of before m.target ≡ 0
     → MovesTo m old (set before m.target None)
 loses_last m old before is last = record {
-  alters = alters_then m old before (set before m.target None) is.alters (alters_gone m before is.bare);
-  alike = λ n ne. alike_then (place old n) (place before n) (place (set before m.target None) n) (is.alike n)
+  alters = alters_then m old before (set before m.target None) is.keeps.alters (alters_gone m before is.bare);
+  alike = λ n ne. alike_then (place old n) (place before n) (place (set before m.target None) n) (is.keeps.alike n)
       (alike_itself _ _ (other_gone before m.target n ne));
   target = inr (record {
     none = place_gone before m.target;
@@ -289,13 +312,6 @@ loses_last m old before is last = record {
   });
 }
 
-moves_on : (m : Move) (old before : Tree) (number : ℕ) (now : Time) → ((n : ℕ) → IsAside m n → n ≡ number → ⊥)
-    → IsBefore m old before → MovesTo m old (change before number (set_ctime now))
-moves_on m old before number now aside is =
-    let after = change before number (set_ctime now) in
-    moves_alike m old after (alters_then m old before after is.alters (alters_ctime m before number now aside))
-    (λ n. alike_then (place old n) (place before n) (place after n) (is.alike n) (alike_ctime before number now n))
-
 -- the target loses an entry, and goes where it was the last
 pub moves_lost : (m : Move) (old before : Tree) (now : Time) → IsBefore m old before
     → MovesTo m old (lost_entry before m.target now)
@@ -303,7 +319,9 @@ unfolding lost_entry
 moves_lost m old before now is =
     cond_both (names_of before m.target == 0) (set before m.target None) (change before m.target (set_ctime now)) (MovesTo m old)
     (λ e. loses_last m old before is (eqb-true (names_of before m.target) 0 e))
-    (λ e. moves_on m old before m.target now (λ n aside. aside.target) is)
+    (λ e.
+    let after = change before m.target (set_ctime now) in
+    moves_alike m old after (keeps_then m old before after is.keeps (keeps_ctime m before m.target now (λ n aside. aside.target))))
 
 still_none : (tree : Tree) (number n : ℕ) (now : Time) → place tree n ≡ None
     → place (change tree number (set_ctime now)) n ≡ None
@@ -316,6 +334,11 @@ still_none tree number n now none = elim (cases_eq n number) [
 ]
 
 -- the moved object gets its time
+pub keeps_timed : (m : Move) (old before : Tree) (now : Time) → KeepsAlike m old before
+    → KeepsAlike m old (change before m.moved (set_ctime now))
+keeps_timed m old before now is =
+    keeps_then m old before (change before m.moved (set_ctime now)) is (keeps_ctime m before m.moved now (λ n aside. aside.moved))
+
 pub moves_timed : (m : Move) (old before : Tree) (now : Time) → MovesTo m old before
     → MovesTo m old (change before m.moved (set_ctime now))
 moves_timed m old before now is =

@@ -29,7 +29,7 @@ use Rattle.update_changes.specs.TreeCells.{TreeCells}
 use Rattle.update_changes.specs.Table.{set_by, loses, takes, entry_in, tree_changes}
 use Rattle.update_changes.specs.Stands.{AllStand}
 use Rattle.update_changes.proofs.RightCells.{IsBy, by_set, spared_both, first_other, rest_spared}
-use Rattle.update_changes.proofs.MovedEntries.{Move, IsSlotOf, IsBefore, MovesTo, alike_reslots, alters_reslots, moves_lost}
+use Rattle.update_changes.proofs.MovedEntries.{Move, IsSlotOf, IsBefore, MovesTo, keeps_reslots, moves_lost}
 use Rattle.update_changes.proofs.MovedCells.{Covers, move_leads, by_loss, loss_sets, loss_ends}
 
 -- an entry goes, and its object loses it
@@ -62,8 +62,7 @@ taken tree dir slots name x now is f bare =
     let r : Reslots tree cleared dir slots left = reslots_changed tree dir is.object slots x.0 None now is.at is.body in
     let held = found_held tree dir is.object slots name x is.at is.body f in
     moves_lost (taking dir x) tree cleared now (record {
-      alters = alters_reslots (taking dir x) tree cleared dir slots left r (clears_slot (taking dir x) slots name f);
-      alike = alike_reslots tree cleared dir slots left r;
+      keeps = keeps_reslots (taking dir x) tree cleared dir slots left r (clears_slot (taking dir x) slots name f);
       others = λ n nd nt. other_place tree cleared dir slots left r n nd;
       bare = λ k. ap (names_at k) (other_place tree cleared dir slots left r x.1 (bare_apart tree x.1 dir x.1 bare held)) ∙ bare k;
     })
