@@ -1,5 +1,5 @@
 -- What an update leaves alone.
-use Rattle.std.proofs.Common.{◌≡◌, ℕ, ◌+◌, ◌*◌, ◌≤◌, ◌<◌, ◌==◌, ◌&&◌, ◌||◌, Bool, true, false, List, [], ◌∷◌, ◌++◌, length, Option, Some, None, refl, sym, ap, ◌∙◌, subst, arith, inl, inr}
+use Rattle.std.proofs.Common.{◌≡◌, ℕ, ◌*◌, ◌≤◌, ◌==◌, ◌&&◌, Bool, true, false, List, [], ◌∷◌, length, Option, Some, None, refl, sym, ap, ◌∙◌, subst, arith}
 use Rattle.std.specs.Bool.{if◌then◌else◌}
 use Rattle.std.specs.Prelude.{fold, nat_le}
 use Rattle.std.specs.List.{list_any}
@@ -18,11 +18,9 @@ use Rattle.harp_cells.specs.declared.change.Change.TheVariants as change
 use Rattle.harp_cells.specs.Effect.{Cells, after, changed, is_cell, is_block_from}
 use Rattle.harp_cells.specs.CellsOfTree.{StandForTree, StandForSame, object_value, inode_of, content_of, block_of, block_value, is_regular_at, stands_for}
 use Rattle.harp_cells.proofs.CellLemmas.{is_cell_true}
-use Rattle.inode_blocks.specs.Holds.{EndsAt}
 use Rattle.inode_dirs.specs.Slots.{HoldsSlots}
 use Rattle.inode_dirs.proofs.TreeCells.{trees_hold_slots, held_slots_stand}
 use Rattle.update_changes.specs.Stands.{AllStand, IsUnmoved, StandsAt, changes_cell_of, is_cell_of}
-use Rattle.update_changes.specs.Table.{content_size}
 use Rattle.update_changes.proofs.Links.{NameSameKinds, links_kept, names_alike, parent_kept}
 
 -- ---- changes of other cells

@@ -1,5 +1,5 @@
 -- The changes of LINK lead.
-use Rattle.std.proofs.Common.{◌≡◌, ℕ, ◌+◌, ◌*◌, ◌≤◌, ◌<◌, ◌==◌, Bool, true, false, List, [], ◌∷◌, length, get_or, set, Option, Some, None, Ok, refl, sym, ap, ◌∙◌, subst, arith, inl, inr}
+use Rattle.std.proofs.Common.{◌≡◌, ℕ, ◌*◌, ◌==◌, true, false, List, [], ◌∷◌, length, get_or, set, Some, None, Ok, refl, sym, ap, ◌∙◌, subst, arith, inl, inr}
 use Rattle.std.specs.List.{list_any}
 use Rattle.std.proofs.lemmas.Bool.{cases_eq, ne_eqb, or_from}
 use Rattle.std.proofs.lemmas.List.{get_or-set_other}
@@ -9,7 +9,6 @@ use Rattle.harp_base.specs.declared.reply.Reply.{Reply}
 use Rattle.harp_base.specs.declared.reply.Status.TheVariants.{Perm}
 use Rattle.file_tree.specs.declared.object.Slot.{Slot}
 use Rattle.file_tree.specs.declared.object.Body.{Body}
-use Rattle.file_tree.specs.declared.object.Body.TheVariants as body
 use Rattle.file_tree.specs.declared.object.Object.{Object}
 use Rattle.file_tree.specs.Tree.{Tree, Slots, place, slots_of, slots_within, free_from, with_entry, is_directory}
 use Rattle.file_tree.specs.Steps.{live, directory, room}
@@ -18,10 +17,10 @@ use Rattle.file_tree.proofs.Kept.{live_place}
 use Rattle.file_tree.proofs.SlotLaws.{names_entered}
 use Rattle.file_tree.proofs.Reslots.{Reslots, reslots_reslotted, own_place, other_place, change_is, place_set}
 use Rattle.file_tree.proofs.SoundChanges.{one_other}
-use Rattle.file_tree.proofs.StepLaws.{Given, done, step, unless, given_at, IsDirectoryOf, directory_is}
+use Rattle.file_tree.proofs.StepLaws.{done, step, unless, given_at, IsDirectoryOf, directory_is}
 use Rattle.harp_cells.specs.declared.cell.Cell.{Cell}
 use Rattle.harp_cells.specs.declared.cell.Cell.TheVariants as cell
-use Rattle.harp_cells.specs.Effect.{Cells, after, is_cell}
+use Rattle.harp_cells.specs.Effect.{after, is_cell}
 use Rattle.harp_cells.specs.CellsOfTree.{content_of, is_regular_at}
 use Rattle.inode_dirs.specs.Slots.{HoldsSlots}
 use Rattle.update_changes.specs.TreeCells.{TreeCells}

@@ -1,12 +1,12 @@
 -- How the links and the parent of a directory change.
-use Rattle.std.proofs.Common.{◌≡◌, ℕ, suc, ◌+◌, ◌<◌, ◌≤◌, ◌==◌, Bool, true, false, cond, List, [], ◌∷◌, length, get_or, set, sum_by, count_by, Option, Some, None, refl, sym, ap, ◌∙◌, arith, inl, inr}
-use Rattle.std.proofs.lemmas.Bool.{cases_eq, eq-eqb}
+use Rattle.std.proofs.Common.{◌≡◌, ℕ, suc, ◌+◌, ◌<◌, ◌≤◌, ◌==◌, Bool, cond, [], ◌∷◌, length, get_or, set, sum_by, count_by, Option, Some, None, refl, sym, ap, arith}
+use Rattle.std.proofs.lemmas.Bool.{eq-eqb}
 use Rattle.std.proofs.lemmas.List.Sums.{sum_by-cons, sum_by-set}
 use Rattle.file_tree.specs.declared.object.Slot.{Slot}
 use Rattle.file_tree.specs.declared.object.Object.{Object}
 use Rattle.file_tree.specs.declared.object.Body.TheVariants as body
-use Rattle.file_tree.specs.Tree.{Tree, Slots, place, names_it, names_in, names_at, names_of, is_directory_at, is_subdirectory, links_of, holder_from, parent_of, with_entry}
-use Rattle.file_tree.proofs.SlotLaws.{share, one, sum_by-with_entry}
+use Rattle.file_tree.specs.Tree.{Tree, Slots, place, names_in, names_at, names_of, is_directory_at, is_subdirectory, links_of, holder_from, parent_of, with_entry}
+use Rattle.file_tree.proofs.SlotLaws.{share, sum_by-with_entry}
 
 -- a number's kind is the same in both trees
 abbrev pub IsSameKind : Tree → Tree → ℕ → Type 0

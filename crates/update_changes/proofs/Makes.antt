@@ -1,26 +1,23 @@
 -- The changes of MKDIR, SYMLINK and CREATE lead.
-use Rattle.std.proofs.Common.{◌≡◌, ℕ, ◌+◌, ◌*◌, ◌≤◌, ◌<◌, ◌==◌, Bool, true, false, List, [], ◌∷◌, ◌++◌, length, replicate, get_or, Option, Some, None, Ok, refl, sym, ap, ◌∙◌, subst, arith, inl, inr}
+use Rattle.std.proofs.Common.{◌≡◌, ℕ, ◌==◌, true, false, List, [], ◌∷◌, ◌++◌, length, get_or, Option, Some, None, refl, sym, ap, ◌∙◌, subst, arith, inl, inr}
 use Rattle.std.specs.List.{list_any}
-use Rattle.std.specs.Prelude.{nat_lt}
-use Rattle.std.proofs.lemmas.Bool.{cases_eq, eq-eqb, ne_eqb, or_from, ltb-false}
+use Rattle.std.proofs.lemmas.Bool.{cases_eq, eq-eqb, ne_eqb, or_from}
 use Rattle.std.proofs.lemmas.List.{get_or_past, get_or_push}
 use Rattle.harp_base.specs.declared.attr.Time.{Time}
-use Rattle.file_tree.specs.declared.object.Slot.{Slot}
 use Rattle.file_tree.specs.declared.object.Body.{Body}
 use Rattle.file_tree.specs.declared.object.Body.TheVariants as body
 use Rattle.file_tree.specs.declared.object.Object.{Object}
 use Rattle.file_tree.specs.Tree.{Tree, Slots, place, slots_of, slots_within, names_in, free_from, with_entry}
-use Rattle.file_tree.specs.Outcome.{reslotted, with_object}
+use Rattle.file_tree.specs.Outcome.{with_object}
 use Rattle.file_tree.proofs.Kept.{place_within, place_push}
 use Rattle.file_tree.proofs.SlotLaws.{names_entered}
 use Rattle.file_tree.proofs.Reslots.{Reslots, reslots_reslotted, own_place, other_place}
 use Rattle.file_tree.proofs.SoundChanges.{one_other}
 use Rattle.harp_cells.specs.declared.cell.Cell.{Cell}
 use Rattle.harp_cells.specs.declared.cell.Cell.TheVariants as cell
-use Rattle.harp_cells.specs.declared.change.Change.{Change}
 use Rattle.harp_cells.specs.Effect.{Cells, after, is_cell}
 use Rattle.harp_cells.specs.CellsOfTree.{content_of, is_regular_at, slot_value}
-use Rattle.inode_blocks.specs.Holds.{HoldsBytes, EndsAt}
+use Rattle.inode_blocks.specs.Holds.{EndsAt}
 use Rattle.inode_blocks.specs.Changes.{text_put}
 use Rattle.inode_blocks.proofs.TreeLaws.{text_apart}
 use Rattle.inode_dirs.specs.Slots.{HoldsSlots}
@@ -45,11 +42,6 @@ objects_no_block : (a b number block : ℕ) → is_among (cell.Object a ∷ cell
     (cell.Block number block) ≡ false
 unfolding is_cell
 objects_no_block a b number block = refl
-
-objects_no_slot : (a b number slot : ℕ) → is_among (cell.Object a ∷ cell.Object b ∷ [])
-    (cell.Slot number slot) ≡ false
-unfolding is_cell
-objects_no_slot a b number slot = refl
 
 objects_not_of : (number a b : ℕ) → (number ≡ a → ⊥) → (number ≡ b → ⊥)
     → list_any (is_cell_of number) (cell.Object a ∷ cell.Object b ∷ []) ≡ false

@@ -1,5 +1,5 @@
 -- Changes that cover what a move alters lead to cells that stand for the tree after it.
-use Rattle.std.proofs.Common.{◌≡◌, ℕ, ◌*◌, ◌≤◌, ◌==◌, ◌&&◌, ◌⊎◌, Bool, true, false, List, [], ◌∷◌, ◌++◌, length, get_or}
+use Rattle.std.proofs.Common.{◌≡◌, ℕ, ◌*◌, ◌≤◌, ◌==◌, ◌&&◌, ◌⊎◌, Bool, true, false, List, [], ◌∷◌, length, get_or}
 use Rattle.std.proofs.Common.{Option, Some, None, refl, sym, ap, ◌∙◌, subst, arith, inl, inr}
 use Rattle.std.specs.Bool.{if◌then◌else◌}
 use Rattle.std.specs.Prelude.{nat_le}
@@ -7,7 +7,6 @@ use Rattle.std.specs.List.{All}
 use Rattle.std.proofs.lemmas.Bool.{cases_eq, cond_both, or_parts, and_parts, and_from, eqb-true, eq-eqb, le-leb, both_ways}
 use Rattle.std.proofs.lemmas.List.Elements.{All-nil, All-cons, All-append}
 use Rattle.file_tree.specs.declared.object.Object.{Object}
-use Rattle.file_tree.specs.declared.object.Slot.{Slot}
 use Rattle.file_tree.specs.Tree.{Tree, place, slots_of}
 use Rattle.harp_cells.specs.declared.cell.Cell.{Cell}
 use Rattle.harp_cells.specs.declared.cell.Cell.TheVariants as cell
@@ -16,7 +15,7 @@ use Rattle.harp_cells.specs.declared.value.Value.{Value}
 use Rattle.harp_cells.specs.declared.value.Value.TheVariants as value
 use Rattle.harp_cells.specs.declared.change.Change.{Change}
 use Rattle.harp_cells.specs.declared.change.Change.TheVariants as change
-use Rattle.harp_cells.specs.Effect.{Cells, is_block_from, changed, after}
+use Rattle.harp_cells.specs.Effect.{Cells, is_block_from, after}
 use Rattle.harp_cells.specs.CellsOfTree.{StandForTree, stands_for, object_value, content_of, block_of, block_value, slot_value, is_regular_at}
 use Rattle.harp_cells.proofs.TreeLaws.{dead_are_absent}
 use Rattle.inode_dirs.proofs.TreeCells.{trees_hold_slots}

@@ -1,5 +1,5 @@
 -- The changes of a rename that succeeds lead to the tree with the entry moved.
-use Rattle.std.proofs.Common.{◌≡◌, ℕ, ◌+◌, ◌==◌, Bool, false, List, [], ◌∷◌, ◌++◌, length, set, Option, Some, None, refl, ap, ◌∙◌, sym, subst, arith, inl}
+use Rattle.std.proofs.Common.{◌≡◌, ℕ, Bool, List, [], ◌∷◌, ◌++◌, set, Some, None, refl, ap, ◌∙◌, sym, subst, arith, inl}
 use Rattle.std.specs.Bool.{if◌then◌else◌}
 use Rattle.std.specs.List.{All}
 use Rattle.std.proofs.lemmas.Bool.{ne_eqb}
@@ -7,11 +7,10 @@ use Rattle.std.proofs.lemmas.List.{get_or-set_other}
 use Rattle.std.proofs.lemmas.List.Elements.{All-append}
 use Rattle.harp_base.specs.declared.attr.Time.{Time}
 use Rattle.file_tree.specs.declared.object.Slot.{Slot}
-use Rattle.file_tree.specs.declared.object.Object.{Object}
-use Rattle.file_tree.specs.Tree.{Tree, Slots, place, slots_of, slots_within, names_in, names_at, free_from, with_entry}
+use Rattle.file_tree.specs.Tree.{Tree, Slots, place, slots_of, names_at, free_from, with_entry}
 use Rattle.file_tree.specs.Outcome.{change, slot_changed, reslotted, set_ctime, lost_entry}
 use Rattle.file_tree.specs.Rename.{freed, moved_over}
-use Rattle.file_tree.proofs.SlotLaws.{IsFound, one, names_set, names_entered}
+use Rattle.file_tree.proofs.SlotLaws.{IsFound, names_set, names_entered}
 use Rattle.file_tree.proofs.Reslots.{Reslots, reslots_changed, reslots_reslotted, other_place}
 use Rattle.file_tree.proofs.WaysUp.{IsBare}
 use Rattle.file_tree.proofs.SoundChanges.{one_other}
@@ -26,7 +25,7 @@ use Rattle.harp_cells.specs.CellsOfTree.{StandForTree}
 use Rattle.update_changes.specs.Table.{set_by, loses, slot_pair, dir_pair, moves}
 use Rattle.update_changes.specs.Stands.{AllStand}
 use Rattle.update_changes.proofs.RightCells.{IsBy, Spares, by_set, spared_both, first_other}
-use Rattle.update_changes.proofs.MovedEntries.{Move, IsSlotOf, IsBefore, KeepsAlike, MovesTo, keeps_then, keeps_reslots, keeps_timed, moves_alike, moves_lost, moves_timed, entered_other}
+use Rattle.update_changes.proofs.MovedEntries.{Move, IsSlotOf, KeepsAlike, MovesTo, keeps_then, keeps_reslots, keeps_timed, moves_alike, moves_lost, moves_timed, entered_other}
 use Rattle.update_changes.proofs.MovedCells.{IsLeft, Covers, move_leads, by_loss, loss_sets, loss_ends, spared_slots, spared_dirs}
 use Rattle.update_changes.proofs.Takes.{bare_apart, clears_slot}
 

@@ -1,5 +1,5 @@
 -- What MKDIR, SYMLINK and CREATE make stands.
-use Rattle.std.proofs.Common.{◌≡◌, ℕ, ◌+◌, ◌*◌, ◌≤◌, ◌<◌, ◌==◌, Bool, true, false, not, List, [], ◌∷◌, length, replicate, get_or, Option, Some, None, Ok, refl, sym, ap, ◌∙◌, subst, arith}
+use Rattle.std.proofs.Common.{◌≡◌, ℕ, ◌+◌, ◌*◌, ◌≤◌, not, List, [], length, replicate, get_or, Option, Some, None, Ok, refl, sym, ap, ◌∙◌, subst, arith}
 use Rattle.std.specs.Prelude.{nat_lt}
 use Rattle.std.proofs.lemmas.Bool.{ltb-false}
 use Rattle.std.proofs.lemmas.List.{get_or_past}
@@ -11,11 +11,10 @@ use Rattle.harp_base.specs.declared.reply.Status.TheVariants.{FBig, NameTooLong,
 use Rattle.file_tree.specs.declared.object.Body.{Body}
 use Rattle.file_tree.specs.declared.object.Body.TheVariants as body
 use Rattle.file_tree.specs.declared.object.Object.{Object}
-use Rattle.file_tree.specs.Tree.{Tree, Slots, place, slots_of, slots_within, entry}
+use Rattle.file_tree.specs.Tree.{Tree, Slots, place, slots_within, entry}
 use Rattle.file_tree.specs.Steps.{directory, entry_name}
 use Rattle.file_tree.specs.Outcome.{LARGEST, given, made, with_object, has_entry, free_name, room_for, is_regular, is_regular_at, set_fields, create_again, create_new, create_at, create, make_dir, make_link}
 use Rattle.file_tree.proofs.StepLaws.{Given, done, step, unless, given_at, IsDirectoryOf, directory_is, room_for_is}
-use Rattle.harp_cells.specs.declared.cell.Cell.TheVariants as cell
 use Rattle.harp_cells.specs.declared.value.Value.{Value}
 use Rattle.harp_cells.specs.Effect.{Cells, after}
 use Rattle.harp_cells.specs.CellsOfTree.{content_of}

@@ -1,14 +1,13 @@
 -- The changes of RENAME lead to the tree with the entry moved.
-use Rattle.std.proofs.Common.{◌≡◌, ℕ, ◌*◌, ◌==◌, ◌&&◌, true, false, List, [], length, Option, Some, None, Ok, refl, sym, ap, ◌∙◌, subst}
+use Rattle.std.proofs.Common.{◌≡◌, ℕ, ◌==◌, ◌&&◌, true, List, length, Option, Some, None, Ok, refl, sym, ap, ◌∙◌, subst}
 use Rattle.std.proofs.lemmas.Bool.{eqb-false}
 use Rattle.harp_base.specs.declared.attr.Time.{Time}
 use Rattle.harp_base.specs.declared.call.Call.TheVariants as call
 use Rattle.harp_base.specs.declared.reply.Reply.{Reply}
 use Rattle.harp_base.specs.declared.reply.Status.TheVariants.{Perm, NoEnt}
-use Rattle.file_tree.specs.declared.object.Slot.{Slot}
-use Rattle.file_tree.specs.Tree.{Tree, Slots, place, slots_of, slots_within, entry, is_directory_at, with_entry}
+use Rattle.file_tree.specs.Tree.{Tree, Slots, place, slots_of, slots_within, entry, is_directory_at}
 use Rattle.file_tree.specs.Steps.{some_or, live, slots_in, is_dots, check_name, room}
-use Rattle.file_tree.specs.Rename.{is_above, check_target, freed, moved_in, moved_to, rename}
+use Rattle.file_tree.specs.Rename.{is_above, check_target, moved_in, moved_to, rename}
 use Rattle.file_tree.proofs.Kept.{live_place}
 use Rattle.file_tree.proofs.SlotLaws.{found}
 use Rattle.file_tree.proofs.RenameLaw.{target_bare}

@@ -1,11 +1,11 @@
 -- Changes that set cells to their values by a tree: each cell that none of them sets has to stand already.
-use Rattle.std.proofs.Common.{◌≡◌, ℕ, ◌*◌, ◌≤◌, Bool, true, false, List, [], ◌∷◌, ◌++◌, length, get_or}
+use Rattle.std.proofs.Common.{◌≡◌, ◌*◌, ◌≤◌, Bool, true, false, List, [], ◌∷◌, ◌++◌, length, get_or}
 use Rattle.std.proofs.Common.{Option, Some, None, refl, sym, ap, ◌∙◌, subst, inl, inr}
 use Rattle.std.specs.Bool.{if◌then◌else◌}
 use Rattle.std.specs.Prelude.{fold}
 use Rattle.std.specs.List.{All, list_any}
 use Rattle.std.proofs.lemmas.Bool.{cases_Bool, or_from, or_parts, both_ways}
-use Rattle.std.proofs.lemmas.List.Elements.{All-head, All-tail, All-nil, All-cons, All-append}
+use Rattle.std.proofs.lemmas.List.Elements.{All-head, All-tail, All-nil, All-cons}
 use Rattle.std.proofs.lemmas.List.Folds.{list_any-append}
 use Rattle.file_tree.specs.Tree.{Tree, place, slots_of}
 use Rattle.harp_cells.specs.declared.cell.Cell.{Cell}
@@ -18,7 +18,7 @@ use Rattle.harp_cells.specs.CellsOfTree.{StandForSame, object_value, content_of,
 use Rattle.harp_cells.proofs.TreeLaws.{blocks_end}
 use Rattle.harp_cells.proofs.CellLemmas.{is_cell_true, is_cell_itself}
 use Rattle.update_changes.specs.Table.{no_updates, change_to, set_by}
-use Rattle.update_changes.specs.Stands.{StandsAt, AllStand}
+use Rattle.update_changes.specs.Stands.{AllStand}
 
 -- ---- what a cell has to hold
 

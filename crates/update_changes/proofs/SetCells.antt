@@ -1,23 +1,22 @@
 -- What the cells hold after changes that set some of them by a tree.
-use Rattle.std.proofs.Common.{◌≡◌, ℕ, ◌==◌, ◌&&◌, ◌||◌, Bool, true, false, List, [], ◌∷◌, ◌++◌, length, map, Option, Some, None, refl, sym, ap, ◌∙◌, subst, inl, inr}
+use Rattle.std.proofs.Common.{◌≡◌, ℕ, ◌||◌, Bool, true, false, List, [], ◌∷◌, ◌++◌, length, Option, Some, None, refl, ap, ◌∙◌, inl, inr}
 use Rattle.std.specs.Bool.{if◌then◌else◌}
 use Rattle.std.specs.Prelude.{fold}
 use Rattle.std.specs.List.{list_any}
-use Rattle.std.proofs.lemmas.Bool.{cases_Bool, eq-eqb}
-use Rattle.file_tree.specs.Tree.{Tree, place, used_blocks}
+use Rattle.std.proofs.lemmas.Bool.{cases_Bool}
+use Rattle.file_tree.specs.Tree.{Tree, used_blocks}
 use Rattle.harp_cells.specs.declared.cell.Cell.{Cell}
 use Rattle.harp_cells.specs.declared.cell.Cell.TheVariants as cell
 use Rattle.harp_cells.specs.declared.value.Value.{Value}
 use Rattle.harp_cells.specs.declared.value.Value.TheVariants as value
 use Rattle.harp_cells.specs.declared.change.Change.{Change}
-use Rattle.harp_cells.specs.declared.change.Change.TheVariants as change
 use Rattle.harp_cells.specs.Effect.{Cells, after, changed, is_cell}
 use Rattle.harp_cells.specs.CellsOfTree.{StandForTree, cell_of_tree}
 use Rattle.harp_cells.proofs.CellLemmas.{is_cell_true}
 use Rattle.harp_cells.proofs.TreeLaws.{changes_append}
 use Rattle.update_changes.specs.Stands.{AllStand, StandsAt, is_cell_of}
 use Rattle.update_changes.specs.Table.{no_updates, change_to, set_by, meta_put}
-use Rattle.update_changes.proofs.Frame.{stands_by, each_stands, all_stand}
+use Rattle.update_changes.proofs.Frame.{stands_by, all_stand}
 
 -- a cell is among these
 abbrev pub is_among : List Cell → Cell → Bool

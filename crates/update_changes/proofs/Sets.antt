@@ -1,9 +1,9 @@
 -- The changes of SETATTR and WRITE lead.
-use Rattle.std.proofs.Common.{◌≡◌, ℕ, ◌+◌, ◌*◌, ◌≤◌, ◌<◌, ◌==◌, max, Bool, true, false, List, [], ◌∷◌, ◌++◌, length, set, Option, Some, None, Ok, refl, sym, ap, ◌∙◌, subst, arith, inl, inr, ◌⊎◌}
+use Rattle.std.proofs.Common.{◌≡◌, ℕ, ◌+◌, ◌==◌, max, Bool, true, false, List, [], ◌∷◌, ◌++◌, length, set, Option, Some, None, Ok, refl, sym, ap, ◌∙◌, subst, inl, inr, ◌⊎◌}
 use Rattle.std.specs.Bool.{if◌then◌else◌}
 use Rattle.std.specs.List.{list_any}
 use Rattle.std.specs.Prelude.{nat_lt}
-use Rattle.std.proofs.lemmas.Bool.{cases_eq, ne_eqb, or_from, ltb-false}
+use Rattle.std.proofs.lemmas.Bool.{cases_eq, ne_eqb, or_from}
 use Rattle.harp_base.specs.declared.attr.Time.{Time}
 use Rattle.harp_base.specs.declared.attr.SetAttr.{SetAttr}
 use Rattle.harp_base.specs.declared.call.Call.TheVariants as call
@@ -12,13 +12,12 @@ use Rattle.harp_base.specs.declared.reply.Status.TheVariants.{FBig}
 use Rattle.file_tree.specs.declared.object.Body.{Body}
 use Rattle.file_tree.specs.declared.object.Body.TheVariants as body
 use Rattle.file_tree.specs.declared.object.Object.{Object}
-use Rattle.file_tree.specs.Tree.{Tree, Slots, place, slots_of, slots_within, names_in, is_directory}
+use Rattle.file_tree.specs.Tree.{Tree, place, slots_of, slots_within, names_in, is_directory}
 use Rattle.file_tree.specs.Steps.{live, bytes_in, room}
 use Rattle.file_tree.specs.Outcome.{LEAVE, LARGEST, change, body_with, resized, written, rewritten, with_fields, with_size, set_fields, set_attr, write}
 use Rattle.file_tree.proofs.Kept.{live_place}
 use Rattle.file_tree.proofs.Reslots.{place_set, change_is}
 use Rattle.file_tree.proofs.StepLaws.{Given, done, step, unless, either, given_at, bytes_are}
-use Rattle.harp_cells.specs.declared.cell.Cell.{Cell}
 use Rattle.harp_cells.specs.declared.cell.Cell.TheVariants as cell
 use Rattle.harp_cells.specs.declared.change.Change.{Change}
 use Rattle.harp_cells.specs.Effect.{Cells, after, is_cell}

@@ -1,6 +1,5 @@
 -- The changes of REMOVE and RMDIR lead to the tree without the entry.
-use Rattle.std.proofs.Common.{◌≡◌, ℕ, true, false, not, List, [], ◌∷◌, length, set, Option, Some, None, Ok, refl, sym, ap, ◌∙◌, subst, arith}
-use Rattle.std.specs.List.{All}
+use Rattle.std.proofs.Common.{◌≡◌, ℕ, not, List, [], ◌∷◌, set, Option, Some, None, Ok, refl, sym, ap, ◌∙◌, subst, arith}
 use Rattle.std.proofs.lemmas.Bool.{not-false}
 use Rattle.std.proofs.lemmas.List.{get_or-set_other}
 use Rattle.std.proofs.lemmas.List.Elements.{All-append}
@@ -8,10 +7,9 @@ use Rattle.harp_base.specs.declared.attr.Time.{Time}
 use Rattle.harp_base.specs.declared.call.Call.TheVariants as call
 use Rattle.harp_base.specs.declared.reply.Reply.{Reply}
 use Rattle.harp_base.specs.declared.reply.Status.TheVariants.{Perm, NoEnt, NotDir, IsDir, NotEmpty}
-use Rattle.file_tree.specs.declared.object.Object.{Object}
 use Rattle.file_tree.specs.Tree.{Tree, Slots, place, slots_of, slots_within, names_at, entry, is_directory_at}
 use Rattle.file_tree.specs.Steps.{directory, is_dots, check_name, some_or}
-use Rattle.file_tree.specs.Outcome.{Outcome, change, slot_changed, removed, find, doomed, remove, remove_dir, has_no_entry}
+use Rattle.file_tree.specs.Outcome.{change, slot_changed, removed, find, doomed, remove, remove_dir, has_no_entry}
 use Rattle.file_tree.proofs.Holders.{Holds}
 use Rattle.file_tree.proofs.SlotLaws.{IsFound, found}
 use Rattle.file_tree.proofs.Reslots.{Reslots, reslots_changed, other_place}
@@ -20,16 +18,14 @@ use Rattle.file_tree.proofs.SoundChanges.{one_other}
 use Rattle.file_tree.proofs.SoundMoves.{cleared_names, found_held}
 use Rattle.file_tree.proofs.SoundCalls.{empty_is_bare}
 use Rattle.file_tree.proofs.StepLaws.{Given, done, step, unless, given_at, IsDirectoryOf, directory_is}
-use Rattle.harp_cells.specs.declared.cell.Cell.{Cell}
 use Rattle.harp_cells.specs.declared.cell.Cell.TheVariants as cell
-use Rattle.harp_cells.specs.declared.change.Change.{Change}
 use Rattle.harp_cells.specs.Effect.{Cells, after}
 use Rattle.harp_cells.specs.CellsOfTree.{StandForTree}
 use Rattle.update_changes.specs.TreeCells.{TreeCells}
 use Rattle.update_changes.specs.Table.{set_by, loses, takes, entry_in, tree_changes}
 use Rattle.update_changes.specs.Stands.{AllStand}
 use Rattle.update_changes.proofs.RightCells.{IsBy, by_set, spared_both, first_other, rest_spared}
-use Rattle.update_changes.proofs.MovedEntries.{Move, IsSlotOf, IsBefore, MovesTo, keeps_reslots, moves_lost}
+use Rattle.update_changes.proofs.MovedEntries.{Move, IsSlotOf, MovesTo, keeps_reslots, moves_lost}
 use Rattle.update_changes.proofs.MovedCells.{Covers, move_leads, by_loss, loss_sets, loss_ends}
 
 -- an entry goes, and its object loses it

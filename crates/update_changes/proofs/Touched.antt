@@ -1,13 +1,11 @@
 -- What stands at a number whose object, blocks or slots change.
-use Rattle.std.proofs.Common.{◌≡◌, ℕ, ◌+◌, ◌*◌, ◌≤◌, ◌<◌, ◌==◌, Bool, true, false, List, [], ◌∷◌, ◌++◌, length, get_or, Option, Some, None, refl, sym, ap, ◌∙◌, subst, arith, inl, inr}
-use Rattle.std.specs.Bool.{if◌then◌else◌}
+use Rattle.std.proofs.Common.{◌≡◌, ℕ, ◌*◌, ◌≤◌, ◌==◌, Bool, true, false, List, [], ◌∷◌, length, get_or, Some, None, refl, sym, ap, ◌∙◌, subst, inl, inr}
 use Rattle.std.specs.List.{list_any}
-use Rattle.std.proofs.lemmas.Bool.{cases_Bool, or_parts, or_from, or_left, or_right, eqb-true, eqb-false, ne_eqb, both_ways}
+use Rattle.std.proofs.lemmas.Bool.{cases_Bool, or_parts, or_from, or_left, or_right, eqb-true, ne_eqb}
 use Rattle.file_tree.specs.declared.object.Slot.{Slot}
 use Rattle.file_tree.specs.Tree.{Tree, Slots, place, slots_of, free_from, with_entry}
 use Rattle.harp_cells.specs.declared.cell.Cell.{Cell}
 use Rattle.harp_cells.specs.declared.cell.Cell.TheVariants as cell
-use Rattle.harp_cells.specs.declared.value.Value.{Value}
 use Rattle.harp_cells.specs.Effect.{Cells, after, is_cell}
 use Rattle.harp_cells.specs.CellsOfTree.{StandForSame, content_of, block_of, block_value, slot_value, is_regular_at, stands_for}
 use Rattle.harp_cells.proofs.CellLemmas.{is_cell_itself}
@@ -19,7 +17,7 @@ use Rattle.inode_dirs.proofs.SlotChanges.{same_slot, slot_if, entry_differs}
 use Rattle.update_changes.specs.Stands.{StandsAt, is_cell_of}
 use Rattle.update_changes.specs.Table.{content_size, set_by}
 use Rattle.update_changes.proofs.Frame.{other_cell, stands_by, blocks_kept}
-use Rattle.update_changes.proofs.SetCells.{is_among, value_by, set_gives, set_leaves}
+use Rattle.update_changes.proofs.SetCells.{is_among, set_gives, set_leaves}
 
 -- ---- cells among others
 
