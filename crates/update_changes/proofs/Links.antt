@@ -40,14 +40,9 @@ same_subdirectories old new (Some s ∷ slots) kinds =
     let rest = same_subdirectories old new slots (λ k h. kinds k (named_behind k (Some s) slots h)) in
     let here : directory_share new (Some s) ≡ directory_share old (Some s) =
     ap (λ (b : Bool). cond b 1 0) (kinds s.number (named_here s slots)) in
-    omega (
-      arith,
-      rest,
-      here,
-      sum_by-cons (directory_share new) (Some s) slots,
-      sum_by-cons (directory_share old)
-          (Some s) slots,
-    )
+    let now = sum_by-cons (directory_share new) (Some s) slots in
+    let before = sum_by-cons (directory_share old) (Some s) slots in
+    omega (arith, rest, here)
 
 -- the links of a directory whose slots stay
 pub links_kept : (old new : Tree) (dir : ℕ) (slots : Slots) → NameSameKinds old new slots
@@ -57,8 +52,8 @@ links_kept old new dir slots kinds = ap (λ (n : ℕ). 2 + n) (same_subdirectori
 
 -- one more where a new entry names a directory
 pub links_entered : (old new : Tree) (dir : ℕ) (slots : Slots) (s : Slot) → NameSameKinds old new slots
-    → links_of new dir (body.Directory (with_entry slots s)) ≡ links_of old dir
-    (body.Directory slots) + directory_share new (Some s)
+    → links_of new dir (body.Directory (with_entry slots s))
+    ≡ links_of old dir (body.Directory slots) + directory_share new (Some s)
 unfolding links_of
 links_entered old new dir slots s kinds =
     omega (arith, sum_by-with_entry (directory_share new) slots s refl, same_subdirectories old new slots kinds)
@@ -74,8 +69,8 @@ links_replaced old new dir slots i s lt kinds =
 
 pub links_cleared : (old new : Tree) (dir : ℕ) (slots : Slots) (i : ℕ) → i < length slots
     → NameSameKinds old new slots
-    → links_of new dir (body.Directory (set slots i None)) + directory_share new
-    (get_or slots i None) ≡ links_of old dir (body.Directory slots)
+    → links_of new dir (body.Directory (set slots i None)) + directory_share new (get_or slots i None)
+    ≡ links_of old dir (body.Directory slots)
 links_cleared old new dir slots i lt kinds = omega (arith, links_replaced old new dir slots i None lt kinds)
 
 -- ---- entries and parents

@@ -96,16 +96,12 @@ made_unmoved : (t : TreeCells) (dir : ℕ) (o : Object) (new : Tree)
     → IsMaking t.tree dir o new → (number ≡ dir → ⊥) → (number ≡ length t.tree → ⊥)
     → IsUnmoved t.tree new number
 made_unmoved t dir o new number m not_dir not_new =
+    let entry = names_entered m.slots (record { name = m.name; number = length t.tree }) number in
     unmoved_twice t.tree (pushed t.tree o) new number
     (unmoved_pushed t.tree o number t.sound (λ k. ap (names_in k) m.bare) not_new)
     (unmoved_reslots (pushed t.tree o) new dir m.slots (entered t.tree m.slots m.name) number
     (making_reslots t.tree dir o new m) not_dir
-    (omega (
-      arith,
-      names_entered m.slots (record { name = m.name; number = length t.tree }) number,
-      one_other
-          (length t.tree) number not_new,
-    )))
+    (omega (arith, entry, one_other (length t.tree) number not_new)))
 
 -- ---- what stands after the entry and the text
 

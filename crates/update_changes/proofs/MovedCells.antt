@@ -4,7 +4,8 @@ use Rattle.std.proofs.Common.{Option, Some, None, refl, sym, ap, ◌∙◌, subs
 use Rattle.std.specs.Bool.{if◌then◌else◌}
 use Rattle.std.specs.Prelude.{nat_le}
 use Rattle.std.specs.List.{All}
-use Rattle.std.proofs.lemmas.Bool.{cases_eq, cond_both, or_parts, and_parts, and_from, eqb-true, eq-eqb, le-leb, both_ways}
+use Rattle.std.proofs.lemmas.Bool.{cases_eq, cond_both, or_parts, and_parts, and_from, eqb-true, eq-eqb, le-leb}
+use Rattle.std.proofs.lemmas.Bool.{both_ways}
 use Rattle.std.proofs.lemmas.List.Elements.{All-nil, All-cons, All-append}
 use Rattle.file_tree.specs.declared.object.Object.{Object}
 use Rattle.file_tree.specs.Tree.{Tree, place, slots_of}
@@ -16,13 +17,15 @@ use Rattle.harp_cells.specs.declared.value.Value.TheVariants as value
 use Rattle.harp_cells.specs.declared.change.Change.{Change}
 use Rattle.harp_cells.specs.declared.change.Change.TheVariants as change
 use Rattle.harp_cells.specs.Effect.{Cells, is_block_from, after}
-use Rattle.harp_cells.specs.CellsOfTree.{StandForTree, stands_for, object_value, content_of, block_of, block_value, slot_value, is_regular_at}
+use Rattle.harp_cells.specs.CellsOfTree.{StandForTree, stands_for, object_value, content_of, block_of, block_value}
+use Rattle.harp_cells.specs.CellsOfTree.{slot_value, is_regular_at}
 use Rattle.harp_cells.proofs.TreeLaws.{dead_are_absent}
 use Rattle.inode_dirs.proofs.TreeCells.{trees_hold_slots}
 use Rattle.update_changes.specs.Table.{no_updates, set_by, content_size, erases, loses, slot_pair, dir_pair}
 use Rattle.update_changes.specs.Stands.{AllStand, IsUnmoved}
 use Rattle.update_changes.proofs.Frame.{unmoved_inode}
-use Rattle.update_changes.proofs.RightCells.{IsRight, IsBy, Spares, all_stand_after, by_set, spared_both, first_other, pair_other}
+use Rattle.update_changes.proofs.RightCells.{IsRight, IsBy, Spares, all_stand_after, by_set, spared_both, first_other}
+use Rattle.update_changes.proofs.RightCells.{pair_other}
 use Rattle.update_changes.proofs.MovedEntries.{Move, IsAside, IsOtherSlot, AreAlike, MovesTo, unmoved}
 
 -- ---- cells that stand already
@@ -131,16 +134,20 @@ right_spared : (cells : Cells) (old new : Tree) (stamp : ℕ) (m : Move) (change
     → StandForTree cells old stamp → MovesTo m old new → Covers m new changes → Ends m old new changes
     → (c : Cell) → Spares c changes → IsRight new c (cells c)
 right_spared cells old new stamp m changes stand moves covers ends (cell.Object n) spares =
-    right_object cells old new stamp n stand (unmoved m old new moves n (left_aside m n (covers.others (cell.Object n) spares)))
+    let aside = left_aside m n (covers.others (cell.Object n) spares) in
+    right_object cells old new stamp n stand (unmoved m old new moves n aside)
 right_spared cells old new stamp m changes stand moves covers ends (cell.Slot n s) spares =
-    right_slot cells old new stamp n s stand (moves.alters.slot n s (left_slot m n s (covers.others (cell.Slot n s) spares)))
-right_spared cells old new stamp m changes stand moves covers ends (cell.Block n b) spares = elim (cases_eq n m.target) [
-  | inl e ↦
-      let spared : Spares (cell.Block m.target b) changes = subst (λ (k : ℕ). Spares (cell.Block k b) changes) e spares in
-      subst (λ (k : ℕ). IsRight new (cell.Block k b) (cells (cell.Block k b))) (sym e)
-      (right_target cells old new stamp b m changes stand ends spared)
-  | inr ne ↦ right_block cells old new stamp n b stand (moves.alike n ne)
-]
+    let other = left_slot m n s (covers.others (cell.Slot n s) spares) in
+    right_slot cells old new stamp n s stand (moves.alters.slot n s other)
+right_spared cells old new stamp m changes stand moves covers ends (cell.Block n b) spares =
+    elim (cases_eq n m.target) [
+      | inl e ↦
+          let spared : Spares (cell.Block m.target b) changes =
+          subst (λ (k : ℕ). Spares (cell.Block k b) changes) e spares in
+          subst (λ (k : ℕ). IsRight new (cell.Block k b) (cells (cell.Block k b))) (sym e)
+          (right_target cells old new stamp b m changes stand ends spared)
+      | inr ne ↦ right_block cells old new stamp n b stand (moves.alike n ne)
+    ]
 right_spared cells old new stamp m changes stand moves covers ends cell.Meta spares = tt
 right_spared cells old new stamp m changes stand moves covers ends (cell.Client client) spares = tt
 right_spared cells old new stamp m changes stand moves covers ends (cell.Saved at) spares = tt
@@ -153,7 +160,8 @@ move_leads cells old new stamp m changes stand moves covers ends =
 
 -- ---- an object that lost an entry
 
-erased : (new : Tree) (number : ℕ) → place new number ≡ None → (c : Cell) (held : Option Value) → is_block_from number 0 c ≡ true
+erased : (new : Tree) (number : ℕ) → place new number ≡ None → (c : Cell) (held : Option Value)
+    → is_block_from number 0 c ≡ true
     → IsRight new c None
 unfolding is_block_from
 erased new number gone cell.Meta held sets = tt
@@ -172,14 +180,16 @@ by_erase new number gone c held sets =
 by_erases : (old new : Tree) (number : ℕ) → place new number ≡ None → All (IsBy new) (erases old number)
 by_erases old new number gone =
     cond_both (content_size old number == 0) [] (change.EraseFrom number 0 ∷ []) (All (IsBy new))
-    (λ e. All-nil (IsBy new)) (λ e. All-cons (IsBy new) (change.EraseFrom number 0) [] (by_erase new number gone) (All-nil (IsBy new)))
+    (λ e. All-nil (IsBy new))
+    (λ e. All-cons (IsBy new) (change.EraseFrom number 0) [] (by_erase new number gone) (All-nil (IsBy new)))
 
 -- what goes with an object
 abbrev goes_with : Tree → ℕ → Option Object → List Change
 goes_with old number None = erases old number
 goes_with old number (Some o) = []
 
-by_going : (old new : Tree) (number : ℕ) (x : Option Object) → place new number ≡ x → All (IsBy new) (goes_with old number x)
+by_going : (old new : Tree) (number : ℕ) (x : Option Object) → place new number ≡ x → All (IsBy new)
+    (goes_with old number x)
 by_going old new number None at = by_erases old new number at
 by_going old new number (Some o) at = All-nil (IsBy new)
 
@@ -204,11 +214,13 @@ spared_erasure false number b spares =
     and_from (number == number) (nat_le 0 b) (eq-eqb number number refl) (le-leb 0 b (omega arith)) in
     absurd (both_ways _ (or_parts _ false spares).0 erased)
 
-spared_block : (old : Tree) (number b : ℕ) → Spares (cell.Block number b) (erases old number) → content_size old number ≡ 0
+spared_block : (old : Tree) (number b : ℕ) → Spares (cell.Block number b) (erases old number)
+    → content_size old number ≡ 0
 spared_block old number b spares =
     eqb-true (content_size old number) 0 (spared_erasure (content_size old number == 0) number b spares)
 
-spared_going : (old : Tree) (number b : ℕ) (x : Option Object) → x ≡ None → Spares (cell.Block number b) (goes_with old number x)
+spared_going : (old : Tree) (number b : ℕ) (x : Option Object) → x ≡ None → Spares (cell.Block number b)
+    (goes_with old number x)
     → content_size old number ≡ 0
 spared_going old number b None gone spares = spared_block old number b spares
 spared_going old number b (Some o) gone spares = absurd cc
@@ -217,8 +229,9 @@ loss_clears : (old new : Tree) (number b : ℕ) → place new number ≡ None
     → Spares (cell.Block number b) (loses old new number) → content_size old number ≡ 0
 unfolding loses
 loss_clears old new number b gone spares =
+    let goes = goes_with old number (place new number) in
     spared_going old number b (place new number) gone
-    (spared_both (cell.Block number b) (goes_with old number (place new number)) (set_by new (cell.Object number ∷ [])) spares).0
+    (spared_both (cell.Block number b) goes (set_by new (cell.Object number ∷ [])) spares).0
 
 -- where a move has the loss among its changes, the target's blocks are erased
 pub loss_ends : (m : Move) (old new : Tree) (changes : List Change) → MovesTo m old new

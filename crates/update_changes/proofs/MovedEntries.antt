@@ -8,7 +8,8 @@ use Rattle.harp_base.specs.declared.attr.Time.{Time}
 use Rattle.file_tree.specs.declared.object.Slot.{Slot}
 use Rattle.file_tree.specs.declared.object.Body.TheVariants as body
 use Rattle.file_tree.specs.declared.object.Object.{Object}
-use Rattle.file_tree.specs.Tree.{Tree, Slots, place, slots_of, slots_within, names_in, names_at, names_of, is_directory_at, free_from, with_entry}
+use Rattle.file_tree.specs.Tree.{Tree, Slots, place, slots_of, slots_within, names_in, names_at, names_of}
+use Rattle.file_tree.specs.Tree.{is_directory_at, free_from, with_entry}
 use Rattle.file_tree.specs.Outcome.{change, changed_at, set_ctime, lost_entry}
 use Rattle.file_tree.proofs.SlotLaws.{share}
 use Rattle.file_tree.proofs.Reslots.{Reslots, other_place, own_place, own_names, own_names_after}
@@ -46,7 +47,8 @@ pub record Alters (m : Move) (old new : Tree) : Type 0 where
   pub stays : (number : ℕ) → IsAside m number → place new number ≡ place old number
   pub slot : (dir slot : ℕ) → IsOtherSlot m dir slot
       → get_or (slots_of (place new dir)) slot None ≡ get_or (slots_of (place old dir)) slot None
-  pub names : (dir k : ℕ) → (k ≡ m.moved → ⊥) → (k ≡ m.target → ⊥) → names_at k (place new dir) ≡ names_at k (place old dir)
+  pub names : (dir k : ℕ) → (k ≡ m.moved → ⊥) → (k ≡ m.target → ⊥)
+      → names_at k (place new dir) ≡ names_at k (place old dir)
 
 alters_then : (m : Move) (a b c : Tree) → Alters m a b → Alters m b c → Alters m a c
 alters_then m a b c x y = record {
@@ -69,7 +71,11 @@ alike_then p q r a b = record {
 }
 
 alike_itself : (p q : Option Object) → q ≡ p → AreAlike p q
-alike_itself p q e = record { content = ap content_of e; regular = ap is_regular_at e; directory = ap is_directory_at e }
+alike_itself p q e = record {
+  content = ap content_of e;
+  regular = ap is_regular_at e;
+  directory = ap is_directory_at e;
+}
 
 -- only entries and slots of a move are altered, and each object keeps its kind and its content
 pub record KeepsAlike (m : Move) (old new : Tree) : Type 0 where
@@ -97,14 +103,16 @@ alike_reslots : (old new : Tree) (dir : ℕ) (slots after : Slots) → Reslots o
 alike_reslots old new dir slots after r n = elim (cases_eq n dir) [
   | inl e ↦
       let here = alike_directories r.was r.becomes slots after r.body r.body_after in
-      let there : AreAlike (place old dir) (Some r.becomes) = subst (λ (p : Option Object). AreAlike p (Some r.becomes)) (sym r.at) here in
+      let there : AreAlike (place old dir) (Some r.becomes) =
+      subst (λ (p : Option Object). AreAlike p (Some r.becomes)) (sym r.at) here in
       let both : AreAlike (place old dir) (place new dir) =
       subst (λ (q : Option Object). AreAlike (place old dir) q) (sym (own_place old new dir slots after r)) there in
       subst (λ (k : ℕ). AreAlike (place old k) (place new k)) (sym e) both
   | inr ne ↦ alike_itself (place old n) (place new n) (other_place old new dir slots after r n ne)
 ]
 
-own_slots : (x : Option Object) (o : Object) (slots : Slots) → x ≡ Some o → o.body ≡ body.Directory slots → slots_of x ≡ slots
+own_slots : (x : Option Object) (o : Object) (slots : Slots) → x ≡ Some o → o.body ≡ body.Directory slots
+    → slots_of x ≡ slots
 own_slots x o slots at is = ap slots_of at ∙ ap slots_within is
 
 -- one slot of one of the directories changes, and with it entries of the objects alone
@@ -221,7 +229,8 @@ bare_slot : (slots : Slots) (slot : ℕ) (x : Option Slot) → get_or slots slot
 bare_slot slots slot None e bare = refl
 bare_slot slots slot (Some s) e bare = elim (cases_lt slot (length slots)) [
   | inl lt ↦
-      let named : share s.number (get_or slots slot None) ≡ 1 = ap (share s.number) e ∙ (rw (eq-eqb s.number s.number refl) refl) in
+      let named : share s.number (get_or slots slot None) ≡ 1 =
+      ap (share s.number) e ∙ (rw (eq-eqb s.number s.number refl) refl) in
       absurd (omega (arith, named, bare s.number, get_or-le-sum_by (share s.number) slots slot None lt))
   | inr le ↦ let none = get_or_past slots slot None le in absurd cc
 ]
@@ -235,26 +244,33 @@ place_gone tree number = elim (cases_lt number (length tree)) [
 other_gone : (tree : Tree) (number n : ℕ) → (n ≡ number → ⊥) → place (set tree number None) n ≡ place tree n
 other_gone tree number n ne = get_or-set_other tree number n None None ne
 
+slots_gone : (tree : Tree) (number n slot : ℕ) → IsBare tree number
+    → get_or (slots_of (place (set tree number None) n)) slot None ≡ get_or (slots_of (place tree n)) slot None
+slots_gone tree number n slot bare = elim (cases_eq n number) [
+  | inl e ↦
+      let gone = ap (λ (p : Option Object). get_or (slots_of p) slot None) (place_gone tree number) in
+      let none = bare_slot (slots_of (place tree number)) slot _ refl bare in
+      ap (λ (k : ℕ). get_or (slots_of (place (set tree number None) k)) slot None) e
+      ∙ gone ∙ sym none ∙ ap (λ (k : ℕ). get_or (slots_of (place tree k)) slot None) (sym e)
+  | inr ne ↦ ap (λ (p : Option Object). get_or (slots_of p) slot None) (other_gone tree number n ne)
+]
+
+names_gone : (tree : Tree) (number n k : ℕ) → IsBare tree number
+    → names_at k (place (set tree number None) n) ≡ names_at k (place tree n)
+names_gone tree number n k bare = elim (cases_eq n number) [
+  | inl e ↦
+      ap (λ (d : ℕ). names_at k (place (set tree number None) d)) e
+      ∙ ap (names_at k) (place_gone tree number)
+      ∙ sym (bare k)
+      ∙ ap (λ (d : ℕ). names_at k (place tree d)) (sym e)
+  | inr ne ↦ ap (names_at k) (other_gone tree number n ne)
+]
+
 alters_gone : (m : Move) (tree : Tree) → IsBare tree m.target → Alters m tree (set tree m.target None)
 alters_gone m tree bare = record {
   stays = λ n aside. other_gone tree m.target n aside.target;
-  slot = λ n slot other. elim (cases_eq n m.target) [
-    | inl e ↦
-        let here : get_or (slots_of (place (set tree m.target None) m.target)) slot None ≡ get_or (slots_of (place tree m.target)) slot None =
-        ap (λ (p : Option Object). get_or (slots_of p) slot None) (place_gone tree m.target)
-        ∙ sym (bare_slot (slots_of (place tree m.target)) slot _ refl bare) in
-        subst
-        (λ (k : ℕ). get_or (slots_of (place (set tree m.target None) k)) slot None ≡ get_or (slots_of (place tree k)) slot None)
-        (sym e) here
-    | inr ne ↦ ap (λ (p : Option Object). get_or (slots_of p) slot None) (other_gone tree m.target n ne)
-  ];
-  names = λ n k nm nt. elim (cases_eq n m.target) [
-    | inl e ↦
-        let here : names_at k (place (set tree m.target None) m.target) ≡ names_at k (place tree m.target) =
-        ap (names_at k) (place_gone tree m.target) ∙ sym (bare k) in
-        subst (λ (d : ℕ). names_at k (place (set tree m.target None) d) ≡ names_at k (place tree d)) (sym e) here
-    | inr ne ↦ ap (names_at k) (other_gone tree m.target n ne)
-  ];
+  slot = λ n slot other. slots_gone tree m.target n slot bare;
+  names = λ n k nm nt. names_gone tree m.target n k bare;
 }
 
 -- ---- what a move makes of a tree
@@ -271,7 +287,8 @@ pub record MovesTo (m : Move) (old new : Tree) : Type 0 where
   pub target : AreAlike (place old m.target) (place new m.target) ⊎ IsGone m old new
 
 -- an update leaves what it doesn't touch
-pub unmoved : (m : Move) (old new : Tree) → MovesTo m old new → (number : ℕ) → IsAside m number → IsUnmoved old new number
+pub unmoved : (m : Move) (old new : Tree) → MovesTo m old new → (number : ℕ) → IsAside m number
+    → IsUnmoved old new number
 unmoved m old new moves number aside = record {
   stays = moves.alters.stays number aside;
   named = λ dir. moves.alters.names dir number aside.moved aside.target;
@@ -311,16 +328,22 @@ loses_last m old before is last = record {
   });
 }
 
+stays_alike : (m : Move) (old before : Tree) (now : Time) → IsBefore m old before
+    → MovesTo m old (change before m.target (set_ctime now))
+stays_alike m old before now is =
+    let after = change before m.target (set_ctime now) in
+    moves_alike m old after
+    (keeps_then m old before after is.keeps (keeps_ctime m before m.target now (λ n aside. aside.target)))
+
 -- the target loses an entry, and goes where it was the last
 pub moves_lost : (m : Move) (old before : Tree) (now : Time) → IsBefore m old before
     → MovesTo m old (lost_entry before m.target now)
 unfolding lost_entry
 moves_lost m old before now is =
-    cond_both (names_of before m.target == 0) (set before m.target None) (change before m.target (set_ctime now)) (MovesTo m old)
+    cond_both (names_of before m.target == 0) (set before m.target None) (change before m.target (set_ctime now))
+    (MovesTo m old)
     (λ e. loses_last m old before is (eqb-true (names_of before m.target) 0 e))
-    (λ e.
-    let after = change before m.target (set_ctime now) in
-    moves_alike m old after (keeps_then m old before after is.keeps (keeps_ctime m before m.target now (λ n aside. aside.target))))
+    (λ e. stays_alike m old before now is)
 
 still_none : (tree : Tree) (number n : ℕ) (now : Time) → place tree n ≡ None
     → place (change tree number (set_ctime now)) n ≡ None
@@ -336,17 +359,25 @@ still_none tree number n now none = elim (cases_eq n number) [
 pub keeps_timed : (m : Move) (old before : Tree) (now : Time) → KeepsAlike m old before
     → KeepsAlike m old (change before m.moved (set_ctime now))
 keeps_timed m old before now is =
-    keeps_then m old before (change before m.moved (set_ctime now)) is (keeps_ctime m before m.moved now (λ n aside. aside.moved))
+    keeps_then m old before (change before m.moved (set_ctime now)) is
+    (keeps_ctime m before m.moved now (λ n aside. aside.moved))
 
 pub moves_timed : (m : Move) (old before : Tree) (now : Time) → MovesTo m old before
     → MovesTo m old (change before m.moved (set_ctime now))
 moves_timed m old before now is =
     let after = change before m.moved (set_ctime now) in
+    let timed = keeps_ctime m before m.moved now (λ n aside. aside.moved) in
+    let also : (n : ℕ) → AreAlike (place old n) (place before n) → AreAlike (place old n) (place after n) =
+    λ (n : ℕ) (alike : AreAlike (place old n) (place before n)).
+    alike_then (place old n) (place before n) (place after n) alike (timed.alike n) in
     record {
-      alters = alters_then m old before after is.alters (alters_ctime m before m.moved now (λ n aside. aside.moved));
-      alike = λ n ne. alike_then (place old n) (place before n) (place after n) (is.alike n ne) (alike_ctime before m.moved now n);
+      alters = alters_then m old before after is.alters timed.alters;
+      alike = λ n ne. also n (is.alike n ne);
       target = elim is.target [
-        | inl alike ↦ inl (alike_then (place old m.target) (place before m.target) (place after m.target) alike (alike_ctime before m.moved now m.target))
-        | inr gone ↦ inr (record { none = still_none before m.moved m.target now gone.none; unnamed = gone.unnamed })
+        | inl alike ↦ inl (also m.target alike)
+        | inr gone ↦ inr (record {
+          none = still_none before m.moved m.target now gone.none;
+          unnamed = gone.unnamed;
+        })
       ];
     }

@@ -14,7 +14,8 @@ use Rattle.harp_cells.specs.declared.value.Value.{Value}
 use Rattle.harp_cells.specs.declared.change.Change.{Change}
 use Rattle.harp_cells.specs.declared.change.Change.TheVariants as change
 use Rattle.harp_cells.specs.Effect.{Cells, is_cell, is_block_from, changed, after}
-use Rattle.harp_cells.specs.CellsOfTree.{StandForSame, object_value, content_of, block_of, block_value, slot_value, cell_of_tree}
+use Rattle.harp_cells.specs.CellsOfTree.{StandForSame, object_value, content_of, block_of, block_value, slot_value}
+use Rattle.harp_cells.specs.CellsOfTree.{cell_of_tree}
 use Rattle.harp_cells.proofs.TreeLaws.{blocks_end}
 use Rattle.harp_cells.proofs.CellLemmas.{is_cell_true, is_cell_itself}
 use Rattle.update_changes.specs.Table.{no_updates, change_to, set_by}
@@ -130,12 +131,15 @@ first_other tree c d cells e same =
     let parts = or_parts (is_cell d c) (list_any (λ x. is_cell x c) cells) (spared_cells tree c (d ∷ cells) e) in
     both_ways _ parts.0 (subst (λ (x : Cell). is_cell d x ≡ true) same (is_cell_itself d d refl))
 
-pub rest_spared : (tree : Tree) (c d : Cell) (cells : List Cell) → Spares c (set_by tree (d ∷ cells)) → Spares c (set_by tree cells)
+pub rest_spared : (tree : Tree) (c d : Cell) (cells : List Cell) → Spares c (set_by tree (d ∷ cells)) → Spares c
+    (set_by tree cells)
 rest_spared tree c d cells e =
-    (or_parts (sets_cell c (change_to d (cell_of_tree tree 0 no_updates d))) (list_any (sets_cell c) (set_by tree cells)) e).1
+    let v = cell_of_tree tree 0 no_updates d in
+    (or_parts (sets_cell c (change_to d v)) (list_any (sets_cell c) (set_by tree cells)) e).1
 
 -- two cells, or one that both are
-pub pair_other : (tree : Tree) (c : Cell) (same : Bool) (one d e : Cell) → (same ≡ true → d ≡ one) → (same ≡ true → e ≡ one)
+pub pair_other : (tree : Tree) (c : Cell) (same : Bool) (one d e : Cell) → (same ≡ true → d ≡ one) → (same ≡ true
+    → e ≡ one)
     → Spares c (set_by tree (if same then one ∷ [] else d ∷ e ∷ [])) → (d ≡ c → ⊥) × (e ≡ c → ⊥)
 pair_other tree c true one d e first second spares =
     let other = first_other tree c one [] spares in

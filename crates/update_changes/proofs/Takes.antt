@@ -50,17 +50,19 @@ clears_slot m slots name f = record {
   names = λ k nm nt. omega (arith, cleared_names slots name (m.slot, m.moved) k f, one_other m.moved k nm);
 }
 
-pub taken : (tree : Tree) (dir : ℕ) (slots : Slots) (name : List ℕ) (x : ℕ × ℕ) (now : Time) → IsDirectoryOf tree dir slots
+pub taken : (tree : Tree) (dir : ℕ) (slots : Slots) (name : List ℕ) (x : ℕ × ℕ) (now : Time)
+    → IsDirectoryOf tree dir slots
     → IsFound slots name x → IsBare tree x.1 → MovesTo (taking dir x) tree (removed tree dir x now)
 taken tree dir slots name x now is f bare =
     let cleared = change tree dir (slot_changed now x.0 None) in
     let left = set slots x.0 None in
     let r : Reslots tree cleared dir slots left = reslots_changed tree dir is.object slots x.0 None now is.at is.body in
     let held = found_held tree dir is.object slots name x is.at is.body f in
+    let apart = bare_apart tree x.1 dir x.1 bare held in
     moves_lost (taking dir x) tree cleared now (record {
       keeps = keeps_reslots (taking dir x) tree cleared dir slots left r (clears_slot (taking dir x) slots name f);
       others = λ n nd nt. other_place tree cleared dir slots left r n nd;
-      bare = λ k. ap (names_at k) (other_place tree cleared dir slots left r x.1 (bare_apart tree x.1 dir x.1 bare held)) ∙ bare k;
+      bare = λ k. ap (names_at k) (other_place tree cleared dir slots left r x.1 apart) ∙ bare k;
     })
 
 -- ---- the changes
@@ -74,7 +76,8 @@ takes_cover old new dir x =
       others = λ c spares.
           let parts = spared_both c first (loses old new x.1) spares in
           let slot = first_other new c (cell.Slot dir x.0) (cell.Object dir ∷ []) parts.0 in
-          let object = first_other new c (cell.Object dir) [] (rest_spared new c (cell.Slot dir x.0) (cell.Object dir ∷ []) parts.0) in
+          let rest = rest_spared new c (cell.Slot dir x.0) (cell.Object dir ∷ []) parts.0 in
+          let object = first_other new c (cell.Object dir) [] rest in
           let lost = loss_sets old new x.1 c parts.1 in
           record { slot = slot; to_slot = slot; dir = object; to_dir = object; moved = lost; target = lost };
     }
@@ -115,29 +118,35 @@ taken_leads cells tree stamp dir slots name x now stand is e bare =
     (sym (entry_is tree dir slots name is ∙ e))
     (takes_lead cells tree new stamp dir x stand (taken tree dir slots name x now is (found slots name x e) bare))
 
+-- the changes of a call that takes an entry lead to a tree
+abbrev LeadsTo : Cells → Tree → ℕ → List ℕ → Reply × Tree → Type 0
+LeadsTo cells tree dir name r = AllStand (after (takes tree r.1 dir (entry_in tree dir name)) cells) r.1
+
 removes : (cells : Cells) (tree : Tree) (stamp dir : ℕ) (name : List ℕ) (now : Time) → StandForTree cells tree stamp
-    → Given (remove tree dir name now) (λ r. AllStand (after (takes tree r.1 dir (entry_in tree dir name)) cells) r.1)
+    → Given (remove tree dir name now) (LeadsTo cells tree dir name)
 unfolding remove
 removes cells tree stamp dir name now stand =
-    let P : Reply × Tree → Type 0 = λ r. AllStand (after (takes tree r.1 dir (entry_in tree dir name)) cells) r.1 in
+    let P = LeadsTo cells tree dir name in
     step (directory tree dir) _ P (λ slots d.
     step (doomed slots name) _ P (λ x f.
     unless IsDir _ _ P (λ file.
     done _ P
-    (taken_leads cells tree stamp dir slots name x now stand (directory_is tree dir slots d) (doomed_entry slots name x f)
+    (taken_leads cells tree stamp dir slots name x now stand (directory_is tree dir slots d)
+    (doomed_entry slots name x f)
     (file_is_bare tree x.1 file)))))
 
 removes_dir : (cells : Cells) (tree : Tree) (stamp dir : ℕ) (name : List ℕ) (now : Time) → StandForTree cells tree stamp
-    → Given (remove_dir tree dir name now) (λ r. AllStand (after (takes tree r.1 dir (entry_in tree dir name)) cells) r.1)
+    → Given (remove_dir tree dir name now) (LeadsTo cells tree dir name)
 unfolding remove_dir
 removes_dir cells tree stamp dir name now stand =
-    let P : Reply × Tree → Type 0 = λ r. AllStand (after (takes tree r.1 dir (entry_in tree dir name)) cells) r.1 in
+    let P = LeadsTo cells tree dir name in
     step (directory tree dir) _ P (λ slots d.
     step (doomed slots name) _ P (λ x f.
     unless NotDir (not (is_directory_at (place tree x.1))) _ P (λ kind.
     unless NotEmpty (not (has_no_entry (slots_of (place tree x.1)))) _ P (λ empty.
     done _ P
-    (taken_leads cells tree stamp dir slots name x now stand (directory_is tree dir slots d) (doomed_entry slots name x f)
+    (taken_leads cells tree stamp dir slots name x now stand (directory_is tree dir slots d)
+    (doomed_entry slots name x f)
     (empty_is_bare tree x.1 (not-false _ empty)))))))
 
 -- REMOVE
@@ -146,8 +155,7 @@ pub remove_leads : (t : TreeCells) (dir : ℕ) (name : List ℕ) (now : Time) (r
     → AllStand (after (tree_changes t.cells t.tree new (call.Remove dir name)) t.cells) new
 unfolding tree_changes
 remove_leads t dir name now reply new e =
-    given_at (remove t.tree dir name now)
-    (λ r. AllStand (after (takes t.tree r.1 dir (entry_in t.tree dir name)) t.cells) r.1) (reply, new)
+    given_at (remove t.tree dir name now) (LeadsTo t.cells t.tree dir name) (reply, new)
     (removes t.cells t.tree t.stamp dir name now t.stand) e
 
 -- RMDIR
@@ -156,6 +164,5 @@ pub remove_dir_leads : (t : TreeCells) (dir : ℕ) (name : List ℕ) (now : Time
     → AllStand (after (tree_changes t.cells t.tree new (call.RmDir dir name)) t.cells) new
 unfolding tree_changes
 remove_dir_leads t dir name now reply new e =
-    given_at (remove_dir t.tree dir name now)
-    (λ r. AllStand (after (takes t.tree r.1 dir (entry_in t.tree dir name)) t.cells) r.1) (reply, new)
+    given_at (remove_dir t.tree dir name now) (LeadsTo t.cells t.tree dir name) (reply, new)
     (removes_dir t.cells t.tree t.stamp dir name now t.stand) e
