@@ -15,7 +15,7 @@ use Rattle.text_fields.specs.Fields.{Reader, ◌>>=◌, space_at, spaced_at, wor
 use Rattle.schedule_text.specs.declared.form.Form.{Form}
 use Rattle.schedule_text.specs.declared.form.Form.TheVariants as form
 use Rattle.schedule_text.specs.declared.call_name.CallName.{CallName}
-use Rattle.schedule_text.specs.declared.call_name.CallName.TheVariants as name
+use Rattle.schedule_text.specs.declared.call_name.CallName.TheVariants as names
 
 -- nothing follows
 abbrev pub end_at : {A : Type 0} → A → List ℕ → ℕ → Result A TextFault
@@ -46,27 +46,27 @@ abbrev pub is_among : List (List ℕ) → List ℕ → Bool
 is_among names word = list_any (bytes_eq word) names
 
 abbrev pub name_text : CallName → List ℕ
-name_text name.Null = codes "null"
-name_text name.GetAttr = codes "getattr"
-name_text name.SetAttr = codes "setattr"
-name_text name.Lookup = codes "lookup"
-name_text name.ReadLink = codes "readlink"
-name_text name.Read = codes "read"
-name_text name.Write = codes "write"
-name_text name.Create = codes "create"
-name_text name.Remove = codes "remove"
-name_text name.Rename = codes "rename"
-name_text name.Link = codes "link"
-name_text name.SymLink = codes "symlink"
-name_text name.MkDir = codes "mkdir"
-name_text name.RmDir = codes "rmdir"
-name_text name.ReadDir = codes "readdir"
-name_text name.StatFs = codes "statfs"
+name_text names.Null = codes "null"
+name_text names.GetAttr = codes "getattr"
+name_text names.SetAttr = codes "setattr"
+name_text names.Lookup = codes "lookup"
+name_text names.ReadLink = codes "readlink"
+name_text names.Read = codes "read"
+name_text names.Write = codes "write"
+name_text names.Create = codes "create"
+name_text names.Remove = codes "remove"
+name_text names.Rename = codes "rename"
+name_text names.Link = codes "link"
+name_text names.SymLink = codes "symlink"
+name_text names.MkDir = codes "mkdir"
+name_text names.RmDir = codes "rmdir"
+name_text names.ReadDir = codes "readdir"
+name_text names.StatFs = codes "statfs"
 
 abbrev pub call_names : List CallName
 call_names =
-    name.Null ∷ name.GetAttr ∷ name.SetAttr ∷ name.Lookup ∷ name.ReadLink ∷ name.Read ∷ name.Write ∷ name.Create
-    ∷ name.Remove ∷ name.Rename ∷ name.Link ∷ name.SymLink ∷ name.MkDir ∷ name.RmDir ∷ name.ReadDir ∷ name.StatFs
+    names.Null ∷ names.GetAttr ∷ names.SetAttr ∷ names.Lookup ∷ names.ReadLink ∷ names.Read ∷ names.Write ∷ names.Create
+    ∷ names.Remove ∷ names.Rename ∷ names.Link ∷ names.SymLink ∷ names.MkDir ∷ names.RmDir ∷ names.ReadDir ∷ names.StatFs
     ∷ []
 
 -- the call of this name
@@ -106,27 +106,27 @@ made_at r made line at = do
 
 -- the fields of a call, in the order of its variant
 unfoldable pub fields_at : CallName → Reader Call
-fields_at name.Null line at = Ok (call.Null, at)
-fields_at name.GetAttr line at = made_at spaced_u32_at call.GetAttr line at
-fields_at name.SetAttr line at = made_at (both_at spaced_u32_at spaced_attr_at) (λ x. call.SetAttr x.0 x.1) line at
-fields_at name.Lookup line at = made_at entry_at (λ x. call.Lookup x.0 x.1) line at
-fields_at name.ReadLink line at = made_at spaced_u32_at call.ReadLink line at
-fields_at name.Read line at = made_at (both_at numbers_at spaced_u32_at) (λ x. call.Read x.0.0 x.0.1 x.1) line at
-fields_at name.Write line at = made_at (both_at numbers_at spaced_bytes_at) (λ x. call.Write x.0.0 x.0.1 x.1) line at
-fields_at name.Create line at = made_at (both_at entry_at spaced_attr_at) (λ x. call.Create x.0.0 x.0.1 x.1) line at
-fields_at name.Remove line at = made_at entry_at (λ x. call.Remove x.0 x.1) line at
-fields_at name.Rename line at =
+fields_at names.Null line at = Ok (call.Null, at)
+fields_at names.GetAttr line at = made_at spaced_u32_at call.GetAttr line at
+fields_at names.SetAttr line at = made_at (both_at spaced_u32_at spaced_attr_at) (λ x. call.SetAttr x.0 x.1) line at
+fields_at names.Lookup line at = made_at entry_at (λ x. call.Lookup x.0 x.1) line at
+fields_at names.ReadLink line at = made_at spaced_u32_at call.ReadLink line at
+fields_at names.Read line at = made_at (both_at numbers_at spaced_u32_at) (λ x. call.Read x.0.0 x.0.1 x.1) line at
+fields_at names.Write line at = made_at (both_at numbers_at spaced_bytes_at) (λ x. call.Write x.0.0 x.0.1 x.1) line at
+fields_at names.Create line at = made_at (both_at entry_at spaced_attr_at) (λ x. call.Create x.0.0 x.0.1 x.1) line at
+fields_at names.Remove line at = made_at entry_at (λ x. call.Remove x.0 x.1) line at
+fields_at names.Rename line at =
     made_at (both_at (both_at entry_at spaced_u32_at) spaced_name_at) (λ x. call.Rename x.0.0.0 x.0.0.1 x.0.1 x.1)
     line at
-fields_at name.Link line at = made_at (both_at numbers_at spaced_name_at) (λ x. call.Link x.0.0 x.0.1 x.1) line at
-fields_at name.SymLink line at =
+fields_at names.Link line at = made_at (both_at numbers_at spaced_name_at) (λ x. call.Link x.0.0 x.0.1 x.1) line at
+fields_at names.SymLink line at =
     made_at (both_at (both_at entry_at spaced_name_at) spaced_attr_at) (λ x. call.SymLink x.0.0.0 x.0.0.1 x.0.1 x.1)
     line at
-fields_at name.MkDir line at = made_at (both_at entry_at spaced_attr_at) (λ x. call.MkDir x.0.0 x.0.1 x.1) line at
-fields_at name.RmDir line at = made_at entry_at (λ x. call.RmDir x.0 x.1) line at
-fields_at name.ReadDir line at =
+fields_at names.MkDir line at = made_at (both_at entry_at spaced_attr_at) (λ x. call.MkDir x.0.0 x.0.1 x.1) line at
+fields_at names.RmDir line at = made_at entry_at (λ x. call.RmDir x.0 x.1) line at
+fields_at names.ReadDir line at =
     made_at (both_at numbers_at spaced_u32_at) (λ x. call.ReadDir x.0.0 x.0.1 x.1) line at
-fields_at name.StatFs line at = made_at spaced_u32_at call.StatFs line at
+fields_at names.StatFs line at = made_at spaced_u32_at call.StatFs line at
 
 -- the fields of a call behind its name, and the end; the name stands at a place
 abbrev pub call_of : List ℕ → ℕ → ℕ → Option CallName → Result Call TextFault

@@ -3,7 +3,7 @@
 ghost use Rattle.std.specs.Prelude.{◌≡◌, ◌+◌, ◌≤◌, length};
 ghost use Rattle.text_fields.specs.Fields.{Gives};
 ghost use Rattle.schedule_text.specs.Reading.{fields_at, call_of, call_at};
-ghost use Rattle.schedule_text.specs.declared.call_name.CallName.TheVariants as name;
+ghost use Rattle.schedule_text.specs.declared.call_name.CallName.TheVariants as names;
 
 use crate::call_name::{CallName, call_named};
 use crate::field::{
@@ -15,7 +15,7 @@ use text_fields::{TextFault, word_at};
 
 #[tactic(auto, unfolding(crate::specs::Reading::fields_at))]
 fn get_attr_at(line: &[u8], at: usize) -> Result<(Call, usize), TextFault>
-    ensures { Gives (λ x. x) result (fields_at name.GetAttr line.now at) }
+    ensures { Gives (λ x. x) result (fields_at names.GetAttr line.now at) }
 {
     let (handle, at) = spaced_u32_at(line, at)?;
     Ok((Call::GetAttr { handle }, at))
@@ -23,7 +23,7 @@ fn get_attr_at(line: &[u8], at: usize) -> Result<(Call, usize), TextFault>
 
 #[tactic(auto, unfolding(crate::specs::Reading::fields_at))]
 fn set_attr_at(line: &[u8], at: usize) -> Result<(Call, usize), TextFault>
-    ensures { Gives (λ x. x) result (fields_at name.SetAttr line.now at) }
+    ensures { Gives (λ x. x) result (fields_at names.SetAttr line.now at) }
 {
     let (handle, at) = spaced_u32_at(line, at)?;
     let (attr, at) = spaced_attr_at(line, at)?;
@@ -32,7 +32,7 @@ fn set_attr_at(line: &[u8], at: usize) -> Result<(Call, usize), TextFault>
 
 #[tactic(auto, unfolding(crate::specs::Reading::fields_at))]
 fn lookup_at(alloc: Global, line: &[u8], at: usize) -> Result<(Call, usize), TextFault>
-    ensures { Gives (λ x. x) result (fields_at name.Lookup line.now at) }
+    ensures { Gives (λ x. x) result (fields_at names.Lookup line.now at) }
 {
     let ((dir, name), at) = entry_at(alloc, line, at)?;
     Ok((Call::Lookup { dir, name }, at))
@@ -40,7 +40,7 @@ fn lookup_at(alloc: Global, line: &[u8], at: usize) -> Result<(Call, usize), Tex
 
 #[tactic(auto, unfolding(crate::specs::Reading::fields_at))]
 fn read_link_at(line: &[u8], at: usize) -> Result<(Call, usize), TextFault>
-    ensures { Gives (λ x. x) result (fields_at name.ReadLink line.now at) }
+    ensures { Gives (λ x. x) result (fields_at names.ReadLink line.now at) }
 {
     let (handle, at) = spaced_u32_at(line, at)?;
     Ok((Call::ReadLink { handle }, at))
@@ -48,7 +48,7 @@ fn read_link_at(line: &[u8], at: usize) -> Result<(Call, usize), TextFault>
 
 #[tactic(auto, unfolding(crate::specs::Reading::fields_at))]
 fn read_at(line: &[u8], at: usize) -> Result<(Call, usize), TextFault>
-    ensures { Gives (λ x. x) result (fields_at name.Read line.now at) }
+    ensures { Gives (λ x. x) result (fields_at names.Read line.now at) }
 {
     let ((handle, offset), at) = numbers_at(line, at)?;
     let (count, at) = spaced_u32_at(line, at)?;
@@ -62,7 +62,7 @@ fn read_at(line: &[u8], at: usize) -> Result<(Call, usize), TextFault>
 
 #[tactic(auto, unfolding(crate::specs::Reading::fields_at))]
 fn write_at(alloc: Global, line: &[u8], at: usize) -> Result<(Call, usize), TextFault>
-    ensures { Gives (λ x. x) result (fields_at name.Write line.now at) }
+    ensures { Gives (λ x. x) result (fields_at names.Write line.now at) }
 {
     let ((handle, offset), at) = numbers_at(line, at)?;
     let (bytes, at) = spaced_bytes_at(alloc, line, at)?;
@@ -76,7 +76,7 @@ fn write_at(alloc: Global, line: &[u8], at: usize) -> Result<(Call, usize), Text
 
 #[tactic(auto, unfolding(crate::specs::Reading::fields_at))]
 fn create_at(alloc: Global, line: &[u8], at: usize) -> Result<(Call, usize), TextFault>
-    ensures { Gives (λ x. x) result (fields_at name.Create line.now at) }
+    ensures { Gives (λ x. x) result (fields_at names.Create line.now at) }
 {
     let ((dir, name), at) = entry_at(alloc, line, at)?;
     let (attr, at) = spaced_attr_at(line, at)?;
@@ -85,7 +85,7 @@ fn create_at(alloc: Global, line: &[u8], at: usize) -> Result<(Call, usize), Tex
 
 #[tactic(auto, unfolding(crate::specs::Reading::fields_at))]
 fn remove_at(alloc: Global, line: &[u8], at: usize) -> Result<(Call, usize), TextFault>
-    ensures { Gives (λ x. x) result (fields_at name.Remove line.now at) }
+    ensures { Gives (λ x. x) result (fields_at names.Remove line.now at) }
 {
     let ((dir, name), at) = entry_at(alloc, line, at)?;
     Ok((Call::Remove { dir, name }, at))
@@ -93,7 +93,7 @@ fn remove_at(alloc: Global, line: &[u8], at: usize) -> Result<(Call, usize), Tex
 
 #[tactic(auto, unfolding(crate::specs::Reading::fields_at))]
 fn rename_at(alloc: Global, line: &[u8], at: usize) -> Result<(Call, usize), TextFault>
-    ensures { Gives (λ x. x) result (fields_at name.Rename line.now at) }
+    ensures { Gives (λ x. x) result (fields_at names.Rename line.now at) }
 {
     let ((dir, name), at) = entry_at(alloc, line, at)?;
     let (to_dir, at) = spaced_u32_at(line, at)?;
@@ -109,7 +109,7 @@ fn rename_at(alloc: Global, line: &[u8], at: usize) -> Result<(Call, usize), Tex
 
 #[tactic(auto, unfolding(crate::specs::Reading::fields_at))]
 fn link_at(alloc: Global, line: &[u8], at: usize) -> Result<(Call, usize), TextFault>
-    ensures { Gives (λ x. x) result (fields_at name.Link line.now at) }
+    ensures { Gives (λ x. x) result (fields_at names.Link line.now at) }
 {
     let ((handle, dir), at) = numbers_at(line, at)?;
     let (name, at) = spaced_name_at(alloc, line, at)?;
@@ -118,7 +118,7 @@ fn link_at(alloc: Global, line: &[u8], at: usize) -> Result<(Call, usize), TextF
 
 #[tactic(auto, unfolding(crate::specs::Reading::fields_at))]
 fn symlink_at(alloc: Global, line: &[u8], at: usize) -> Result<(Call, usize), TextFault>
-    ensures { Gives (λ x. x) result (fields_at name.SymLink line.now at) }
+    ensures { Gives (λ x. x) result (fields_at names.SymLink line.now at) }
 {
     let ((dir, name), at) = entry_at(alloc, line, at)?;
     let (text, at) = spaced_name_at(alloc, line, at)?;
@@ -134,7 +134,7 @@ fn symlink_at(alloc: Global, line: &[u8], at: usize) -> Result<(Call, usize), Te
 
 #[tactic(auto, unfolding(crate::specs::Reading::fields_at))]
 fn make_dir_at(alloc: Global, line: &[u8], at: usize) -> Result<(Call, usize), TextFault>
-    ensures { Gives (λ x. x) result (fields_at name.MkDir line.now at) }
+    ensures { Gives (λ x. x) result (fields_at names.MkDir line.now at) }
 {
     let ((dir, name), at) = entry_at(alloc, line, at)?;
     let (attr, at) = spaced_attr_at(line, at)?;
@@ -143,7 +143,7 @@ fn make_dir_at(alloc: Global, line: &[u8], at: usize) -> Result<(Call, usize), T
 
 #[tactic(auto, unfolding(crate::specs::Reading::fields_at))]
 fn remove_dir_at(alloc: Global, line: &[u8], at: usize) -> Result<(Call, usize), TextFault>
-    ensures { Gives (λ x. x) result (fields_at name.RmDir line.now at) }
+    ensures { Gives (λ x. x) result (fields_at names.RmDir line.now at) }
 {
     let ((dir, name), at) = entry_at(alloc, line, at)?;
     Ok((Call::RmDir { dir, name }, at))
@@ -151,7 +151,7 @@ fn remove_dir_at(alloc: Global, line: &[u8], at: usize) -> Result<(Call, usize),
 
 #[tactic(auto, unfolding(crate::specs::Reading::fields_at))]
 fn read_dir_at(line: &[u8], at: usize) -> Result<(Call, usize), TextFault>
-    ensures { Gives (λ x. x) result (fields_at name.ReadDir line.now at) }
+    ensures { Gives (λ x. x) result (fields_at names.ReadDir line.now at) }
 {
     let ((dir, cookie), at) = numbers_at(line, at)?;
     let (count, at) = spaced_u32_at(line, at)?;
@@ -160,7 +160,7 @@ fn read_dir_at(line: &[u8], at: usize) -> Result<(Call, usize), TextFault>
 
 #[tactic(auto, unfolding(crate::specs::Reading::fields_at))]
 fn stat_fs_at(line: &[u8], at: usize) -> Result<(Call, usize), TextFault>
-    ensures { Gives (λ x. x) result (fields_at name.StatFs line.now at) }
+    ensures { Gives (λ x. x) result (fields_at names.StatFs line.now at) }
 {
     let (handle, at) = spaced_u32_at(line, at)?;
     Ok((Call::StatFs { handle }, at))
