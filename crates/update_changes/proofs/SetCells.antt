@@ -1,23 +1,22 @@
 -- What the cells hold after changes that set some of them by a tree.
-use Rattle.std.proofs.Common.{◌≡◌, ℕ, ◌==◌, ◌&&◌, ◌||◌, Bool, true, false, List, [], ◌∷◌, ◌++◌, length, map, Option, Some, None, refl, sym, ap, ◌∙◌, subst, inl, inr}
+use Rattle.std.proofs.Common.{◌≡◌, ℕ, ◌||◌, Bool, true, false, List, [], ◌∷◌, ◌++◌, length, Option, Some, None, refl, ap, ◌∙◌, inl, inr}
 use Rattle.std.specs.Bool.{if◌then◌else◌}
 use Rattle.std.specs.Prelude.{fold}
 use Rattle.std.specs.List.{list_any}
-use Rattle.std.proofs.lemmas.Bool.{cases_Bool, eq-eqb}
-use Rattle.file_tree.specs.Tree.{Tree, place, used_blocks}
+use Rattle.std.proofs.lemmas.Bool.{cases_Bool}
+use Rattle.file_tree.specs.Tree.{Tree, used_blocks}
 use Rattle.harp_cells.specs.declared.cell.Cell.{Cell}
 use Rattle.harp_cells.specs.declared.cell.Cell.TheVariants as cell
 use Rattle.harp_cells.specs.declared.value.Value.{Value}
 use Rattle.harp_cells.specs.declared.value.Value.TheVariants as value
 use Rattle.harp_cells.specs.declared.change.Change.{Change}
-use Rattle.harp_cells.specs.declared.change.Change.TheVariants as change
 use Rattle.harp_cells.specs.Effect.{Cells, after, changed, is_cell}
 use Rattle.harp_cells.specs.CellsOfTree.{StandForTree, cell_of_tree}
 use Rattle.harp_cells.proofs.CellLemmas.{is_cell_true}
 use Rattle.harp_cells.proofs.TreeLaws.{changes_append}
 use Rattle.update_changes.specs.Stands.{AllStand, StandsAt, is_cell_of}
 use Rattle.update_changes.specs.Table.{no_updates, change_to, set_by, meta_put}
-use Rattle.update_changes.proofs.Frame.{stands_by, each_stands, all_stand}
+use Rattle.update_changes.proofs.Frame.{stands_by, all_stand}
 
 -- a cell is among these
 abbrev pub is_among : List Cell → Cell → Bool
@@ -27,7 +26,8 @@ is_among cells c = list_any (λ d. is_cell d c) cells
 abbrev pub value_by : Tree → Cell → Option Value
 value_by tree c = cell_of_tree tree 0 no_updates c
 
-change_gives : (d c : Cell) (v held : Option Value) → changed c held (change_to d v) ≡ (if is_cell d c then v else held)
+change_gives : (d c : Cell) (v held : Option Value)
+    → changed c held (change_to d v) ≡ (if is_cell d c then v else held)
 change_gives d c None held = refl
 change_gives d c (Some v) held = refl
 
@@ -57,13 +57,15 @@ all_set tree (d ∷ cells) c held =
 pub set_gives : (tree : Tree) (set : List Cell) (cells : Cells) (c : Cell) → is_among set c ≡ true
     → after (set_by tree set) cells c ≡ value_by tree c
 set_gives tree set cells c is =
-    all_set tree set c (cells c) ∙ ap (λ (t : Bool). if◌then◌else◌ {A = Option Value} t (value_by tree c) (cells c)) is
+    all_set tree set c (cells c)
+    ∙ ap (λ (t : Bool). if◌then◌else◌ {A = Option Value} t (value_by tree c) (cells c)) is
 
 -- and every other is as before
 pub set_leaves : (tree : Tree) (set : List Cell) (cells : Cells) (c : Cell) → is_among set c ≡ false
     → after (set_by tree set) cells c ≡ cells c
 set_leaves tree set cells c other =
-    all_set tree set c (cells c) ∙ ap (λ (t : Bool). if◌then◌else◌ {A = Option Value} t (value_by tree c) (cells c)) other
+    all_set tree set c (cells c)
+    ∙ ap (λ (t : Bool). if◌then◌else◌ {A = Option Value} t (value_by tree c) (cells c)) other
 
 -- what stands after changes made one after the other stands after both in a row
 pub in_a_row : (changes more : List Change) (cells : Cells) (tree : Tree) (number : ℕ)
@@ -89,7 +91,8 @@ unfolding is_cell
 totals_put totals tree stamp = refl
 
 -- cells that stand at each number stand for the tree once its totals are put
-pub with_totals : (changes : List Change) (cells : Cells) (tree : Tree) (stamp : ℕ) → AllStand (after changes cells) tree
+pub with_totals : (changes : List Change) (cells : Cells) (tree : Tree) (stamp : ℕ)
+    → AllStand (after changes cells) tree
     → StandForTree (after (changes ++ meta_put tree stamp ∷ []) cells) tree stamp
 with_totals changes cells tree stamp each =
     all_stand (after (changes ++ meta_put tree stamp ∷ []) cells) tree stamp
@@ -98,4 +101,5 @@ with_totals changes cells tree stamp each =
     (λ c of. ap (λ (t : Bool). if◌then◌else◌ {A = Option Value} t
     (Some (value.Meta (length tree) (used_blocks tree) stamp)) (after changes cells c)) (no_totals number c of))
     (each number)))
-    (changes_append changes (meta_put tree stamp ∷ []) cells cell.Meta ∙ totals_put (after changes cells cell.Meta) tree stamp)
+    (changes_append changes (meta_put tree stamp ∷ []) cells cell.Meta
+    ∙ totals_put (after changes cells cell.Meta) tree stamp)
