@@ -7,7 +7,6 @@ use Rattle.harp_base.specs.declared.attr.Time.{Time}
 use Rattle.harp_base.specs.declared.call.Call.TheVariants as call
 use Rattle.harp_base.specs.declared.reply.Reply.{Reply}
 use Rattle.harp_base.specs.declared.reply.Status.TheVariants.{Perm, NoEnt, NotDir, IsDir, NotEmpty}
-use Rattle.file_tree.specs.declared.object.Object.{Object}
 use Rattle.file_tree.specs.Tree.{Tree, Slots, place, slots_of, slots_within, names_at, entry, is_directory_at}
 use Rattle.file_tree.specs.Steps.{directory, is_dots, check_name, some_or}
 use Rattle.file_tree.specs.Outcome.{change, slot_changed, removed, find, doomed, remove, remove_dir, has_no_entry}
