@@ -1,11 +1,9 @@
-//! The worked rows of the calls of NFS version 2, compared whole.
+//! Whole runs that ask the calls of NFS version 2.
 
-use crate::row::{Row, repeated, result_of};
-use harp_base::Bytes;
-use std::alloc::Global;
+use crate::row::{Row, result_of};
 use std::test::Fail;
 
-const ROWS: [Row; 4] = [
+const ROWS: [Row; 5] = [
     // Pages of a directory: the greatest one that fits, one that fits no entry, and pages behind a cookie.
     Row {
         schedule: b"ask 0 7 1 mkdir 1 61 755
@@ -237,6 +235,105 @@ end 7
 ",
         status: 0,
     },
+    // A link made, read, given a second name, renamed and removed under its first; a directory made and removed.
+    Row {
+        schedule: b"ask 0 7 1 symlink 1 73 7372632f62 -
+pump
+ask 0 7 2 readlink 2
+ask 0 7 3 getattr 2
+ask 0 7 4 link 2 1 74
+pump
+ask 0 7 5 getattr 2
+ask 0 7 6 rename 1 74 1 75
+pump
+ask 0 7 7 remove 1 73
+pump
+ask 0 7 8 mkdir 1 64 755
+pump
+ask 0 7 9 rmdir 1 64
+pump
+ask 0 7 10 null
+ask 0 7 11 readdir 1 2 8192
+",
+        trace: b"> ask 0 7 1 symlink 1 73 7372632f62 -
+send 0 0 1 event 1.0 1 0 0 7 1
+state 0 open 1.0 1.0 leads 1 held 0 0 0 0 1
+> deliver 0
+send 1 1 0 ack 1.0 1 0 2000
+state 1 live 1.0 1.0 follows 0 held 0 0 0 0 1
+> deliver 1
+entered 1 1 7 1 0 symlink 1 73 7372632f62 - = done
+answered 0 7 1 1 done
+state 0 open 1.0 1.0 leads 1 held 0 0 0 1 1
+> ask 0 7 2 readlink 2
+entered 2 0 7 2 0 readlink 2 = path 7372632f62
+answered 0 7 2 1 path 7372632f62
+> ask 0 7 3 getattr 2
+entered 3 0 7 3 0 getattr 2 = attr 5,0,1,0,0,5,1,2,0:0,0:0,0:0
+answered 0 7 3 1 attr 5,0,1,0,0,5,1,2,0:0,0:0,0:0
+> ask 0 7 4 link 2 1 74
+send 2 0 1 event 1.0 2 1 0 7 4
+state 0 open 1.0 1.0 leads 1 held 0 0 0 1 2
+> deliver 2
+send 3 1 0 ack 1.0 2 0 2000
+state 1 live 1.0 1.0 follows 0 held 0 0 0 1 2
+> deliver 3
+entered 4 2 7 4 0 link 2 1 74 = done
+answered 0 7 4 2 done
+state 0 open 1.0 1.0 leads 1 held 0 0 0 2 2
+> ask 0 7 5 getattr 2
+entered 5 0 7 5 0 getattr 2 = attr 5,0,2,0,0,5,1,2,0:0,0:0,0:0
+answered 0 7 5 2 attr 5,0,2,0,0,5,1,2,0:0,0:0,0:0
+> ask 0 7 6 rename 1 74 1 75
+send 4 0 1 event 1.0 3 2 0 7 6
+state 0 open 1.0 1.0 leads 1 held 0 0 0 2 3
+> deliver 4
+send 5 1 0 ack 1.0 3 0 2000
+state 1 live 1.0 1.0 follows 0 held 0 0 0 2 3
+> deliver 5
+entered 6 3 7 6 0 rename 1 74 1 75 = done
+answered 0 7 6 3 done
+state 0 open 1.0 1.0 leads 1 held 0 0 0 3 3
+> ask 0 7 7 remove 1 73
+send 6 0 1 event 1.0 4 3 0 7 7
+state 0 open 1.0 1.0 leads 1 held 0 0 0 3 4
+> deliver 6
+send 7 1 0 ack 1.0 4 0 2000
+state 1 live 1.0 1.0 follows 0 held 0 0 0 3 4
+> deliver 7
+entered 7 4 7 7 0 remove 1 73 = done
+answered 0 7 7 4 done
+state 0 open 1.0 1.0 leads 1 held 0 0 0 4 4
+> ask 0 7 8 mkdir 1 64 755
+send 8 0 1 event 1.0 5 4 0 7 8
+state 0 open 1.0 1.0 leads 1 held 0 0 0 4 5
+> deliver 8
+send 9 1 0 ack 1.0 5 0 2000
+state 1 live 1.0 1.0 follows 0 held 0 0 0 4 5
+> deliver 9
+entered 8 5 7 8 0 mkdir 1 64 755 = node 3 2,755,2,0,0,0,0,3,0:0,0:0,0:0
+answered 0 7 8 5 node 3 2,755,2,0,0,0,0,3,0:0,0:0,0:0
+state 0 open 1.0 1.0 leads 1 held 0 0 0 5 5
+> ask 0 7 9 rmdir 1 64
+send 10 0 1 event 1.0 6 5 0 7 9
+state 0 open 1.0 1.0 leads 1 held 0 0 0 5 6
+> deliver 10
+send 11 1 0 ack 1.0 6 0 2000
+state 1 live 1.0 1.0 follows 0 held 0 0 0 5 6
+> deliver 11
+entered 9 6 7 9 0 rmdir 1 64 = done
+answered 0 7 9 6 done
+state 0 open 1.0 1.0 leads 1 held 0 0 0 6 6
+> ask 0 7 10 null
+entered 10 0 7 10 0 null = done
+answered 0 7 10 6 done
+> ask 0 7 11 readdir 1 2 8192
+entered 11 0 7 11 0 readdir 1 2 8192 = dir 2:75:4 eof
+answered 0 7 11 6 dir 2:75:4 eof
+end 11
+",
+        status: 0,
+    },
 ];
 
 #[test]
@@ -246,167 +343,5 @@ fn plays_calls(rt: HostRuntime) -> Result<(), Fail> {
         assert_eq!(rt; sink.written(), row.trace);
         assert_eq!(rt; status, row.status);
     }
-    Ok(())
-}
-
-/// These bytes, so many times.
-struct Piece {
-    bytes: &'static [u8],
-    times: u32,
-}
-
-/// The pieces one after the other.
-fn joined(alloc: Global, pieces: &[Piece]) -> Result<Bytes, Fail> {
-    let mut all = Bytes::new(alloc);
-    for piece in pieces {
-        let part = repeated(alloc, piece.bytes, piece.times)?;
-        all.extend(part.as_slice())?;
-    }
-    Ok(all)
-}
-
-// A write that ends past the room, one that ends past the greatest size, one byte behind a gap, and what is read then.
-const ENDS_SCHEDULE: [Piece; 5] = [
-    Piece {
-        bytes: b"ask 0 7 1 create 1 66 644
-pump
-ask 0 7 2 write 2 2147475455 ",
-        times: 1,
-    },
-    Piece {
-        bytes: b"61",
-        times: 8192,
-    },
-    Piece {
-        bytes: b"
-pump
-ask 0 7 3 write 2 2147475456 ",
-        times: 1,
-    },
-    Piece {
-        bytes: b"61",
-        times: 8192,
-    },
-    Piece {
-        bytes: b"
-pump
-ask 0 7 4 write 2 4095 41
-pump
-ask 0 7 5 read 2 0 8192
-ask 0 7 6 statfs 1
-",
-        times: 1,
-    },
-];
-
-const ENDS_TRACE: [Piece; 13] = [
-    Piece {
-        bytes: b"> ask 0 7 1 create 1 66 644
-send 0 0 1 event 1.0 1 0 0 7 1
-state 0 open 1.0 1.0 leads 1 held 0 0 0 0 1
-> deliver 0
-send 1 1 0 ack 1.0 1 0 2000
-state 1 live 1.0 1.0 follows 0 held 0 0 0 0 1
-> deliver 1
-entered 1 1 7 1 0 create 1 66 644 = node 2 1,644,1,0,0,0,0,2,0:0,0:0,0:0
-answered 0 7 1 1 node 2 1,644,1,0,0,0,0,2,0:0,0:0,0:0
-state 0 open 1.0 1.0 leads 1 held 0 0 0 1 1
-> ask 0 7 2 write 2 2147475455 ",
-        times: 1,
-    },
-    Piece {
-        bytes: b"61",
-        times: 8192,
-    },
-    Piece {
-        bytes: b"
-send 2 0 1 event 1.0 2 1 0 7 2
-state 0 open 1.0 1.0 leads 1 held 0 0 0 1 2
-> deliver 2
-send 3 1 0 ack 1.0 2 0 2000
-state 1 live 1.0 1.0 follows 0 held 0 0 0 1 2
-> deliver 3
-entered 2 2 7 2 0 write 2 2147475455 ",
-        times: 1,
-    },
-    Piece {
-        bytes: b"61",
-        times: 8192,
-    },
-    Piece {
-        bytes: b" = no 28
-answered 0 7 2 2 no 28
-state 0 open 1.0 1.0 leads 1 held 0 0 0 2 2
-> ask 0 7 3 write 2 2147475456 ",
-        times: 1,
-    },
-    Piece {
-        bytes: b"61",
-        times: 8192,
-    },
-    Piece {
-        bytes: b"
-send 4 0 1 event 1.0 3 2 0 7 3
-state 0 open 1.0 1.0 leads 1 held 0 0 0 2 3
-> deliver 4
-send 5 1 0 ack 1.0 3 0 2000
-state 1 live 1.0 1.0 follows 0 held 0 0 0 2 3
-> deliver 5
-entered 3 3 7 3 0 write 2 2147475456 ",
-        times: 1,
-    },
-    Piece {
-        bytes: b"61",
-        times: 8192,
-    },
-    Piece {
-        bytes: b" = no 27
-answered 0 7 3 3 no 27
-state 0 open 1.0 1.0 leads 1 held 0 0 0 3 3
-> ask 0 7 4 write 2 4095 41
-send 6 0 1 event 1.0 4 3 0 7 4
-state 0 open 1.0 1.0 leads 1 held 0 0 0 3 4
-> deliver 6
-send 7 1 0 ack 1.0 4 0 2000
-state 1 live 1.0 1.0 follows 0 held 0 0 0 3 4
-> deliver 7
-entered 4 4 7 4 0 write 2 4095 41 = attr 1,644,1,0,0,4096,1,2,0:0,0:0,0:0
-answered 0 7 4 4 attr 1,644,1,0,0,4096,1,2,0:0,0:0,0:0
-state 0 open 1.0 1.0 leads 1 held 0 0 0 4 4
-> ask 0 7 5 read 2 0 8192
-entered 5 0 7 5 0 read 2 0 8192 = data 1,644,1,0,0,4096,1,2,0:0,0:0,0:0 ",
-        times: 1,
-    },
-    Piece {
-        bytes: b"00",
-        times: 4095,
-    },
-    Piece {
-        bytes: b"41
-answered 0 7 5 4 data 1,644,1,0,0,4096,1,2,0:0,0:0,0:0 ",
-        times: 1,
-    },
-    Piece {
-        bytes: b"00",
-        times: 4095,
-    },
-    Piece {
-        bytes: b"41
-> ask 0 7 6 statfs 1
-entered 6 0 7 6 0 statfs 1 = fs 8192 4096 65536 65534 65534
-answered 0 7 6 4 fs 8192 4096 65536 65534 65534
-end 6
-",
-        times: 1,
-    },
-];
-
-#[test]
-fn plays_ends_of_a_file(rt: HostRuntime) -> Result<(), Fail> {
-    let schedule = joined(rt.alloc(), &ENDS_SCHEDULE)?;
-    let trace = joined(rt.alloc(), &ENDS_TRACE)?;
-    let (status, sink) = result_of(&rt, "play", schedule.as_slice(), &[], &[])?;
-    assert_eq!(rt; status, 0);
-    assert!(rt; sink.written() == trace.as_slice());
     Ok(())
 }

@@ -45,6 +45,7 @@ unbuilt_steps =
 abbrev pub is_among : List (List ℕ) → List ℕ → Bool
 is_among names word = list_any (bytes_eq word) names
 
+-- the name of a call as it is spelled
 abbrev pub name_text : CallName → List ℕ
 name_text names.Null = codes "null"
 name_text names.GetAttr = codes "getattr"
@@ -128,7 +129,7 @@ fields_at names.ReadDir line at =
     made_at (both_at numbers_at spaced_u32_at) (λ x. call.ReadDir x.0.0 x.0.1 x.1) line at
 fields_at names.StatFs line at = made_at spaced_u32_at call.StatFs line at
 
--- the fields of a call behind its name, and the end; the name stands at a place
+-- what stands from a place on: a call's name up to the next place, its fields, and the end
 abbrev pub call_of : List ℕ → ℕ → ℕ → Option CallName → Result Call TextFault
 call_of line at next None = Err (Grammar at)
 call_of line at next (Some name) = whole_at (fields_at name) (λ c. c) line next
