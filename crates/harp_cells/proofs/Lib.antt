@@ -1,2 +1,3 @@
 mod CellLemmas
+mod KeyOrder
 mod TreeLaws
