@@ -1,3 +1,3 @@
-mod CellLemmas
+pub mod CellLemmas
 mod KeyOrder
 mod TreeLaws
