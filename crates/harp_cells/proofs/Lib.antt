@@ -1,3 +1,3 @@
 pub mod CellLemmas
 mod KeyOrder
-mod TreeLaws
+pub mod TreeLaws
