@@ -7,8 +7,10 @@ mod file;
 mod inode;
 mod names;
 mod plan;
+mod preparing;
 mod reads;
 mod refusal;
 mod totals;
 
 pub use answering::answer;
+pub use preparing::{Prepared, prepare};
