@@ -1,1 +1,2 @@
-pub mod Inodes
+mod Inodes
+pub mod Entered

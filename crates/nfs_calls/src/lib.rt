@@ -3,12 +3,15 @@
 
 mod answering;
 mod directory;
+mod entering;
 mod file;
 mod inode;
 mod names;
 mod plan;
+mod pushes;
 mod reads;
 mod refusal;
+mod space;
 mod totals;
 
 pub use answering::answer;
