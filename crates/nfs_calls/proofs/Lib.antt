@@ -1,2 +1,3 @@
 mod Inodes
 pub mod Entered
+pub mod Makes

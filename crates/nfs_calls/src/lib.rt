@@ -6,11 +6,13 @@ mod directory;
 mod entering;
 mod file;
 mod inode;
+mod making;
 mod names;
 mod plan;
 mod pushes;
 mod reads;
 mod refusal;
+mod setting;
 mod space;
 mod totals;
 
