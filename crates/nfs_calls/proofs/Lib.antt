@@ -1,3 +1,5 @@
 mod Inodes
 pub mod Entered
 pub mod Makes
+pub mod Changed
+pub mod FilePlans

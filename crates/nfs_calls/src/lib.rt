@@ -2,6 +2,7 @@
 #![tactic(auto)]
 
 mod answering;
+mod creating;
 mod directory;
 mod entering;
 mod file;

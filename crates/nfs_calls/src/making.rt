@@ -186,3 +186,48 @@ pub fn make_dir<R: CellRead>(
         },
     })
 }
+
+/// SYMLINK (RFC 1094, section 2.2.14).
+#[tactic(auto, unfolding(file_tree::specs::Outcome::make_link))]
+pub fn make_link<R: CellRead>(
+    alloc: Global,
+    cells: &mut R,
+    totals: Totals,
+    dir: u32,
+    name: &[u8],
+    text: &[u8],
+    attr: &SetAttr,
+    now: Time,
+) -> Result<Plan, Refusal>
+    ensures plan { (t : TreeCells) → R.cells cells.old ≡ Some t.cells → totals ≡ totals_of t.tree
+        → Gives plan_view result (planned t.cells t.tree (call.SymLink dir name.now text.now attr.now)
+        (make_link t.tree dir name.now text.now attr.now now)) }
+    ensures short { IfOk result (λ p. AreShort 13 p.changes.items) }
+    ensures kept { R.cells cells.new ≡ R.cells cells.old }
+    ensures rose { result ≡ Err (Refusal.Fault CellFault.StoreFailed) → Rose (R.faults cells.old) (R.faults cells.new) }
+    ensures count { R.faults cells.old ≤ R.faults cells.new }
+{
+    let inode = directory(cells, dir)?;
+    entry_name(name)?;
+    refuse(Status::NameTooLong, text.len() > 1024)?;
+    let taken = has_entry(cells, dir, &inode, name)?;
+    refuse(Status::Exist, taken)?;
+    let size = text.len() as u32;
+    let room = room_for(cells, totals, dir, &inode, size)?;
+    let made = made(attr, Kind::Link, 1, 0, size, now);
+    let entering = Entering {
+        dir,
+        inode: entered(&inode, room.slots, 0, now),
+        slot: room.slot,
+        name: name_of(alloc, name)?,
+    };
+    let changes = make(alloc, entering, totals.next, &made, text)?;
+    Ok(Plan {
+        reply: Reply::Done,
+        changes,
+        totals: Totals {
+            next: totals.next + 1,
+            used: room.used,
+        },
+    })
+}
