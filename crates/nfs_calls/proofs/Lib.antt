@@ -3,3 +3,4 @@ pub mod Entered
 pub mod Makes
 pub mod Changed
 pub mod FilePlans
+pub mod NewPlans

@@ -326,7 +326,7 @@ pub attr_placed : (tree : Tree) (number : ℕ) (o : Object) → place tree numbe
 unfolding attr_at
 attr_placed tree number o at = rw at refl
 
-mode_fits : (new : ℕ) → given_mode new 0 < 4096
+pub mode_fits : (new : ℕ) → given_mode new 0 < 4096
 mode_fits new = cond_both (new == LEAVE) 0 (new % 4096) (λ (x : ℕ). x < 4096) (λ e. omega arith) (λ e. omega arith)
 
 -- what the steps of a new entry told
@@ -359,7 +359,7 @@ pub record IsComputed (dir : ℕ) (i : Inode) (name : List ℕ) (text : List ℕ
   pub are : changes ≡ makes_by dir room.slot stored with totals.next made text
 
 -- the changes of what was computed
-computed_changes : (tree : Tree) (dir : ℕ) (i : Inode) (name text : List ℕ) (room : Room) (more : ℕ) (wanted : Inode) (now : Time) (totals : Totals) (made : Inode) (changes : List Change)
+pub computed_changes : (tree : Tree) (dir : ℕ) (i : Inode) (name text : List ℕ) (room : Room) (more : ℕ) (wanted : Inode) (now : Time) (totals : Totals) (made : Inode) (changes : List Change)
     → totals ≡ totals_of tree → IsComputed dir i name text room more wanted now totals made changes
     → changes ≡ makes_by dir room.slot name (entered i room.slots more now) (length tree) wanted text
 computed_changes tree dir i name text room more wanted now totals made changes are c =

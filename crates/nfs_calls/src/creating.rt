@@ -3,10 +3,10 @@
 ghost use Rattle.std.specs.Prelude.{◌≡◌, ◌≤◌, ℕ, Some, None, Ok, Err, IfOk};
 ghost use Rattle.harp_base.specs.Streams.{Rose};
 ghost use Rattle.harp_base.specs.declared.call.Call.TheVariants as call;
-ghost use Rattle.harp_base.specs.declared.attr.Kind.TheVariants as kinds;
-ghost use Rattle.file_tree.specs.Tree.{place, slots_of, entry};
+ghost use Rattle.file_tree.specs.declared.object.Body.{Body};
+ghost use Rattle.file_tree.specs.Tree.{place, slots_of, entry, kind_of};
 ghost use Rattle.file_tree.specs.Steps.{entry_name};
-ghost use Rattle.file_tree.specs.Outcome.{create, create_again, create_new, is_regular_at};
+ghost use Rattle.file_tree.specs.Outcome.{create, create_again, create_new, is_regular, is_regular_at};
 ghost use Rattle.harp_cells.specs.Effect.{Cells};
 ghost use Rattle.update_changes.specs.Short.{AreShort};
 ghost use Rattle.update_changes.specs.TreeCells.{TreeCells};
@@ -27,8 +27,18 @@ use harp_base::{Kind, Reply, SetAttr, Status, Time};
 use harp_cells::{CellFault, CellRead, Inode};
 use std::alloc::Global;
 
+fn is_regular(kind: Kind) -> bool
+    ensures { (body : Body) → kind_of body ≡ kind → result ≡ is_regular body }
+{
+    match kind {
+        Kind::Regular => true,
+        Kind::Directory => false,
+        Kind::Link => false,
+    }
+}
+
 /// Whether a number names a regular file.
-fn is_regular<R: CellRead>(cells: &mut R, number: u32) -> Result<bool, CellFault>
+fn is_regular_at<R: CellRead>(cells: &mut R, number: u32) -> Result<bool, CellFault>
     ensures regular { (t : TreeCells) → R.cells cells.old ≡ Some t.cells
         → IfOk result (λ is. is ≡ is_regular_at (place t.tree number)) }
     ensures kept { R.cells cells.new ≡ R.cells cells.old }
@@ -36,7 +46,7 @@ fn is_regular<R: CellRead>(cells: &mut R, number: u32) -> Result<bool, CellFault
     ensures count { R.faults cells.old ≤ R.faults cells.new }
 {
     match inode_at(cells, number)? {
-        Some(inode) => Ok(inode.kind == Kind::Regular),
+        Some(inode) => Ok(is_regular(inode.kind)),
         None => Ok(false),
     }
 }
@@ -59,7 +69,7 @@ fn create_again<R: CellRead>(
     ensures rose { result ≡ Err (Refusal.Fault CellFault.StoreFailed) → Rose (R.faults cells.old) (R.faults cells.new) }
     ensures count { R.faults cells.old ≤ R.faults cells.new }
 {
-    let regular = is_regular(cells, number)?;
+    let regular = is_regular_at(cells, number)?;
     refuse(Status::Exist, !regular)?;
     let set = set_fields(alloc, cells, totals, number, attr, now)?;
     Ok(Plan {
