@@ -1,16 +1,14 @@
 -- What a change of one object leaves that keeps its kind and its slots.
-use Rattle.std.proofs.Common.{◌≡◌, ℕ, ◌+◌, ◌-◌, ◌≤◌, Bool, true, false, List, [], ◌∷◌, length, set, Option, Some, None, Ok, refl, sym, ap, ◌∙◌, arith}
-use Rattle.harp_base.specs.declared.attr.Kind.{Kind}
+use Rattle.std.proofs.Common.{◌≡◌, ℕ, [], ◌∷◌, length, set, Some, Ok, refl, sym, ap, ◌∙◌, arith}
 use Rattle.file_tree.specs.declared.object.Body.{Body}
 use Rattle.file_tree.specs.declared.object.Body.TheVariants as body
 use Rattle.file_tree.specs.declared.object.Object.{Object}
-use Rattle.file_tree.specs.Tree.{Tree, Slots, place, slots_within, names_in, names_at, names_of, is_directory, is_directory_at, links_of, parent_of, kind_of, size_of, blocks_of, used_blocks}
+use Rattle.file_tree.specs.Tree.{Tree, Slots, place, slots_within, names_in, names_of, is_directory, links_of, kind_of, size_of, blocks_of, used_blocks}
 use Rattle.file_tree.specs.Outcome.{change}
 use Rattle.file_tree.proofs.Kept.{place_changed, used_change, length-change}
 use Rattle.file_tree.proofs.Reslots.{change_is}
 use Rattle.file_tree.proofs.SoundChanges.{kinds_set, names_at_set, names_of_set}
 use Rattle.harp_cells.specs.declared.cell.Cell.TheVariants as cell
-use Rattle.harp_cells.specs.declared.change.Change.{Change}
 use Rattle.harp_cells.specs.declared.change.Change.TheVariants as change
 use Rattle.harp_cells.specs.declared.value.Inode.{Inode}
 use Rattle.harp_cells.specs.declared.value.Value.TheVariants as value

@@ -1,6 +1,6 @@
 -- The plans of calls that set a file's attributes or bytes.
-use Rattle.std.proofs.Common.{◌≡◌, ℕ, ◌+◌, ◌*◌, ◌≤◌, ◌==◌, ltb, leb, Bool, true, false, cond, List, [], ◌∷◌, ◌++◌, length, take, replicate, Option, Some, None, Ok, refl, sym, ap, ◌∙◌, subst, arith, inl, inr}
-use Rattle.std.proofs.lemmas.Bool.{cases_Bool, eqb-false, eqb-true, cond_both}
+use Rattle.std.proofs.Common.{◌≡◌, ℕ, ◌==◌, Bool, true, false, cond, List, [], ◌∷◌, ◌++◌, length, Option, Some, None, Ok, refl, sym, ap, ◌∙◌, arith, inl, inr}
+use Rattle.std.proofs.lemmas.Bool.{cases_Bool, eqb-false}
 use Rattle.std.proofs.lemmas.List.{length-append, length-take, length-replicate}
 use Rattle.harp_base.specs.declared.attr.Attr.{Attr}
 use Rattle.harp_base.specs.declared.attr.Kind.{Kind}
@@ -12,12 +12,11 @@ use Rattle.harp_base.specs.declared.reply.Reply.TheVariants.{Attr as AttrReply}
 use Rattle.file_tree.specs.declared.object.Body.{Body}
 use Rattle.file_tree.specs.declared.object.Body.TheVariants as body
 use Rattle.file_tree.specs.declared.object.Object.{Object}
-use Rattle.file_tree.specs.Tree.{Tree, place, slots_within, kind_of, size_of, attr_at}
-use Rattle.file_tree.specs.Steps.{Step, ◌>>=◌, refuse, live, bytes_in}
-use Rattle.file_tree.specs.Outcome.{LEAVE, LARGEST, given, given_mode, given_time, mtime_for_size, body_with, resized, with_fields, with_size, set_fields, set_attr, change}
+use Rattle.file_tree.specs.Tree.{Tree, slots_within, kind_of, size_of, attr_at}
+use Rattle.file_tree.specs.Steps.{Step, ◌>>=◌}
+use Rattle.file_tree.specs.Outcome.{LEAVE, given, given_mode, given_time, mtime_for_size, body_with, resized, with_fields, with_size, set_fields, set_attr, change}
 use Rattle.file_tree.proofs.Kept.{place_changed}
 use Rattle.harp_cells.specs.Effect.{Cells}
-use Rattle.harp_cells.specs.CellsOfTree.{inode_of}
 use Rattle.harp_cells.specs.declared.cell.Cell.TheVariants as cell
 use Rattle.harp_cells.specs.declared.change.Change.{Change}
 use Rattle.harp_cells.specs.declared.change.Change.TheVariants as changing
@@ -26,14 +25,13 @@ use Rattle.harp_cells.specs.declared.value.Value.TheVariants as value
 use Rattle.inode_blocks.specs.Changes.{cuts, put_kept, kept_in}
 use Rattle.update_changes.specs.Short.{AreShort}
 use Rattle.update_changes.specs.Table.{resizes, tree_changes}
-use Rattle.update_changes.specs.TreeCells.{TreeCells}
 use Rattle.nfs_calls.specs.declared.setting.Set.{Set}
 use Rattle.nfs_calls.specs.declared.totals.Totals.{Totals}
 use Rattle.nfs_calls.specs.Plans.{IsSet, bytes_given, planned, replaced_blocks, resizes_by, set_inode, set_tree, totals_of, used_with}
-use Rattle.nfs_calls.specs.TreeCells.{IsInode, attr_by, bytes_within, object_at}
+use Rattle.nfs_calls.specs.TreeCells.{IsInode, attr_by, object_at}
 use Rattle.nfs_calls.proofs.Inodes.{content_size, live_is}
 use Rattle.nfs_calls.proofs.Entered.{same_inode}
-use Rattle.nfs_calls.proofs.Makes.{attr_placed, blocks_stored}
+use Rattle.nfs_calls.proofs.Makes.{attr_placed}
 use Rattle.nfs_calls.proofs.Changed.{KeepsKind, inode_with, changed_inode, changed_put, changed_totals, unchanged_totals}
 
 -- ---- few changes
@@ -120,7 +118,7 @@ set_totals tree number i a now totals used is =
           changed_totals tree number f i totals used is.own is.totals_are (ap (replaced_blocks totals.used i.size) wanted ∙ sym with ∙ is.room)
     ]
 
-not_directory : (k : Kind) → k ≡ kind.Regular → k ≡ kind.Directory → ⊥
+pub not_directory : (k : Kind) → k ≡ kind.Regular → k ≡ kind.Directory → ⊥
 not_directory k e f = absurd cc
 
 set_resizes : (cells : Cells) (tree : Tree) (number : ℕ) (i : Inode) (a : SetAttr) (totals : Totals) (used : ℕ) → IsGiven tree number i a totals used

@@ -4,3 +4,4 @@ pub mod Makes
 pub mod Changed
 pub mod FilePlans
 pub mod NewPlans
+pub mod WritePlans

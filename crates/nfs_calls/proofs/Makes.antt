@@ -1,9 +1,8 @@
 -- What a new object with its entry makes of a tree.
-use Rattle.std.proofs.Common.{◌≡◌, ℕ, ◌+◌, ◌-◌, ◌*◌, ◌%◌, ◌<◌, ◌≤◌, ◌==◌, ltb, leb, Bool, true, false, cond, List, [], ◌∷◌, ◌++◌, length, get_or, append_assoc, count_by, Option, Some, None, Ok, refl, sym, ap, ◌∙◌, subst, arith, inl, inr}
+use Rattle.std.proofs.Common.{◌≡◌, ℕ, ◌+◌, ◌-◌, ◌*◌, ◌%◌, ◌<◌, ◌≤◌, ◌==◌, ltb, leb, Bool, true, false, cond, List, [], ◌∷◌, ◌++◌, length, get_or, append_assoc, Option, Some, None, Ok, refl, sym, ap, ◌∙◌, subst, arith, inl, inr}
 use Rattle.std.proofs.lemmas.Bool.{cases_eq, cases_lt, eq-eqb, ltb-false, cond_both}
 use Rattle.std.proofs.lemmas.List.{length_push, get_or_past, get_or_push}
 use Rattle.harp_base.specs.declared.attr.Attr.{Attr}
-use Rattle.harp_base.specs.declared.attr.Kind.{Kind}
 use Rattle.harp_base.specs.declared.attr.Kind.TheVariants as kind
 use Rattle.harp_base.specs.declared.attr.SetAttr.{SetAttr}
 use Rattle.harp_base.specs.declared.attr.Time.{Time}
@@ -15,20 +14,19 @@ use Rattle.file_tree.specs.declared.object.Body.{Body}
 use Rattle.file_tree.specs.declared.object.Body.TheVariants as body
 use Rattle.file_tree.specs.declared.object.Object.{Object}
 use Rattle.file_tree.specs.declared.object.Slot.{Slot}
-use Rattle.file_tree.specs.Tree.{Tree, Slots, place, slots_of, slots_within, with_entry, free_from, blocks_of, blocks_at, used_blocks, size_of, names_in, names_at, names_of, is_directory, is_directory_at, is_subdirectory, links_of, parent_of, kind_of, attr_at}
+use Rattle.file_tree.specs.Tree.{Tree, Slots, place, slots_of, slots_within, with_entry, free_from, blocks_of, blocks_at, used_blocks, size_of, names_in, names_at, names_of, is_directory, is_directory_at, links_of, parent_of, kind_of, attr_at}
 use Rattle.file_tree.specs.Steps.{Step, ◌>>=◌, refuse}
 use Rattle.file_tree.specs.Outcome.{LEAVE, room_for, reslotted, with_object, made, given_mode, free_name, make_dir}
 use Rattle.file_tree.specs.Sound.{IsSound, IsSoundObject}
 use Rattle.file_tree.proofs.Kept.{place_within, place_changed, place_push, used_push}
 use Rattle.file_tree.proofs.Bounds.{blocks_placed}
 use Rattle.file_tree.proofs.Holders.{parent_is}
-use Rattle.file_tree.proofs.SlotLaws.{one, names_entered, no_slots_sound}
+use Rattle.file_tree.proofs.SlotLaws.{names_entered, no_slots_sound}
 use Rattle.file_tree.proofs.Reslots.{Reslots, reslots_reslotted, length_reslots, other_place, own_names_after, names_reslots, used_reslots, kinds_reslots, root_within}
 use Rattle.file_tree.proofs.SoundChanges.{one_itself, one_other}
 use Rattle.file_tree.proofs.SoundMakes.{no_names, pushed_names, sound_made}
 use Rattle.file_tree.proofs.SoundMoves.{names_at-le}
 use Rattle.file_tree.proofs.StepLaws.{IsFree, free_name_is, room_for_is}
-use Rattle.harp_cells.specs.declared.cell.Cell.{Cell}
 use Rattle.harp_cells.specs.declared.cell.Cell.TheVariants as cell
 use Rattle.harp_cells.specs.declared.change.Change.{Change}
 use Rattle.harp_cells.specs.declared.change.Change.TheVariants as change
@@ -38,9 +36,9 @@ use Rattle.harp_cells.specs.CellsOfTree.{inode_of, object_value, slot_value}
 use Rattle.inode_blocks.specs.Changes.{put, text_put}
 use Rattle.inode_dirs.proofs.SlotChanges.{entry_differs}
 use Rattle.inode_dirs.proofs.SlotCounts.{entry_grows}
-use Rattle.update_changes.specs.Table.{tree_changes, makes, change_to, set_by, free_slot}
+use Rattle.update_changes.specs.Table.{tree_changes, makes, change_to, free_slot}
 use Rattle.update_changes.specs.TreeCells.{TreeCells}
-use Rattle.update_changes.proofs.Links.{NameSameKinds, IsNamedAlike, IsSameKind, directory_share, parent_kept}
+use Rattle.update_changes.proofs.Links.{IsNamedAlike, IsSameKind, directory_share, parent_kept}
 use Rattle.nfs_calls.specs.declared.entering.Room.{Room}
 use Rattle.nfs_calls.specs.declared.totals.Totals.{Totals}
 use Rattle.nfs_calls.specs.Plans.{planned, replaced_blocks, totals_of, entered, made_inode, makes_by}

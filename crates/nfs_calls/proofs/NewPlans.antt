@@ -1,5 +1,5 @@
 -- The plans of calls that make links and files.
-use Rattle.std.proofs.Common.{◌≡◌, ℕ, ◌+◌, ◌*◌, ◌<◌, ◌≤◌, ltb, Bool, true, false, List, [], ◌∷◌, length, replicate, Option, Some, None, Ok, refl, sym, ap, ◌∙◌, subst, arith}
+use Rattle.std.proofs.Common.{◌≡◌, ℕ, ◌+◌, ◌*◌, ltb, Bool, true, false, List, [], length, replicate, Some, None, Ok, refl, ap, ◌∙◌}
 use Rattle.std.proofs.lemmas.Bool.{ltb-false}
 use Rattle.std.proofs.lemmas.List.{length-replicate}
 use Rattle.harp_base.specs.declared.attr.Attr.{Attr}
@@ -9,10 +9,8 @@ use Rattle.harp_base.specs.declared.attr.Time.{Time}
 use Rattle.harp_base.specs.declared.call.Call.TheVariants as call
 use Rattle.harp_base.specs.declared.reply.Reply.TheVariants.{Done, Node}
 use Rattle.harp_base.specs.declared.reply.Status.{Status}
-use Rattle.harp_base.specs.declared.reply.Status.TheVariants.{FBig, Exist, NameTooLong}
 use Rattle.file_tree.specs.declared.object.Body.TheVariants as body
-use Rattle.file_tree.specs.declared.object.Object.{Object}
-use Rattle.file_tree.specs.Tree.{Tree, place, slots_of, entry, blocks_of, used_blocks, size_of}
+use Rattle.file_tree.specs.Tree.{Tree, place, slots_of, entry, blocks_of, used_blocks}
 use Rattle.file_tree.specs.Steps.{refuse, directory, entry_name}
 use Rattle.file_tree.specs.Outcome.{LARGEST, given, has_entry, room_for, made, make_link, create, create_again, create_new, is_regular, is_regular_at}
 use Rattle.file_tree.proofs.SlotLaws.{no_entry, none_named}

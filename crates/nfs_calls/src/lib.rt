@@ -16,5 +16,6 @@ mod refusal;
 mod setting;
 mod space;
 mod totals;
+mod writing;
 
 pub use answering::answer;

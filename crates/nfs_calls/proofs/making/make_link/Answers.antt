@@ -1,4 +1,4 @@
-use Rattle.std.proofs.Common.{length, ltb, sym, ◌∙◌}
+use Rattle.std.proofs.Common.{length, sym, ◌∙◌}
 use Rattle.harp_base.specs.declared.attr.Kind.TheVariants as kind
 use Rattle.harp_base.specs.declared.reply.Status.TheVariants.{NameTooLong, Exist}
 use Rattle.nfs_calls.specs.Plans.{made_inode}
