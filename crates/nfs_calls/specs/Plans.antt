@@ -1,5 +1,5 @@
 -- What an update plans.
-use Rattle.std.specs.Prelude.{ℕ, List, length, Ok}
+use Rattle.std.specs.Prelude.{List, length, Ok}
 use Rattle.harp_base.specs.declared.call.Call.{Call}
 use Rattle.harp_base.specs.declared.reply.Reply.{Reply}
 use Rattle.file_tree.specs.Tree.{Tree, used_blocks}

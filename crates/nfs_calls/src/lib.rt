@@ -7,6 +7,7 @@ mod file;
 mod inode;
 mod names;
 mod plan;
+mod pushes;
 mod reads;
 mod refusal;
 mod totals;
