@@ -1,1 +1,4 @@
 pub mod Inodes
+pub mod Sets
+pub mod Entries
+pub mod Losses

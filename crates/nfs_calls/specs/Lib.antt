@@ -1,3 +1,4 @@
 pub mod TreeCells
 pub mod Gives
 pub mod Plans
+pub mod Entries
