@@ -1,2 +1,2 @@
-mod CellLemmas
-mod TreeLaws
+pub mod CellLemmas
+pub mod TreeLaws

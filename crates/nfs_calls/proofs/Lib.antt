@@ -2,3 +2,4 @@ pub mod Inodes
 pub mod Sets
 pub mod Entries
 pub mod Losses
+pub mod Entered

@@ -3,6 +3,7 @@
 
 mod answering;
 mod directory;
+mod entering;
 mod file;
 mod inode;
 mod names;
@@ -10,6 +11,7 @@ mod plan;
 mod pushes;
 mod reads;
 mod refusal;
+mod space;
 mod totals;
 
 pub use answering::answer;
