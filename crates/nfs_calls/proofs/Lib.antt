@@ -3,3 +3,4 @@ pub mod Sets
 pub mod Entries
 pub mod Losses
 pub mod Entered
+pub mod TakenAway

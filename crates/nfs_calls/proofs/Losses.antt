@@ -1,5 +1,5 @@
 -- An object that loses an entry, and the directory that the entry is taken away from.
-use Rattle.std.proofs.Common.{◌≡◌, ℕ, ◌+◌, ◌*◌, ◌-◌, ◌<◌, ◌≤◌, ◌==◌, ◌||◌, Bool, true, false, cond, List, [], ◌∷◌, ◌++◌, length, get_or, set, ◌⊎◌, Option, Some, None, Ok, refl, sym, ap, ◌∙◌, subst, arith, inl, inr}
+use Rattle.std.proofs.Common.{◌≡◌, ℕ, ◌+◌, ◌*◌, ◌-◌, ◌<◌, ◌≤◌, ◌==◌, ◌||◌, ◌&&◌, not, Bool, true, false, cond, List, [], ◌∷◌, ◌++◌, length, get_or, set, ◌⊎◌, Option, Some, None, Ok, refl, sym, ap, ◌∙◌, subst, arith, inl, inr}
 use Rattle.std.proofs.lemmas.Bool.{cases_eq, cases_Bool, cases_lt, ne_eqb, le-leb, lt-leb, false_from_ne_true}
 use Rattle.std.proofs.lemmas.List.{length-set, get_or-set_same}
 use Rattle.harp_base.specs.declared.attr.Kind.{Kind}
@@ -28,7 +28,7 @@ use Rattle.update_changes.specs.Table.{change_to, set_by, content_size, erases, 
 use Rattle.nfs_calls.specs.declared.totals.Totals.{Totals}
 use Rattle.nfs_calls.specs.TreeCells.{IsInode, IsDirectory, object_at, bytes_within}
 use Rattle.nfs_calls.specs.Plans.{totals_of}
-use Rattle.nfs_calls.specs.Entries.{is_directory_kind, link_of, relinked, unlinked, is_last, erasure, loss, after_loss}
+use Rattle.nfs_calls.specs.Entries.{is_directory_kind, link_of, relinked, unlinked, is_last, erasure, loss, after_loss, IsTaking}
 use Rattle.nfs_calls.proofs.Inodes as inodes
 use Rattle.nfs_calls.proofs.Inodes.{kind_is}
 use Rattle.nfs_calls.proofs.Sets.{IsSet, place_at, place_other, length_on, names_on, used_on, holds_on, kinds_on, set_by_change, set_by_last, set_by_loss}
@@ -126,6 +126,10 @@ nothing_within (Directory slots) d = refl
 nothing_within (Regular bytes) d = absurd cc
 nothing_within (Link text) d = absurd cc
 
+flipped : (b : Bool) (cs : List Change) → cond b [] cs ≡ cond (true && not b) cs []
+flipped true cs = refl
+flipped false cs = refl
+
 erased : (tree : Tree) (number : ℕ) (i : Inode) → IsInode tree number i → erases tree number ≡ erasure number i
 erased tree number i is =
     let o = object_at tree number in
@@ -137,7 +141,7 @@ erased tree number i is =
           rw (kind ∙ d, size) refl
       | inr d ↦
           let size : content_size tree number ≡ i.size = inodes.content_size tree number i is (no_directory i.kind (kind ∙ d)) in
-          rw (kind ∙ d, size) refl
+          rw (kind ∙ d, size) (flipped (i.size == 0) (change.EraseFrom number 0 ∷ []))
     ]
 
 -- the changes of the table are those that its stored attributes tell
@@ -202,14 +206,7 @@ pub links_freed : (tree : Tree) (dir : ℕ) (slots : Slots) (name : List ℕ) (x
 links_freed tree dir slots name x i j f is l =
     omega (arith, l, link_share tree x.1 j is, share_of_found tree slots name x f, subdirectories_set tree slots x.0 None f.within)
 
--- what is known where an entry is taken away
-pub record IsTaking (tree : Tree) (dir : ℕ) (i : Inode) (name : List ℕ) (x : ℕ × ℕ) (j : Inode) : Type 0 where
-  pub sound : IsSound tree
-  pub directory : IsDirectory tree dir i
-  pub entry : entry (slots_of (place tree dir)) name ≡ Some x
-  pub object : IsInode tree x.1 j
-  pub bare : IsBare tree x.1
-
+-- the changes that take an entry away
 pub record IsTaken (tree new : Tree) (dir : ℕ) (i : Inode) (x : ℕ × ℕ) (j : Inode) (now : Time) : Type 0 where
   pub changes : takes tree new dir (Some x) ≡ change.Erase (cell.Slot dir x.0) ∷ change.Put (cell.Object dir) (value.Object (relinked now (i.links - link_of j.kind) i)) ∷ loss x.1 j now
   pub totals : after_loss (totals_of tree) j ≡ totals_of new

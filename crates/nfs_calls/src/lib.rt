@@ -6,11 +6,13 @@ mod directory;
 mod entering;
 mod file;
 mod inode;
+mod losing;
 mod names;
 mod plan;
 mod pushes;
 mod reads;
 mod refusal;
+mod removes;
 mod space;
 mod totals;
 
