@@ -120,9 +120,10 @@ object_after old new number i now links parent is at l p =
 
 -- the links of an object, where its entries are as many, and what its own entries name keeps its kind
 pub links_stay : (old new : Tree) (number : ℕ) (b : Body) → names_of new number ≡ names_of old number
-    → ((k : ℕ) → is_directory_at (place new k) ≡ is_directory_at (place old k)) → links_of new number b ≡ links_of old number b
+    → ((k : ℕ) → 1 ≤ names_in k (slots_within b) → is_directory_at (place new k) ≡ is_directory_at (place old k))
+    → links_of new number b ≡ links_of old number b
 unfolding links_of
-links_stay old new number (Directory slots) names kinds = ap (λ (n : ℕ). 2 + n) (subdirectories_same old new slots (λ k le. kinds k))
+links_stay old new number (Directory slots) names kinds = ap (λ (n : ℕ). 2 + n) (subdirectories_same old new slots kinds)
 links_stay old new number (Regular bytes) names kinds = names
 links_stay old new number (Link text) names kinds = names
 

@@ -4,3 +4,6 @@ pub mod Entries
 pub mod Losses
 pub mod Entered
 pub mod TakenAway
+pub mod MovedEntry
+pub mod MovesIn
+pub mod MovesWithin

@@ -2,3 +2,4 @@ pub mod TreeCells
 pub mod Gives
 pub mod Plans
 pub mod Entries
+pub mod Moves

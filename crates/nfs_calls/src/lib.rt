@@ -7,6 +7,7 @@ mod entering;
 mod file;
 mod inode;
 mod losing;
+mod moving;
 mod names;
 mod plan;
 mod pushes;
