@@ -103,15 +103,10 @@ fn plan_update<R: CellRead>(
             handle,
             offset,
             bytes,
-        } => write(
-            alloc,
-            cells,
-            totals,
-            *handle,
-            *offset,
-            bytes.as_slice(),
-            now,
-        ),
+        } => {
+            let bytes = bytes.as_slice();
+            write(alloc, cells, totals, *handle, *offset, bytes, now)
+        }
         Call::Create { dir, name, attr } => {
             create(alloc, cells, totals, *dir, name.as_slice(), attr, now)
         }
