@@ -12,3 +12,4 @@ pub mod TakenAway
 pub mod MovedEntry
 pub mod MovesIn
 pub mod MovesWithin
+pub mod Linkings

@@ -86,6 +86,16 @@ makes_by dir slot name directory number made text =
     (changing.Put (cell.Slot dir slot) (value.Slot number name) ∷ []) ++ text_put number text
     ++ changing.Put (cell.Object dir) (value.Object directory) ∷ [] ++ changing.Put (cell.Object number) (value.Object made) ∷ []
 
+-- a file or a link with one more entry
+unfoldable pub linked : Inode → Time → Inode
+linked i now = record i { links = capped (i.links + 1); ctime = now }
+
+-- the changes that make an entry of an object that is there
+abbrev pub links_by : ℕ → ℕ → List ℕ → Inode → ℕ → Inode → List Change
+links_by dir slot name directory number linked =
+    changing.Put (cell.Slot dir slot) (value.Slot number name) ∷ changing.Put (cell.Object dir) (value.Object directory)
+    ∷ changing.Put (cell.Object number) (value.Object linked) ∷ []
+
 -- an object's attributes with the given ones set
 unfoldable pub set_inode : Inode → SetAttr → Time → Inode
 set_inode i a now = record i {

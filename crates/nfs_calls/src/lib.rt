@@ -7,6 +7,7 @@ mod directory;
 mod entering;
 mod file;
 mod inode;
+mod linking;
 mod losing;
 mod making;
 mod moving;

@@ -16,12 +16,13 @@ ghost use Rattle.nfs_calls.specs.Plans.{changes_entries, plan_view, planned, set
 ghost use Rattle.nfs_calls.specs.Gives.{Gives};
 
 use crate::creating::create;
+use crate::linking::link;
 use crate::making::{make_dir, make_link};
 use crate::plan::Plan;
 use crate::refusal::Refusal;
 use crate::removes::{remove, remove_dir};
 use crate::setting::set_attr;
-use crate::stubs::{link, rename};
+use crate::stubs::rename;
 use crate::totals::{Totals, read_totals};
 use crate::writing::write;
 use harp_base::{Call, Reply, Time, time_of};
