@@ -2,15 +2,30 @@
 #![tactic(auto)]
 
 mod answering;
+mod creating;
 mod directory;
+mod entering;
 mod file;
 mod inode;
+mod linking;
+mod losing;
+mod making;
+mod moving;
 mod names;
 mod plan;
 mod preparing;
+<<<<<<< HEAD
+=======
+mod pushes;
+>>>>>>> 2da0e260ff434d1b2af6af7b7bc2102e7435c21d
 mod reads;
 mod refusal;
+mod removes;
+mod setting;
+mod space;
+mod stubs;
 mod totals;
+mod writing;
 
 pub use answering::answer;
 pub use preparing::{Prepared, prepare};
