@@ -24,7 +24,7 @@ share number s = cond (names_it number s) 1 0
 abbrev pub name_share : List ℕ → Option Slot → ℕ
 name_share name s = cond (has_name name s) 1 0
 
-sum_by-with_entry : (f : Option Slot → ℕ) (slots : Slots) (s : Slot) → f None ≡ 0 → sum_by f (with_entry slots s) ≡ sum_by f slots + f (Some s)
+pub sum_by-with_entry : (f : Option Slot → ℕ) (slots : Slots) (s : Slot) → f None ≡ 0 → sum_by f (with_entry slots s) ≡ sum_by f slots + f (Some s)
 unfolding with_entry
 sum_by-with_entry f [] s z = omega (arith, sum_by-cons f (Some s) [])
 sum_by-with_entry f (None ∷ slots) s z = omega (arith, z, sum_by-cons f (Some s) slots, sum_by-cons f None slots)

@@ -26,14 +26,14 @@ directory_not_0 tree number none d e =
     let here : is_directory_at (place tree 0) ≡ false = ap is_directory_at none in
     absurd cc
 
-kinds_set : (tree : Tree) (number : ℕ) (o new : Object) → place tree number ≡ Some o → is_directory new.body ≡ is_directory o.body → (k : ℕ)
+pub kinds_set : (tree : Tree) (number : ℕ) (o new : Object) → place tree number ≡ Some o → is_directory new.body ≡ is_directory o.body → (k : ℕ)
     → is_directory_at (place (set tree number (Some new)) k) ≡ is_directory_at (place tree k)
 kinds_set tree number o new at kind k = elim (cases_eq k number) [
   | inl e ↦ rw e (ap is_directory_at (place_set tree number o new at) ∙ kind ∙ sym (ap is_directory_at at))
   | inr ne ↦ ap is_directory_at (get_or-set_other tree number k (Some new) None ne)
 ]
 
-names_at_set : (tree : Tree) (number : ℕ) (o new : Object) → place tree number ≡ Some o
+pub names_at_set : (tree : Tree) (number : ℕ) (o new : Object) → place tree number ≡ Some o
     → ((k : ℕ) → names_in k (slots_within new.body) ≡ names_in k (slots_within o.body)) → (dir k : ℕ)
     → names_at k (place (set tree number (Some new)) dir) ≡ names_at k (place tree dir)
 names_at_set tree number o new at same dir k = elim (cases_eq dir number) [
@@ -41,7 +41,7 @@ names_at_set tree number o new at same dir k = elim (cases_eq dir number) [
   | inr ne ↦ ap (names_at k) (get_or-set_other tree number dir (Some new) None ne)
 ]
 
-names_of_set : (tree : Tree) (number : ℕ) (o new : Object) → place tree number ≡ Some o
+pub names_of_set : (tree : Tree) (number : ℕ) (o new : Object) → place tree number ≡ Some o
     → ((k : ℕ) → names_in k (slots_within new.body) ≡ names_in k (slots_within o.body)) → (k : ℕ)
     → names_of (set tree number (Some new)) k ≡ names_of tree k
 unfolding names_of

@@ -27,10 +27,10 @@ new_entries number (Regular bytes) ne = omega arith
 new_entries number (Link text) ne = omega arith
 
 -- a number without an object has no entries
-no_names : (tree : Tree) (k : ℕ) → IsSound tree → length tree ≤ k → names_of tree k ≡ 0
+pub no_names : (tree : Tree) (k : ℕ) → IsSound tree → length tree ≤ k → names_of tree k ≡ 0
 no_names tree k is le = subst (λ (x : Option Object). IsNamed k x (names_of tree k)) (get_or_past tree k None le) (is.entries k)
 
-pushed_names : (tree : Tree) (o : Object) (k : ℕ) → names_in k (slots_within o.body) ≡ 0 → names_of (tree ++ Some o ∷ []) k ≡ names_of tree k
+pub pushed_names : (tree : Tree) (o : Object) (k : ℕ) → names_in k (slots_within o.body) ≡ 0 → names_of (tree ++ Some o ∷ []) k ≡ names_of tree k
 unfolding names_of
 pushed_names tree o k bare = omega (arith, bare, sum_by_push (names_at k) tree (Some o))
 

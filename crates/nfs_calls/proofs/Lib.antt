@@ -1,1 +1,14 @@
 pub mod Inodes
+pub mod Sets
+pub mod Entries
+pub mod Losses
+pub mod Entered
+pub mod Makes
+pub mod Changed
+pub mod FilePlans
+pub mod NewPlans
+pub mod WritePlans
+pub mod TakenAway
+pub mod MovedEntry
+pub mod MovesIn
+pub mod MovesWithin

@@ -1,3 +1,5 @@
 pub mod TreeCells
 pub mod Gives
 pub mod Plans
+pub mod Entries
+pub mod Moves

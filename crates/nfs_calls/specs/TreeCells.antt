@@ -1,15 +1,17 @@
 -- What is read in cells that stand for a tree.
-use Rattle.std.specs.Prelude.{◌≡◌, ℕ, ◌==◌, List, [], Option, Some, None, Ok, if◌then◌else◌}
+use Rattle.std.specs.Prelude.{◌≡◌, ℕ, ◌==◌, List, [], length, Option, Some, None, Ok, if◌then◌else◌}
 use Rattle.harp_base.specs.declared.attr.Attr.{Attr}
 use Rattle.harp_base.specs.declared.attr.Kind.TheVariants as kind
 use Rattle.file_tree.specs.declared.object.Body.{Body}
 use Rattle.file_tree.specs.declared.object.Body.TheVariants as body
 use Rattle.file_tree.specs.declared.object.Object.{Object}
-use Rattle.file_tree.specs.Tree.{Tree, place, slots_of, blocks_of, time_zero}
+use Rattle.file_tree.specs.declared.object.Slot.{Slot}
+use Rattle.file_tree.specs.Tree.{Tree, Slots, place, slots_of, free_from, with_entry, blocks_of, time_zero}
 use Rattle.file_tree.specs.Steps.{directory}
 use Rattle.harp_cells.specs.declared.value.Inode.{Inode}
 use Rattle.harp_cells.specs.declared.value.Value.{Value}
 use Rattle.harp_cells.specs.declared.value.Value.TheVariants as value
+use Rattle.nfs_calls.specs.declared.entering.Room.{Room}
 use Rattle.nfs_calls.specs.declared.totals.Totals.{Totals}
 use Rattle.harp_cells.specs.CellsOfTree.{inode_of}
 
@@ -70,6 +72,11 @@ pub record IsInode (tree : Tree) (number : ℕ) (inode : Inode) : Type 0 where
 pub record IsDirectory (tree : Tree) (number : ℕ) (inode : Inode) : Type 0 where
   pub own : IsInode tree number inode
   pub lists : directory tree number ≡ Ok (slots_of (place tree number))
+
+-- the first free slot of a directory, and how many slots it has with a new entry there
+pub record IsRoom (slots : Slots) (room : Room) : Type 0 where
+  pub slot : room.slot ≡ free_from 0 slots
+  pub slots_are : (s : Slot) → room.slots ≡ length (with_entry slots s)
 
 abbrev pub first_totals : Totals
 first_totals = record { next = 2; used = 0 }

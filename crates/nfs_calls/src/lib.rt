@@ -2,15 +2,26 @@
 #![tactic(auto)]
 
 mod answering;
+mod creating;
 mod directory;
+mod entering;
 mod file;
 mod inode;
+mod losing;
+mod making;
+mod moving;
 mod names;
 mod plan;
 mod preparing;
+mod pushes;
 mod reads;
 mod refusal;
+mod removes;
+mod setting;
+mod space;
+mod stubs;
 mod totals;
+mod writing;
 
 pub use answering::answer;
 pub use preparing::{Prepared, prepare};

@@ -1,8 +1,9 @@
 //! Names, and refusals by a test.
 
-ghost use Rattle.std.specs.Prelude.{◌≡◌};
+ghost use Rattle.std.specs.Prelude.{◌≡◌, IfOk};
 ghost use Rattle.std.specs.List.{list_any};
-ghost use Rattle.file_tree.specs.Steps.{refuse, is_dot, is_dot_dot, is_odd_byte, is_odd, check_name};
+ghost use Rattle.file_tree.specs.Steps.{refuse, is_dot, is_dot_dot, is_dots, is_odd_byte, is_odd, check_name, entry_name};
+ghost use Rattle.nfs_calls.specs.Plans.{FitsName};
 
 use harp_base::Status;
 
@@ -25,6 +26,13 @@ pub fn is_dot_dot(name: &[u8]) -> bool
     name == b"..".as_slice()
 }
 
+/// `.` or `..`.
+pub fn is_dots(name: &[u8]) -> bool
+    ensures { result ≡ is_dots name.now }
+{
+    is_dot(name) || is_dot_dot(name)
+}
+
 fn is_odd_byte(b: u8) -> bool
     ensures { result ≡ is_odd_byte b }
 {
@@ -45,8 +53,20 @@ fn is_odd(name: &[u8]) -> bool
 
 /// A name of 1 to 255 bytes without a slash or a zero.
 pub fn check_name(name: &[u8]) -> Result<(), Status>
-    ensures { result ≡ check_name name.now }
+    ensures step { result ≡ check_name name.now }
+    ensures fits { IfOk result (λ _. FitsName name.now) }
 {
     refuse(Status::NameTooLong, name.len() > 255)?;
-    refuse(Status::Acces, is_odd(name))
+    refuse(Status::Acces, is_odd(name))?;
+    Ok(())
+}
+
+/// A name that an entry can have.
+pub fn entry_name(name: &[u8]) -> Result<(), Status>
+    ensures step { result ≡ entry_name name.now }
+    ensures fits { IfOk result (λ _. FitsName name.now) }
+{
+    check_name(name)?;
+    refuse(Status::Exist, is_dots(name))?;
+    Ok(())
 }
