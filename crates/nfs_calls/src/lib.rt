@@ -14,10 +14,7 @@ mod moving;
 mod names;
 mod plan;
 mod preparing;
-<<<<<<< HEAD
-=======
 mod pushes;
->>>>>>> 2da0e260ff434d1b2af6af7b7bc2102e7435c21d
 mod reads;
 mod refusal;
 mod removes;
