@@ -7,3 +7,5 @@ pub mod TakenAway
 pub mod MovedEntry
 pub mod MovesIn
 pub mod MovesWithin
+pub mod MovesAcross
+pub mod MovesOver
