@@ -9,3 +9,4 @@ pub mod MovesIn
 pub mod MovesWithin
 pub mod MovesAcross
 pub mod MovesOver
+pub mod Replacing
