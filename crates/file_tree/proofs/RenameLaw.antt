@@ -16,7 +16,7 @@ use Rattle.file_tree.proofs.StepLaws.{Given, done, step, unless, refused_unless,
 use Rattle.file_tree.proofs.SoundCalls.{LeavesSound, empty_is_bare}
 
 -- a target that a rename accepts is the moved object, or nothing is in it
-target_bare : (tree : Tree) (moved : ℕ) (y : ℕ × ℕ) → check_target tree moved (Some y) ≡ Ok tt → (y.1 ≡ moved → ⊥) → IsBare tree y.1
+pub target_bare : (tree : Tree) (moved : ℕ) (y : ℕ × ℕ) → check_target tree moved (Some y) ≡ Ok tt → (y.1 ≡ moved → ⊥) → IsBare tree y.1
 unfolding check_target
 target_bare tree moved y e ne = elim (cases_Bool (is_directory_at (place tree y.1))) [
   | inr file ↦ file_is_bare tree y.1 file

@@ -33,7 +33,7 @@ way_up old new x y to is bare keeps d not_y held apart number dn ny = elim (case
 -- ---- into a new entry
 
 -- a directory after one slot of a directory, maybe of itself, was freed
-freed_at : (tree : Tree) (dir to_dir : ℕ) (slots to_slots : Slots) (i : ℕ) (o e : Object) (now : Time) → place tree dir ≡ Some o → o.body ≡ Directory slots
+pub freed_at : (tree : Tree) (dir to_dir : ℕ) (slots to_slots : Slots) (i : ℕ) (o e : Object) (now : Time) → place tree dir ≡ Some o → o.body ≡ Directory slots
     → place tree to_dir ≡ Some e → e.body ≡ Directory to_slots
     → (p : Object) × (place (change tree dir (slot_changed now i None)) to_dir ≡ Some p) × (p.body ≡ Directory (freed dir to_dir i to_slots))
 freed_at tree dir to_dir slots to_slots i o e now at body to_at to_body =
@@ -113,7 +113,7 @@ sound_moved_in tree dir to_dir o e slots to_slots name to_name x now is at body 
 -- ---- over another entry
 
 -- the entry that moves, in a tree where the target's entry names it too
-still_found : (tree : Tree) (dir to_dir : ℕ) (o e : Object) (slots to_slots : Slots) (name to_name : List ℕ) (x y : ℕ × ℕ) (s : Slot) (now : Time)
+pub still_found : (tree : Tree) (dir to_dir : ℕ) (o e : Object) (slots to_slots : Slots) (name to_name : List ℕ) (x y : ℕ × ℕ) (s : Slot) (now : Time)
     → place tree dir ≡ Some o → o.body ≡ Directory slots → place tree to_dir ≡ Some e → e.body ≡ Directory to_slots
     → IsFound slots name x → IsFound to_slots to_name y → (y.1 ≡ x.1 → ⊥)
     → (p : Object) × (left : Slots) × (place (change tree to_dir (slot_changed now y.0 (Some s))) dir ≡ Some p) × (p.body ≡ Directory left) × IsFound left name x

@@ -181,7 +181,7 @@ files_stand cells tree object regular holds block =
 
 -- ---- other objects
 
-past_end : (bytes : List ℕ) (block : ℕ) → length bytes ≤ 4096 * block → block_value (block_of bytes block) ≡ None
+pub past_end : (bytes : List ℕ) (block : ℕ) → length bytes ≤ 4096 * block → block_value (block_of bytes block) ≡ None
 past_end bytes block past = ap (λ (xs : List ℕ). block_value (take 4096 xs)) (drop_all (4096 * block) bytes past)
 
 exact : (cells : Cells) (tree : Tree) (stamp object : ℕ) → StandForTree cells tree stamp
@@ -220,7 +220,7 @@ text_block cells object (b ∷ bytes) ends short block = elim (cases_eq 0 block)
       ∙ ends block (omega arith) ∙ sym (past_end (b ∷ bytes) block (omega (arith, other)))
 ]
 
-text_apart : (cells : Cells) (object : ℕ) (text : List ℕ) (c : Cell) → is_block_of object c ≡ false
+pub text_apart : (cells : Cells) (object : ℕ) (text : List ℕ) (c : Cell) → is_block_of object c ≡ false
     → after (text_put object text) cells c ≡ cells c
 text_apart cells object [] c other = refl
 text_apart cells object (b ∷ bytes) c other = put_apart object 0 (b ∷ bytes) c (cells c) other

@@ -16,7 +16,7 @@ use Rattle.harp_cells.specs.CellsOfTree.{slot_value}
 use Rattle.inode_dirs.specs.Slots.{HoldsSlots, is_slot_of}
 use Rattle.inode_dirs.specs.Laws.{EntersFirstFree, ReplacesSlot, FreesSlot, KeepsSlots}
 
-same_slot : (dir i slot : ℕ) → is_cell (cell.Slot dir i) (cell.Slot dir slot) ≡ (i == slot)
+pub same_slot : (dir i slot : ℕ) → is_cell (cell.Slot dir i) (cell.Slot dir slot) ≡ (i == slot)
 unfolding is_cell
 same_slot dir i slot = let t : (dir == dir) ≡ true = eq-eqb dir dir refl in rw t refl
 
@@ -44,7 +44,7 @@ held_after cells dir i x slots new differs holds slot =
     ∙ pick (i == slot) x (get_or slots slot None) (cells (cell.Slot dir slot)) (holds slot)
     ∙ ap slot_value (sym (differs slot))
 
-set_differs : (i : ℕ) (x : Option Slot) (slots : Slots) → i < length slots → DiffersAt i x slots (set slots i x)
+pub set_differs : (i : ℕ) (x : Option Slot) (slots : Slots) → i < length slots → DiffersAt i x slots (set slots i x)
 set_differs i x slots lt slot = elim (cases_eq slot i) [
   | inl e ↦
       let t : (i == slot) ≡ true = eq-eqb i slot (sym e) in
@@ -84,7 +84,7 @@ free_within i [] = omega arith
 free_within i (None ∷ slots) = omega arith
 free_within i (Some s ∷ slots) = omega (arith, free_within (i + 1) slots)
 
-entry_differs : (slots : Slots) (s : Slot) → DiffersAt (free_from 0 slots) (Some s) slots (with_entry slots s)
+pub entry_differs : (slots : Slots) (s : Slot) → DiffersAt (free_from 0 slots) (Some s) slots (with_entry slots s)
 entry_differs slots s = elim (cases_lt (free_from 0 slots) (length slots)) [
   | inl lt ↦
       subst (DiffersAt (free_from 0 slots) (Some s) slots) (with_entry_set slots s lt)

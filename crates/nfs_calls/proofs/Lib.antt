@@ -10,3 +10,8 @@ pub mod MovesWithin
 pub mod MovesAcross
 pub mod MovesOver
 pub mod Replacing
+pub mod Makes
+pub mod Changed
+pub mod FilePlans
+pub mod NewPlans
+pub mod WritePlans

@@ -1,18 +1,27 @@
 -- What an update plans.
-use Rattle.std.specs.Prelude.{ℕ, ◌+◌, ◌-◌, ◌*◌, ◌≤◌, nat_lt, min, List, length, Ok}
+use Rattle.std.specs.Prelude.{◌≡◌, ℕ, ◌+◌, ◌-◌, ◌*◌, ◌≤◌, ◌==◌, nat_lt, min, List, [], ◌∷◌, ◌++◌, length, Option, Some, None, Ok, if◌then◌else◌}
+use Rattle.harp_base.specs.declared.attr.Kind.{Kind}
+use Rattle.harp_base.specs.declared.attr.SetAttr.{SetAttr}
 use Rattle.harp_base.specs.declared.attr.Time.{Time}
 use Rattle.harp_base.specs.declared.call.Call.{Call}
 use Rattle.harp_base.specs.declared.reply.Reply.{Reply}
 use Rattle.harp_base.specs.declared.reply.Status.TheVariants.{NoSpc}
-use Rattle.file_tree.specs.Tree.{Tree, blocks_of, used_blocks}
+use Rattle.file_tree.specs.declared.object.Body.{Body}
+use Rattle.file_tree.specs.Tree.{Tree, attr_at, blocks_of, used_blocks}
 use Rattle.file_tree.specs.Steps.{Step, ◌>>=◌, refuse}
-use Rattle.file_tree.specs.Outcome.{Outcome}
+use Rattle.file_tree.specs.Outcome.{Outcome, LEAVE, given, given_mode, given_time, mtime_for_size, resized, change, with_fields}
+use Rattle.harp_cells.specs.declared.cell.Cell.TheVariants as cell
 use Rattle.harp_cells.specs.declared.change.Change.{Change}
+use Rattle.harp_cells.specs.declared.change.Change.TheVariants as changing
 use Rattle.harp_cells.specs.declared.value.Inode.{Inode}
+use Rattle.harp_cells.specs.declared.value.Value.TheVariants as value
 use Rattle.harp_cells.specs.Effect.{Cells}
-use Rattle.update_changes.specs.Table.{tree_changes}
+use Rattle.inode_blocks.specs.Changes.{text_put, cuts, kept_in}
+use Rattle.update_changes.specs.Table.{tree_changes, sets}
 use Rattle.nfs_calls.specs.declared.plan.Plan.{Plan}
+use Rattle.nfs_calls.specs.declared.setting.Set.{Set}
 use Rattle.nfs_calls.specs.declared.totals.Totals.{Totals}
+use Rattle.nfs_calls.specs.TreeCells.{attr_by, bytes_within, object_at}
 
 abbrev pub totals_of : Tree → Totals
 totals_of tree = record { next = length tree; used = used_blocks tree }
@@ -52,3 +61,68 @@ entered i slots more now = record i {
   mtime = now;
   ctime = now;
 }
+
+-- the attributes of a new object
+unfoldable pub made_inode : SetAttr → Kind → ℕ → ℕ → ℕ → Time → Inode
+made_inode a kind links parent size now = record {
+  kind = kind;
+  mode = given_mode a.mode 0;
+  uid = given a.uid 0;
+  gid = given a.gid 0;
+  links = links;
+  parent = parent;
+  size = size;
+  slots = 0;
+  atime = given_time a.atime now;
+  mtime = given_time a.mtime now;
+  ctime = now;
+}
+
+-- the changes that make an object with its entry, and with a text where it is a link
+abbrev pub makes_by : ℕ → ℕ → List ℕ → Inode → ℕ → Inode → List ℕ → List Change
+makes_by dir slot name directory number made text =
+    (changing.Put (cell.Slot dir slot) (value.Slot number name) ∷ []) ++ text_put number text
+    ++ changing.Put (cell.Object dir) (value.Object directory) ∷ [] ++ changing.Put (cell.Object number) (value.Object made) ∷ []
+
+-- an object's attributes with the given ones set
+unfoldable pub set_inode : Inode → SetAttr → Time → Inode
+set_inode i a now = record i {
+  mode = given_mode a.mode i.mode;
+  uid = given a.uid i.uid;
+  gid = given a.gid i.gid;
+  size = given a.size i.size;
+  atime = given_time a.atime i.atime;
+  mtime = given_time a.mtime (mtime_for_size a.size i.mtime now);
+  ctime = now;
+}
+
+-- ---- attributes that are set
+
+-- the bytes of a body where a size is given
+abbrev pub bytes_given : Body → ℕ → Option (List ℕ)
+bytes_given body size = if size == LEAVE then None else Some (resized (bytes_within body) size)
+
+-- the tree with an object's attributes set
+abbrev pub set_tree : Tree → ℕ → SetAttr → Time → Tree
+set_tree tree number a now = change tree number (with_fields a (bytes_given (object_at tree number).body a.size) now)
+
+-- the used blocks where a size is given
+abbrev pub used_with : ℕ → ℕ → ℕ → Step ℕ
+used_with used old size = if size == LEAVE then Ok used else replaced_blocks used old size
+
+-- the changes that give a file of a size another one, where one is given
+abbrev pub resizes_by : Cells → ℕ → ℕ → ℕ → List Change
+resizes_by cells number size wanted =
+    if wanted == LEAVE then [] else cuts number size wanted (kept_in cells number wanted)
+
+-- what was computed where an object's attributes were set
+pub record IsSet (cells : Cells) (old new : Tree) (number size : ℕ) (s : Set) : Type 0 where
+  pub attr : attr_by number s.inode ≡ attr_at new number
+  pub changes : s.changes.items ≡ sets cells old new number size
+  pub totals : s.totals ≡ totals_of new
+
+-- the changes of an outcome that sets an object's attributes
+abbrev pub sets_planned : Cells → Tree → ℕ → ℕ → Outcome → Step (Reply × List Change × Totals)
+sets_planned cells tree number size outcome = do
+  x ← outcome
+  Ok (x.0, sets cells tree x.1 number size, totals_of x.1)

@@ -77,6 +77,7 @@ pub fn room_in<R: CellRead>(
         (replaced_blocks used inode.now.size (264 * length (with_entry (slots_of (place t.tree dir)) s))) }
     ensures room { (t : TreeCells) → R.cells cells.old ≡ Some t.cells → IsDirectory t.tree dir inode.now
         → IfOk result (IsRoom (slots_of (place t.tree dir))) }
+    ensures bound { IfOk result (λ room. room.slots < 2 ^ 40) }
     ensures kept { R.cells cells.new ≡ R.cells cells.old }
     ensures rose { result ≡ Err (Refusal.Fault CellFault.StoreFailed) → Rose (R.faults cells.old) (R.faults cells.new) }
     ensures count { R.faults cells.old ≤ R.faults cells.new }

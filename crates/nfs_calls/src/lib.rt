@@ -2,19 +2,23 @@
 #![tactic(auto)]
 
 mod answering;
+mod creating;
 mod directory;
 mod entering;
 mod file;
 mod inode;
 mod losing;
 mod moving;
+mod making;
 mod names;
 mod plan;
 mod pushes;
 mod reads;
 mod refusal;
 mod removes;
+mod setting;
 mod space;
 mod totals;
+mod writing;
 
 pub use answering::answer;

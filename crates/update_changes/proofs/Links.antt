@@ -1,12 +1,12 @@
 -- How the links and the parent of a directory change.
-use Rattle.std.proofs.Common.{◌≡◌, ℕ, suc, ◌+◌, ◌<◌, ◌≤◌, ◌==◌, Bool, true, false, cond, List, [], ◌∷◌, length, get_or, set, sum_by, count_by, Option, Some, None, refl, sym, ap, ◌∙◌, arith, inl, inr}
-use Rattle.std.proofs.lemmas.Bool.{cases_eq, eq-eqb}
+use Rattle.std.proofs.Common.{◌≡◌, ℕ, suc, ◌+◌, ◌<◌, ◌≤◌, ◌==◌, Bool, cond, [], ◌∷◌, length, get_or, set, sum_by, count_by, Option, Some, None, refl, sym, ap, arith}
+use Rattle.std.proofs.lemmas.Bool.{eq-eqb}
 use Rattle.std.proofs.lemmas.List.Sums.{sum_by-cons, sum_by-set}
 use Rattle.file_tree.specs.declared.object.Slot.{Slot}
 use Rattle.file_tree.specs.declared.object.Object.{Object}
 use Rattle.file_tree.specs.declared.object.Body.TheVariants as body
-use Rattle.file_tree.specs.Tree.{Tree, Slots, place, names_it, names_in, names_at, names_of, is_directory_at, is_subdirectory, links_of, holder_from, parent_of, with_entry}
-use Rattle.file_tree.proofs.SlotLaws.{share, one, sum_by-with_entry}
+use Rattle.file_tree.specs.Tree.{Tree, Slots, place, names_in, names_at, names_of, is_directory_at, is_subdirectory, links_of, holder_from, parent_of, with_entry}
+use Rattle.file_tree.proofs.SlotLaws.{share, sum_by-with_entry}
 
 -- a number's kind is the same in both trees
 abbrev pub IsSameKind : Tree → Tree → ℕ → Type 0
@@ -40,7 +40,9 @@ same_subdirectories old new (Some s ∷ slots) kinds =
     let rest = same_subdirectories old new slots (λ k h. kinds k (named_behind k (Some s) slots h)) in
     let here : directory_share new (Some s) ≡ directory_share old (Some s) =
     ap (λ (b : Bool). cond b 1 0) (kinds s.number (named_here s slots)) in
-    omega (arith, rest, here, sum_by-cons (directory_share new) (Some s) slots, sum_by-cons (directory_share old) (Some s) slots)
+    let now = sum_by-cons (directory_share new) (Some s) slots in
+    let before = sum_by-cons (directory_share old) (Some s) slots in
+    omega (arith, rest, here)
 
 -- the links of a directory whose slots stay
 pub links_kept : (old new : Tree) (dir : ℕ) (slots : Slots) → NameSameKinds old new slots
@@ -50,21 +52,25 @@ links_kept old new dir slots kinds = ap (λ (n : ℕ). 2 + n) (same_subdirectori
 
 -- one more where a new entry names a directory
 pub links_entered : (old new : Tree) (dir : ℕ) (slots : Slots) (s : Slot) → NameSameKinds old new slots
-    → links_of new dir (body.Directory (with_entry slots s)) ≡ links_of old dir (body.Directory slots) + directory_share new (Some s)
+    → links_of new dir (body.Directory (with_entry slots s))
+    ≡ links_of old dir (body.Directory slots) + directory_share new (Some s)
 unfolding links_of
 links_entered old new dir slots s kinds =
     omega (arith, sum_by-with_entry (directory_share new) slots s refl, same_subdirectories old new slots kinds)
 
 -- a slot that gets another entry, or none: one less where it named a directory, and one more where it does now
-pub links_replaced : (old new : Tree) (dir : ℕ) (slots : Slots) (i : ℕ) (s : Option Slot) → i < length slots → NameSameKinds old new slots
+pub links_replaced : (old new : Tree) (dir : ℕ) (slots : Slots) (i : ℕ) (s : Option Slot) → i < length slots
+    → NameSameKinds old new slots
     → links_of new dir (body.Directory (set slots i s)) + directory_share new (get_or slots i None)
     ≡ links_of old dir (body.Directory slots) + directory_share new s
 unfolding links_of
 links_replaced old new dir slots i s lt kinds =
     omega (arith, sum_by-set (directory_share new) slots i s None lt, same_subdirectories old new slots kinds)
 
-pub links_cleared : (old new : Tree) (dir : ℕ) (slots : Slots) (i : ℕ) → i < length slots → NameSameKinds old new slots
-    → links_of new dir (body.Directory (set slots i None)) + directory_share new (get_or slots i None) ≡ links_of old dir (body.Directory slots)
+pub links_cleared : (old new : Tree) (dir : ℕ) (slots : Slots) (i : ℕ) → i < length slots
+    → NameSameKinds old new slots
+    → links_of new dir (body.Directory (set slots i None)) + directory_share new (get_or slots i None)
+    ≡ links_of old dir (body.Directory slots)
 links_cleared old new dir slots i lt kinds = omega (arith, links_replaced old new dir slots i None lt kinds)
 
 -- ---- entries and parents
@@ -73,18 +79,23 @@ links_cleared old new dir slots i lt kinds = omega (arith, links_replaced old ne
 abbrev pub IsNamedAlike : Tree → Tree → ℕ → Type 0
 IsNamedAlike old new number = (dir : ℕ) → names_at number (place new dir) ≡ names_at number (place old dir)
 
-same_sum : (f : Option Object → ℕ) (xs ys : Tree) → f None ≡ 0 → ((i : ℕ) → f (get_or xs i None) ≡ f (get_or ys i None)) → sum_by f xs ≡ sum_by f ys
+same_sum : (f : Option Object → ℕ) (xs ys : Tree) → f None ≡ 0
+    → ((i : ℕ) → f (get_or xs i None) ≡ f (get_or ys i None)) → sum_by f xs ≡ sum_by f ys
 same_sum f [] [] none same = refl
-same_sum f [] (y ∷ ys) none same = omega (arith, none, same 0, same_sum f [] ys none (λ i. same (suc i)), sum_by-cons f y ys)
-same_sum f (x ∷ xs) [] none same = omega (arith, none, same 0, same_sum f xs [] none (λ i. same (suc i)), sum_by-cons f x xs)
+same_sum f [] (y ∷ ys) none same =
+    omega (arith, none, same 0, same_sum f [] ys none (λ i. same (suc i)), sum_by-cons f y ys)
+same_sum f (x ∷ xs) [] none same =
+    omega (arith, none, same 0, same_sum f xs [] none (λ i. same (suc i)), sum_by-cons f x xs)
 same_sum f (x ∷ xs) (y ∷ ys) none same =
     omega (arith, same 0, same_sum f xs ys none (λ i. same (suc i)), sum_by-cons f x xs, sum_by-cons f y ys)
 
-pub names_alike : (old new : Tree) (number : ℕ) → IsNamedAlike old new number → names_of new number ≡ names_of old number
+pub names_alike : (old new : Tree) (number : ℕ) → IsNamedAlike old new number
+    → names_of new number ≡ names_of old number
 unfolding names_of
 names_alike old new number same = same_sum (names_at number) new old refl same
 
-same_holder : (i : ℕ) (xs ys : Tree) (number found : ℕ) → ((j : ℕ) → names_at number (get_or xs j None) ≡ names_at number (get_or ys j None))
+same_holder : (i : ℕ) (xs ys : Tree) (number found : ℕ)
+    → ((j : ℕ) → names_at number (get_or xs j None) ≡ names_at number (get_or ys j None))
     → holder_from i xs number found ≡ holder_from i ys number found
 unfolding holder_from
 same_holder i [] [] number found same = refl
@@ -103,4 +114,5 @@ pub parent_kept : (old new : Tree) (number : ℕ) → IsSameKind old new number 
     → parent_of new number ≡ parent_of old number
 unfolding parent_of
 parent_kept old new number kind same =
-    rw kind (ap (λ (n : ℕ). cond (is_directory_at (place old number)) (cond (number == 1) 1 n) 0) (same_holder 0 new old number 0 same))
+    rw kind (ap (λ (n : ℕ). cond (is_directory_at (place old number)) (cond (number == 1) 1 n) 0)
+    (same_holder 0 new old number 0 same))

@@ -1,9 +1,9 @@
 -- The changes of cells that each update makes, in their order.
-use Rattle.std.specs.Prelude.{ℕ, ◌==◌, ◌&&◌, Bool, List, [], ◌∷◌, ◌++◌, length, map, Option, Some, None, Ok, Err, if◌then◌else◌}
+use Rattle.std.specs.Prelude.{ℕ, ◌==◌, ◌&&◌, List, [], ◌∷◌, ◌++◌, length, map, Option, Some, None, Ok, Err, if◌then◌else◌}
 use Rattle.harp_base.specs.declared.call.Call.{Call}
 use Rattle.harp_base.specs.declared.call.Call.TheVariants as call
 use Rattle.harp_base.specs.Time.{time_of}
-use Rattle.file_tree.specs.Tree.{Tree, Slots, place, slots_of, entry, free_from, used_blocks}
+use Rattle.file_tree.specs.Tree.{Tree, place, slots_of, entry, free_from, used_blocks}
 use Rattle.file_tree.specs.Outcome.{Outcome, LEAVE}
 use Rattle.file_tree.specs.Rename.{freed}
 use Rattle.file_tree.specs.Calls.{answered, outcome}

@@ -1,0 +1,158 @@
+//! Files that are created.
+
+ghost use Rattle.std.specs.Prelude.{◌≡◌, ◌≤◌, ℕ, Some, None, Ok, Err, IfOk};
+ghost use Rattle.harp_base.specs.Streams.{Rose};
+ghost use Rattle.harp_base.specs.declared.call.Call.TheVariants as call;
+ghost use Rattle.file_tree.specs.declared.object.Body.{Body};
+ghost use Rattle.file_tree.specs.Tree.{place, slots_of, entry, kind_of};
+ghost use Rattle.file_tree.specs.Steps.{entry_name};
+ghost use Rattle.file_tree.specs.Outcome.{create, create_again, create_new, is_regular, is_regular_at};
+ghost use Rattle.harp_cells.specs.Effect.{Cells};
+ghost use Rattle.update_changes.specs.Short.{AreShort};
+ghost use Rattle.update_changes.specs.TreeCells.{TreeCells};
+ghost use Rattle.nfs_calls.specs.TreeCells.{IsDirectory};
+ghost use Rattle.nfs_calls.specs.Plans.{FitsName, plan_view, planned, sets_planned, totals_of};
+ghost use Rattle.nfs_calls.specs.Gives.{Gives};
+
+use crate::directory::{directory, entry};
+use crate::entering::entered;
+use crate::inode::{attr_by, inode_at};
+use crate::making::{Entering, made, make, name_of, room_for};
+use crate::names::{entry_name, refuse};
+use crate::plan::Plan;
+use crate::refusal::Refusal;
+use crate::setting::{given, set_fields};
+use crate::totals::Totals;
+use harp_base::{Kind, Reply, SetAttr, Status, Time};
+use harp_cells::{CellFault, CellRead, Inode};
+use std::alloc::Global;
+
+fn is_regular(kind: Kind) -> bool
+    ensures { (body : Body) → kind_of body ≡ kind → result ≡ is_regular body }
+{
+    match kind {
+        Kind::Regular => true,
+        Kind::Directory => false,
+        Kind::Link => false,
+    }
+}
+
+/// Whether a number names a regular file.
+fn is_regular_at<R: CellRead>(cells: &mut R, number: u32) -> Result<bool, CellFault>
+    ensures regular { (t : TreeCells) → R.cells cells.old ≡ Some t.cells
+        → IfOk result (λ is. is ≡ is_regular_at (place t.tree number)) }
+    ensures kept { R.cells cells.new ≡ R.cells cells.old }
+    ensures rose { result ≡ Err CellFault.StoreFailed → Rose (R.faults cells.old) (R.faults cells.new) }
+    ensures count { R.faults cells.old ≤ R.faults cells.new }
+{
+    match inode_at(cells, number)? {
+        Some(inode) => Ok(is_regular(inode.kind)),
+        None => Ok(false),
+    }
+}
+
+/// A file that is there already, with its attributes set.
+#[tactic(auto, unfolding(file_tree::specs::Outcome::create_again))]
+fn create_again<R: CellRead>(
+    alloc: Global,
+    cells: &mut R,
+    totals: Totals,
+    number: u32,
+    attr: &SetAttr,
+    now: Time,
+) -> Result<Plan, Refusal>
+    ensures plan { (t : TreeCells) → R.cells cells.old ≡ Some t.cells → totals ≡ totals_of t.tree
+        → Gives plan_view result
+        (sets_planned t.cells t.tree number attr.now.size (create_again t.tree number attr.now now)) }
+    ensures short { IfOk result (λ p. AreShort 13 p.changes.items) }
+    ensures kept { R.cells cells.new ≡ R.cells cells.old }
+    ensures rose { result ≡ Err (Refusal.Fault CellFault.StoreFailed) → Rose (R.faults cells.old) (R.faults cells.new) }
+    ensures count { R.faults cells.old ≤ R.faults cells.new }
+{
+    let regular = is_regular_at(cells, number)?;
+    refuse(Status::Exist, !regular)?;
+    let set = set_fields(alloc, cells, totals, number, attr, now)?;
+    Ok(Plan {
+        reply: Reply::Node {
+            handle: number,
+            attr: attr_by(number, &set.inode),
+        },
+        changes: set.changes,
+        totals: set.totals,
+    })
+}
+
+/// A file of zeros with a new entry.
+#[tactic(auto, unfolding(file_tree::specs::Outcome::create_new))]
+fn create_new<R: CellRead>(
+    alloc: Global,
+    cells: &mut R,
+    totals: Totals,
+    dir: u32,
+    inode: &Inode,
+    name: &[u8],
+    attr: &SetAttr,
+    now: Time,
+) -> Result<Plan, Refusal>
+    requires { FitsName name.now }
+    ensures plan { (t : TreeCells) → R.cells cells.old ≡ Some t.cells → totals ≡ totals_of t.tree
+        → IsDirectory t.tree dir inode.now → entry_name name.now ≡ Ok tt
+        → entry (slots_of (place t.tree dir)) name.now ≡ None
+        → Gives plan_view result (planned t.cells t.tree (call.Create dir name.now attr.now)
+        (create_new t.tree dir (slots_of (place t.tree dir)) name.now attr.now now)) }
+    ensures short { IfOk result (λ p. AreShort 13 p.changes.items) }
+    ensures kept { R.cells cells.new ≡ R.cells cells.old }
+    ensures rose { result ≡ Err (Refusal.Fault CellFault.StoreFailed) → Rose (R.faults cells.old) (R.faults cells.new) }
+    ensures count { R.faults cells.old ≤ R.faults cells.new }
+{
+    let size = given(attr.size, 0);
+    refuse(Status::FBig, size > 2_147_483_647)?;
+    let room = room_for(cells, totals, dir, inode, size)?;
+    let made = made(attr, Kind::Regular, 1, 0, size, now);
+    let entering = Entering {
+        dir,
+        inode: entered(inode, room.slots, 0, now),
+        slot: room.slot,
+        name: name_of(alloc, name)?,
+    };
+    let number = totals.next;
+    let changes = make(alloc, entering, number, &made, b"")?;
+    Ok(Plan {
+        reply: Reply::Node {
+            handle: number,
+            attr: attr_by(number, &made),
+        },
+        changes,
+        totals: Totals {
+            next: number + 1,
+            used: room.used,
+        },
+    })
+}
+
+/// CREATE (RFC 1094, section 2.2.10): a file that is there gets the attributes.
+#[tactic(auto, unfolding(file_tree::specs::Outcome::create))]
+pub fn create<R: CellRead>(
+    alloc: Global,
+    cells: &mut R,
+    totals: Totals,
+    dir: u32,
+    name: &[u8],
+    attr: &SetAttr,
+    now: Time,
+) -> Result<Plan, Refusal>
+    ensures plan { (t : TreeCells) → R.cells cells.old ≡ Some t.cells → totals ≡ totals_of t.tree
+        → Gives plan_view result
+        (planned t.cells t.tree (call.Create dir name.now attr.now) (create t.tree dir name.now attr.now now)) }
+    ensures short { IfOk result (λ p. AreShort 13 p.changes.items) }
+    ensures kept { R.cells cells.new ≡ R.cells cells.old }
+    ensures rose { result ≡ Err (Refusal.Fault CellFault.StoreFailed) → Rose (R.faults cells.old) (R.faults cells.new) }
+    ensures count { R.faults cells.old ≤ R.faults cells.new }
+{
+    let inode = directory(cells, dir)?;
+    entry_name(name)?;
+    match entry(cells, dir, &inode, name)? {
+        Some((_, number)) => create_again(alloc, cells, totals, number, attr, now),
+        None => create_new(alloc, cells, totals, dir, &inode, name, attr, now),
+    }
+}

@@ -1,0 +1,191 @@
+//! Attributes that are set.
+
+ghost use Rattle.std.specs.Prelude.{◌≡◌, ◌≤◌, ◌<◌, ◌≢◌, ℕ, Some, Ok, Err, IfOk};
+ghost use Rattle.harp_base.specs.Streams.{Rose};
+ghost use Rattle.harp_base.specs.declared.call.Call.TheVariants as call;
+ghost use Rattle.harp_base.specs.declared.attr.Kind.TheVariants as kinds;
+ghost use Rattle.file_tree.specs.Tree.{Tree, used_blocks};
+ghost use Rattle.file_tree.specs.Outcome.{given, given_mode, given_time, mtime_for_size, set_attr, set_fields, with_size};
+ghost use Rattle.harp_cells.specs.Effect.{Cells};
+ghost use Rattle.update_changes.specs.Short.{AreShort};
+ghost use Rattle.update_changes.specs.TreeCells.{TreeCells};
+ghost use Rattle.nfs_calls.specs.TreeCells.{IsInode, object_at};
+ghost use Rattle.nfs_calls.specs.Plans.{IsSet, bytes_given, plan_view, planned, resizes_by, set_inode, set_tree, totals_of, used_with};
+ghost use Rattle.nfs_calls.specs.Gives.{Gives, Tells};
+
+use crate::file::bytes_in;
+use crate::inode::{attr_by, live};
+use crate::names::refuse;
+use crate::plan::Plan;
+use crate::pushes::put_object;
+use crate::refusal::Refusal;
+use crate::space::replaced;
+use crate::totals::Totals;
+use harp_base::{Reply, SetAttr, Status, Time};
+use harp_cells::{CellFault, CellRead, Change, Inode};
+use inode_blocks::cut_to;
+use std::alloc::Global;
+
+/// The value of a field that is left as it is (RFC 1094, section 2.3.6).
+pub const LEAVE: u32 = 4_294_967_295;
+
+/// A field of SETATTR, or the old value where it is left.
+pub fn given(new: u32, old: u32) -> u32
+    ensures { result ≡ given new old }
+{
+    if new == LEAVE { old } else { new }
+}
+
+/// A given mode has 12 bits.
+pub fn given_mode(new: u32, old: u16) -> u16
+    ensures { result ≡ given_mode new old }
+{
+    if new == LEAVE {
+        old
+    } else {
+        (new % 4096) as u16
+    }
+}
+
+/// A given time; its seconds say whether it is left.
+pub fn given_time(new: Time, old: Time) -> Time
+    ensures { result ≡ given_time new old }
+{
+    if new.seconds == LEAVE { old } else { new }
+}
+
+/// The mtime where none is given: a given size changes it.
+fn mtime_for_size(size: u32, old: Time, now: Time) -> Time
+    ensures { result ≡ mtime_for_size size old now }
+{
+    if size == LEAVE { old } else { now }
+}
+
+/// An object's attributes with the given ones set.
+#[tactic(auto, unfolding(crate::specs::Plans::set_inode))]
+fn set_inode(inode: &Inode, attr: &SetAttr, now: Time) -> Inode
+    ensures { result ≡ set_inode inode.now attr.now now }
+{
+    Inode {
+        mode: given_mode(attr.mode, inode.mode),
+        uid: given(attr.uid, inode.uid),
+        gid: given(attr.gid, inode.gid),
+        size: given(attr.size, inode.size),
+        atime: given_time(attr.atime, inode.atime),
+        mtime: given_time(attr.mtime, mtime_for_size(attr.size, inode.mtime, now)),
+        ctime: now,
+        ..*inode
+    }
+}
+
+/// The used blocks with an object of a given size, which only a file gets.
+#[tactic(auto, unfolding(file_tree::specs::Outcome::with_size))]
+fn with_size(inode: &Inode, used: u32, size: u32) -> Result<u32, Status>
+    ensures step { (tree : Tree) (number : ℕ) → IsInode tree number inode.now → used_blocks tree ≡ used
+        → Tells (λ _. bytes_given (object_at tree number).body size) result
+        (with_size tree number (object_at tree number).body size) }
+    ensures used { IfOk result (λ after. used_with used inode.now.size size ≡ Ok after) }
+    ensures file { IfOk result (λ _. size ≢ LEAVE → inode.now.kind ≡ kinds.Regular) }
+    ensures small { IfOk result (λ _. size ≢ LEAVE → size ≤ 2147483647) }
+{
+    if size == LEAVE {
+        return Ok(used);
+    }
+    bytes_in(inode.kind)?;
+    refuse(Status::FBig, size > 2_147_483_647)?;
+    replaced(u64::from(used), inode.size, u64::from(size))
+}
+
+/// The changes that give a file of a size another one, where one is given.
+fn resize<R: CellRead>(
+    alloc: Global,
+    cells: &mut R,
+    handle: u32,
+    size: u32,
+    wanted: u32,
+) -> Result<Vec<Change>, CellFault>
+    requires { wanted ≢ LEAVE → wanted ≤ 2147483647 }
+    ensures changes { (held : Cells) → R.cells cells.old ≡ Some held
+        → IfOk result (λ changes. changes.items ≡ resizes_by held handle size wanted) }
+    ensures short { IfOk result (λ changes. AreShort 2 changes.items) }
+    ensures kept { R.cells cells.new ≡ R.cells cells.old }
+    ensures rose { result ≡ Err CellFault.StoreFailed → Rose (R.faults cells.old) (R.faults cells.new) }
+    ensures count { R.faults cells.old ≤ R.faults cells.new }
+{
+    let mut changes = Vec::new(alloc);
+    if wanted == LEAVE {
+        return Ok(changes);
+    }
+    cut_to(alloc, cells, handle, size, wanted, &mut changes)?;
+    Ok(changes)
+}
+
+/// An object whose attributes are set: these, the changes, and the totals.
+#[derive(Debug, Drop)]
+pub struct Set {
+    pub inode: Inode,
+    pub changes: Vec<Change>,
+    pub totals: Totals,
+}
+
+/// The attributes of an object are set.
+#[tactic(auto, unfolding(file_tree::specs::Outcome::set_fields))]
+pub fn set_fields<R: CellRead>(
+    alloc: Global,
+    cells: &mut R,
+    totals: Totals,
+    handle: u32,
+    attr: &SetAttr,
+    now: Time,
+) -> Result<Set, Refusal>
+    ensures step { (t : TreeCells) → R.cells cells.old ≡ Some t.cells → totals ≡ totals_of t.tree
+        → Gives (λ _. set_tree t.tree handle attr.now now) result (set_fields t.tree handle attr.now now) }
+    ensures set { (t : TreeCells) → R.cells cells.old ≡ Some t.cells → totals ≡ totals_of t.tree
+        → IfOk result (IsSet t.cells t.tree (set_tree t.tree handle attr.now now) handle attr.now.size) }
+    ensures short { IfOk result (λ s. AreShort 3 s.changes.items) }
+    ensures kept { R.cells cells.new ≡ R.cells cells.old }
+    ensures rose { result ≡ Err (Refusal.Fault CellFault.StoreFailed) → Rose (R.faults cells.old) (R.faults cells.new) }
+    ensures count { R.faults cells.old ≤ R.faults cells.new }
+{
+    let inode = live(cells, handle)?;
+    let used = with_size(&inode, totals.used, attr.size)?;
+    let mut changes = resize(alloc, cells, handle, inode.size, attr.size)?;
+    let new = set_inode(&inode, attr, now);
+    put_object(&mut changes, handle, &new)?;
+    Ok(Set {
+        inode: new,
+        changes,
+        totals: Totals {
+            next: totals.next,
+            used,
+        },
+    })
+}
+
+/// SETATTR (RFC 1094, section 2.2.3).
+#[tactic(auto, unfolding(file_tree::specs::Outcome::set_attr))]
+pub fn set_attr<R: CellRead>(
+    alloc: Global,
+    cells: &mut R,
+    totals: Totals,
+    handle: u32,
+    attr: &SetAttr,
+    now: Time,
+) -> Result<Plan, Refusal>
+    ensures plan { (t : TreeCells) → R.cells cells.old ≡ Some t.cells → totals ≡ totals_of t.tree
+        → Gives plan_view result
+        (planned t.cells t.tree (call.SetAttr handle attr.now) (set_attr t.tree handle attr.now now)) }
+    ensures short { IfOk result (λ p. AreShort 13 p.changes.items) }
+    ensures kept { R.cells cells.new ≡ R.cells cells.old }
+    ensures rose { result ≡ Err (Refusal.Fault CellFault.StoreFailed) → Rose (R.faults cells.old) (R.faults cells.new) }
+    ensures count { R.faults cells.old ≤ R.faults cells.new }
+{
+    let set = set_fields(alloc, cells, totals, handle, attr, now)?;
+    Ok(Plan {
+        reply: Reply::Attr {
+            attr: attr_by(handle, &set.inode),
+        },
+        changes: set.changes,
+        totals: set.totals,
+    })
+}
