@@ -15,3 +15,4 @@ pub mod Changed
 pub mod FilePlans
 pub mod NewPlans
 pub mod WritePlans
+pub mod Targets

@@ -2,7 +2,8 @@
 use Rattle.std.specs.Prelude.{◌≡◌, ℕ, ◌-◌, Bool, false, ◌&&◌, ◌==◌, List, [], ◌∷◌, ◌++◌, length, Option, Some, Ok, if◌then◌else◌}
 use Rattle.harp_base.specs.declared.attr.Time.{Time}
 use Rattle.harp_base.specs.declared.reply.Reply.TheVariants.{Done}
-use Rattle.harp_base.specs.declared.reply.Status.TheVariants.{Perm, NoEnt}
+use Rattle.harp_base.specs.declared.reply.Status.{Status}
+use Rattle.harp_base.specs.declared.reply.Status.TheVariants.{Perm, NoEnt, NotDir, IsDir}
 use Rattle.file_tree.specs.Tree.{Tree, Slots, place, slots_of, entry, is_directory_at}
 use Rattle.file_tree.specs.Steps.{◌>>=◌, refuse, some_or, entry_name}
 use Rattle.file_tree.specs.Outcome.{Outcome}
@@ -42,6 +43,10 @@ abbrev pub links_over : Move → ℕ
 links_over m = if m.dir == m.to_dir then m.to.links - link_of m.moved.kind else m.to.links
 
 -- ---- steps of a rename
+
+-- the refusal of a target of another kind, by whether the moved object is a directory
+abbrev pub kind_refusal : Bool → Status
+kind_refusal from = if from then NotDir else IsDir
 
 -- the target's refusals, and the move
 abbrev pub moved_outcome : Tree → ℕ → ℕ × ℕ → ℕ → List ℕ → Option (ℕ × ℕ) → Time → Outcome

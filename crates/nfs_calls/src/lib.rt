@@ -16,6 +16,7 @@ mod pushes;
 mod reads;
 mod refusal;
 mod removes;
+mod renaming;
 mod setting;
 mod space;
 mod totals;
