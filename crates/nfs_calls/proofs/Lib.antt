@@ -16,3 +16,4 @@ pub mod FilePlans
 pub mod NewPlans
 pub mod WritePlans
 pub mod Targets
+pub mod Renames

@@ -55,12 +55,17 @@ moved_outcome tree dir x to_dir to_name target now = do
   new ← moved_to tree dir x to_dir (slots_of (place tree to_dir)) to_name target now
   Ok (Done, new)
 
+-- all after the entry was found
+abbrev pub apart_outcome : Tree → ℕ → ℕ × ℕ → ℕ → List ℕ → Time → Outcome
+apart_outcome tree dir x to_dir to_name now = do
+  _ ← refuse Perm (is_directory_at (place tree x.1) && is_above (length tree) tree x.1 to_dir)
+  moved_outcome tree dir x to_dir to_name (entry (slots_of (place tree to_dir)) to_name) now
+
 -- all after the names were checked
 abbrev pub found_outcome : Tree → ℕ → List ℕ → ℕ → List ℕ → Time → Outcome
 found_outcome tree dir name to_dir to_name now = do
   x ← some_or NoEnt (entry (slots_of (place tree dir)) name)
-  _ ← refuse Perm (is_directory_at (place tree x.1) && is_above (length tree) tree x.1 to_dir)
-  moved_outcome tree dir x to_dir to_name (entry (slots_of (place tree to_dir)) to_name) now
+  apart_outcome tree dir x to_dir to_name now
 
 -- an entry that may move: both are directories, and the object isn't above the one that it moves to
 pub record IsMoving (tree : Tree) (m : Move) (name to_name : List ℕ) : Type 0 where

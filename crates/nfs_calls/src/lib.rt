@@ -16,6 +16,7 @@ mod pushes;
 mod reads;
 mod refusal;
 mod removes;
+mod rename;
 mod renaming;
 mod setting;
 mod space;
