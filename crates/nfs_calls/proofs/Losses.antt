@@ -197,7 +197,15 @@ named_once tree dir slots name x sound is f d =
     let here : names_at x.1 (place tree dir) ≡ names_in x.1 slots = ap (names_in x.1) is in
     omega (arith, few, here, names_at-le tree dir x.1, cleared_names slots name x x.1 f, one_itself x.1)
 
-link_share : (tree : Tree) (number : ℕ) (j : Inode) → IsInode tree number j → link_of j.kind ≡ cond (is_directory_at (place tree number)) 1 0
+link_within : (k : Kind) → link_of k ≤ 1
+link_within kind.Directory = omega arith
+link_within kind.Regular = omega arith
+link_within kind.Link = omega arith
+
+pub link-le : (i : Inode) → link_of i.kind ≤ 1
+link-le i = link_within i.kind
+
+pub link_share : (tree : Tree) (number : ℕ) (j : Inode) → IsInode tree number j → link_of j.kind ≡ cond (is_directory_at (place tree number)) 1 0
 link_share tree number j is = ap (λ (b : Bool). cond b 1 0) (kind_at tree number j is)
 
 -- links less one for a directory

@@ -51,7 +51,7 @@ unfolding is_above
 above_itself zero tree dir = eq-eqb dir dir refl
 above_itself (suc levels) tree dir = or_left (dir == dir) _ (eq-eqb dir dir refl)
 
-directory_is_one : (tree : Tree) (dir : ℕ) (i : Inode) → IsDirectory tree dir i → is_directory_at (place tree dir) ≡ true
+pub directory_is_one : (tree : Tree) (dir : ℕ) (i : Inode) → IsDirectory tree dir i → is_directory_at (place tree dir) ≡ true
 directory_is_one tree dir i is = ap is_directory_at is.own.at ∙ ap is_directory (body_at tree dir i is)
 
 -- the moved object is neither of the directories

@@ -24,13 +24,16 @@ use Rattle.file_tree.proofs.SoundRename.{sound_moved_in}
 use Rattle.harp_cells.specs.declared.value.Inode.{Inode}
 use Rattle.harp_cells.specs.declared.cell.Cell.TheVariants as cell
 use Rattle.harp_cells.specs.declared.change.Change.{Change}
+use Rattle.harp_cells.specs.declared.change.Change.TheVariants as change
+use Rattle.harp_cells.specs.declared.value.Value.TheVariants as value
 use Rattle.harp_cells.specs.Effect.{Cells}
 use Rattle.update_changes.specs.Table.{set_by, slot_pair, dir_pair, moves, tree_changes}
 use Rattle.nfs_calls.specs.declared.moving.Move.{Move}
 use Rattle.nfs_calls.specs.declared.totals.Totals.{Totals}
 use Rattle.nfs_calls.specs.TreeCells.{IsInode, IsDirectory, object_at}
 use Rattle.nfs_calls.specs.Plans.{planned, totals_of}
-use Rattle.nfs_calls.specs.Moves.{IsMoving, moved_outcome}
+use Rattle.nfs_calls.specs.Entries.{relinked, loss}
+use Rattle.nfs_calls.specs.Moves.{IsMoving, moved_outcome, slot_changes, directory_changes, moved_inode, links_over}
 use Rattle.nfs_calls.proofs.Sets.{IsSet, place_at, place_other, length_on, names_on, used_on, holds_on, kinds_on, set_by_change}
 use Rattle.nfs_calls.proofs.Losses.{body_at}
 use Rattle.nfs_calls.proofs.MovedEntry.{AreApart, IsMoved, move_held, are_apart, entered_at, entered_beside, moved_put}
@@ -127,3 +130,17 @@ pub in_planned : (cells : Cells) (tree : Tree) (m : Move) (name to_name : List �
 unfolding check_target moved_in moves tree_changes
 in_planned cells tree m name to_name now free a b c totals e none is enough sa sb sc st =
     rw (is, enough) (rw (e, none) (rw is (rw (sa, sb, sc, st) refl)))
+
+-- a plan that moves an entry, by the attributes of its new directory and the totals
+abbrev pub in_view : Move → ℕ → List ℕ → Time → Inode → Totals → Reply × List Change × Totals
+in_view m j to_name now to totals =
+    (Done, slot_changes m j to_name ++ directory_changes m to now ++ change.Put (cell.Object m.number) (value.Object (moved_inode m now)) ∷ [], totals)
+
+-- and one that replaces an entry
+abbrev pub over_view : Move → ℕ × ℕ → List ℕ → Time → Inode → Totals → Reply × List Change × Totals
+over_view m y to_name now j totals = (
+  Done,
+  slot_changes m y.0 to_name ++ directory_changes m (relinked now (links_over m) m.to) now ++ loss y.1 j now
+      ++ change.Put (cell.Object m.number) (value.Object (moved_inode m now)) ∷ [],
+  totals,
+)

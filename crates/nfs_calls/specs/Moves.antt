@@ -2,7 +2,8 @@
 use Rattle.std.specs.Prelude.{◌≡◌, ℕ, ◌-◌, Bool, false, ◌&&◌, ◌==◌, List, [], ◌∷◌, ◌++◌, length, Option, Some, Ok, if◌then◌else◌}
 use Rattle.harp_base.specs.declared.attr.Time.{Time}
 use Rattle.harp_base.specs.declared.reply.Reply.TheVariants.{Done}
-use Rattle.harp_base.specs.declared.reply.Status.TheVariants.{Perm, NoEnt}
+use Rattle.harp_base.specs.declared.reply.Status.{Status}
+use Rattle.harp_base.specs.declared.reply.Status.TheVariants.{Perm, NoEnt, NotDir, IsDir}
 use Rattle.file_tree.specs.Tree.{Tree, Slots, place, slots_of, entry, is_directory_at}
 use Rattle.file_tree.specs.Steps.{◌>>=◌, refuse, some_or, entry_name}
 use Rattle.file_tree.specs.Outcome.{Outcome}
@@ -43,6 +44,10 @@ links_over m = if m.dir == m.to_dir then m.to.links - link_of m.moved.kind else 
 
 -- ---- steps of a rename
 
+-- the refusal of a target of another kind, by whether the moved object is a directory
+abbrev pub kind_refusal : Bool → Status
+kind_refusal from = if from then NotDir else IsDir
+
 -- the target's refusals, and the move
 abbrev pub moved_outcome : Tree → ℕ → ℕ × ℕ → ℕ → List ℕ → Option (ℕ × ℕ) → Time → Outcome
 moved_outcome tree dir x to_dir to_name target now = do
@@ -50,12 +55,17 @@ moved_outcome tree dir x to_dir to_name target now = do
   new ← moved_to tree dir x to_dir (slots_of (place tree to_dir)) to_name target now
   Ok (Done, new)
 
+-- all after the entry was found
+abbrev pub apart_outcome : Tree → ℕ → ℕ × ℕ → ℕ → List ℕ → Time → Outcome
+apart_outcome tree dir x to_dir to_name now = do
+  _ ← refuse Perm (is_directory_at (place tree x.1) && is_above (length tree) tree x.1 to_dir)
+  moved_outcome tree dir x to_dir to_name (entry (slots_of (place tree to_dir)) to_name) now
+
 -- all after the names were checked
 abbrev pub found_outcome : Tree → ℕ → List ℕ → ℕ → List ℕ → Time → Outcome
 found_outcome tree dir name to_dir to_name now = do
   x ← some_or NoEnt (entry (slots_of (place tree dir)) name)
-  _ ← refuse Perm (is_directory_at (place tree x.1) && is_above (length tree) tree x.1 to_dir)
-  moved_outcome tree dir x to_dir to_name (entry (slots_of (place tree to_dir)) to_name) now
+  apart_outcome tree dir x to_dir to_name now
 
 -- an entry that may move: both are directories, and the object isn't above the one that it moves to
 pub record IsMoving (tree : Tree) (m : Move) (name to_name : List ℕ) : Type 0 where

@@ -18,9 +18,10 @@ mod pushes;
 mod reads;
 mod refusal;
 mod removes;
+mod rename;
+mod renaming;
 mod setting;
 mod space;
-mod stubs;
 mod totals;
 mod writing;
 

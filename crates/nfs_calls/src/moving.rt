@@ -9,6 +9,15 @@ use harp_base::Time;
 use harp_cells::{Change, Inode, NonEmpty};
 use std::alloc::AllocError;
 
+/// The directories of a move, which may be one, and their attributes.
+#[derive(Clone, Copy, Debug)]
+pub struct Directories {
+    pub dir: u32,
+    pub from: Inode,
+    pub to_dir: u32,
+    pub to: Inode,
+}
+
 /// An entry that moves: its slot, the object that it names, the directory that it is in and the one that it moves to,
 /// which may be the same, and the attributes of these.
 #[derive(Clone, Copy, Debug)]
