@@ -10,11 +10,11 @@ use std::test::Fail;
 
 const LEFT: u32 = 4_294_967_295;
 
-fn name(alloc: Global, text: &[u8]) -> Result<Bounded<4096>, Fail> {
+pub fn name(alloc: Global, text: &[u8]) -> Result<Bounded<4096>, Fail> {
     Ok(Bounded::of(Vec::from_slice(alloc, text)?).ok_or("a name is too long")?)
 }
 
-fn mode(mode: u32) -> SetAttr {
+pub fn mode(mode: u32) -> SetAttr {
     let left = Time {
         seconds: LEFT,
         micros: LEFT,
@@ -29,7 +29,7 @@ fn mode(mode: u32) -> SetAttr {
     }
 }
 
-fn mkdir(alloc: Global, text: &[u8]) -> Result<Call, Fail> {
+pub fn mkdir(alloc: Global, text: &[u8]) -> Result<Call, Fail> {
     Ok(Call::MkDir {
         dir: 1,
         name: name(alloc, text)?,
@@ -70,7 +70,7 @@ fn worked_tree(alloc: Global) -> Result<PlainTree, Fail> {
 }
 
 /// An object's attributes at the second of the updates.
-fn inode(kind: Kind, mode: u16, links: u32, parent: u32, size: u32, slots: u32) -> Inode {
+pub fn inode(kind: Kind, mode: u16, links: u32, parent: u32, size: u32, slots: u32) -> Inode {
     let now = Time {
         seconds: 1,
         micros: 0,
@@ -126,7 +126,7 @@ fn put_objects(cells: &mut MemCells) -> Result<(), Fail> {
 }
 
 /// The cells of the same tree.
-fn worked_cells(alloc: Global) -> Result<MemCells, Fail> {
+pub fn worked_cells(alloc: Global) -> Result<MemCells, Fail> {
     let mut cells = MemCells::new(alloc);
     put_objects(&mut cells)?;
     put_slot(alloc, &mut cells, 0, 2, b'd')?;
@@ -203,7 +203,7 @@ fn told(place: u32) -> Call {
     }
 }
 
-fn spelled(alloc: Global, reply: &Reply) -> Result<Bytes, Fail> {
+pub fn spelled(alloc: Global, reply: &Reply) -> Result<Bytes, Fail> {
     let mut bytes = Bytes::new(alloc);
     write_reply(alloc, reply, &mut bytes)?;
     Ok(bytes)

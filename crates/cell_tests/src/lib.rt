@@ -9,3 +9,5 @@ mod calls;
 mod cells;
 #[cfg(test)]
 mod slots;
+#[cfg(test)]
+mod updates;

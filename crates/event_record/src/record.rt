@@ -2,6 +2,7 @@
 
 ghost use Rattle.std.specs.Prelude.{◌≡◌, IfOk};
 
+use crate::changes::Changes;
 use crate::numbers::Index;
 use harp_base::{Call, Reply, ViewNo};
 use harp_cells::Moment;
@@ -23,6 +24,8 @@ pub struct Record {
     /// The time of the update in milliseconds, below 2^62 + 2000.
     pub stamp: Moment,
     pub reply: Reply,
+    /// What the update makes of the cells of the tree and of its clients.
+    pub changes: Changes,
 }
 
 impl Record {
@@ -38,6 +41,7 @@ impl Record {
             call: self.call.copy(alloc)?,
             stamp: self.stamp,
             reply: self.reply.copy(alloc)?,
+            changes: self.changes.copy(alloc)?,
         })
     }
 }

@@ -1,2 +1,3 @@
 pub mod CellLemmas
+mod KeyOrder
 pub mod TreeLaws

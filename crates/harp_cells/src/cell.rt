@@ -20,9 +20,11 @@ pub enum Cell {
     Saved { place: u32 },
 }
 
+/// The kind of a cell, and the numbers that name it among its kind.
+pub(crate) type Key = (u8, u32, u32);
+
 impl Cell {
-    // The kind of the cell, and the numbers that name it among its kind.
-    fn key(self) -> (u8, u32, u32)
+    pub(crate) fn key(self) -> Key
         ensures { result ≡ key self }
     {
         match self {

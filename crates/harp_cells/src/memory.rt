@@ -1,82 +1,58 @@
 //! Cells in memory.
 
-ghost use Rattle.std.specs.Prelude.{◌≡◌, ◌≤◌, ◌<◌, [], ◌∷◌, length, slice_set, None, Some, IsErr, IsOk, OnOk, OnErr, Err};
+ghost use Rattle.std.specs.Prelude.{◌≡◌, ◌<◌, ◌≤◌, [], ◌∷◌, length, true, None, Some, IsOk, IsSome, IfNone, IfSome, OnOk, OnErr, Err, if◌then◌else◌};
 ghost use Rattle.std.specs.Option.{option_copied};
 ghost use Rattle.harp_base.specs.Streams.{Rose};
+ghost use Rattle.harp_cells.specs.declared.cell.Cell.{Cell as CellName};
+ghost use Rattle.harp_cells.specs.declared.cell.Cell.TheVariants as cell;
 ghost use Rattle.harp_cells.specs.declared.change.Change.TheVariants as change;
 ghost use Rattle.harp_cells.specs.Effect.{is_cell, is_block_from, Reads};
-ghost use Rattle.harp_cells.specs.Memory.{Listed, cell_in, first_of, without, held, fetched_in, HoldsNothing, BecomesBy, BecomesByPart};
+ghost use Rattle.harp_cells.specs.Memory.{cell_in, held, fetched_in, HoldsNothing, BecomesBy, BecomesByPart};
 
-use crate::cell::Cell;
+use crate::cell::{Cell, Key};
 use crate::change::Change;
 use crate::reads::{CellFault, CellRead};
 use crate::value::Value;
 use std::alloc::{AllocError, Global};
+use std::collections::BTreeMap;
 use std::marker::Model;
 
-// A cell with its value.
-#[derive(Debug, Drop)]
-struct Entry {
-    cell: Cell,
-    value: Value,
-}
-
-/// A small map of cells in memory. Each read and each change looks through all of them.
+/// A map of cells in memory. A read and a change cost a logarithm of the number of values, and an erasure of blocks one
+/// for each block that goes.
 #[derive(Debug, Drop)]
 pub struct MemCells {
-    entries: Vec<Entry>,
+    values: BTreeMap<Key, Value>,
     fetched: Option<Cell>,
 }
 
 impl Model for MemCells {
-    ghost use Rattle.harp_cells.specs.Memory.{Listed};
+    ghost use Rattle.harp_cells.specs.Memory.{Keyed};
 
-    ghost Value = { Listed };
+    ghost Value = { Keyed };
 
-    ghost view = { λ m. record { entries = m.entries.items; fetched = m.fetched } };
+    ghost view = { λ m. record { entries = m.values.entries; fetched = m.fetched } };
 }
 
-#[tactic(auto, unfolding(crate::specs::Memory::cell_in))]
-fn value_in(entries: &[Entry], cell: Cell) -> Option<&Value>
-    ensures { option_copied result ≡ cell_in entries.now cell }
+// The number of the object's first block that holds a value, from a number on.
+fn first_block(values: &BTreeMap<Key, Value>, object: u32, first: u32) -> Option<u32>
+    ensures from { IfSome result (λ block. first ≤ block) }
+    ensures found { IfSome result (λ block. IsSome (cell_in values.now.entries (cell.Block object block))) }
+    ensures none { IfNone result ((c : CellName) → is_block_from object first c ≡ true → cell_in values.now.entries c ≡ None) }
 {
-    for entry in entries {
-        if entry.cell.is(cell) {
-            return Some(&entry.value);
-        }
+    let (key, _) = values.range((3, object, first)..).next()?;
+    if key.0 == 3 && key.1 == object {
+        Some(key.2)
+    } else {
+        None
     }
-    None
 }
 
-#[tactic(auto, unfolding(crate::specs::Memory::first_of))]
-fn first_of(entries: &[Entry], cell: Cell) -> usize
-    ensures { result ≡ first_of cell entries.now }
+// The value of a cell goes, where there is one.
+fn drop_value(values: &mut BTreeMap<Key, Value>, cell: Cell)
+    ensures gone { (c : CellName) → cell_in values.new.entries c ≡ (if is_cell cell c then None else cell_in values.old.entries c) }
+    ensures fewer { IsSome (cell_in values.old.entries cell) → length values.new.entries < length values.old.entries }
 {
-    for (i, entry) in entries.iter().enumerate() {
-        if entry.cell.is(cell) {
-            return i;
-        }
-    }
-    entries.len()
-}
-
-fn set_entry(entries: &mut Vec<Entry>, place: usize, entry: Entry)
-    requires { place < length entries.old.items }
-    ensures { entries.new.items ≡ slice_set entries.old.items place entry }
-{
-    entries[place] = entry;
-}
-
-fn drop_cell(entries: &mut Vec<Entry>, cell: Cell)
-    ensures { entries.new.items ≡ without (is_cell cell) entries.old.items }
-{
-    entries.retain(|e| !cell.is(e.cell));
-}
-
-fn drop_blocks(entries: &mut Vec<Entry>, object: u32, first: u32)
-    ensures { entries.new.items ≡ without (is_block_from object first) entries.old.items }
-{
-    entries.retain(|e| !e.cell.is_block_from(object, first));
+    values.remove(&cell.key());
 }
 
 impl MemCells {
@@ -87,7 +63,7 @@ impl MemCells {
         ensures fetched { result.fetched ≡ None }
     {
         MemCells {
-            entries: Vec::new(alloc),
+            values: BTreeMap::new(alloc),
             fetched: None,
         }
     }
@@ -98,12 +74,7 @@ impl MemCells {
         ensures kept { OnErr result (self.new ≡ self.old) }
         ensures fetched { self.new.fetched ≡ self.old.fetched }
     {
-        let place = first_of(&self.entries, cell);
-        if place < self.entries.len() {
-            set_entry(&mut self.entries, place, Entry { cell, value });
-        } else {
-            self.entries.push(Entry { cell, value })?;
-        }
+        self.values.insert(cell.key(), value)?;
         Ok(())
     }
 
@@ -112,7 +83,7 @@ impl MemCells {
         ensures erased { BecomesBy (change.Erase cell ∷ []) self.old self.new }
         ensures fetched { self.new.fetched ≡ self.old.fetched }
     {
-        drop_cell(&mut self.entries, cell);
+        drop_value(&mut self.values, cell);
     }
 
     /// All blocks of the object from the first on are absent.
@@ -120,7 +91,9 @@ impl MemCells {
         ensures erased { BecomesBy (change.EraseFrom object first ∷ []) self.old self.new }
         ensures fetched { self.new.fetched ≡ self.old.fetched }
     {
-        drop_blocks(&mut self.entries, object, first);
+        while let Some(block) = first_block(&self.values, object, first) {
+            drop_value(&mut self.values, Cell::Block { object, block });
+        }
     }
 
     fn apply_one(&mut self, alloc: Global, change: &Change) -> Result<(), AllocError>
@@ -174,6 +147,6 @@ impl CellRead for MemCells {
     fn value(&self) -> Option<&Value>
         ensures { option_copied result ≡ fetched_in self.now }
     {
-        value_in(&self.entries, self.fetched?)
+        self.values.get(&self.fetched?.key())
     }
 }

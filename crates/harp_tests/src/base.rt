@@ -2,7 +2,8 @@
 
 use harp_base::{
     Attr, Bytes, Call, Failed, FieldFault, Kind, MemSink, MemSource, ReaderSource, Reply, Sink,
-    SinkFault, Source, Time, WriterSink, read_call, read_reply, write_all, write_call, write_reply,
+    SinkFault, Source, Status, Time, WriterSink, read_call, read_reply, write_all, write_call,
+    write_reply,
 };
 use std::alloc::Global;
 use std::io;
@@ -47,6 +48,13 @@ fn is_node(reply: &Reply) -> bool {
     }
 }
 
+fn is_refused(reply: &Reply, why: Status) -> bool {
+    match reply {
+        Reply::Refused { status } => *status == why,
+        _ => false,
+    }
+}
+
 #[test]
 fn reads_known_bytes(rt: HostRuntime) -> Result<(), Fail> {
     let alloc = rt.alloc();
@@ -58,6 +66,8 @@ fn reads_known_bytes(rt: HostRuntime) -> Result<(), Fail> {
     assert!(rt; long == Some(FieldFault::TooLong(9)));
     let (reply, length) = read_reply(alloc, NODE)?;
     assert!(rt; is_node(&reply) && length == 56);
+    let (reply, length) = read_reply(alloc, b"\0\x02")?;
+    assert!(rt; is_refused(&reply, Status::NoEnt) && length == 2);
     assert!(rt; read_reply(alloc, b"\0\x03").err() == Some(FieldFault::BadTag(1)));
     Ok(())
 }

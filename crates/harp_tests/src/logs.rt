@@ -2,19 +2,25 @@
 
 ghost use Rattle.std.specs.Prelude.{◌≡◌, IfOk};
 
-use event_record::{Index, Moment, Record};
+use event_record::{Changes, Index, Moment, Record};
 use harp_base::{Bounded, Call, Reply, ServerId, ViewNo};
+use harp_cells::Change;
 use std::alloc::Global;
 use std::test::Fail;
 use volatile_log::ActiveLog;
 use wire::Message;
 
-/// The update with this number, a write of one byte.
+/// The update with this number, a write of one byte. It has one change.
 fn record(alloc: Global, index: Index) -> Result<Record, Fail>
     ensures { IfOk result (λ r. r.index ≡ index) }
 {
     let bytes = Bounded::of(Vec::from_slice(alloc, b"a")?).ok_or("too long")?;
     let stamped = ViewNo::of(1, ServerId::Zero).ok_or("no view")?;
+    let mut changes = Vec::new(alloc);
+    changes.push(Change::EraseFrom {
+        object: 2,
+        first: 1,
+    })?;
     Ok(Record {
         stamped,
         index,
@@ -27,6 +33,7 @@ fn record(alloc: Global, index: Index) -> Result<Record, Fail>
         },
         stamp: Moment::new(2050),
         reply: Reply::Done,
+        changes: Changes::of(changes).ok_or("too many changes")?,
     })
 }
 
@@ -37,6 +44,7 @@ fn keeps_a_record(rt: HostRuntime) -> Result<(), Fail> {
     let item = record(alloc, Index::new(1))?;
     assert!(rt; log.append(item.copy(alloc)?).is_ok());
     assert!(rt; matches!(log.item(1), Some(kept) if kept.client == 7));
+    assert!(rt; matches!(log.item(1), Some(kept) if kept.changes.as_slice().len() == 1));
     assert!(rt; log.item(2).is_none());
     let message = Message::Event {
         view: item.stamped,

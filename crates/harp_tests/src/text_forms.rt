@@ -47,6 +47,7 @@ fn all_give(alloc: Global, text: &[u8], want: Outcome) -> Result<bool, Fail> {
 
 const STEPS: &[u8] = b"ask 1 9 1 lookup 1 -
 ask 2 4294967295 0 mkdir 1 61 755
+ask 2 9 1 null
 deliver 0
 deliver 999999999999999999
 pump
@@ -68,13 +69,12 @@ apply 0 01
 power 0 all
 crash 0 none
 stop
-noise  x
-ask 1 9 1 null x
-ask 2 9 1 statfs";
+noise  x";
 
 const FAULTS: &[u8] = b"ask 1 9 1
 ask 2 9 1
 ask 1 9 1 nullx
+ask 1 9 1 null x
 deliver
 deliver 00
 deliver 01

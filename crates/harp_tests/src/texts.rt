@@ -1,11 +1,11 @@
 //! Lines of schedules and traces.
 
-use harp_base::{Bounded, Bytes, DirEntry, Entries, Reply, ServerId};
+use harp_base::{Bounded, Bytes, Call, DirEntry, Entries, Reply, ServerId};
 use schedule_text::read_step;
 use std::alloc::Global;
 use std::test::Fail;
 use text_fields::TextFault;
-use trace_lines::{Cause, Line, LineFault};
+use trace_lines::{BookEntry, Cause, Line, LineFault, Step};
 use trace_text::{write_line, write_step};
 
 /// What reading a line gives.
@@ -56,11 +56,26 @@ ask 0 7 1 mkdir 1 61 0
 ask 0 7 1 mkdir 1 61 7777
 ask 0 7 1 mkdir 1 61 -,0
 ask 0 7 1 mkdir 1 61 755,0,0,5,1:2
-ask 0 7 1 mkdir 1 61 -,-,-,-,4294967295:5,5:4294967295";
+ask 0 7 1 mkdir 1 61 -,-,-,-,4294967295:5,5:4294967295
+ask 0 7 1 null
+ask 0 7 1 getattr 4294967295
+ask 0 7 1 setattr 2 -,-,-,0
+ask 0 7 1 readlink 2
+ask 0 7 1 read 2 4294967295 8192
+ask 0 7 1 write 2 2147483647 00ff
+ask 0 7 1 write 2 0 -
+ask 0 7 1 create 1 66 644
+ask 0 7 1 remove 1 2e
+ask 0 7 1 rename 1 61 2 -
+ask 0 7 1 link 2 1 64
+ask 0 7 1 symlink 1 6c 2f61 -
+ask 0 7 1 symlink 1 6c - 777
+ask 0 7 1 rmdir 1 61
+ask 0 7 1 readdir 1 0 8192
+ask 0 7 1 statfs 1";
 
 const UNBUILT: &[u8] = b"noise  x
-ask 0 9 1 null x
-ask 0 9 1 statfs";
+list";
 
 const FAULTS: &[u8] = b" # x
 ask 3 9 1 lookup 1 -
@@ -77,6 +92,26 @@ ask 0 9 1
 asks 0 9 1
 ask 1 9 1x
 ask 0 9 1 nullx
+ask 0 9 1 null x
+ask 0 9 1 null 
+ask 0 9 1 Null
+ask 0 9 1 root
+ask 0 9 1 writecache 1
+ask 0 9 1 statfs
+ask 0 9 1 getattr 4294967296
+ask 0 9 1 getattr 01
+ask 0 9 1 getattr 1 1
+ask 0 9 1 setattr 1
+ask 0 9 1 readlink -
+ask 0 9 1 read 1 0
+ask 0 9 1 read 1 0 1 0
+ask 0 9 1 write 1 0
+ask 0 9 1 write 1 0 6
+ask 0 9 1 rename 1 61 2
+ask 0 9 1 rename 1 61 - 2
+ask 0 9 1 link 1 61
+ask 0 9 1 symlink 1 6c 755
+ask 0 9 1 readdir 1 0
 noises 0
 ask 0 7 1 mkdir 1 61 755,-
 ask 0 7 1 mkdir 1 61 -,-,-,-,-,4294967295:4294967295
@@ -146,6 +181,51 @@ fn is_fault_written(alloc: Global) -> Result<bool, Fail> {
         fault: LineFault::TooMany,
     };
     is_written(alloc, &line, b"bad 50001 too-many")
+}
+
+/// The call of an ask.
+fn asked(alloc: Global, line: &[u8]) -> Result<Call, Fail> {
+    match read_step(alloc, line) {
+        Ok(Some(Step::Ask { call, .. })) => Ok(call),
+        _ => Err("no ask".into()),
+    }
+}
+
+fn is_entry_written(alloc: Global) -> Result<bool, Fail> {
+    let entry = BookEntry {
+        index: 8,
+        client: 3,
+        number: 8,
+        stamp: 4100,
+        call: asked(alloc, b"ask 1 3 8 symlink 1 73 7372632f62 -")?,
+        reply: Reply::Done,
+    };
+    let line = Line::Entered { place: 8, entry };
+    is_written(
+        alloc,
+        &line,
+        b"entered 8 8 3 8 4100 symlink 1 73 7372632f62 - = done",
+    )
+}
+
+fn is_path_written(alloc: Global) -> Result<bool, Fail> {
+    let text = Bounded::of(Vec::from_slice(alloc, b"src/b")?).ok_or("a text is too long")?;
+    let line = Line::Answered {
+        server: ServerId::One,
+        client: 3,
+        number: 13,
+        index: 9,
+        reply: Reply::Path { text },
+    };
+    is_written(alloc, &line, b"answered 1 3 13 9 path 7372632f62")
+}
+
+#[test]
+fn writes_calls_and_replies(rt: HostRuntime) -> Result<(), Fail> {
+    let alloc = rt.alloc();
+    assert!(rt; is_entry_written(alloc)?);
+    assert!(rt; is_path_written(alloc)?);
+    Ok(())
 }
 
 #[test]

@@ -51,15 +51,24 @@ pub subdirectories_same : (old new : Tree) (slots : Slots)
     → subdirectories new slots ≡ subdirectories old slots
 subdirectories_same old new [] h = refl
 subdirectories_same old new (None ∷ slots) h =
-    omega (arith, sum_by-cons (directory_share new) None slots, sum_by-cons (directory_share old) None slots,
-    subdirectories_same old new slots (λ k le. h k (omega (arith, le, sum_by-cons (share k) None slots))))
+    omega (
+      arith,
+      sum_by-cons (directory_share new) None slots,
+      sum_by-cons (directory_share old) None slots,
+      subdirectories_same old new slots (λ k le. h k (omega (arith, le, sum_by-cons (share k) None slots))),
+    )
 subdirectories_same old new (Some s ∷ slots) h =
     let itself : share s.number (Some s) ≡ 1 = rw (eq-eqb s.number s.number refl) refl in
     let here : is_directory_at (place new s.number) ≡ is_directory_at (place old s.number) =
     h s.number (omega (arith, itself, sum_by-cons (share s.number) (Some s) slots)) in
     let same : directory_share new (Some s) ≡ directory_share old (Some s) = ap (λ (b : Bool). cond b 1 0) here in
-    omega (arith, same, sum_by-cons (directory_share new) (Some s) slots, sum_by-cons (directory_share old) (Some s) slots,
-    subdirectories_same old new slots (λ k le. h k (omega (arith, le, sum_by-cons (share k) (Some s) slots))))
+    omega (
+      arith,
+      same,
+      sum_by-cons (directory_share new) (Some s) slots,
+      sum_by-cons (directory_share old) (Some s) slots,
+      subdirectories_same old new slots (λ k le. h k (omega (arith, le, sum_by-cons (share k) (Some s) slots))),
+    )
 
 pub share_of_found : (tree : Tree) (slots : Slots) (name : List ℕ) (x : ℕ × ℕ) → IsFound slots name x
     → directory_share tree (get_or slots x.0 None) ≡ cond (is_directory_at (place tree x.1)) 1 0
@@ -85,9 +94,9 @@ pub slots_at : (tree : Tree) (number : ℕ) (i : Inode) (slots : Slots) → IsIn
     → (i.links ≡ 2 + subdirectories tree slots) × (i.size ≡ 264 * length slots) × (i.slots ≡ length slots)
 unfolding links_of
 slots_at tree number i slots is body = (
-    ap (λ (j : Inode). j.links) is.is ∙ ap (links_of tree number) body,
-    ap (λ (j : Inode). j.size) is.is ∙ ap size_of body,
-    ap (λ (j : Inode). j.slots) is.is ∙ ap (λ (b : Body). length (slots_within b)) body,
+  ap (λ (j : Inode). j.links) is.is ∙ ap (links_of tree number) body,
+  ap (λ (j : Inode). j.size) is.is ∙ ap size_of body,
+  ap (λ (j : Inode). j.slots) is.is ∙ ap (λ (b : Body). length (slots_within b)) body,
 )
 
 -- a directory whose slots changed

@@ -17,3 +17,4 @@ pub mod NewPlans
 pub mod WritePlans
 pub mod Targets
 pub mod Renames
+pub mod Linkings

@@ -225,7 +225,7 @@ made_totals tree dir i name o room now is =
     let used : used_blocks (made_tree tree dir name o now) ≡ room.used = omega (arith, used_reslots _ _ dir _ _ r, used_push tree o, u.is, old) in
     λ k. record { next = next k; used = used k }
 
-slot_placed : (slots : Slots) (s : Slot) → get_or (with_entry slots s) (free_from 0 slots) None ≡ Some s
+pub slot_placed : (slots : Slots) (s : Slot) → get_or (with_entry slots s) (free_from 0 slots) None ≡ Some s
 slot_placed slots s =
     let t : (free_from 0 slots == free_from 0 slots) ≡ true = eq-eqb (free_from 0 slots) (free_from 0 slots) refl in
     let e = entry_differs slots s (free_from 0 slots) in
@@ -282,7 +282,7 @@ new_names tree dir i name o room now is =
       no_names tree (length tree) is.sound (omega arith),
     )
 
-file_links : (tree : Tree) (number : ℕ) (b : Body) → is_directory b ≡ false → links_of tree number b ≡ names_of tree number
+pub file_links : (tree : Tree) (number : ℕ) (b : Body) → is_directory b ≡ false → links_of tree number b ≡ names_of tree number
 unfolding links_of
 file_links tree number (body.Regular bytes) e = refl
 file_links tree number (body.Link text) e = refl

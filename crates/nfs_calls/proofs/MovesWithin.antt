@@ -41,8 +41,12 @@ within m = record m { dir = m.to_dir }
 within_done : (cells : Cells) (tree : Tree) (m : Move) (name to_name : List ℕ) (now : Time) (j : ℕ) → IsSound tree → IsMoving tree (within m) name to_name
     → entry (slots_of (place tree m.to_dir)) to_name ≡ None → j ≡ min m.slot (free_from 0 (slots_of (place tree m.to_dir)))
     → planned cells tree (call.Rename m.to_dir name m.to_dir to_name) (moved_outcome tree m.to_dir (m.slot, m.number) m.to_dir to_name None now)
-    ≡ Ok (Done, slot_changes (within m) j to_name ++ directory_changes (within m) (relinked now m.to.links m.to) now
-    ++ change.Put (cell.Object m.number) (value.Object (moved_inode m now)) ∷ [], totals_of tree)
+    ≡ Ok (
+      Done,
+      slot_changes (within m) j to_name ++ directory_changes (within m) (relinked now m.to.links m.to) now
+          ++ change.Put (cell.Object m.number) (value.Object (moved_inode m now)) ∷ [],
+      totals_of tree,
+    )
 within_done cells tree m name to_name now j sound is none first =
     let d = m.to_dir in
     let o = object_at tree d in
@@ -97,11 +101,19 @@ within_done cells tree m name to_name now j sound is none first =
 pub within_planned : (cells : Cells) (tree : Tree) (m : Move) (name to_name : List ℕ) (now : Time) (j : ℕ) → IsSound tree → m.dir ≡ m.to_dir → IsMoving tree m name to_name
     → entry (slots_of (place tree m.to_dir)) to_name ≡ None → j ≡ min m.slot (free_from 0 (slots_of (place tree m.to_dir)))
     → planned cells tree (call.Rename m.dir name m.to_dir to_name) (moved_outcome tree m.dir (m.slot, m.number) m.to_dir to_name None now)
-    ≡ Ok (Done, slot_changes m j to_name ++ directory_changes m (relinked now m.to.links m.to) now
-    ++ change.Put (cell.Object m.number) (value.Object (moved_inode m now)) ∷ [], totals_of tree)
+    ≡ Ok (
+      Done,
+      slot_changes m j to_name ++ directory_changes m (relinked now m.to.links m.to) now
+          ++ change.Put (cell.Object m.number) (value.Object (moved_inode m now)) ∷ [],
+      totals_of tree,
+    )
 within_planned cells tree m name to_name now j sound one is none first =
     let same : m ≡ within m = ap (λ (d : ℕ). record m { dir = d }) one in
     subst (λ (n : Move). planned cells tree (call.Rename n.dir name n.to_dir to_name) (moved_outcome tree n.dir (n.slot, n.number) n.to_dir to_name None now)
-    ≡ Ok (Done, slot_changes n j to_name ++ directory_changes n (relinked now n.to.links n.to) now
-    ++ change.Put (cell.Object n.number) (value.Object (moved_inode n now)) ∷ [], totals_of tree)) (sym same)
+    ≡ Ok (
+      Done,
+      slot_changes n j to_name ++ directory_changes n (relinked now n.to.links n.to) now
+          ++ change.Put (cell.Object n.number) (value.Object (moved_inode n now)) ∷ [],
+      totals_of tree,
+    )) (sym same)
     (within_done cells tree m name to_name now j sound (subst (λ (n : Move). IsMoving tree n name to_name) same is) none first)

@@ -59,7 +59,7 @@ pub named_lives : (tree : Tree) (dir : ℕ) (name : List ℕ) (x : ℕ × ℕ) �
 named_lives tree dir name x sound e none =
     let f = found (slots_of (place tree dir)) name x e in
     let live = live_from x.1 (place tree x.1) _ (sound.entries x.1)
-        (omega (arith, names_at-le tree dir x.1, cleared_names (slots_of (place tree dir)) name x x.1 f, one_itself x.1)) in
+    (omega (arith, names_at-le tree dir x.1, cleared_names (slots_of (place tree dir)) name x x.1 f, one_itself x.1)) in
     let there = live.1 in
     absurd cc
 

@@ -32,7 +32,7 @@ abbrev pub directory_changes : Move → Inode → Time → List Change
 directory_changes m to now =
     if m.dir == m.to_dir then change.Put (cell.Object m.to_dir) (value.Object to) ∷ []
     else change.Put (cell.Object m.dir) (value.Object (relinked now (m.from.links - link_of m.moved.kind) m.from))
-        ∷ change.Put (cell.Object m.to_dir) (value.Object to) ∷ []
+    ∷ change.Put (cell.Object m.to_dir) (value.Object to) ∷ []
 
 -- the moved object: a directory gets another parent
 abbrev pub moved_inode : Move → Time → Inode

@@ -1,14 +1,16 @@
 -- What an update plans.
-use Rattle.std.specs.Prelude.{◌≡◌, ℕ, ◌+◌, ◌-◌, ◌*◌, ◌≤◌, ◌==◌, nat_lt, min, List, [], ◌∷◌, ◌++◌, length, Option, Some, None, Ok, if◌then◌else◌}
+use Rattle.std.specs.Prelude.{Bool, true, false, ◌≡◌, ℕ, ◌+◌, ◌-◌, ◌*◌, ◌≤◌, ◌==◌, nat_lt, min, List, [], ◌∷◌, ◌++◌, length, Option, Some, None, Ok, if◌then◌else◌}
 use Rattle.harp_base.specs.declared.attr.Kind.{Kind}
 use Rattle.harp_base.specs.declared.attr.SetAttr.{SetAttr}
 use Rattle.harp_base.specs.declared.attr.Time.{Time}
 use Rattle.harp_base.specs.declared.call.Call.{Call}
+use Rattle.harp_base.specs.declared.call.Call.TheVariants as call
 use Rattle.harp_base.specs.declared.reply.Reply.{Reply}
 use Rattle.harp_base.specs.declared.reply.Status.TheVariants.{NoSpc}
 use Rattle.file_tree.specs.declared.object.Body.{Body}
 use Rattle.file_tree.specs.Tree.{Tree, attr_at, blocks_of, used_blocks}
 use Rattle.file_tree.specs.Steps.{Step, ◌>>=◌, refuse}
+use Rattle.file_tree.specs.Calls.{settled}
 use Rattle.file_tree.specs.Outcome.{Outcome, LEAVE, given, given_mode, given_time, mtime_for_size, resized, change, with_fields}
 use Rattle.harp_cells.specs.declared.cell.Cell.TheVariants as cell
 use Rattle.harp_cells.specs.declared.change.Change.{Change}
@@ -17,7 +19,7 @@ use Rattle.harp_cells.specs.declared.value.Inode.{Inode}
 use Rattle.harp_cells.specs.declared.value.Value.TheVariants as value
 use Rattle.harp_cells.specs.Effect.{Cells}
 use Rattle.inode_blocks.specs.Changes.{text_put, cuts, kept_in}
-use Rattle.update_changes.specs.Table.{tree_changes, sets}
+use Rattle.update_changes.specs.Table.{changes_by, tree_changes, sets}
 use Rattle.nfs_calls.specs.declared.plan.Plan.{Plan}
 use Rattle.nfs_calls.specs.declared.setting.Set.{Set}
 use Rattle.nfs_calls.specs.declared.totals.Totals.{Totals}
@@ -84,6 +86,16 @@ makes_by dir slot name directory number made text =
     (changing.Put (cell.Slot dir slot) (value.Slot number name) ∷ []) ++ text_put number text
     ++ changing.Put (cell.Object dir) (value.Object directory) ∷ [] ++ changing.Put (cell.Object number) (value.Object made) ∷ []
 
+-- a file or a link with one more entry
+unfoldable pub linked : Inode → Time → Inode
+linked i now = record i { links = capped (i.links + 1); ctime = now }
+
+-- the changes that make an entry of an object that is there
+abbrev pub links_by : ℕ → ℕ → List ℕ → Inode → ℕ → Inode → List Change
+links_by dir slot name directory number linked =
+    changing.Put (cell.Slot dir slot) (value.Slot number name) ∷ changing.Put (cell.Object dir) (value.Object directory)
+    ∷ changing.Put (cell.Object number) (value.Object linked) ∷ []
+
 -- an object's attributes with the given ones set
 unfoldable pub set_inode : Inode → SetAttr → Time → Inode
 set_inode i a now = record i {
@@ -126,3 +138,29 @@ abbrev pub sets_planned : Cells → Tree → ℕ → ℕ → Outcome → Step (R
 sets_planned cells tree number size outcome = do
   x ← outcome
   Ok (x.0, sets cells tree x.1 number size, totals_of x.1)
+
+-- ---- every update
+
+-- the updates that move, take away or add entries of objects that are there
+abbrev pub changes_entries : Call → Bool
+changes_entries (call.Remove dir name) = true
+changes_entries (call.RmDir dir name) = true
+changes_entries (call.Link handle dir name) = true
+changes_entries (call.Rename dir name to_dir to_name) = true
+changes_entries (call.SetAttr handle attr) = false
+changes_entries (call.Write handle offset bytes) = false
+changes_entries (call.Create dir name attr) = false
+changes_entries (call.SymLink dir name text attr) = false
+changes_entries (call.MkDir dir name attr) = false
+changes_entries call.Null = false
+changes_entries (call.GetAttr handle) = false
+changes_entries (call.Lookup dir name) = false
+changes_entries (call.ReadLink handle) = false
+changes_entries (call.Read handle offset count) = false
+changes_entries (call.ReadDir dir cookie count) = false
+changes_entries (call.StatFs handle) = false
+
+-- the plan of an outcome, a refusal among them
+abbrev pub settled_plan : Cells → Tree → Call → Outcome → Reply × List Change × Totals
+settled_plan cells tree c outcome =
+    ((settled tree outcome).0, changes_by cells tree c outcome, totals_of (settled tree outcome).1)

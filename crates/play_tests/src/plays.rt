@@ -1,44 +1,9 @@
 //! The worked rows of three servers, compared whole, and ends that fail.
 
-use harp_base::{Bytes, MemSink, MemSource};
-use harp_cli::harp;
+use crate::row::{Row, repeated, result_of};
+use harp_base::Bytes;
 use std::alloc::Global;
 use std::test::Fail;
-use std::thread::Threads;
-use world::World;
-
-/// A schedule with its whole trace and the exit status.
-struct Row {
-    schedule: &'static [u8],
-    trace: &'static [u8],
-    status: u8,
-}
-
-/// The exit status of a command, and what it wrote.
-fn result_of<R: Threads + Sync + AllocGlobal>(
-    rt: &R,
-    word: &str,
-    schedule: &[u8],
-    source_fails: &[u64],
-    sink_fails: &[u64],
-) -> Result<(u8, MemSink), Fail> {
-    let alloc = rt.alloc();
-    let words = vec![in alloc; String::from_str(alloc, word)?]?;
-    let mut left = Bytes::new(alloc);
-    left.extend(schedule)?;
-    let mut world = World::new(alloc)?;
-    let mut source = MemSource::new(left, Vec::from_slice(alloc, source_fails)?);
-    let mut sink = MemSink::new(alloc, Vec::from_slice(alloc, sink_fails)?)?;
-    let status = harp(
-        rt,
-        alloc,
-        words.as_slice(),
-        &mut world,
-        &mut source,
-        &mut sink,
-    );
-    Ok((status, sink))
-}
 
 const ROWS: [Row; 14] = [
     // Nothing.
@@ -135,15 +100,6 @@ fn plays_the_worked_rows(rt: HostRuntime) -> Result<(), Fail> {
         assert_eq!(rt; status, row.status);
     }
     Ok(())
-}
-
-/// These bytes, so many times.
-fn repeated(alloc: Global, bytes: &[u8], times: u32) -> Result<Bytes, Fail> {
-    let mut all = Bytes::new(alloc);
-    for _ in 0..times {
-        all.extend(bytes)?;
-    }
-    Ok(all)
 }
 
 #[test]

@@ -1,29 +1,26 @@
 -- The moves of an ask at an open leader.
-use Rattle.std.proofs.Common.{◌≡◌, ℕ, ◌≤◌, Bool, true, false, List, [], ◌∷◌, ◌++◌, Option, Some, None, refl, sym, ap, ◌∙◌, subst, inl, inr, fold}
-use Rattle.std.specs.Prelude.{Err, IfOk, IfSome, Ok, OnErr, Result, if◌then◌else◌, nat_le, map}
-use Rattle.std.proofs.lemmas.Bool.{cases_Bool, eq-eqb, le-ltb}
+use Rattle.std.proofs.Common.{◌≡◌, ℕ, ◌+◌, ◌≤◌, Bool, true, false, List, [], ◌∷◌, ◌++◌, length, Option, Some, None, refl, sym, ap, ◌∙◌, subst, inl, inr, fold, arith}
+use Rattle.std.specs.Prelude.{◌==◌, IfSome, if◌then◌else◌, nat_le, nat_lt, map}
+use Rattle.std.proofs.lemmas.Bool.{cases_Bool, eq-eqb, eqb-true, le-ltb}
 use Rattle.std.proofs.lemmas.Bool.Decides.{eqb_tells}
 use Rattle.std.proofs.lemmas.List.{append-nil}
-use Rattle.std.proofs.lemmas.Option.{same_Some}
 use Rattle.harp_base.specs.declared.call.Call.{Call}
 use Rattle.harp_base.specs.declared.peer.Peer.{Peer}
 use Rattle.harp_base.specs.Update.{is_update}
 use Rattle.harp_base.specs.declared.reply.Reply.{Reply}
+use Rattle.dedup.specs.declared.repeat.Seen.TheVariants as seen
+use Rattle.dedup.specs.declared.repeat.Seen.TheVariants.{Kept, New, Pending}
+use Rattle.dedup.specs.Repeats.{seen_after}
 use Rattle.file_tree.specs.Book.{Entry, last_next, last_of}
-use Rattle.file_tree.specs.Calls.{outcome}
-use Rattle.file_tree.specs.Tree.{Tree}
-use Rattle.file_tree.proofs.ReadLaw.{read_keeps}
 use Rattle.group_model.specs.Ask.{new_entry, read_entry, update_moves}
+use Rattle.group_model.specs.FixedStart.{view_one}
 use Rattle.group_model.specs.FreeReads.{on_free_ask}
-use Rattle.group_model.specs.Moves.{Reading, Saying}
-use Rattle.group_model.specs.Places.{Zero, all_of}
-use Rattle.group_model.specs.State.{Answers, Server}
-use Rattle.replica.specs.Clients.{kept}
+use Rattle.group_model.specs.Moves.{Appending, Reading, Saying, Sending}
+use Rattle.group_model.specs.Places.{Zero, One, all_of}
+use Rattle.group_model.specs.State.{Answers, Event, Server, top}
 use Rattle.replica.specs.Leader.{Asked}
-use Rattle.replica.specs.Said.{entered, sent}
+use Rattle.replica.specs.Said.{answered, entered, sent}
 use Rattle.replica.specs.Servers.{Leading, leading}
-use Rattle.replica.specs.declared.clients.Kept.{Kept}
-use Rattle.replica.specs.declared.outputs.Answered.{Answered}
 use Rattle.replica.specs.declared.outputs.Outputs.{Outputs}
 
 -- ---- which moves
@@ -51,7 +48,7 @@ asks_read now client number cp t lb grant items call s is update few =
 
 -- ---- repeats
 
-IsOf : ℕ → Option Entry → Type 0
+pub IsOf : ℕ → Option Entry → Type 0
 IsOf client o = IfSome o (λ e. e.client ≡ client)
 
 next_of : (client : ℕ) (last : Option Entry) (e : Entry) → IsOf client last → IsOf client (last_next client last e)
@@ -69,55 +66,22 @@ folded_of : (client : ℕ) (last : Option Entry) (items : List Entry) → IsOf c
 folded_of client last [] h = h
 folded_of client last (e ∷ items) h = folded_of client (last_next client last e) items (next_of client last e h)
 
--- what is kept of a client is its last update
-pub record LastIs (client : ℕ) (items : List Entry) (k : Kept) : Type 0 where
-  pub entry : Entry
-  pub last : last_of client items ≡ Some entry
-  pub client_is : entry.client ≡ client
-  pub kept_is : record { number = entry.number; index = entry.index; reply = entry.reply } ≡ k
-
-last_among : (client : ℕ) (items : List Entry) (k : Kept) (last : Option Entry) → last_of client items ≡ last
-    → IsOf client last → kept last ≡ Some k
-    → LastIs client items k
-unfolding IsOf
-last_among client items k None is of h = absurd (cc)
-last_among client items k (Some e) is of h = record { entry = e; last = is; client_is = of; kept_is = same_Some _ k h }
-
 none_of : (client : ℕ) → IsOf client None
 unfolding IsOf
 none_of client = tt
 
-pub last_is : (client : ℕ) (items : List Entry) (k : Kept) → kept (last_of client items) ≡ Some k
-    → LastIs client items k
-last_is client items k h =
-    last_among client items k (last_of client items) refl (folded_of client None items (none_of client)) h
+-- a client's last update is of this client
+pub last_of_client : (client : ℕ) (items : List Entry) → IsOf client (last_of client items)
+last_of_client client items = folded_of client None items (none_of client)
 
--- the answer to a repeat of an entry, where it is committed
-abbrev answer_at : Bool → Peer → Entry → List Answered
-answer_at told peer e = if told then (record {
-  peer = peer;
-  client = e.client;
-  number = e.number;
-  index = e.index;
-  reply = e.reply;
-  asked = None;
-}) ∷ [] else []
+-- ---- what a call of an update says
 
-said_at : (told : Bool) (now : ℕ) (peer : Peer) (e : Entry) (l : Leading) (before after : Outputs)
-    → after.answers.items ≡ before.answers.items ++ answer_at told peer e
+-- an answer leaves the leader
+answers_entry : (now : ℕ) (peer : Peer) (e : Entry) (l : Leading) (before after : Outputs)
+    → after.answers.items ≡ before.answers.items ++ answered peer (record { index = e.index; entry = e; asked = None }) ∷ []
     → after.committed ≡ before.committed → after.refusals ≡ before.refusals → after.sends ≡ before.sends
-    → Asked now (if told then Saying (Answers e.index e) ∷ [] else []) peer l l before after
-said_at true now peer e l before after answers committed refusals sends = record {
-  makes = record {
-    state = refl;
-    committed = ap (λ c. map entered c.items) committed ∙ sym (append-nil (map entered before.committed.items));
-    answers = answers;
-    refusals = ap (λ r. r.items) refusals ∙ sym (append-nil before.refusals.items);
-    sends = ap (λ s. map sent s.items) sends ∙ sym (append-nil (map sent before.sends.items));
-  };
-  waits = sym (append-nil l.peers);
-}
-said_at false now peer e l before after answers committed refusals sends = record {
+    → Asked now (Saying (Answers e.index e) ∷ []) peer l l before after
+answers_entry now peer e l before after answers committed refusals sends = record {
   makes = record {
     state = refl;
     committed = ap (λ c. map entered c.items) committed ∙ sym (append-nil (map entered before.committed.items));
@@ -128,44 +92,64 @@ said_at false now peer e l before after answers committed refusals sends = recor
   waits = sym (append-nil l.peers);
 }
 
--- a repeat says what the machine says of its client's last update
-pub repeated : (now client : ℕ) (ne : Entry) (peer : Peer) (k : Kept) (l : Leading) (before after : Outputs)
-    → LastIs client l.server.items k
-    → ne.number ≡ k.number
-    → after.answers.items ≡ before.answers.items ++ (if nat_le k.index l.server.cp then (record {
-      peer = peer;
-      client = client;
-      number = ne.number;
-      index = k.index;
-      reply = k.reply;
-      asked = None;
-    }) ∷ [] else [])
-    → after.committed ≡ before.committed → after.refusals ≡ before.refusals → after.sends ≡ before.sends
-    → Asked now (update_moves l.server ne (last_of client l.server.items)) peer l l before after
-repeated now client ne peer k l before after is number answers committed refusals sends =
-    let e = is.entry in
-    let same_number : ne.number ≡ e.number = number ∙ ap (λ (k : Kept). k.number) (sym is.kept_is) in
-    let index : k.index ≡ e.index = ap (λ (k : Kept). k.index) (sym is.kept_is) in
-    let reply : k.reply ≡ e.reply = ap (λ (k : Kept). k.reply) (sym is.kept_is) in
-    let moves : update_moves l.server ne (last_of client l.server.items)
-    ≡ (if nat_le e.index l.server.cp then Saying (Answers e.index e) ∷ [] else []) =
-    ap (update_moves l.server ne) is.last ∙ rw (eq-eqb ne.number e.number same_number) refl in
-    let shown : (if nat_le k.index l.server.cp then (record {
-      peer = peer;
-      client = client;
-      number = ne.number;
-      index = k.index;
-      reply = k.reply;
-      asked = None;
-    }) ∷ [] else []) ≡ answer_at (nat_le e.index l.server.cp) peer e =
-    rw (index, reply, same_number, sym is.client_is) refl in
-    subst (λ ms. Asked now ms peer l l before after) (sym moves)
-    (said_at (nat_le e.index l.server.cp) now peer e l before after (answers
-    ∙ ap (λ xs. before.answers.items ++ xs) shown)
-    committed refusals sends)
+-- what a kept update is beside the number of its call
+record IsKept (same told : Bool) (x : Entry) (index : ℕ) (reply : Reply) : Type 0 where
+  number : same ≡ true
+  committed : told ≡ true
+  index_is : index ≡ x.index
+  reply_is : reply ≡ x.reply
 
--- the outcome of a read leaves the tree
-pub read_same : {E : Type 0} (r : Result Reply E) (tree new : Tree) (call : Call) → is_update call ≡ false
-    → IfOk r (λ reply. outcome tree call 0 ≡ (reply, new)) → OnErr r (new ≡ tree) → new ≡ tree
-read_same (Ok reply) tree new call reads ok err = ap (λ (o : Reply × Tree). o.1) (sym ok) ∙ read_keeps tree call 0 reads
-read_same (Err e) tree new call reads ok err = err
+is_kept : (same told lower : Bool) (x : Entry) (index : ℕ) (reply : Reply)
+    → Kept index reply ≡ (if same then (if told then Kept x.index x.reply else Pending) else (if lower then seen.Old else New))
+    → IsKept same told x index reply
+is_kept true true lower x index reply h = record { number = refl; committed = refl; index_is = cc; reply_is = cc }
+is_kept true false lower x index reply h = absurd cc
+is_kept false told true x index reply h = absurd cc
+is_kept false told false x index reply h = absurd cc
+
+-- a repeat whose update is committed says what the machine says
+pub repeated : (now client : ℕ) (ne : Entry) (peer : Peer) (index : ℕ) (reply : Reply) (l : Leading) (last : Option Entry) (before after : Outputs)
+    → IsOf client last → Kept index reply ≡ seen_after last ne.number l.server.cp
+    → after.answers.items ≡ before.answers.items ++ (record {
+      peer = peer;
+      client = client;
+      number = ne.number;
+      index = index;
+      reply = reply;
+      asked = None;
+    }) ∷ []
+    → after.committed ≡ before.committed → after.refusals ≡ before.refusals → after.sends ≡ before.sends
+    → Asked now (update_moves l.server ne last) peer l l before after
+unfolding IsOf
+repeated now client ne peer index reply l None before after of kept answers committed refusals sends = absurd cc
+repeated now client ne peer index reply l (Some x) before after of kept answers committed refusals sends =
+    let h = is_kept (ne.number == x.number) (nat_le x.index l.server.cp) (nat_lt ne.number x.number) x index reply kept in
+    let number : ne.number ≡ x.number = eqb-true ne.number x.number h.number in
+    let moves : update_moves l.server ne (Some x) ≡ Saying (Answers x.index x) ∷ [] = rw (h.number, h.committed) refl in
+    let said : after.answers.items ≡ before.answers.items ++ answered peer (record { index = x.index; entry = x; asked = None }) ∷ [] =
+    answers ∙ rw (h.index_is, h.reply_is, number, of) refl in
+    subst (λ ms. Asked now ms peer l l before after) (sym moves) (answers_entry now peer x l before after said committed refusals sends)
+
+-- a new update goes to the log and to the partner, and its peer waits
+pub appends : (now cp told tlb grant : ℕ) (items : List Entry) (peers : List Peer) (peer : Peer) (e : Entry) (l : Leading) (before after : Outputs)
+    → record { server = leading items cp told tlb grant; peers = peers } ≡ l
+    → map sent after.sends.items ≡ map sent before.sends.items ++ (One, Event view_one (length items + 1) cp 0 e) ∷ []
+    → after.committed ≡ before.committed → after.answers ≡ before.answers → after.refusals ≡ before.refusals
+    → Asked now (Appending e ∷ Sending One (Event view_one (top l.server + 1) l.server.cp 0 e) ∷ []) peer l
+    (record { server = leading (items ++ e ∷ []) cp told tlb grant; peers = peers ++ peer ∷ [] }) before after
+appends now cp told tlb grant items peers peer e l before after is sends committed answers refusals =
+    let first : Leading = record { server = leading items cp told tlb grant; peers = peers } in
+    let last : Leading = record { server = leading (items ++ e ∷ []) cp told tlb grant; peers = peers ++ peer ∷ [] } in
+    let at : length items + 1 ≡ top first.server + 1 = omega arith in
+    let asked : Asked now (Appending e ∷ Sending One (Event view_one (top first.server + 1) cp 0 e) ∷ []) peer first last before after = record {
+      makes = record {
+        state = refl;
+        committed = ap (λ c. map entered c.items) committed ∙ sym (append-nil (map entered before.committed.items));
+        answers = ap (λ a. a.items) answers ∙ sym (append-nil before.answers.items);
+        refusals = ap (λ r. r.items) refusals ∙ sym (append-nil before.refusals.items);
+        sends = sends ∙ ap (λ n. map sent before.sends.items ++ (One, Event view_one n cp 0 e) ∷ []) at;
+      };
+      waits = refl;
+    } in
+    let P : Leading → Type 0 = λ l. Asked now (Appending e ∷ Sending One (Event view_one (top l.server + 1) l.server.cp 0 e) ∷ []) peer l last before after in
+    subst P is asked

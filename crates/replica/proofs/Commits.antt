@@ -1,41 +1,20 @@
 -- Commits, one after the other.
-use Rattle.std.proofs.Common.{◌≡◌, ℕ, zero, suc, ◌+◌, ◌-◌, ◌<◌, ◌≤◌, List, [], ◌∷◌, ◌++◌, length, take, drop, refl, sym, ap, ◌∙◌, arith, subst, append_assoc, inl, inr, Option, None}
+use Rattle.std.proofs.Common.{◌≡◌, ℕ, suc, ◌+◌, ◌-◌, ◌<◌, ◌≤◌, List, [], ◌∷◌, ◌++◌, take, drop, refl, sym, ap, ◌∙◌, arith, subst, append_assoc, inl, inr, None}
 use Rattle.std.specs.Prelude.{map, max}
 use Rattle.std.specs.List.{flat_map}
 use Rattle.std.proofs.lemmas.Bool.{cases_lt, le-ltb, lt-ltb}
 use Rattle.std.proofs.lemmas.List.{append-nil}
 use Rattle.harp_base.specs.declared.peer.Peer.{Peer}
-use Rattle.file_tree.specs.Book.{Entry, tree_after, tree_next}
-use Rattle.file_tree.specs.Tree.{Tree}
-use Rattle.file_tree.proofs.BookLaws.{tree_push}
+use Rattle.file_tree.specs.Book.{Entry}
 use Rattle.group_model.specs.FixedStart.{view_one}
 use Rattle.group_model.specs.Moves.{Committing, Noting, acts}
 use Rattle.group_model.specs.Places.{Zero, Place, all_of}
 use Rattle.group_model.specs.Replicate.{answers, on_ack}
 use Rattle.group_model.specs.State.{Server}
-use Rattle.replica.specs.Leader.{CommitsNext, IsUnderWay, Stands, left, left_answers}
+use Rattle.replica.specs.Leader.{CommitsNext, IsUnderWay, left, left_answers}
 use Rattle.replica.specs.Said.{Makes, answered, answers_of, committed_of, entered, in_turn, refused, refused_by, sent, sent_by}
 use Rattle.replica.specs.Servers.{Leading, leading}
-use Rattle.replica.specs.declared.clients.Kept.{Kept}
 use Rattle.replica.specs.declared.outputs.Outputs.{Outputs}
-
--- ---- one commit
-
-apart : {E : Type 0} (e : E) (rest : List E) → [] ≡ e ∷ rest → ⊥
-apart {E = E} e rest h = let P : List E → Type 0 = λ xs. elim xs [ [] ↦ Unit {0} | x ∷ xs ↦ ⊥ ] in subst P h tt
-
-take_next : {E : Type 0} (items : List E) (n : ℕ) (e : E) (rest : List E) → drop n items ≡ e ∷ rest
-    → take (n + 1) items ≡ take n items ++ e ∷ []
-take_next [] zero e rest h = absurd (apart e rest h)
-take_next [] (suc n) e rest h = absurd (apart e rest h)
-take_next (x ∷ xs) zero e rest h = ap (λ ys. take 1 ys) h
-take_next (x ∷ xs) (suc n) e rest h =
-    let next : suc n + 1 ≡ suc (n + 1) = omega arith in
-    ap (λ k. take k (x ∷ xs)) next ∙ ap (λ ys. x ∷ ys) (take_next xs n e rest h)
-
-pub tree_at_next : (items : List Entry) (n : ℕ) (e : Entry) (rest : List Entry) → drop n items ≡ e ∷ rest
-    → tree_next (tree_after (take n items)) e ≡ tree_after (take (n + 1) items)
-tree_at_next items n e rest h = sym (ap tree_after (take_next items n e rest h) ∙ tree_push (take n items) e)
 
 -- ---- under way
 
@@ -100,22 +79,6 @@ goes_on top old mid new first before after below way h = record {
       ∙ ap (λ said. before.answers.items ++ said) (sym (answers_split top mid new before after below h)) ∙ way.answers;
   refusals = h.refusals ∙ way.refusals;
   sends = h.sends ∙ way.sends;
-}
-
--- the next commit leaves what stands beside the log right
-pub stands_on : (items : List Entry) (cp : ℕ) (committed after : Tree) (appended : Option Tree) (clients : List
-    (Option Kept)) (stamp : ℕ)
-    (peer : Peer) (peers peers' : List Peer) (e : Entry) (rest : List Entry) → drop cp items ≡ e ∷ rest
-    → peers ≡ peer ∷ peers'
-    → after ≡ tree_next committed e → Stands items cp committed appended clients stamp peers
-    → Stands items (cp + 1) after appended clients stamp peers'
-stands_on items cp committed after appended clients stamp peer peers peers' e rest next first is h = record {
-  at_cp = is ∙ ap (λ tree. tree_next tree e) h.at_cp ∙ tree_at_next items cp e rest next;
-  at_top = h.at_top;
-  last = h.last;
-  stamp_is = h.stamp_is;
-  stamp_bound = h.stamp_bound;
-  waiting = omega (arith, h.waiting, ap (λ (ps : List Peer). length ps) first);
 }
 
 -- ---- an Ack

@@ -1,5 +1,6 @@
 pub mod Asks
-pub mod ClientLemmas
 pub mod Commits
+pub mod HeldBooks
 pub mod MachineSteps
+pub mod Planned
 pub mod Ticks

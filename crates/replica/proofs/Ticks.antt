@@ -3,7 +3,7 @@ use Rattle.std.proofs.Common.{◌≡◌, ℕ, zero, suc, ◌+◌, ◌-◌, ◌<�
 use Rattle.std.specs.Prelude.{map, max, min, nat_lt, slice_get}
 use Rattle.std.specs.List.{flat_map}
 use Rattle.std.proofs.lemmas.Bool.{cases_lt, lt-ltb}
-use Rattle.std.proofs.lemmas.List.{append-nil, at_drop_all}
+use Rattle.std.proofs.lemmas.List.{append-nil, at_drop_all, drop-map}
 use Rattle.std.proofs.lemmas.Option.{same_Some}
 use Rattle.std.proofs.Math.Seq.{take-nil}
 use Rattle.event_record.specs.Record.{entry_of}
@@ -49,23 +49,29 @@ drop-split (x ∷ xs) (suc n) h =
     let next : suc (n + 1) ≡ suc n + 1 = omega arith in
     (r.0, r.1 ∙ ap (λ k. r.0 ∷ drop k (x ∷ xs)) next)
 
--- the record of a place, as an entry
-entry_after : (rs : List Record) (n : ℕ) (r : Record) → slice_get rs n ≡ Some r
-    → drop n (map entry_of rs) ≡ entry_of r ∷ drop (n + 1) (map entry_of rs)
-entry_after [] n r h = absurd (cc)
-entry_after (x ∷ xs) zero r h = let e : x ≡ r = same_Some x r h in ap (λ (y : Record). entry_of y ∷ map entry_of xs) e
-entry_after (x ∷ xs) (suc n) r h =
+-- the record of a place
+record_after : (rs : List Record) (n : ℕ) (r : Record) → slice_get rs n ≡ Some r → drop n rs ≡ r ∷ drop (n + 1) rs
+record_after [] n r h = absurd (cc)
+record_after (x ∷ rs) zero r h = ap (λ (y : Record). y ∷ rs) (same_Some x r h)
+record_after (x ∷ rs) (suc n) r h =
     let next : suc (n + 1) ≡ suc n + 1 = omega arith in
-    entry_after xs n r h ∙ ap (λ k. entry_of r ∷ drop k (map entry_of (x ∷ xs))) next
+    record_after rs n r h ∙ ap (λ k. r ∷ drop k (x ∷ rs)) next
 
 -- the same in a log that dropped none
-pub record_next : (log : LogValue) (n : ℕ) (r : Record) → log.base ≡ 0 → Some r ≡ record_at log (n + 1)
-    → drop n (map entry_of log.records) ≡ entry_of r ∷ drop (n + 1) (map entry_of log.records)
-record_next log n r flat is =
+pub record_there : (log : LogValue) (n : ℕ) (r : Record) → log.base ≡ 0 → Some r ≡ record_at log (n + 1)
+    → drop n log.records ≡ r ∷ drop (n + 1) log.records
+record_there log n r flat is =
     let above : nat_lt log.base (n + 1) ≡ true = lt-ltb log.base (n + 1) (omega arith) in
     let at : n + 1 - log.base - 1 ≡ n = omega arith in
     let there : record_at log (n + 1) ≡ slice_get log.records n = rw (above, at) refl in
-    entry_after log.records n r (sym (is ∙ there))
+    record_after log.records n r (sym (is ∙ there))
+
+-- and as an entry
+pub record_next : (log : LogValue) (n : ℕ) (r : Record) → log.base ≡ 0 → Some r ≡ record_at log (n + 1)
+    → drop n (map entry_of log.records) ≡ entry_of r ∷ drop (n + 1) (map entry_of log.records)
+record_next log n r flat is =
+    drop-map entry_of n log.records ∙ ap (map entry_of) (record_there log n r flat is)
+    ∙ ap (λ es. entry_of r ∷ es) (sym (drop-map entry_of (n + 1) log.records))
 
 -- nothing is left once the end is reached
 pub none_left : {E : Type 0} (items : List E) (t n : ℕ) → n ≡ min (length items) (t + 64)

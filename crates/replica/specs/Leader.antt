@@ -1,28 +1,30 @@
 -- What the leader keeps beside its log.
-use Rattle.std.specs.Prelude.{◌≡◌, ℕ, ◌+◌, ◌-◌, ◌<◌, ◌^◌, List, [], ◌∷◌, ◌++◌, length, take, drop, map, Option, None, IfSome}
+use Rattle.std.specs.Prelude.{◌≡◌, ℕ, ◌+◌, ◌-◌, ◌<◌, ◌^◌, List, [], ◌∷◌, ◌++◌, length, take, drop, map, Option, None}
 use Rattle.harp_base.specs.declared.peer.Peer.{Peer}
-use Rattle.file_tree.specs.Book.{Entry, last_stamp, tree_after}
-use Rattle.file_tree.specs.Tree.{Tree}
+use Rattle.event_record.specs.declared.record.Record.{Record}
+use Rattle.event_record.specs.Record.{AllStandFor, entry_of}
+use Rattle.file_tree.specs.Book.{Entry, last_stamp}
 use Rattle.group_model.specs.Replicate.{answers}
-use Rattle.replica.specs.Clients.{AreLast}
+use Rattle.harp_cells.specs.Effect.{Cells}
 use Rattle.group_model.specs.Moves.{Move}
 use Rattle.group_model.specs.Places.{Zero}
+use Rattle.replica.specs.Cells.{AreMadeBy, no_values}
 use Rattle.replica.specs.Said.{Makes, answered, answers_of, entered, waits_of}
 use Rattle.replica.specs.Servers.{Leading}
-use Rattle.replica.specs.declared.clients.Kept.{Kept}
 use Rattle.replica.specs.declared.outputs.Answered.{Answered}
 use Rattle.replica.specs.declared.outputs.Outputs.{Outputs}
 
--- Beside these entries, of which cp are committed, stand the trees at CP and at top, the clients' last updates, the
--- last stamp, and who asked for the entries above CP. The tree at top is none once memory ran out in an append
-pub record Stands (items : List Entry) (cp : ℕ) (committed : Tree) (appended : Option Tree)
-    (clients : List (Option Kept)) (stamp : ℕ) (peers : List Peer) : Type 0 where
-  pub at_cp : committed ≡ tree_after (take cp items)
-  pub at_top : IfSome appended (λ tree. tree ≡ tree_after items)
-  pub last : AreLast clients items
-  pub stamp_is : stamp ≡ last_stamp items
+-- Beside these records, each of which stands for its entry, and of which cp are committed, stand the cells after those up
+-- to CP and after all, the last stamp, and who asked for the records above CP. Cells are none once memory ran out while
+-- changes were made of them
+pub record Stands (records : List Record) (cp : ℕ) (committed appended : Option Cells) (stamp : ℕ) (peers : List Peer)
+    : Type 0 where
+  pub stand : AllStandFor no_values [] records
+  pub at_cp : AreMadeBy (take cp records) committed
+  pub at_top : AreMadeBy records appended
+  pub stamp_is : stamp ≡ last_stamp (map entry_of records)
   pub stamp_bound : stamp < 2 ^ 62
-  pub waiting : cp + length peers ≡ length items
+  pub waiting : cp + length peers ≡ length records
 
 -- the next record is committed, entered and answered
 pub record CommitsNext (old new : Leading) (before after : Outputs) : Type 0 where

@@ -1,4 +1,4 @@
-pub mod Clients
+pub mod Cells
 pub mod Heeding
 pub mod Leader
 pub mod Said

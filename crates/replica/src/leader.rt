@@ -1,10 +1,12 @@
 //! The leader of an open view.
 
 ghost use Rattle.std.specs.Prelude.{◌≡◌, ℕ, ◌<◌, ◌≤◌, ◌++◌, [], length, take, drop, map, IfOk, OnOk, IsTrue};
+ghost use Rattle.event_record.specs.Record.{AllStandFor, entry_of};
 ghost use Rattle.group_model.specs.FixedStart.{starting, view_one};
 ghost use Rattle.group_model.specs.Names.{number_of_view, place_of};
 ghost use Rattle.group_model.specs.Places.{Zero, One};
 ghost use Rattle.group_model.specs.Tick.{events, tick};
+ghost use Rattle.replica.specs.Cells.{no_values};
 ghost use Rattle.replica.specs.Heeding.{heeds_ack};
 ghost use Rattle.replica.specs.Said.{Makes, sends_of, sent};
 ghost use Rattle.replica.specs.Servers.{IsLeading};
@@ -13,12 +15,11 @@ ghost use Rattle.replica.specs.Shown.{state_of};
 mod acks;
 mod asks;
 
-use crate::clients::{Kept, no_updates};
 use crate::outputs::Outputs;
 use crate::records::{ROOM, event_of, record_after};
 use crate::view::{is_view_one, view_one};
-use file_tree::PlainTree;
 use harp_base::{Held, Mode, Peer, Role, ServerId, StateLine, ViewNo};
+use harp_cells::MemCells;
 use std::alloc::{AllocError, Global};
 use std::collections::VecDeque;
 use std::marker::Model;
@@ -37,12 +38,10 @@ pub struct Leader {
     told_top: u64,
     told_lb: u64,
     grant: u64,
-    /// The tree after the records up to CP.
-    committed: PlainTree,
-    /// The tree after all records. It is none once memory ran out while a record was made.
-    appended: Option<PlainTree>,
-    /// The clients' last updates, by client number.
-    clients: Vec<Option<Kept>>,
+    /// The cells after the records up to CP, and after all. They are none once memory ran out while changes were made
+    /// of them.
+    committed: Option<MemCells>,
+    appended: Option<MemCells>,
     last_stamp: u64,
     /// Who asked for the records above CP, in their order.
     waiting: VecDeque<Peer>,
@@ -52,6 +51,7 @@ impl Model for Leader {
     ghost use Rattle.std.specs.Prelude.{◌≡◌, ◌≤◌, ℕ, length, map};
     ghost use Rattle.std.specs.VecDeque.{deque_capacity};
     ghost use Rattle.event_record.specs.Record.{entry_of};
+    ghost use Rattle.replica.specs.Cells.{held_in};
     ghost use Rattle.replica.specs.Leader.{Stands};
     ghost use Rattle.replica.specs.Servers.{Leading, leading};
     ghost use Rattle.volatile_log.specs.Log.{room};
@@ -65,8 +65,7 @@ impl Model for Leader {
 
     ghost invariant = { λ l. (l.log.base ≡ 0) × (l.log.lb ≡ 0) × (l.log.ap ≡ 0)
         × (l.told_top ≤ length l.log.records) × (room ≤ deque_capacity l.waiting)
-        × Stands (map entry_of l.log.records) l.log.cp l.committed l.appended l.clients.items l.last_stamp
-        l.waiting.items };
+        × Stands l.log.records l.log.cp (held_in l.committed) (held_in l.appended) l.last_stamp l.waiting.items };
 }
 
 impl Leader {
@@ -80,12 +79,21 @@ impl Leader {
             told_top: 0,
             told_lb: 0,
             grant: 0,
-            committed: PlainTree::new(alloc)?,
-            appended: Some(PlainTree::new(alloc)?),
-            clients: no_updates(alloc)?,
+            committed: Some(MemCells::new(alloc)),
+            appended: Some(MemCells::new(alloc)),
             last_stamp: 0,
             waiting: VecDeque::with_capacity(alloc, ROOM as usize)?,
         })
+    }
+
+    /// The log. Each of its records stands for its entry.
+    pub fn log(&self) -> &ActiveLog
+        ensures items { map entry_of result.now.records ≡ self.now.server.items }
+        ensures base { result.now.base ≡ 0 }
+        ensures cp { result.now.cp ≡ self.now.server.cp }
+        ensures stand { AllStandFor no_values [] result.now.records }
+    {
+        &self.log
     }
 
     /// What a trace shows of the server.

@@ -1,13 +1,12 @@
 //! The leader and the partner of one open view (Harp paper).
 #![tactic(auto)]
 
-mod clients;
+mod cells;
 mod laws;
 mod leader;
 mod outputs;
 mod partner;
 mod records;
-mod trees;
 mod view;
 
 pub use laws::steps_are_the_groups;

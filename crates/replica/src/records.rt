@@ -1,13 +1,23 @@
 //! Records as entries and as messages.
 
-ghost use Rattle.std.specs.Prelude.{◌≡◌, ◌+◌, ◌<◌, ◌∷◌, length, drop, map, IfOk};
-ghost use Rattle.event_record.specs.Record.{entry_of};
+ghost use Rattle.std.specs.Prelude.{◌≡◌, ◌+◌, ◌<◌, ◌∷◌, List, length, drop, map, true, IfOk, IfSome, IsSome, OnOk};
+ghost use Rattle.event_record.specs.Record.{StandsFor, entry_of};
+ghost use Rattle.file_tree.specs.Book.{Entry, tree_after};
+ghost use Rattle.file_tree.specs.Calls.{outcome};
 ghost use Rattle.group_model.specs.FixedStart.{view_one};
 ghost use Rattle.group_model.specs.State.{Event};
+ghost use Rattle.harp_base.specs.Update.{is_update};
+ghost use Rattle.replica.specs.Cells.{HoldBook, held_in};
 ghost use Rattle.replica.specs.Said.{entered, heard};
 
+use crate::cells::plan;
+use crate::outputs::Asker;
 use crate::view::view_one;
-use event_record::Record;
+use dedup::keep;
+use event_record::{Changes, Index, Moment, Record};
+use harp_base::Call;
+use harp_cells::MemCells;
+use nfs_calls::Prepared;
 use std::alloc::{AllocError, Global};
 use trace_lines::BookEntry;
 use volatile_log::ActiveLog;
@@ -22,6 +32,7 @@ pub(crate) fn record_after(log: &ActiveLog, n: u64) -> &Record
     requires within { n < length log.now.records }
     ensures next { drop n (map entry_of log.now.records)
         ≡ entry_of result.now ∷ drop (n + 1) (map entry_of log.now.records) }
+    ensures there { drop n log.now.records ≡ result.now ∷ drop (n + 1) log.now.records }
     ensures index { result.now.index ≡ n + 1 }
 {
     let _ = log.top();
@@ -29,6 +40,45 @@ pub(crate) fn record_after(log: &ActiveLog, n: u64) -> &Record
         Some(item) => item,
         None => unreachable!(),
     }
+}
+
+/// The record of a new update, which is planned on the cells before it. Its last change keeps it as the last update of its
+/// client.
+pub(crate) fn next_record(
+    alloc: Global,
+    cells: &mut Option<MemCells>,
+    asker: Asker,
+    call: &Call,
+    index: Index,
+    stamp: Moment,
+) -> Result<Record, AllocError>
+    requires { is_update call.now ≡ true }
+    ensures entry { (entries : List Entry) → HoldBook entries (held_in cells.old)
+        → IfOk result (λ r. entry_of r ≡ record {
+          index = index;
+          client = asker.client;
+          number = asker.number;
+          call = call.now;
+          stamp = stamp;
+          reply = (outcome (tree_after entries) call.now stamp).0;
+        }) }
+    ensures index { IfOk result (λ r. r.index ≡ index) }
+    ensures there { OnOk result (IsSome (held_in cells.old)) }
+    ensures stands { (entries : List Entry) → IfSome (held_in cells.old) (λ held. IfOk result (StandsFor held entries)) }
+    ensures same { held_in cells.new ≡ held_in cells.old }
+{
+    let Prepared { reply, mut changes } = plan(alloc, cells, call, stamp)?;
+    changes.push(keep(alloc, asker.client, asker.number, index.get(), &reply)?)?;
+    Ok(Record {
+        stamped: view_one(),
+        index,
+        client: asker.client,
+        number: asker.number,
+        call: call.copy(alloc)?,
+        stamp,
+        reply,
+        changes: Changes::new(changes),
+    })
 }
 
 /// The entry of the book for a record.

@@ -1,13 +1,13 @@
--- Asks: what is read is spelled so, what is spelled so is read, and what isn't built is told.
+-- Asks: what is read is spelled so, and what is spelled so is read.
 use Rattle.std.proofs.Common.{◌≡◌, ℕ, ◌+◌, ◌^◌, ◌<◌, List, [], ◌∷◌, ◌++◌, length, drop, Result, Ok, Err, refl, ap, subst, ◌∙◌, append_assoc, arith}
-use Rattle.std.specs.Prelude.{decimal, codes, Contains}
+use Rattle.std.specs.Prelude.{decimal, codes}
 use Rattle.std.proofs.lemmas.List.{length-append}
 use Rattle.harp_base.specs.declared.server.ServerId.{ServerId}
 use Rattle.harp_base.specs.declared.call.Call.{Call}
 use Rattle.trace_lines.specs.declared.step.Step.{Step}
 use Rattle.trace_lines.specs.declared.step.Step.TheVariants as step
 use Rattle.spelling.specs.Text.{spaced, call_text, ask_head, step_text}
-use Rattle.spelling.specs.Fits.{CallFits, StepFits}
+use Rattle.spelling.specs.Fits.{CallFits}
 use Rattle.text_fields.specs.declared.fault.TextFault.{TextFault}
 use Rattle.text_fields.specs.declared.fault.TextFault.TheVariants.{Grammar, Unbuilt, NoMemory}
 use Rattle.text_fields.specs.Fields.{◌>>=◌, EndsWord, space_at, spaced_at, u32_at, count_at, server_at}
@@ -15,10 +15,9 @@ use Rattle.text_fields.proofs.Places.{Spells, Spells-then, space_takes, space_ag
 use Rattle.text_fields.proofs.FieldLaws.{server_text}
 use Rattle.text_fields.proofs.Faults.{Placed}
 use Rattle.text_fields.proofs.Faults as faults
-use Rattle.schedule_text.specs.Reading.{call_at, asker_at, ask_at, unbuilt_calls}
-use Rattle.schedule_text.specs.Grammar.{IsBuiltCall, IsBuilt}
-use Rattle.schedule_text.proofs.Rows.{dir_field, number_field, asked_field, stands}
-use Rattle.schedule_text.proofs.CallLaws.{UnbuiltName, CallSays, call_says, call_again, call_unbuilt}
+use Rattle.schedule_text.specs.Reading.{call_at, asker_at, ask_at}
+use Rattle.schedule_text.proofs.Rows.{Reads, IsStepText, dir_field, number_field, asked_field, stands}
+use Rattle.schedule_text.proofs.CallLaws.{IsCallText, call_says, call_again}
 
 -- the server, the client and its number, behind `ask`
 abbrev pub asked_text : ServerId → ℕ → ℕ → List ℕ
@@ -88,83 +87,54 @@ asks who asked = Ok (step.Ask who.0 who.1 who.2 asked)
 abbrev who_asks : List ℕ → (ServerId × ℕ × ℕ) × ℕ → Result Step TextFault
 who_asks line who = space_at line who.1 >>= λ from. call_at line from >>= λ asked. asks who.0 asked
 
--- the name of a call that isn't built, behind an asker
-pub record UnbuiltAsk (line : List ℕ) (at : ℕ) : Type 0 where
-  pub server : ServerId
-  pub client : ℕ
-  pub number : ℕ
-  pub name : List ℕ
-  pub rest : List ℕ
-  pub client_fits : client < 2 ^ 32
-  pub number_fits : number < 10 ^ 18
-  pub listed : Contains unbuilt_calls name
-  pub ends : EndsWord rest
-  pub parts : drop at line ≡ asked_text server client number ++ (spaced name ++ rest)
-
--- what each outcome of reading a step says of what stands behind `ask`
-abbrev pub AskSays : List ℕ → ℕ → Result Step TextFault → Type 0
-AskSays line at (Ok s) = (codes "ask" ++ drop at line ≡ step_text s) × StepFits s × IsBuilt s
-AskSays line at (Err Unbuilt) = UnbuiltAsk line at
-AskSays line at (Err (Grammar n)) = Unit {0}
-AskSays line at (Err NoMemory) = ⊥
+-- what stands behind `ask` says which step is read
+abbrev IsAskText : List ℕ → ℕ → Step → Type 0
+IsAskText line at s = IsStepText (codes "ask" ++ drop at line) s
 
 who_says : (line : List ℕ) (at : ℕ) (who : (ServerId × ℕ × ℕ) × ℕ) → asker_at line at ≡ Ok who
-    → AskSays line at (who_asks line who)
+    → Reads (IsAskText line at) (who_asks line who)
 unfolding step_text ask_head
 who_says line at who read = spaced_says (space_at line who.1) (faults.space line who.1) refl
   where
     t : Spells line at (asked_text who.0.0 who.0.1 who.0.2) who.1 × (who.0.1 < 2 ^ 32) × (who.0.2 < 10 ^ 18)
     t = asker_takes line at who read
 
-    called : (from : ℕ) (r : Result Call TextFault) → Spells line who.1 (32 ∷ []) from → CallSays line from r
-        → AskSays line at (r >>= λ asked. asks who.0 asked)
+    called : (from : ℕ) (r : Result Call TextFault) → Spells line who.1 (32 ∷ []) from
+        → Reads (IsCallText (drop from line)) r → Reads (IsAskText line at) (r >>= λ asked. asks who.0 asked)
     called from (Ok c) space says = (
       ap (λ (l : List ℕ). codes "ask" ++ l)
           (t.0.parts ∙ ap (λ (l : List ℕ). asked_text who.0.0 who.0.1 who.0.2 ++ l)
           (space.parts ∙ ap (λ (l : List ℕ). 32 ∷ l) says.0)),
       (t.1, t.2, says.1),
-      says.2,
     )
-    called from (Err Unbuilt) space says = record {
-      server = who.0.0;
-      client = who.0.1;
-      number = who.0.2;
-      name = says.name;
-      rest = says.rest;
-      client_fits = t.1;
-      number_fits = t.2;
-      listed = says.listed;
-      ends = says.ends;
-      parts = t.0.parts ∙ ap (λ (l : List ℕ). asked_text who.0.0 who.0.1 who.0.2 ++ l)
-          (space.parts ∙ ap (λ (l : List ℕ). 32 ∷ l) says.parts);
-    }
     called from (Err (Grammar n)) space says = tt
+    called from (Err Unbuilt) space says = absurd says
     called from (Err NoMemory) space says = absurd says
 
     spaced_says : (r : Result ℕ TextFault) → Placed r → space_at line who.1 ≡ r
-        → AskSays line at (r >>= λ from. call_at line from >>= λ asked. asks who.0 asked)
+        → Reads (IsAskText line at) (r >>= λ from. call_at line from >>= λ asked. asks who.0 asked)
     spaced_says (Ok from) placed is =
         called from (call_at line from) (space_takes line who.1 from is) (call_says line from)
     spaced_says (Err (Grammar n)) placed is = tt
     spaced_says (Err Unbuilt) placed is = absurd placed
     spaced_says (Err NoMemory) placed is = absurd placed
 
-pub ask_says : (line : List ℕ) (at : ℕ) → AskSays line at (ask_at line at)
+pub ask_says : (line : List ℕ) (at : ℕ) → Reads (IsStepText (codes "ask" ++ drop at line)) (ask_at line at)
 unfolding ask_at
 ask_says line at = by (asker_at line at) (asker_placed line at) refl
   where
     by : (r : Result ((ServerId × ℕ × ℕ) × ℕ) TextFault) → Placed r → asker_at line at ≡ r
-        → AskSays line at (r >>= who_asks line)
+        → Reads (IsAskText line at) (r >>= who_asks line)
     by (Ok who) placed is = who_says line at who is
     by (Err (Grammar n)) placed is = tt
     by (Err Unbuilt) placed is = absurd placed
     by (Err NoMemory) placed is = absurd placed
 
 pub ask_again : (line : List ℕ) (at : ℕ) (s : ServerId) (c q : ℕ) (asked : Call) → c < 2 ^ 32 → q < 10 ^ 18
-    → CallFits asked → IsBuiltCall asked → drop at line ≡ asked_text s c q ++ spaced (call_text asked)
+    → CallFits asked → drop at line ≡ asked_text s c q ++ spaced (call_text asked)
     → ask_at line at ≡ Ok (step.Ask s c q asked)
 unfolding ask_at
-ask_again line at s c q asked cf qf fits built e =
+ask_again line at s c q asked cf qf fits e =
     let a = asker_again line at s c q (spaced (call_text asked)) cf qf refl e in
     let from = a.next + 1 in
     let behind = drop_past line a.next (32 ∷ []) (call_text asked) a.past in
@@ -172,18 +142,4 @@ ask_again line at s c q asked cf qf fits built e =
     ∙ ap (λ (r : Result ℕ TextFault). r >>= λ from. call_at line from >>= λ asked. asks (s, c, q) asked)
     (space_again line a.next (call_text asked) a.past)
     ∙ ap (λ (r : Result Call TextFault). r >>= λ asked. asks (s, c, q) asked)
-    (call_again asked line from built fits behind)
-
-pub ask_unbuilt : (line : List ℕ) (at : ℕ) → UnbuiltAsk line at → ask_at line at ≡ Err Unbuilt
-unfolding ask_at
-ask_unbuilt line at u =
-    let a = asker_again line at u.server u.client u.number (spaced u.name ++ u.rest) u.client_fits u.number_fits refl
-    u.parts in
-    let who : ServerId × ℕ × ℕ = (u.server, u.client, u.number) in
-    let behind = drop_past line a.next (32 ∷ []) (u.name ++ u.rest) a.past in
-    let name : UnbuiltName unbuilt_calls line (a.next + 1) = record
-    { name = u.name; rest = u.rest; listed = u.listed; ends = u.ends; parts = behind } in
-    ap (λ (r : Result ((ServerId × ℕ × ℕ) × ℕ) TextFault). r >>= who_asks line) a.reads
-    ∙ ap (λ (r : Result ℕ TextFault). r >>= λ from. call_at line from >>= λ asked. asks who asked)
-    (space_again line a.next (u.name ++ u.rest) a.past)
-    ∙ ap (λ (r : Result Call TextFault). r >>= λ asked. asks who asked) (call_unbuilt line (a.next + 1) name)
+    (call_again asked line from fits behind)

@@ -1,173 +1,245 @@
--- The calls that are built: what is read is spelled so, and what is spelled so is read.
-use Rattle.std.proofs.Common.{◌≡◌, ℕ, ◌+◌, ◌^◌, ◌<◌, Bool, true, false, cond, List, ◌++◌, length, drop, Result, Ok, Err, refl, ap, ◌∙◌, arith}
-use Rattle.std.specs.Prelude.{decimal, codes, Contains}
-use Rattle.std.specs.Str.{bytes_eq}
-use Rattle.harp_base.specs.declared.attr.SetAttr.{SetAttr}
+-- Calls: what is read is spelled so, and what is spelled so is read.
+use Rattle.std.proofs.Common.{◌≡◌, ℕ, ◌+◌, ◌^◌, ◌<◌, List, [], ◌++◌, length, drop, Option, Some, None, Ok, refl, sym, ap, subst, ◌∙◌, arith}
+use Rattle.std.specs.Prelude.{decimal}
+use Rattle.std.proofs.lemmas.List.{length-append}
 use Rattle.harp_base.specs.declared.call.Call.{Call}
 use Rattle.harp_base.specs.declared.call.Call.TheVariants as call
 use Rattle.spelling.specs.Text.{spaced, hex_text, set_attr_text, call_text}
-use Rattle.spelling.specs.Fits.{AreBytes, SetAttrFits, CallFits}
-use Rattle.text_fields.specs.declared.fault.TextFault.{TextFault}
-use Rattle.text_fields.specs.declared.fault.TextFault.TheVariants.{Grammar, Unbuilt, NoMemory}
-use Rattle.text_fields.specs.Fields.{EndsWord, spaced_at, word_at, u32_at, hex_at, set_attr_at}
-use Rattle.text_fields.proofs.Places.{IsField, drop_past}
+use Rattle.spelling.specs.Fits.{AreBytes, CallFits}
+use Rattle.text_fields.specs.Fields.{Reader, Read, ◌>>=◌, EndsWord, word_at}
+use Rattle.text_fields.proofs.Places.{Spells, IsField, drop_past, bind_ok, ok_is, read_of}
 use Rattle.text_fields.proofs.Faults.{PlacedReader}
 use Rattle.text_fields.proofs.Faults as faults
-use Rattle.schedule_text.specs.Reading.{both_at, lookup_at, make_dir_at, call_at, unbuilt_calls, is_among}
-use Rattle.schedule_text.specs.Grammar.{IsBuiltCall}
-use Rattle.schedule_text.proofs.Rows.{Reads, dir_field, entry_field, attr_field, both_field, both_placed, whole_says, whole_again}
-use Rattle.schedule_text.proofs.WordLaws.{word_spells, word_ends, word_stands, same_word, listed, among, unbuilt_call}
+use Rattle.schedule_text.specs.declared.call_name.CallName.{CallName}
+use Rattle.schedule_text.specs.declared.call_name.CallName.TheVariants as names
+use Rattle.schedule_text.specs.Reading.{numbers_at, entry_at, made_at, fields_at, call_of, call_at, name_text, call_named}
+use Rattle.schedule_text.proofs.Rows.{Reads, IsRow, u32_row, name_row, bytes_row, attr_row, both_row, ends_behind, whole_says, whole_ends}
+use Rattle.schedule_text.proofs.WordLaws.{word_spells, word_stands, names_call, named_again, name_is_name, name_some}
 
--- ---- the fields of the calls
+-- ---- the name of a call, and its fields
 
-abbrev entry_text : ℕ × List ℕ → List ℕ
-entry_text x = spaced (decimal x.0) ++ spaced (hex_text x.1)
+abbrev call_name : Call → CallName
+call_name call.Null = names.Null
+call_name (call.GetAttr handle) = names.GetAttr
+call_name (call.SetAttr handle attr) = names.SetAttr
+call_name (call.Lookup dir name) = names.Lookup
+call_name (call.ReadLink handle) = names.ReadLink
+call_name (call.Read handle offset count) = names.Read
+call_name (call.Write handle offset bytes) = names.Write
+call_name (call.Create dir name attr) = names.Create
+call_name (call.Remove dir name) = names.Remove
+call_name (call.Rename dir name to_dir to_name) = names.Rename
+call_name (call.Link handle dir name) = names.Link
+call_name (call.SymLink dir name text attr) = names.SymLink
+call_name (call.MkDir dir name attr) = names.MkDir
+call_name (call.RmDir dir name) = names.RmDir
+call_name (call.ReadDir dir cookie count) = names.ReadDir
+call_name (call.StatFs handle) = names.StatFs
 
-abbrev EntryFits : ℕ × List ℕ → Type 0
-EntryFits x = (x.0 < 2 ^ 32) × AreBytes 4096 x.1
+abbrev fields_text : Call → List ℕ
+fields_text call.Null = []
+fields_text (call.GetAttr handle) = spaced (decimal handle)
+fields_text (call.SetAttr handle attr) = spaced (decimal handle) ++ spaced (set_attr_text attr)
+fields_text (call.Lookup dir name) = spaced (decimal dir) ++ spaced (hex_text name)
+fields_text (call.ReadLink handle) = spaced (decimal handle)
+fields_text (call.Read handle offset count) = spaced (decimal handle) ++ spaced (decimal offset) ++ spaced (decimal count)
+fields_text (call.Write handle offset bytes) = spaced (decimal handle) ++ spaced (decimal offset) ++ spaced (hex_text bytes)
+fields_text (call.Create dir name attr) = spaced (decimal dir) ++ spaced (hex_text name) ++ spaced (set_attr_text attr)
+fields_text (call.Remove dir name) = spaced (decimal dir) ++ spaced (hex_text name)
+fields_text (call.Rename dir name to_dir to_name) = spaced (decimal dir) ++ spaced (hex_text name) ++ spaced (decimal to_dir) ++ spaced (hex_text to_name)
+fields_text (call.Link handle dir name) = spaced (decimal handle) ++ spaced (decimal dir) ++ spaced (hex_text name)
+fields_text (call.SymLink dir name text attr) = spaced (decimal dir) ++ spaced (hex_text name) ++ spaced (hex_text text) ++ spaced (set_attr_text attr)
+fields_text (call.MkDir dir name attr) = spaced (decimal dir) ++ spaced (hex_text name) ++ spaced (set_attr_text attr)
+fields_text (call.RmDir dir name) = spaced (decimal dir) ++ spaced (hex_text name)
+fields_text (call.ReadDir dir cookie count) = spaced (decimal dir) ++ spaced (decimal cookie) ++ spaced (decimal count)
+fields_text (call.StatFs handle) = spaced (decimal handle)
 
-entry_row : IsField (both_at (spaced_at u32_at) (spaced_at (hex_at 4096))) entry_text EntryFits
-entry_row =
-    both_field (spaced_at u32_at) (λ n. spaced (decimal n)) (λ n. n < 2 ^ 32) (spaced_at (hex_at 4096))
-    (λ n. spaced (hex_text n)) (AreBytes 4096) dir_field entry_field (λ n rest. refl)
+call_parts : (c : Call) → call_text c ≡ name_text (call_name c) ++ fields_text c
+unfolding call_text
+call_parts call.Null = refl
+call_parts (call.GetAttr handle) = refl
+call_parts (call.SetAttr handle attr) = refl
+call_parts (call.Lookup dir name) = refl
+call_parts (call.ReadLink handle) = refl
+call_parts (call.Read handle offset count) = refl
+call_parts (call.Write handle offset bytes) = refl
+call_parts (call.Create dir name attr) = refl
+call_parts (call.Remove dir name) = refl
+call_parts (call.Rename dir name to_dir to_name) = refl
+call_parts (call.Link handle dir name) = refl
+call_parts (call.SymLink dir name text attr) = refl
+call_parts (call.MkDir dir name attr) = refl
+call_parts (call.RmDir dir name) = refl
+call_parts (call.ReadDir dir cookie count) = refl
+call_parts (call.StatFs handle) = refl
 
-entry_placed : PlacedReader (both_at (spaced_at u32_at) (spaced_at (hex_at 4096)))
-entry_placed =
-    both_placed (spaced_at u32_at) (spaced_at (hex_at 4096)) (faults.spaced u32_at (faults.number 10 4294967295))
-    (faults.spaced (hex_at 4096) (faults.name 4096))
+-- behind the name a space stands, or nothing
+fields_end_name : (c : Call) → EndsWord (fields_text c)
+fields_end_name call.Null = tt
+fields_end_name (call.GetAttr handle) = refl
+fields_end_name (call.SetAttr handle attr) = refl
+fields_end_name (call.Lookup dir name) = refl
+fields_end_name (call.ReadLink handle) = refl
+fields_end_name (call.Read handle offset count) = refl
+fields_end_name (call.Write handle offset bytes) = refl
+fields_end_name (call.Create dir name attr) = refl
+fields_end_name (call.Remove dir name) = refl
+fields_end_name (call.Rename dir name to_dir to_name) = refl
+fields_end_name (call.Link handle dir name) = refl
+fields_end_name (call.SymLink dir name text attr) = refl
+fields_end_name (call.MkDir dir name attr) = refl
+fields_end_name (call.RmDir dir name) = refl
+fields_end_name (call.ReadDir dir cookie count) = refl
+fields_end_name (call.StatFs handle) = refl
 
-abbrev made_text : (ℕ × List ℕ) × SetAttr → List ℕ
-made_text x = entry_text x.0 ++ spaced (set_attr_text x.1)
+-- ---- the fields
 
-abbrev MadeFits : (ℕ × List ℕ) × SetAttr → Type 0
-MadeFits x = EntryFits x.0 × SetAttrFits x.1
+entry_row : IsRow entry_at (λ x. spaced (decimal x.0) ++ spaced (hex_text x.1)) (λ x. (x.0 < 2 ^ 32) × AreBytes 4096 x.1)
+entry_row = both_row u32_row name_row
 
-made_row : IsField (both_at (both_at (spaced_at u32_at) (spaced_at (hex_at 4096))) (spaced_at set_attr_at)) made_text
-    MadeFits
-made_row =
-    both_field (both_at (spaced_at u32_at) (spaced_at (hex_at 4096))) entry_text EntryFits (spaced_at set_attr_at)
-    (λ a. spaced (set_attr_text a)) SetAttrFits entry_row attr_field (λ a rest. refl)
+numbers_row : IsRow numbers_at (λ x. spaced (decimal x.0) ++ spaced (decimal x.1))
+    (λ x. (x.0 < 2 ^ 32) × (x.1 < 2 ^ 32))
+numbers_row = both_row u32_row u32_row
 
-made_placed : PlacedReader (both_at (both_at (spaced_at u32_at) (spaced_at (hex_at 4096))) (spaced_at set_attr_at))
-made_placed =
-    both_placed (both_at (spaced_at u32_at) (spaced_at (hex_at 4096))) (spaced_at set_attr_at) entry_placed
-    (faults.spaced set_attr_at faults.set_attr)
+-- the call has this name, and fits
+abbrev IsNamed : CallName → Call → Type 0
+IsNamed n c = CallFits c × (call_name c ≡ n)
+
+module _ {A : Type 0} {r : Reader A} {spell : A → List ℕ} {Fits : A → Type 0} (row : IsRow r spell Fits) where
+  made_takes : (made : A → Call) (n : CallName)
+      → ((a : A) → Fits a → (fields_text (made a) ≡ spell a) × IsNamed n (made a))
+      → (line : List ℕ) (at : ℕ) (x : Call × ℕ) → made_at r made line at ≡ Ok x
+      → Spells line at (fields_text x.0) x.1 × IsNamed n x.0
+  made_takes made n says line at x e =
+      let p = bind_ok (r line at) (λ y. read_of (made y.0) y.1) x e in
+      let t = row.field.takes line at p.0 p.1 in
+      let s = says p.0.0 t.1 in
+      subst (λ (y : Call × ℕ). Spells line at (fields_text y.0) y.1 × IsNamed n y.0)
+      (ok_is (made p.0.0, p.0.1) x p.2)
+      (subst (λ (l : List ℕ). Spells line at l p.0.1) (sym s.0) t.0, s.1)
+
+  made_again : (made : A → Call) (a : A) → Fits a → (line : List ℕ) (at : ℕ) (rest : List ℕ) → EndsWord rest
+      → drop at line ≡ spell a ++ rest → made_at r made line at ≡ Ok (made a, at + length (spell a))
+  made_again made a fits line at rest ends e =
+      ap (λ (o : Read A). o >>= λ y. read_of (made y.0) y.1) (row.field.again line at a rest fits ends e)
+
+  made_placed : (made : A → Call) → PlacedReader (made_at r made)
+  made_placed made line at = faults.bind (r line at) _ (row.placed line at) (λ x. tt)
+
+nothing_takes : (line : List ℕ) (at : ℕ) (x : Call × ℕ) → read_of call.Null at ≡ Ok x
+    → Spells line at (fields_text x.0) x.1 × IsNamed names.Null x.0
+nothing_takes line at x e =
+    subst (λ (y : Call × ℕ). Spells line at (fields_text y.0) y.1 × IsNamed names.Null y.0)
+    (ok_is (call.Null, at) x e) (record { parts = refl; length_is = omega arith }, (tt, refl))
+
+fields_take : (n : CallName) (line : List ℕ) (at : ℕ) (x : Call × ℕ) → fields_at n line at ≡ Ok x
+    → Spells line at (fields_text x.0) x.1 × IsNamed n x.0
+unfolding fields_at
+fields_take names.Null line at x e = nothing_takes line at x e
+fields_take names.GetAttr line at x e = made_takes u32_row call.GetAttr names.GetAttr (λ a f. (refl, (f, refl))) line at x e
+fields_take names.SetAttr line at x e = made_takes (both_row u32_row attr_row) (λ x. call.SetAttr x.0 x.1) names.SetAttr (λ a f. (refl, (f, refl))) line at x e
+fields_take names.Lookup line at x e = made_takes entry_row (λ x. call.Lookup x.0 x.1) names.Lookup (λ a f. (refl, (f, refl))) line at x e
+fields_take names.ReadLink line at x e = made_takes u32_row call.ReadLink names.ReadLink (λ a f. (refl, (f, refl))) line at x e
+fields_take names.Read line at x e = made_takes (both_row numbers_row u32_row) (λ x. call.Read x.0.0 x.0.1 x.1) names.Read (λ a f. (refl, ((f.0.0, f.0.1, f.1), refl))) line at x e
+fields_take names.Write line at x e = made_takes (both_row numbers_row bytes_row) (λ x. call.Write x.0.0 x.0.1 x.1) names.Write (λ a f. (refl, ((f.0.0, f.0.1, f.1), refl))) line at x e
+fields_take names.Create line at x e = made_takes (both_row entry_row attr_row) (λ x. call.Create x.0.0 x.0.1 x.1) names.Create (λ a f. (refl, ((f.0.0, f.0.1, f.1), refl))) line at x e
+fields_take names.Remove line at x e = made_takes entry_row (λ x. call.Remove x.0 x.1) names.Remove (λ a f. (refl, (f, refl))) line at x e
+fields_take names.Rename line at x e = made_takes (both_row (both_row entry_row u32_row) name_row) (λ x. call.Rename x.0.0.0 x.0.0.1 x.0.1 x.1) names.Rename (λ a f. (refl, ((f.0.0.0, f.0.0.1, f.0.1, f.1), refl))) line at x e
+fields_take names.Link line at x e = made_takes (both_row numbers_row name_row) (λ x. call.Link x.0.0 x.0.1 x.1) names.Link (λ a f. (refl, ((f.0.0, f.0.1, f.1), refl))) line at x e
+fields_take names.SymLink line at x e = made_takes (both_row (both_row entry_row name_row) attr_row) (λ x. call.SymLink x.0.0.0 x.0.0.1 x.0.1 x.1) names.SymLink (λ a f. (refl, ((f.0.0.0, f.0.0.1, f.0.1, f.1), refl))) line at x e
+fields_take names.MkDir line at x e = made_takes (both_row entry_row attr_row) (λ x. call.MkDir x.0.0 x.0.1 x.1) names.MkDir (λ a f. (refl, ((f.0.0, f.0.1, f.1), refl))) line at x e
+fields_take names.RmDir line at x e = made_takes entry_row (λ x. call.RmDir x.0 x.1) names.RmDir (λ a f. (refl, (f, refl))) line at x e
+fields_take names.ReadDir line at x e = made_takes (both_row numbers_row u32_row) (λ x. call.ReadDir x.0.0 x.0.1 x.1) names.ReadDir (λ a f. (refl, ((f.0.0, f.0.1, f.1), refl))) line at x e
+fields_take names.StatFs line at x e = made_takes u32_row call.StatFs names.StatFs (λ a f. (refl, (f, refl))) line at x e
+
+fields_again : (c : Call) (line : List ℕ) (at : ℕ) (rest : List ℕ) → CallFits c → EndsWord rest
+    → drop at line ≡ fields_text c ++ rest
+    → fields_at (call_name c) line at ≡ Ok (c, at + length (fields_text c))
+unfolding fields_at
+fields_again call.Null line at rest f ends e = ap (λ (n : ℕ). read_of call.Null n) (omega arith)
+fields_again (call.GetAttr handle) line at rest f ends e = made_again u32_row call.GetAttr handle f line at rest ends e
+fields_again (call.SetAttr handle attr) line at rest f ends e = made_again (both_row u32_row attr_row) (λ x. call.SetAttr x.0 x.1) (handle, attr) f line at rest ends e
+fields_again (call.Lookup dir name) line at rest f ends e = made_again entry_row (λ x. call.Lookup x.0 x.1) (dir, name) f line at rest ends e
+fields_again (call.ReadLink handle) line at rest f ends e = made_again u32_row call.ReadLink handle f line at rest ends e
+fields_again (call.Read handle offset count) line at rest f ends e = made_again (both_row numbers_row u32_row) (λ x. call.Read x.0.0 x.0.1 x.1) ((handle, offset), count) ((f.0, f.1), f.2) line at rest ends e
+fields_again (call.Write handle offset bytes) line at rest f ends e = made_again (both_row numbers_row bytes_row) (λ x. call.Write x.0.0 x.0.1 x.1) ((handle, offset), bytes) ((f.0, f.1), f.2) line at rest ends e
+fields_again (call.Create dir name attr) line at rest f ends e = made_again (both_row entry_row attr_row) (λ x. call.Create x.0.0 x.0.1 x.1) ((dir, name), attr) ((f.0, f.1), f.2) line at rest ends e
+fields_again (call.Remove dir name) line at rest f ends e = made_again entry_row (λ x. call.Remove x.0 x.1) (dir, name) f line at rest ends e
+fields_again (call.Rename dir name to_dir to_name) line at rest f ends e = made_again (both_row (both_row entry_row u32_row) name_row) (λ x. call.Rename x.0.0.0 x.0.0.1 x.0.1 x.1) (((dir, name), to_dir), to_name) (((f.0, f.1), f.2), f.3) line at rest ends e
+fields_again (call.Link handle dir name) line at rest f ends e = made_again (both_row numbers_row name_row) (λ x. call.Link x.0.0 x.0.1 x.1) ((handle, dir), name) ((f.0, f.1), f.2) line at rest ends e
+fields_again (call.SymLink dir name text attr) line at rest f ends e = made_again (both_row (both_row entry_row name_row) attr_row) (λ x. call.SymLink x.0.0.0 x.0.0.1 x.0.1 x.1) (((dir, name), text), attr) (((f.0, f.1), f.2), f.3) line at rest ends e
+fields_again (call.MkDir dir name attr) line at rest f ends e = made_again (both_row entry_row attr_row) (λ x. call.MkDir x.0.0 x.0.1 x.1) ((dir, name), attr) ((f.0, f.1), f.2) line at rest ends e
+fields_again (call.RmDir dir name) line at rest f ends e = made_again entry_row (λ x. call.RmDir x.0 x.1) (dir, name) f line at rest ends e
+fields_again (call.ReadDir dir cookie count) line at rest f ends e = made_again (both_row numbers_row u32_row) (λ x. call.ReadDir x.0.0 x.0.1 x.1) ((dir, cookie), count) ((f.0, f.1), f.2) line at rest ends e
+fields_again (call.StatFs handle) line at rest f ends e = made_again u32_row call.StatFs handle f line at rest ends e
+
+fields_placed : (n : CallName) → PlacedReader (fields_at n)
+unfolding fields_at
+fields_placed names.Null line at = tt
+fields_placed names.GetAttr line at = made_placed u32_row call.GetAttr line at
+fields_placed names.SetAttr line at = made_placed (both_row u32_row attr_row) (λ x. call.SetAttr x.0 x.1) line at
+fields_placed names.Lookup line at = made_placed entry_row (λ x. call.Lookup x.0 x.1) line at
+fields_placed names.ReadLink line at = made_placed u32_row call.ReadLink line at
+fields_placed names.Read line at = made_placed (both_row numbers_row u32_row) (λ x. call.Read x.0.0 x.0.1 x.1) line at
+fields_placed names.Write line at = made_placed (both_row numbers_row bytes_row) (λ x. call.Write x.0.0 x.0.1 x.1) line at
+fields_placed names.Create line at = made_placed (both_row entry_row attr_row) (λ x. call.Create x.0.0 x.0.1 x.1) line at
+fields_placed names.Remove line at = made_placed entry_row (λ x. call.Remove x.0 x.1) line at
+fields_placed names.Rename line at = made_placed (both_row (both_row entry_row u32_row) name_row) (λ x. call.Rename x.0.0.0 x.0.0.1 x.0.1 x.1) line at
+fields_placed names.Link line at = made_placed (both_row numbers_row name_row) (λ x. call.Link x.0.0 x.0.1 x.1) line at
+fields_placed names.SymLink line at = made_placed (both_row (both_row entry_row name_row) attr_row) (λ x. call.SymLink x.0.0.0 x.0.0.1 x.0.1 x.1) line at
+fields_placed names.MkDir line at = made_placed (both_row entry_row attr_row) (λ x. call.MkDir x.0.0 x.0.1 x.1) line at
+fields_placed names.RmDir line at = made_placed entry_row (λ x. call.RmDir x.0 x.1) line at
+fields_placed names.ReadDir line at = made_placed (both_row numbers_row u32_row) (λ x. call.ReadDir x.0.0 x.0.1 x.1) line at
+fields_placed names.StatFs line at = made_placed u32_row call.StatFs line at
+
+fields_field : (n : CallName) → IsField (fields_at n) fields_text (IsNamed n)
+fields_field n = record {
+  takes = fields_take n;
+  again = λ line at c rest named ends e. subst (λ (m : CallName). fields_at m line at ≡ read_of c (at + length
+      (fields_text c))) named.1 (fields_again c line at rest named.0 ends e);
+}
 
 -- ---- a call
 
-abbrev call_of : List ℕ → ℕ → List ℕ → Result Call TextFault
-call_of line at word =
-    cond (bytes_eq word (codes "mkdir")) (make_dir_at line (at + length word))
-    (cond (bytes_eq word (codes "lookup")) (lookup_at line (at + length word))
-    (cond (is_among unbuilt_calls word) (Err Unbuilt) (Err (Grammar at))))
+-- what a call that is read says of what stands there
+abbrev pub IsCallText : List ℕ → Call → Type 0
+IsCallText text c = (text ≡ call_text c) × CallFits c
 
--- a name that isn't built stands here
-pub record UnbuiltName (names : List (List ℕ)) (line : List ℕ) (at : ℕ) : Type 0 where
-  pub name : List ℕ
-  pub rest : List ℕ
-  pub listed : Contains names name
-  pub ends : EndsWord rest
-  pub parts : drop at line ≡ name ++ rest
+-- a name and the fields behind it
+call_stands : (line : List ℕ) (at : ℕ) (n : CallName) (c : Call) → word_at line at ≡ name_text n → call_name c ≡ n
+    → drop (at + length (word_at line at)) line ≡ fields_text c → drop at line ≡ call_text c
+call_stands line at n c word named e =
+    (word_spells line at).parts
+    ∙ (λ i. (word ∙ ap name_text (sym named)) i ++ e i)
+    ∙ sym (call_parts c)
 
--- what each outcome of reading a call says
-abbrev pub CallSays : List ℕ → ℕ → Result Call TextFault → Type 0
-CallSays line at (Ok c) = (drop at line ≡ call_text c) × CallFits c × IsBuiltCall c
-CallSays line at (Err Unbuilt) = UnbuiltName unbuilt_calls line at
-CallSays line at (Err (Grammar n)) = Unit {0}
-CallSays line at (Err NoMemory) = ⊥
-
--- what a call that is read says
-abbrev IsCallText : List ℕ → Call → Type 0
-IsCallText text c = (text ≡ call_text c) × CallFits c × IsBuiltCall c
-
-built_says : (line : List ℕ) (at : ℕ) (r : Result Call TextFault) → Reads (IsCallText (drop at line)) r
-    → CallSays line at r
-built_says line at (Ok c) says = says
-built_says line at (Err (Grammar n)) says = tt
-built_says line at (Err Unbuilt) says = absurd says
-built_says line at (Err NoMemory) says = absurd says
-
--- the name of a call and the text behind it
-named_text : (line : List ℕ) (at : ℕ) (name text : List ℕ) → word_at line at ≡ name
-    → drop (at + length (word_at line at)) line ≡ text → drop at line ≡ name ++ text
-named_text line at name text is e = (word_spells line at).parts ∙ (λ i. is i ++ e i)
-
-lookup_says : (line : List ℕ) (at : ℕ) → word_at line at ≡ codes "lookup"
-    → Reads (IsCallText (drop at line)) (lookup_at line (at + length (word_at line at)))
-unfolding lookup_at call_text
-lookup_says line at is =
-    whole_says (both_at (spaced_at u32_at) (spaced_at (hex_at 4096))) entry_text EntryFits (λ x. call.Lookup x.0 x.1)
-    entry_row entry_placed (IsCallText (drop at line)) line (at + length (word_at line at))
-    (λ x fits e. (named_text line at (codes "lookup") (entry_text x) is e, fits, tt))
-
-make_dir_says : (line : List ℕ) (at : ℕ) → word_at line at ≡ codes "mkdir"
-    → Reads (IsCallText (drop at line)) (make_dir_at line (at + length (word_at line at)))
-unfolding make_dir_at call_text
-make_dir_says line at is =
-    whole_says (both_at (both_at (spaced_at u32_at) (spaced_at (hex_at 4096))) (spaced_at set_attr_at)) made_text
-    MadeFits (λ x. call.MkDir x.0.0 x.0.1 x.1) made_row made_placed (IsCallText (drop at line)) line
-    (at + length (word_at line at))
-    (λ x fits e. (named_text line at (codes "mkdir") (made_text x) is e, (fits.0.0, fits.0.1, fits.1), tt))
-
-pub call_says : (line : List ℕ) (at : ℕ) → CallSays line at (call_at line at)
+pub call_says : (line : List ℕ) (at : ℕ) → Reads (IsCallText (drop at line)) (call_at line at)
 unfolding call_at
-call_says line at =
-    by (bytes_eq word (codes "mkdir")) (bytes_eq word (codes "lookup")) (is_among unbuilt_calls word) refl refl refl
+call_says line at = by (call_named (word_at line at)) refl
   where
-    word : List ℕ
-    word = word_at line at
-
     next : ℕ
-    next = at + length word
+    next = at + length (word_at line at)
 
-    by : (is_make is_lookup is_unbuilt : Bool) → bytes_eq word (codes "mkdir") ≡ is_make
-        → bytes_eq word (codes "lookup") ≡ is_lookup → is_among unbuilt_calls word ≡ is_unbuilt
-        → CallSays line at (cond is_make (make_dir_at line next)
-        (cond is_lookup (lookup_at line next) (cond is_unbuilt (Err Unbuilt) (Err (Grammar at)))))
-    by true is_lookup is_unbuilt m l u =
-        built_says line at (make_dir_at line next) (make_dir_says line at (same_word word (codes "mkdir") m))
-    by false true is_unbuilt m l u =
-        built_says line at (lookup_at line next) (lookup_says line at (same_word word (codes "lookup") l))
-    by false false true m l u =
-        record {
-          name = word;
-          rest = drop next line;
-          listed = listed unbuilt_calls word u;
-          ends = word_ends line at;
-          parts = (word_spells line at).parts;
-        }
-    by false false false m l u = tt
+    by : (o : Option CallName) → call_named (word_at line at) ≡ o
+        → Reads (IsCallText (drop at line)) (call_of line at next o)
+    by None is = tt
+    by (Some n) is =
+        whole_says (fields_at n) fields_text (IsNamed n) (λ c. c) (fields_field n) (fields_placed n)
+        (IsCallText (drop at line)) line next
+        (λ c named e. (call_stands line at n c (names_call (word_at line at) n is) named.1 e, named.0))
 
-pub call_again : (c : Call) (line : List ℕ) (at : ℕ) → IsBuiltCall c → CallFits c → drop at line ≡ call_text c
-    → call_at line at ≡ Ok c
-unfolding call_at call_text lookup_at make_dir_at
-call_again (call.Lookup d n) line at built fits e =
-    let rest = entry_text (d, n) in
-    let word = word_stands line at (codes "lookup") rest refl refl e in
-    ap (call_of line at) word
-    ∙ whole_again (both_at (spaced_at u32_at) (spaced_at (hex_at 4096))) entry_text EntryFits
-    (λ x. call.Lookup x.0 x.1) entry_row line (at + 6) (d, n) fits (drop_past line at (codes "lookup") rest e)
-    (omega arith)
-call_again (call.MkDir d n a) line at built fits e =
-    let rest = made_text ((d, n), a) in
-    let word = word_stands line at (codes "mkdir") rest refl refl e in
-    ap (call_of line at) word
-    ∙ whole_again (both_at (both_at (spaced_at u32_at) (spaced_at (hex_at 4096))) (spaced_at set_attr_at)) made_text
-    MadeFits (λ x. call.MkDir x.0.0 x.0.1 x.1) made_row line (at + 5) ((d, n), a) ((fits.0, fits.1), fits.2)
-    (drop_past line at (codes "mkdir") rest e) (omega arith)
-call_again _ line at built fits e = absurd built
-
-pub call_unbuilt : (line : List ℕ) (at : ℕ) → UnbuiltName unbuilt_calls line at → call_at line at ≡ Err Unbuilt
+pub call_again : (c : Call) (line : List ℕ) (at : ℕ) → CallFits c → drop at line ≡ call_text c → call_at line at ≡ Ok c
 unfolding call_at
-call_unbuilt line at u =
-    let t = unbuilt_call u.name u.listed in
-    let word = word_stands line at u.name u.rest t.0 u.ends u.parts in
-    ap (call_of line at) word ∙ ap (λ (b : Bool). cond b (make_dir_at line (at + length u.name))
-    (cond (bytes_eq u.name (codes "lookup")) (lookup_at line (at + length u.name))
-    (cond (is_among unbuilt_calls u.name) (Err Unbuilt) (Err (Grammar at))))) t.1
-    ∙ ap (λ (b : Bool). cond b (lookup_at line (at + length u.name))
-    (cond (is_among unbuilt_calls u.name) (Err Unbuilt) (Err (Grammar at)))) t.2
-    ∙ ap (λ (b : Bool). cond b (no_call Unbuilt) (no_call (Grammar at))) (among unbuilt_calls u.name u.listed)
-  where
-    no_call : TextFault → Result Call TextFault
-    no_call f = Err f
+call_again c line at fits e =
+    let n = call_name c in
+    let name = name_text n in
+    let fields = fields_text c in
+    let whole : drop at line ≡ name ++ fields = e ∙ call_parts c in
+    let word = word_stands line at name fields (name_is_name n) (fields_end_name c) whole in
+    let some = name_some name (name_is_name n) in
+    let end : at + length (name ++ fields) ≡ length line = ends_behind line at (name ++ fields) whole
+    (omega (arith, some, length-append name fields)) in
+    ap (λ (w : List ℕ). call_of line at (at + length w) (call_named w)) word
+    ∙ ap (λ (o : Option CallName). call_of line at (at + length name) o) (named_again n)
+    ∙ whole_ends (fields_at n) fields_text (IsNamed n) (λ c. c) (fields_field n) line (at + length name) c
+    (fits, refl) (drop_past line at name fields whole) (omega (arith, end, length-append name fields))

@@ -6,10 +6,9 @@ use Rattle.std.proofs.lemmas.List.{length-append, drop_all}
 use Rattle.harp_base.specs.Server.{number_of}
 use Rattle.harp_base.specs.declared.server.ServerId.{ServerId}
 use Rattle.harp_base.specs.declared.server.ServerId.TheVariants as servers
-use Rattle.trace_lines.specs.declared.step.Step.{Step}
 use Rattle.trace_lines.specs.declared.step.Step.TheVariants as step
 use Rattle.spelling.specs.Text.{spaced, pair_text, among_text, step_text}
-use Rattle.spelling.specs.Fits.{PairFits, StepFits}
+use Rattle.spelling.specs.Fits.{PairFits}
 use Rattle.text_fields.specs.declared.fault.TextFault.TheVariants.{Grammar}
 use Rattle.text_fields.specs.Fields.{Read, ◌>>=◌, EndsWord, spaced_at, number_at, count_at, server_at}
 use Rattle.text_fields.proofs.Places.{Spells, Spells-then, IsField, spaced_field, drop_past, bind_ok, ok_is, passed}
@@ -18,12 +17,7 @@ use Rattle.text_fields.proofs.FieldLaws.{ends_digits, server_text, server_field,
 use Rattle.text_fields.proofs.Faults.{Placed, PlacedReader}
 use Rattle.text_fields.proofs.Faults as faults
 use Rattle.schedule_text.specs.Reading.{both_at, whole_at, deliver_at, pair_at, pump_at, tick_at, clock_at, advance_at}
-use Rattle.schedule_text.specs.Grammar.{IsBuilt}
-use Rattle.schedule_text.proofs.Rows.{Reads, number_field, asked_field, both_field, both_placed, whole_says, whole_again}
-
--- what a step that is read behind a name says
-abbrev pub IsStepText : List ℕ → Step → Type 0
-IsStepText text s = (text ≡ step_text s) × StepFits s × IsBuilt s
+use Rattle.schedule_text.proofs.Rows.{Reads, IsStepText, number_field, asked_field, both_field, both_placed, whole_says, whole_again}
 
 -- ---- two servers
 
@@ -128,14 +122,14 @@ unfolding deliver_at step_text
 deliver_says line at =
     whole_says (spaced_at count_at) (λ n. spaced (decimal n)) (λ n. n < 10 ^ 18) step.Deliver number_field
     count_placed (IsStepText (codes "deliver" ++ drop at line)) line at
-    (λ n fits e. (ap (λ (l : List ℕ). codes "deliver" ++ l) e, fits, tt))
+    (λ n fits e. (ap (λ (l : List ℕ). codes "deliver" ++ l) e, fits))
 
 pub tick_says : (line : List ℕ) (at : ℕ) → Reads (IsStepText (codes "tick" ++ drop at line)) (tick_at line at)
 unfolding tick_at step_text
 tick_says line at =
     whole_says (spaced_at server_at) (λ s. spaced (server_text s)) (λ s. Unit {0}) step.Tick asked_field
     server_placed (IsStepText (codes "tick" ++ drop at line)) line at
-    (λ s fits e. (ap (λ (l : List ℕ). codes "tick" ++ l) e, tt, tt))
+    (λ s fits e. (ap (λ (l : List ℕ). codes "tick" ++ l) e, tt))
 
 pub clock_says : (line : List ℕ) (at : ℕ) → Reads (IsStepText (codes "clock" ++ drop at line)) (clock_at line at)
 unfolding clock_at step_text
@@ -143,7 +137,7 @@ clock_says line at =
     whole_says (both_at (spaced_at server_at) (spaced_at count_at)) clock_text ClockFits (λ x. step.Clock x.0 x.1)
     clock_row (both_placed (spaced_at server_at) (spaced_at count_at) server_placed count_placed)
     (IsStepText (codes "clock" ++ drop at line)) line at
-    (λ x fits e. (ap (λ (l : List ℕ). codes "clock" ++ l) e, fits.1, tt))
+    (λ x fits e. (ap (λ (l : List ℕ). codes "clock" ++ l) e, fits.1))
 
 pub advance_says : (line : List ℕ) (at : ℕ) → Reads (IsStepText (codes "advance" ++ drop at line)) (advance_at line at)
 unfolding advance_at step_text
@@ -151,7 +145,7 @@ advance_says line at =
     whole_says (spaced_at (number_at 10 1000000000)) (λ n. spaced (decimal n)) (λ n. n ≤ 10 ^ 9) step.Advance
     millis_field (faults.spaced (number_at 10 1000000000) (faults.number 10 1000000000))
     (IsStepText (codes "advance" ++ drop at line)) line at
-    (λ n fits e. (ap (λ (l : List ℕ). codes "advance" ++ l) e, fits, tt))
+    (λ n fits e. (ap (λ (l : List ℕ). codes "advance" ++ l) e, fits))
 
 among_says : (line : List ℕ) (at : ℕ)
     → Reads (IsStepText (codes "pump" ++ drop at line))
@@ -160,7 +154,7 @@ unfolding step_text among_text
 among_says line at =
     whole_says (spaced_at pair_at) (λ x. spaced (pair_text x)) PairFits (λ pair. step.Pump (Some pair)) pair_field
     (faults.spaced pair_at pair_placed) (IsStepText (codes "pump" ++ drop at line)) line at
-    (λ x fits e. (ap (λ (l : List ℕ). codes "pump" ++ l) e, fits, tt))
+    (λ x fits e. (ap (λ (l : List ℕ). codes "pump" ++ l) e, fits))
 
 pub pump_says : (line : List ℕ) (at : ℕ) → Reads (IsStepText (codes "pump" ++ drop at line)) (pump_at line at)
 unfolding pump_at step_text among_text
@@ -171,7 +165,7 @@ pump_says line at = by (eqb at (length line)) refl
         (cond b (Ok (step.Pump None)) (whole_at (spaced_at pair_at) (λ pair. step.Pump (Some pair)) line at))
     by true is =
         let e = eqb-true at (length line) is in
-        (ap (λ (l : List ℕ). codes "pump" ++ l) (drop_all at line (omega arith)), tt, tt)
+        (ap (λ (l : List ℕ). codes "pump" ++ l) (drop_all at line (omega arith)), tt)
     by false is = among_says line at
 
 -- ---- what is spelled so is read

@@ -1,23 +1,23 @@
 -- What a line means says what the line is, and what a line is says what it means.
-use Rattle.std.proofs.Common.{◌≡◌, ℕ, ◌+◌, ◌≤◌, inl, inr, Bool, true, false, cond, eqb, List, [], ◌∷◌, ◌++◌, length, get_or, drop, Option, Some, None, Result, Ok, Err, refl, sym, ap, subst, ◌∙◌, append_assoc, arith}
+use Rattle.std.proofs.Common.{◌≡◌, ℕ, ◌+◌, ◌≤◌, Bool, true, false, cond, eqb, List, [], ◌∷◌, ◌++◌, length, get_or, drop, Option, Some, None, Result, Ok, Err, refl, sym, ap, subst, ◌∙◌, arith}
 use Rattle.std.specs.Prelude.{◌||◌, codes, decimal}
 use Rattle.std.proofs.lemmas.Bool.{eqb-true, eq-eqb, ne_eqb}
 use Rattle.harp_base.specs.Server.{number_of}
 use Rattle.trace_lines.specs.declared.step.Step.{Step}
 use Rattle.trace_lines.specs.declared.step.Step.TheVariants as step
-use Rattle.spelling.specs.Text.{spaced, call_text, ask_head, among_text, step_text}
+use Rattle.spelling.specs.Text.{spaced, call_text, among_text, step_text}
 use Rattle.text_fields.specs.declared.fault.TextFault.{TextFault}
 use Rattle.text_fields.specs.declared.fault.TextFault.TheVariants.{Grammar, Unbuilt, NoMemory}
 use Rattle.text_fields.specs.Fields.{◌>>=◌, EndsWord, word_at}
 use Rattle.text_fields.proofs.Places.{drop_past}
 use Rattle.schedule_text.specs.declared.form.Form.{Form}
 use Rattle.schedule_text.specs.declared.form.Form.TheVariants as form
-use Rattle.schedule_text.specs.Grammar.{IsStepLine, IsBlank, IsUnbuiltCall, IsUnbuilt, IsNoStep, Explains}
+use Rattle.schedule_text.specs.Grammar.{IsStepLine, IsBlank, IsUnbuilt, IsNoStep, Explains}
 use Rattle.schedule_text.specs.Reading.{step_of, step_behind, form_of, step_at, placeless, is_blank, meaning_of}
-use Rattle.schedule_text.proofs.Rows.{Reads}
+use Rattle.schedule_text.proofs.Rows.{Reads, IsStepText}
 use Rattle.schedule_text.proofs.WordLaws.{is_name, name_first, word_spells, word_ends, word_stands, Named, NamedBy, form_names, unbuilt_step}
-use Rattle.schedule_text.proofs.AskLaws.{asked_text, AskSays, ask_says, ask_again, ask_unbuilt, head_parts}
-use Rattle.schedule_text.proofs.FormLaws.{IsStepText, deliver_says, tick_says, clock_says, advance_says, pump_says, deliver_again, tick_again, clock_again, advance_again, pump_all_again, pump_pair_again}
+use Rattle.schedule_text.proofs.AskLaws.{asked_text, ask_says, ask_again, head_parts}
+use Rattle.schedule_text.proofs.FormLaws.{deliver_says, tick_says, clock_says, advance_says, pump_says, deliver_again, tick_again, clock_again, advance_again, pump_all_again, pump_pair_again}
 
 -- ---- what is read says what the line is
 
@@ -31,35 +31,10 @@ StepSays line (Err NoMemory) = ⊥
 -- a step whose text is the line
 reads_says : (line text : List ℕ) (r : Result Step TextFault) → line ≡ text → Reads (IsStepText text) r
     → StepSays line r
-reads_says line text (Ok s) is says = record { built = says.2; fits = says.1; spelled = is ∙ says.0 }
+reads_says line text (Ok s) is says = record { fits = says.1; spelled = is ∙ says.0 }
 reads_says line text (Err (Grammar n)) is says = tt
 reads_says line text (Err Unbuilt) is says = absurd says
 reads_says line text (Err NoMemory) is says = absurd says
-
--- the text behind `ask` makes the line
-ask_line : (line text : List ℕ) → line ≡ codes "ask" ++ drop 3 line → drop 3 line ≡ text → line ≡ codes "ask" ++ text
-ask_line line text e is = e ∙ ap (λ (l : List ℕ). codes "ask" ++ l) is
-
-says_ask : (line : List ℕ) → line ≡ codes "ask" ++ drop 3 line → (r : Result Step TextFault) → AskSays line 3 r
-    → StepSays line r
-says_ask line e (Ok s) says = record { built = says.2; fits = says.1; spelled = e ∙ says.0 }
-says_ask line e (Err Unbuilt) u =
-    let head = ask_head u.server u.client u.number in
-    inr (record {
-      server = u.server;
-      client = u.client;
-      number = u.number;
-      name = u.name;
-      rest = u.rest;
-      client_fits = u.client_fits;
-      number_fits = u.number_fits;
-      listed = u.listed;
-      ends = u.ends;
-      parts = ask_line line _ e u.parts ∙ ap (λ (l : List ℕ). l ++ (spaced u.name ++ u.rest))
-          (sym (head_parts u.server u.client u.number)) ∙ sym (append_assoc head (spaced u.name) u.rest);
-    })
-says_ask line e (Err (Grammar n)) says = tt
-says_ask line e (Err NoMemory) says = absurd says
 
 -- a name at the head of the line
 record Headed (line name : List ℕ) : Type 0 where
@@ -79,7 +54,7 @@ form_says : (line word : List ℕ) (f : Form) → Headed line word → Named wor
     → StepSays line (step_of line (length word) f)
 form_says line word form.Ask head is =
     subst (λ (w : List ℕ). Headed line w → StepSays line (step_of line (length w) form.Ask)) (sym is)
-    (λ h. says_ask line h.parts (step_of line 3 form.Ask) (ask_says line 3)) head
+    (λ h. reads_says line (codes "ask" ++ drop 3 line) (step_of line 3 form.Ask) h.parts (ask_says line 3)) head
 form_says line word form.Deliver head is =
     subst (λ (w : List ℕ). Headed line w → StepSays line (step_of line (length w) form.Deliver)) (sym is)
     (λ h. reads_says line (codes "deliver" ++ drop 7 line) (step_of line 7 form.Deliver) h.parts
@@ -99,7 +74,7 @@ form_says line word form.Advance head is =
     (λ h. reads_says line (codes "advance" ++ drop 7 line) (step_of line 7 form.Advance) h.parts
     (advance_says line 7)) head
 form_says line word form.Later head is =
-    inl (record { name = word; rest = drop (length word) line; listed = is; ends = head.ends; parts = head.parts })
+    record { name = word; rest = drop (length word) line; listed = is; ends = head.ends; parts = head.parts }
 
 behind_says : (line word : List ℕ) (o : Option Form) → Headed line word → NamedBy word o
     → StepSays line (step_behind line (length word) o)
@@ -174,7 +149,7 @@ step_again : (s : Step) (line : List ℕ) → IsStepLine line s → step_at line
 unfolding among_text
 step_again (step.Ask server c q asked) line is =
     let s = step.Ask server c q asked in
-    begun s line form.Ask is refl ∙ ask_again line 3 server c q asked is.fits.0 is.fits.1 is.fits.2 is.built
+    begun s line form.Ask is refl ∙ ask_again line 3 server c q asked is.fits.0 is.fits.1 is.fits.2
     (behind_name s line is)
 step_again (step.Deliver packet) line is =
     let s = step.Deliver packet in
@@ -198,37 +173,12 @@ step_again (step.Advance millis) line is =
     let s = step.Advance millis in
     begun s line form.Advance is refl ∙ advance_again line 7 millis is.fits (behind_name s line is)
 
--- behind a right `ask S C Q` stands the name of a call that isn't built
-abbrev unbuilt_rest : (line : List ℕ) → IsUnbuiltCall line → List ℕ
-unbuilt_rest line u = asked_text u.server u.client u.number ++ (spaced u.name ++ u.rest)
-
-unbuilt_ask : (line : List ℕ) (u : IsUnbuiltCall line) → Begins line (codes "ask") (unbuilt_rest line u)
-unbuilt_ask line u = record {
-  named = refl;
-  ends = refl;
-  parts = u.parts ∙ append_assoc (ask_head u.server u.client u.number) (spaced u.name) u.rest
-      ∙ ap (λ (l : List ℕ). l ++ (spaced u.name ++ u.rest)) (head_parts u.server u.client u.number);
-}
+unbuilt_begins : (line : List ℕ) (u : IsUnbuilt line) → Begins line u.name u.rest
+unbuilt_begins line u = record { named = (unbuilt_step u.name u.listed).0; ends = u.ends; parts = u.parts }
 
 unbuilt_again : (line : List ℕ) → IsUnbuilt line → step_at line ≡ Err Unbuilt
-unbuilt_again line (inl u) =
-    let t = unbuilt_step u.name u.listed in
-    at_form line u.name u.rest form.Later (record { named = t.0; ends = u.ends; parts = u.parts }) t.1
-unbuilt_again line (inr u) =
-    let b = unbuilt_ask line u in
-    at_form line (codes "ask") (unbuilt_rest line u) form.Ask b refl
-    ∙ ask_unbuilt line 3 (record {
-      server = u.server;
-      client = u.client;
-      number = u.number;
-      name = u.name;
-      rest = u.rest;
-      client_fits = u.client_fits;
-      number_fits = u.number_fits;
-      listed = u.listed;
-      ends = u.ends;
-      parts = past_name line (codes "ask") (unbuilt_rest line u) b.parts;
-    })
+unbuilt_again line u =
+    at_form line u.name u.rest form.Later (unbuilt_begins line u) (unbuilt_step u.name u.listed).1
 
 -- ---- blank lines
 
@@ -257,10 +207,7 @@ step_lettered : (s : Step) (line : List ℕ) → IsStepLine line s → is_blank 
 step_lettered s line is = begun_lettered line (step_name s) (step_rest s) (step_begins s line is)
 
 unbuilt_lettered : (line : List ℕ) → IsUnbuilt line → is_blank line ≡ false
-unbuilt_lettered line (inl u) =
-    begun_lettered line u.name u.rest (record
-    { named = (unbuilt_step u.name u.listed).0; ends = u.ends; parts = u.parts })
-unbuilt_lettered line (inr u) = begun_lettered line (codes "ask") (unbuilt_rest line u) (unbuilt_ask line u)
+unbuilt_lettered line u = begun_lettered line u.name u.rest (unbuilt_begins line u)
 
 -- ---- the meaning
 

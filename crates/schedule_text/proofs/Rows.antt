@@ -1,10 +1,11 @@
--- Two fields, the end of a line, and the rest of a line that is a field.
+-- Two fields, the fields of calls, the end of a line, and the rest of a line that is a field.
 use Rattle.std.proofs.Common.{◌≡◌, ℕ, ◌+◌, ◌^◌, ◌<◌, inl, inr, Bool, true, false, cond, eqb, List, [], ◌++◌, length, drop, Result, Ok, Err, refl, sym, ap, subst, ◌∙◌, append_assoc, arith}
 use Rattle.std.specs.Prelude.{decimal}
 use Rattle.std.proofs.lemmas.Bool.{eqb-true, eq-eqb}
 use Rattle.std.proofs.lemmas.List.{length-append, length-drop, append-nil, drop_all}
-use Rattle.spelling.specs.Text.{spaced, hex_text, set_attr_text}
-use Rattle.spelling.specs.Fits.{AreBytes, SetAttrFits}
+use Rattle.trace_lines.specs.declared.step.Step.{Step}
+use Rattle.spelling.specs.Text.{spaced, hex_text, set_attr_text, step_text}
+use Rattle.spelling.specs.Fits.{AreBytes, SetAttrFits, StepFits}
 use Rattle.text_fields.specs.declared.fault.TextFault.{TextFault}
 use Rattle.text_fields.specs.declared.fault.TextFault.TheVariants.{Grammar, Unbuilt, NoMemory}
 use Rattle.text_fields.specs.Fields.{Reader, Read, ◌>>=◌, EndsWord, spaced_at, u32_at, count_at, server_at, hex_at, set_attr_at}
@@ -13,11 +14,12 @@ use Rattle.text_fields.proofs.FieldLaws.{u32_field, count_field, server_field, s
 use Rattle.text_fields.proofs.Names.{name_field}
 use Rattle.text_fields.proofs.SetAttrLaws.{set_attr_field}
 use Rattle.text_fields.proofs.Faults.{Placed, PlacedReader, bind, choice}
-use Rattle.schedule_text.specs.Reading.{end_at, both_at, whole_at}
+use Rattle.text_fields.proofs.Faults as faults
+use Rattle.schedule_text.specs.Reading.{end_at, both_at, whole_at, spaced_u32_at, spaced_name_at, spaced_bytes_at, spaced_attr_at}
 
 -- ---- words
 
-pub dir_field : IsField (spaced_at u32_at) (λ n. spaced (decimal n)) (λ n. n < 2 ^ 32)
+pub dir_field : IsField spaced_u32_at (λ n. spaced (decimal n)) (λ n. n < 2 ^ 32)
 dir_field = spaced_field u32_at decimal (λ n. n < 2 ^ 32) u32_field
 
 pub number_field : IsField (spaced_at count_at) (λ n. spaced (decimal n)) (λ n. n < 10 ^ 18)
@@ -25,12 +27,6 @@ number_field = spaced_field count_at decimal (λ n. n < 10 ^ 18) count_field
 
 pub asked_field : IsField (spaced_at server_at) (λ s. spaced (server_text s)) (λ s. Unit {0})
 asked_field = spaced_field server_at server_text (λ s. Unit {0}) server_field
-
-pub entry_field : IsField (spaced_at (hex_at 4096)) (λ n. spaced (hex_text n)) (AreBytes 4096)
-entry_field = spaced_field (hex_at 4096) hex_text (AreBytes 4096) (name_field 4096)
-
-pub attr_field : IsField (spaced_at set_attr_at) (λ a. spaced (set_attr_text a)) SetAttrFits
-attr_field = spaced_field set_attr_at set_attr_text SetAttrFits set_attr_field
 
 -- ---- the end
 
@@ -116,6 +112,53 @@ pub both_placed : {A B : Type 0} (r : Reader A) (s : Reader B) → PlacedReader 
     → PlacedReader (both_at r s)
 both_placed r s p q line at = bind (r line at) _ (p line at) (λ x. bind (s line x.1) _ (q line x.1) (λ y. tt))
 
+-- ---- fields of calls
+
+-- a field behind a space, which fails with a place alone
+pub record IsRow {A : Type 0} (r : Reader A) (spell : A → List ℕ) (Fits : A → Type 0) : Type 0 where
+  pub field : IsField r spell Fits
+  pub placed : PlacedReader r
+  pub apart : (x : A) (rest : List ℕ) → EndsWord (spell x ++ rest)
+
+pub u32_row : IsRow spaced_u32_at (λ n. spaced (decimal n)) (λ n. n < 2 ^ 32)
+u32_row = record {
+  field = dir_field;
+  placed = faults.spaced u32_at (faults.number 10 4294967295);
+  apart = λ n rest. refl;
+}
+
+hex_row : (most : ℕ) → IsRow (spaced_at (hex_at most)) (λ s. spaced (hex_text s)) (AreBytes most)
+hex_row most = record {
+  field = spaced_field (hex_at most) hex_text (AreBytes most) (name_field most);
+  placed = faults.spaced (hex_at most) (faults.name most);
+  apart = λ s rest. refl;
+}
+
+pub name_row : IsRow spaced_name_at (λ s. spaced (hex_text s)) (AreBytes 4096)
+name_row = hex_row 4096
+
+pub bytes_row : IsRow spaced_bytes_at (λ s. spaced (hex_text s)) (AreBytes 8192)
+bytes_row = hex_row 8192
+
+pub attr_row : IsRow spaced_attr_at (λ a. spaced (set_attr_text a)) SetAttrFits
+attr_row = record {
+  field = spaced_field set_attr_at set_attr_text SetAttrFits set_attr_field;
+  placed = faults.spaced set_attr_at faults.set_attr;
+  apart = λ a rest. refl;
+}
+
+module _ {A B : Type 0} {r : Reader A} {spell_r : A → List ℕ} {FitsR : A → Type 0} {s : Reader B}
+    {spell_s : B → List ℕ} {FitsS : B → Type 0} where
+  -- one behind the other
+  pub both_row : IsRow r spell_r FitsR → IsRow s spell_s FitsS
+      → IsRow (both_at r s) (λ x. spell_r x.0 ++ spell_s x.1) (λ x. FitsR x.0 × FitsS x.1)
+  both_row first second = record {
+    field = both_field r spell_r FitsR s spell_s FitsS first.field second.field second.apart;
+    placed = both_placed r s first.placed second.placed;
+    apart = λ x rest. subst EndsWord (sym (append_assoc (spell_r x.0) (spell_s x.1) rest))
+        (first.apart x.0 (spell_s x.1 ++ rest));
+  }
+
 -- ---- the rest of a line
 
 -- what is told of each value that is read, where reading fails with a place alone
@@ -124,6 +167,10 @@ Reads Says (Ok y) = Says y
 Reads Says (Err (Grammar n)) = Unit {0}
 Reads Says (Err Unbuilt) = ⊥
 Reads Says (Err NoMemory) = ⊥
+
+-- what a step that is read behind a name says
+abbrev pub IsStepText : List ℕ → Step → Type 0
+IsStepText text s = (text ≡ step_text s) × StepFits s
 
 module _ {A B : Type 0} (r : Reader A) (spell : A → List ℕ) (Fits : A → Type 0) (made : A → B) where
   -- what is read is made of a field that is the rest of the line
@@ -144,9 +191,15 @@ module _ {A B : Type 0} (r : Reader A) (spell : A → List ℕ) (Fits : A → Ty
       by (Err Unbuilt) p e = absurd p
       by (Err NoMemory) p e = absurd p
 
+  -- a field that ends the line
+  pub whole_ends : IsField r spell Fits → (line : List ℕ) (at : ℕ) (x : A) → Fits x → drop at line ≡ spell x
+      → at + length (spell x) ≡ length line → whole_at r made line at ≡ Ok (made x)
+  whole_ends field line at x fits e end =
+      ap (λ (o : Read A). o >>= λ y. end_at (made y.0) line y.1)
+      (field.again line at x [] fits tt (e ∙ sym (append-nil (spell x))))
+      ∙ end_again (made x) line (at + length (spell x)) end
+
   pub whole_again : IsField r spell Fits → (line : List ℕ) (at : ℕ) (x : A) → Fits x → drop at line ≡ spell x
       → 0 < length (spell x) → whole_at r made line at ≡ Ok (made x)
   whole_again field line at x fits e some =
-      ap (λ (o : Read A). o >>= λ y. end_at (made y.0) line y.1)
-      (field.again line at x [] fits tt (e ∙ sym (append-nil (spell x))))
-      ∙ end_again (made x) line (at + length (spell x)) (ends_behind line at (spell x) e some)
+      whole_ends field line at x fits e (ends_behind line at (spell x) e some)

@@ -1,6 +1,6 @@
 -- Words of a line, and the names that stand there.
-use Rattle.std.proofs.Common.{◌≡◌, ℕ, suc, ◌+◌, ◌≤◌, Bool, true, false, cond, eqb, ◌&&◌, List, [], ◌∷◌, ◌++◌, length, get_or, drop, Option, Some, None, refl, sym, ap, subst, ◌∙◌, arith}
-use Rattle.std.specs.Prelude.{nat_le, not, codes, Contains}
+use Rattle.std.proofs.Common.{◌≡◌, ℕ, suc, ◌+◌, ◌<◌, ◌≤◌, Bool, true, false, cond, eqb, ◌&&◌, List, [], ◌∷◌, ◌++◌, length, get_or, drop, Option, Some, None, refl, sym, ap, subst, ◌∙◌, arith}
+use Rattle.std.specs.Prelude.{nat_le, not, find, codes, Contains}
 use Rattle.std.specs.List.{prefix_len, take_while}
 use Rattle.std.specs.Str.{bytes_eq}
 use Rattle.std.proofs.lemmas.Bool.{eqb-true, eq-eqb, ne_eqb, and_parts, leb-true}
@@ -14,7 +14,9 @@ use Rattle.text_fields.specs.Fields.{EndsWord, not_space, word_at}
 use Rattle.text_fields.proofs.Places.{Spells}
 use Rattle.schedule_text.specs.declared.form.Form.{Form}
 use Rattle.schedule_text.specs.declared.form.Form.TheVariants as form
-use Rattle.schedule_text.specs.Reading.{unbuilt_steps, unbuilt_calls, is_among, form_of}
+use Rattle.schedule_text.specs.declared.call_name.CallName.{CallName}
+use Rattle.schedule_text.specs.declared.call_name.CallName.TheVariants as names
+use Rattle.schedule_text.specs.Reading.{unbuilt_steps, is_among, form_of, name_text, call_names, call_named}
 
 -- ---- where a word ends
 
@@ -162,21 +164,65 @@ unbuilt_step name c =
     let parts = and_parts (is_name name) (is_later (form_of name)) all in
     (parts.0, later_is (form_of name) parts.1)
 
--- ---- the calls that aren't built
+-- ---- the names of calls
 
-abbrev other_call : List ℕ → Bool
-other_call name = is_name name && (not (bytes_eq name (codes "mkdir")) && not (bytes_eq name (codes "lookup")))
+some_is : (n m : CallName) → Some n ≡ Some m → n ≡ m
+some_is n m e = cc
 
-not_true : (b : Bool) → not b ≡ true → b ≡ false
-not_true true e = absurd cc
-not_true false e = refl
+named_step : (b : Bool) (word : List ℕ) (n m : CallName) (rest : Option CallName) → (b ≡ true → word ≡ name_text n)
+    → (rest ≡ Some m → word ≡ name_text m) → cond b (Some n) rest ≡ Some m → word ≡ name_text m
+named_step true word n m rest is more e = is refl ∙ ap name_text (some_is n m e)
+named_step false word n m rest is more e = more e
 
-pub unbuilt_call : (name : List ℕ) → Contains unbuilt_calls name
-    → (is_name name ≡ true) × (bytes_eq name (codes "mkdir") ≡ false) × (bytes_eq name (codes "lookup") ≡ false)
-unbuilt_call name c =
-    let all = All-contains (λ x. other_call x ≡ true) unbuilt_calls name
-    (AllPass-from_list_all other_call unbuilt_calls refl) c in
-    let parts = and_parts (is_name name)
-    (not (bytes_eq name (codes "mkdir")) && not (bytes_eq name (codes "lookup"))) all in
-    let others = and_parts (not (bytes_eq name (codes "mkdir"))) (not (bytes_eq name (codes "lookup"))) parts.1 in
-    (parts.0, not_true (bytes_eq name (codes "mkdir")) others.0, not_true (bytes_eq name (codes "lookup")) others.1)
+named_among : (word : List ℕ) (names : List CallName) (m : CallName)
+    → find (λ n. bytes_eq word (name_text n)) names ≡ Some m → word ≡ name_text m
+named_among word [] m e = absurd cc
+named_among word (n ∷ names) m e =
+    named_step (bytes_eq word (name_text n)) word n m (find (λ n. bytes_eq word (name_text n)) names)
+    (same_word word (name_text n)) (named_among word names m) e
+
+-- a word that names a call is its name
+pub names_call : (word : List ℕ) (n : CallName) → call_named word ≡ Some n → word ≡ name_text n
+names_call word n e = named_among word call_names n e
+
+-- a call is found by its name
+pub named_again : (n : CallName) → call_named (name_text n) ≡ Some n
+named_again names.Null = refl
+named_again names.GetAttr = refl
+named_again names.SetAttr = refl
+named_again names.Lookup = refl
+named_again names.ReadLink = refl
+named_again names.Read = refl
+named_again names.Write = refl
+named_again names.Create = refl
+named_again names.Remove = refl
+named_again names.Rename = refl
+named_again names.Link = refl
+named_again names.SymLink = refl
+named_again names.MkDir = refl
+named_again names.RmDir = refl
+named_again names.ReadDir = refl
+named_again names.StatFs = refl
+
+pub name_is_name : (n : CallName) → is_name (name_text n) ≡ true
+name_is_name names.Null = refl
+name_is_name names.GetAttr = refl
+name_is_name names.SetAttr = refl
+name_is_name names.Lookup = refl
+name_is_name names.ReadLink = refl
+name_is_name names.Read = refl
+name_is_name names.Write = refl
+name_is_name names.Create = refl
+name_is_name names.Remove = refl
+name_is_name names.Rename = refl
+name_is_name names.Link = refl
+name_is_name names.SymLink = refl
+name_is_name names.MkDir = refl
+name_is_name names.RmDir = refl
+name_is_name names.ReadDir = refl
+name_is_name names.StatFs = refl
+
+-- a name has a letter
+pub name_some : (word : List ℕ) → is_name word ≡ true → 0 < length word
+name_some [] name = absurd cc
+name_some (b ∷ word) name = omega arith

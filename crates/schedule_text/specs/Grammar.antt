@@ -1,32 +1,15 @@
 -- What a line of a schedule may be, and what its meaning says of it.
-use Rattle.std.specs.Prelude.{◌≡◌, ℕ, ◌<◌, ◌^◌, ◌⊎◌, List, [], ◌∷◌, ◌++◌, Option, Some, None, Result, Ok, Err, Contains}
-use Rattle.harp_base.specs.declared.server.ServerId.{ServerId}
-use Rattle.harp_base.specs.declared.call.Call.{Call}
-use Rattle.harp_base.specs.declared.call.Call.TheVariants as call
+use Rattle.std.specs.Prelude.{◌≡◌, ℕ, List, [], ◌∷◌, ◌++◌, Option, Some, None, Result, Ok, Err, Contains}
 use Rattle.trace_lines.specs.declared.step.Step.{Step}
-use Rattle.trace_lines.specs.declared.step.Step.TheVariants as step
-use Rattle.spelling.specs.Text.{spaced, ask_head, step_text}
+use Rattle.spelling.specs.Text.{step_text}
 use Rattle.spelling.specs.Fits.{StepFits}
 use Rattle.text_fields.specs.declared.fault.TextFault.{TextFault}
 use Rattle.text_fields.specs.declared.fault.TextFault.TheVariants.{Grammar, Unbuilt, NoMemory}
 use Rattle.text_fields.specs.Fields.{EndsWord}
-use Rattle.schedule_text.specs.Reading.{unbuilt_steps, unbuilt_calls}
+use Rattle.schedule_text.specs.Reading.{unbuilt_steps}
 
--- ---- what is built
-
-abbrev pub IsBuiltCall : Call → Type 0
-IsBuiltCall (call.Lookup dir name) = Unit {0}
-IsBuiltCall (call.MkDir dir name attr) = Unit {0}
-IsBuiltCall _ = ⊥
-
--- any step, but of the asks those of `mkdir` or `lookup`
-abbrev pub IsBuilt : Step → Type 0
-IsBuilt (step.Ask server client number call) = IsBuiltCall call
-IsBuilt s = Unit {0}
-
--- the line is the spelling of this step, which is built
+-- the line is the spelling of this step
 pub record IsStepLine (line : List ℕ) (s : Step) : Type 0 where
-  pub built : IsBuilt s
   pub fits : StepFits s
   pub spelled : line ≡ step_text s
 
@@ -38,28 +21,12 @@ IsBlank [] = Unit {0}
 IsBlank (b ∷ line) = b ≡ 35
 
 -- the first word is the name of a step that isn't built
-pub record IsUnbuiltStep (line : List ℕ) : Type 0 where
+pub record IsUnbuilt (line : List ℕ) : Type 0 where
   pub name : List ℕ
   pub rest : List ℕ
   pub listed : Contains unbuilt_steps name
   pub ends : EndsWord rest
   pub parts : line ≡ name ++ rest
-
--- behind a right `ask S C Q` stands the name of a call that isn't built
-pub record IsUnbuiltCall (line : List ℕ) : Type 0 where
-  pub server : ServerId
-  pub client : ℕ
-  pub number : ℕ
-  pub name : List ℕ
-  pub rest : List ℕ
-  pub client_fits : client < 2 ^ 32
-  pub number_fits : number < 10 ^ 18
-  pub listed : Contains unbuilt_calls name
-  pub ends : EndsWord rest
-  pub parts : line ≡ ask_head server client number ++ spaced name ++ rest
-
-abbrev pub IsUnbuilt : List ℕ → Type 0
-IsUnbuilt line = IsUnbuiltStep line ⊎ IsUnbuiltCall line
 
 -- ---- what a meaning says of its line
 

@@ -2,6 +2,8 @@
 #![tactic(auto)]
 
 mod call;
+mod call_name;
+mod field;
 mod form;
 mod reading;
 mod step;

@@ -4,7 +4,8 @@ ghost use Rattle.std.specs.Prelude.{◌≡◌, ◌+◌, ◌<◌, ◌≤◌, leng
 ghost use Rattle.text_fields.specs.Fields.{Gives};
 ghost use Rattle.schedule_text.specs.Reading.{asker_at, ask_at, deliver_at, pair_at, pump_at, tick_at, clock_at, advance_at, step_of};
 
-use crate::call::{call_at, end_at};
+use crate::call::call_at;
+use crate::field::end_at;
 use crate::form::Form;
 use harp_base::ServerId;
 use std::alloc::Global;

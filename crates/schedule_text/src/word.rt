@@ -1,8 +1,8 @@
-//! The names of steps and of calls.
+//! The names of steps.
 
 ghost use Rattle.std.specs.Prelude.{◌≡◌, codes};
 ghost use Rattle.std.specs.Str.{bytes_eq};
-ghost use Rattle.schedule_text.specs.Reading.{is_among, unbuilt_steps, unbuilt_calls, form_of};
+ghost use Rattle.schedule_text.specs.Reading.{is_among, unbuilt_steps, form_of};
 
 use crate::form::Form;
 
@@ -47,24 +47,4 @@ pub fn form_of(word: &[u8]) -> Option<Form>
         return Some(Form::Later);
     }
     None
-}
-
-/// Whether a word is the name of a call that isn't built.
-pub fn is_unbuilt_call(word: &[u8]) -> bool
-    ensures { result ≡ is_among unbuilt_calls word.now }
-{
-    word == b"null".as_slice()
-        || word == b"getattr".as_slice()
-        || word == b"setattr".as_slice()
-        || word == b"readlink".as_slice()
-        || word == b"read".as_slice()
-        || word == b"write".as_slice()
-        || word == b"create".as_slice()
-        || word == b"remove".as_slice()
-        || word == b"rename".as_slice()
-        || word == b"link".as_slice()
-        || word == b"symlink".as_slice()
-        || word == b"rmdir".as_slice()
-        || word == b"readdir".as_slice()
-        || word == b"statfs".as_slice()
 }

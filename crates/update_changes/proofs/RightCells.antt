@@ -34,7 +34,7 @@ IsRight tree cell.Meta v = Unit {0}
 IsRight tree (cell.Client client) v = Unit {0}
 IsRight tree (cell.Saved at) v = Unit {0}
 
-pub all_from_right : (cells : Cells) (tree : Tree) → ((c : Cell) → IsRight tree c (cells c)) → AllStand cells tree
+all_from_right : (cells : Cells) (tree : Tree) → ((c : Cell) → IsRight tree c (cells c)) → AllStand cells tree
 all_from_right cells tree right number = record {
   object = right (cell.Object number);
   block = λ block. (right (cell.Block number block)).0;
@@ -42,7 +42,7 @@ all_from_right cells tree right number = record {
   slot = λ slot. right (cell.Slot number slot);
 }
 
-pub right_by : (tree : Tree) (c : Cell) → IsRight tree c (cell_of_tree tree 0 no_updates c)
+right_by : (tree : Tree) (c : Cell) → IsRight tree c (cell_of_tree tree 0 no_updates c)
 right_by tree (cell.Object n) = refl
 right_by tree (cell.Block n b) = (refl, λ past. blocks_end tree 0 no_updates n b past)
 right_by tree (cell.Slot n s) = refl
@@ -70,7 +70,7 @@ spared c held (change.EraseFrom object first) e = rw e refl
 abbrev pub IsBy : Tree → Change → Type 0
 IsBy tree ch = (c : Cell) (held : Option Value) → sets_cell c ch ≡ true → IsRight tree c (changed c held ch)
 
-pub right_after : (tree : Tree) (c : Cell) (changes : List Change) (held : Option Value) → All (IsBy tree) changes
+right_after : (tree : Tree) (c : Cell) (changes : List Change) (held : Option Value) → All (IsBy tree) changes
     → (Spares c changes → IsRight tree c held) → IsRight tree c (fold (changed c) held changes)
 right_after tree c [] held by right = right refl
 right_after tree c (ch ∷ changes) held by right =
@@ -111,7 +111,7 @@ by_set tree (d ∷ cells) =
     All-cons (IsBy tree) (change_to d (cell_of_tree tree 0 no_updates d)) (set_by tree cells)
     (by_one tree d) (by_set tree cells)
 
-pub spared_cells : (tree : Tree) (c : Cell) (cells : List Cell) → Spares c (set_by tree cells)
+spared_cells : (tree : Tree) (c : Cell) (cells : List Cell) → Spares c (set_by tree cells)
     → list_any (λ d. is_cell d c) cells ≡ false
 spared_cells tree c [] e = refl
 spared_cells tree c (d ∷ cells) e =

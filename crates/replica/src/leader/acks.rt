@@ -7,10 +7,10 @@ ghost use Rattle.group_model.specs.Replicate.{on_ack};
 ghost use Rattle.replica.specs.Leader.{CommitsNext, IsUnderWay};
 ghost use Rattle.replica.specs.Said.{Makes};
 
+use crate::cells::make_changes;
 use crate::leader::Leader;
 use crate::outputs::{Answered, Outputs};
 use crate::records::{entry_copy, record_after};
-use crate::trees::apply_record;
 use event_record::Moment;
 use harp_base::Peer;
 use std::alloc::{AllocError, Global};
@@ -86,7 +86,7 @@ impl Leader {
         };
         outs.commit(entry_copy(alloc, item)?)?;
         outs.answer(answer)?;
-        apply_record(alloc, &mut self.committed, item)?;
+        make_changes(alloc, &mut self.committed, item.changes.as_slice())?;
         self.waiting.pop_front();
         self.log.commit_to(cp + 1);
         Ok(())

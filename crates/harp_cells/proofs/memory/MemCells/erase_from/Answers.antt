@@ -1,10 +1,13 @@
-use Rattle.std.proofs.Common.{ap, ◌∙◌}
-use Rattle.harp_cells.specs.Effect.{is_block_from}
-use Rattle.harp_cells.specs.Memory.{cell_in, without}
-use Rattle.harp_cells.proofs.CellLemmas.{cell_in_without, alike_blocks}
+use Rattle.std.proofs.Common.{◌∙◌}
+use Rattle.harp_cells.specs.Memory.{cell_in}
+use Rattle.harp_cells.proofs.KeyOrder.{others_stay}
 use Rattle.harp_cells.proofs.memory.MemCells.erase_from.Goals as goal
 
-pub returns-clause-erased : goal.returns-clause-erased
-returns-clause-erased c cell =
-    ap (λ xs. cell_in xs cell) (c.drop_blocks.ensures ∙ ap (λ v. without (is_block_from c.args.object c.args.first) v.entries) c.self.view_is)
-    ∙ cell_in_without (is_block_from c.args.object c.args.first) (alike_blocks c.args.object c.args.first) c.args.self.now.entries cell
+pub loop-block-preserved : goal.loop-block-preserved
+loop-block-preserved c = record {
+  others = λ d h.
+      others_stay c.args.object c.args.first c.in-Some.block d (cell_in c.loop-block.self-inside.values.entries d) (cell_in c.drop_value.new.values.entries d)
+      c.in-Some.ensures.from h (c.drop_value.ensures.gone d)
+      ∙ c.loop-block.invariant.others d h;
+  fetched = c.loop-block.invariant.fetched;
+}

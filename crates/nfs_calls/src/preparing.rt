@@ -1,0 +1,211 @@
+//! The plan of an update.
+
+ghost use Rattle.std.specs.Prelude.{◌≡◌, ◌≤◌, ◌∷◌, ◌++◌, [], Some, Err, IfOk, OnOk, true};
+ghost use Rattle.harp_base.specs.Streams.{Rose};
+ghost use Rattle.harp_base.specs.Update.{is_update};
+ghost use Rattle.file_tree.specs.Calls.{answered, outcome};
+ghost use Rattle.harp_cells.specs.declared.cell.Cell.TheVariants as cell;
+ghost use Rattle.harp_cells.specs.declared.change.Change.TheVariants as change;
+ghost use Rattle.harp_cells.specs.declared.value.Value.TheVariants as value;
+ghost use Rattle.harp_cells.specs.CellsOfTree.{StandForTree};
+ghost use Rattle.harp_cells.specs.Effect.{Cells, after};
+ghost use Rattle.update_changes.specs.Short.{AreShort};
+ghost use Rattle.update_changes.specs.Table.{update_changes};
+ghost use Rattle.update_changes.specs.TreeCells.{TreeCells};
+ghost use Rattle.nfs_calls.specs.Plans.{changes_entries, plan_view, planned, settled_plan, totals_of};
+ghost use Rattle.nfs_calls.specs.Gives.{Gives};
+
+use crate::creating::create;
+use crate::linking::link;
+use crate::making::{make_dir, make_link};
+use crate::plan::Plan;
+use crate::refusal::Refusal;
+use crate::removes::{remove, remove_dir};
+use crate::setting::set_attr;
+use crate::rename::rename;
+use crate::totals::{Totals, read_totals};
+use crate::writing::write;
+use harp_base::{Call, Reply, Time, time_of};
+use harp_cells::{Cell, CellFault, CellRead, Change, Moment, Value};
+use std::alloc::{AllocError, Global};
+
+/// The reply to an update, and its changes of the tree's cells, in their order.
+#[derive(Debug, Drop)]
+pub struct Prepared {
+    pub reply: Reply,
+    pub changes: Vec<Change>,
+}
+
+/// The plan of an update of entries, or its refusal.
+fn plan_entry<R: CellRead>(
+    alloc: Global,
+    cells: &mut R,
+    totals: Totals,
+    call: &Call,
+    now: Time,
+) -> Result<Plan, Refusal>
+    requires { changes_entries call.now ≡ true }
+    ensures plan { (t : TreeCells) → R.cells cells.old ≡ Some t.cells → totals ≡ totals_of t.tree
+        → Gives plan_view result (planned t.cells t.tree call.now (answered t.tree call.now now)) }
+    ensures short { IfOk result (λ p. AreShort 13 p.changes.items) }
+    ensures kept { R.cells cells.new ≡ R.cells cells.old }
+    ensures rose { result ≡ Err (Refusal.Fault CellFault.StoreFailed) → Rose (R.faults cells.old) (R.faults cells.new) }
+    ensures count { R.faults cells.old ≤ R.faults cells.new }
+{
+    match call {
+        Call::Remove { dir, name } => remove(alloc, cells, totals, *dir, name.as_slice(), now),
+        Call::RmDir { dir, name } => remove_dir(alloc, cells, totals, *dir, name.as_slice(), now),
+        Call::Link { handle, dir, name } => {
+            link(alloc, cells, totals, *handle, *dir, name.as_slice(), now)
+        }
+        Call::Rename {
+            dir,
+            name,
+            to_dir,
+            to_name,
+        } => {
+            let (name, to_name) = (name.as_slice(), to_name.as_slice());
+            rename(alloc, cells, totals, *dir, name, *to_dir, to_name, now)
+        }
+        Call::Null
+        | Call::GetAttr { .. }
+        | Call::SetAttr { .. }
+        | Call::Lookup { .. }
+        | Call::ReadLink { .. }
+        | Call::Read { .. }
+        | Call::Write { .. }
+        | Call::Create { .. }
+        | Call::SymLink { .. }
+        | Call::MkDir { .. }
+        | Call::ReadDir { .. }
+        | Call::StatFs { .. } => unreachable!(),
+    }
+}
+
+/// The plan of an update, or its refusal.
+fn plan_update<R: CellRead>(
+    alloc: Global,
+    cells: &mut R,
+    totals: Totals,
+    call: &Call,
+    now: Time,
+) -> Result<Plan, Refusal>
+    requires { is_update call.now ≡ true }
+    ensures plan { (t : TreeCells) → R.cells cells.old ≡ Some t.cells → totals ≡ totals_of t.tree
+        → Gives plan_view result (planned t.cells t.tree call.now (answered t.tree call.now now)) }
+    ensures short { IfOk result (λ p. AreShort 13 p.changes.items) }
+    ensures kept { R.cells cells.new ≡ R.cells cells.old }
+    ensures rose { result ≡ Err (Refusal.Fault CellFault.StoreFailed) → Rose (R.faults cells.old) (R.faults cells.new) }
+    ensures count { R.faults cells.old ≤ R.faults cells.new }
+{
+    match call {
+        Call::SetAttr { handle, attr } => set_attr(alloc, cells, totals, *handle, attr, now),
+        Call::Write {
+            handle,
+            offset,
+            bytes,
+        } => {
+            let bytes = bytes.as_slice();
+            write(alloc, cells, totals, *handle, *offset, bytes, now)
+        }
+        Call::Create { dir, name, attr } => {
+            create(alloc, cells, totals, *dir, name.as_slice(), attr, now)
+        }
+        Call::MkDir { dir, name, attr } => {
+            make_dir(alloc, cells, totals, *dir, name.as_slice(), attr, now)
+        }
+        Call::SymLink {
+            dir,
+            name,
+            text,
+            attr,
+        } => {
+            let (name, text) = (name.as_slice(), text.as_slice());
+            make_link(alloc, cells, totals, *dir, name, text, attr, now)
+        }
+        Call::Remove { .. } | Call::Rename { .. } | Call::Link { .. } | Call::RmDir { .. } => {
+            plan_entry(alloc, cells, totals, call, now)
+        }
+        Call::Null
+        | Call::GetAttr { .. }
+        | Call::Lookup { .. }
+        | Call::ReadLink { .. }
+        | Call::Read { .. }
+        | Call::ReadDir { .. }
+        | Call::StatFs { .. } => unreachable!(),
+    }
+}
+
+/// The plan of an update; a refusal is the reply of one that changes nothing.
+fn settled<R: CellRead>(
+    alloc: Global,
+    cells: &mut R,
+    totals: Totals,
+    call: &Call,
+    now: Time,
+) -> Result<Plan, CellFault>
+    requires { is_update call.now ≡ true }
+    ensures plan { (t : TreeCells) → R.cells cells.old ≡ Some t.cells → totals ≡ totals_of t.tree
+        → IfOk result (λ p. plan_view p ≡ settled_plan t.cells t.tree call.now (answered t.tree call.now now)) }
+    ensures short { IfOk result (λ p. AreShort 13 p.changes.items) }
+    ensures kept { R.cells cells.new ≡ R.cells cells.old }
+    ensures rose { result ≡ Err CellFault.StoreFailed → Rose (R.faults cells.old) (R.faults cells.new) }
+    ensures count { R.faults cells.old ≤ R.faults cells.new }
+{
+    match plan_update(alloc, cells, totals, call, now) {
+        Ok(plan) => Ok(plan),
+        Err(Refusal::Status(status)) => Ok(Plan {
+            reply: Reply::Refused { status },
+            changes: Vec::new(alloc),
+            totals,
+        }),
+        Err(Refusal::Fault(fault)) => Err(fault),
+    }
+}
+
+/// The whole tree gets totals and the stamp of its last update.
+fn put_totals(changes: &mut Vec<Change>, totals: Totals, stamp: Moment) -> Result<(), AllocError>
+    ensures { IfOk result (λ _. changes.new.items
+        ≡ changes.old.items ++ change.Put cell.Meta (value.Meta totals.next totals.used stamp) ∷ []) }
+{
+    changes.push(Change::Put {
+        cell: Cell::Meta,
+        value: Value::Meta {
+            next: totals.next,
+            used: totals.used,
+            stamp,
+        },
+    })?;
+    Ok(())
+}
+
+/// The reply to an update at a stamp in milliseconds, and the changes of cells that it makes: from cells that stand for a
+/// sound tree they lead to cells that stand for the tree of the outcome. A status of NFS is a reply, and changes nothing
+/// but the stamp. At most 15 changes are made, all of cells of the tree, and at most three put a block.
+pub fn prepare<R: CellRead>(
+    alloc: Global,
+    cells: &mut R,
+    call: &Call,
+    stamp: Moment,
+) -> Result<Prepared, CellFault>
+    requires { is_update call.now ≡ true }
+    ensures reply { (t : TreeCells) → R.cells cells.old ≡ Some t.cells
+        → IfOk result (λ p. p.reply ≡ (outcome t.tree call.now stamp).0) }
+    ensures changes { (t : TreeCells) → R.cells cells.old ≡ Some t.cells
+        → IfOk result (λ p. p.changes.items ≡ update_changes t.cells t.tree call.now stamp) }
+    ensures leads { (t : TreeCells) → R.cells cells.old ≡ Some t.cells
+        → IfOk result (λ p. StandForTree (after p.changes.items t.cells) (outcome t.tree call.now stamp).1 stamp) }
+    ensures short { IfOk result (λ p. AreShort 15 p.changes.items) }
+    ensures kept { R.cells cells.new ≡ R.cells cells.old }
+    ensures rose { result ≡ Err CellFault.StoreFailed → Rose (R.faults cells.old) (R.faults cells.new) }
+    ensures count { R.faults cells.old ≤ R.faults cells.new }
+{
+    let totals = read_totals(cells)?;
+    let now = time_of(stamp.get());
+    let mut plan = settled(alloc, cells, totals, call, now)?;
+    put_totals(&mut plan.changes, plan.totals, stamp)?;
+    Ok(Prepared {
+        reply: plan.reply,
+        changes: plan.changes,
+    })
+}
