@@ -1,5 +1,5 @@
 -- The steps of a rename.
-use Rattle.std.proofs.Common.{◌≡◌, ℕ, ◌&&◌, Bool, true, false, List, length, Option, Some, Ok, Err, Result, refl, sym, ap, ◌∙◌, subst}
+use Rattle.std.proofs.Common.{◌≡◌, ℕ, ◌&&◌, Bool, true, false, List, length, Option, Ok, Err, Result, refl, subst}
 use Rattle.std.specs.Prelude.{IfOk}
 use Rattle.harp_base.specs.declared.attr.Time.{Time}
 use Rattle.harp_base.specs.declared.call.Call.TheVariants as call
@@ -42,7 +42,7 @@ pub moved_gives : (cells : Cells) (tree : Tree) (m : Move) (name owned to_name :
     → Gives plan_view r (planned cells tree (call.Rename m.dir name m.to_dir to_name) (apart_outcome tree m.dir (m.slot, m.number) m.to_dir to_name now))
 moved_gives cells tree m name owned to_name now target r e h is found =
     let step = subst (λ (n : List ℕ). IsMoving tree m name n → entry (slots_of (place tree m.to_dir)) n ≡ target
-        → Gives plan_view r (planned cells tree (call.Rename m.dir name m.to_dir n) (moved_outcome tree m.dir (m.slot, m.number) m.to_dir n target now))) e h is found in
+    → Gives plan_view r (planned cells tree (call.Rename m.dir name m.to_dir n) (moved_outcome tree m.dir (m.slot, m.number) m.to_dir n target now))) e h is found in
     subst (λ (o : Outcome). Gives plan_view r (planned cells tree (call.Rename m.dir name m.to_dir to_name) o))
     (moved_is tree m.dir (m.slot, m.number) m.to_dir to_name target now is.apart found) step
 

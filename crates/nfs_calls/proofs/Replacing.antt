@@ -1,5 +1,5 @@
 -- The plan of an entry that takes the place of another one, in its directory or in another.
-use Rattle.std.proofs.Common.{◌≡◌, ℕ, ◌+◌, ◌*◌, ◌-◌, ◌<◌, ◌≤◌, ◌==◌, true, false, List, [], ◌∷◌, ◌++◌, length, get_or, set, None, Some, Ok, refl, sym, ap, ◌∙◌, subst, arith, inl, inr}
+use Rattle.std.proofs.Common.{◌≡◌, ℕ, ◌+◌, ◌*◌, ◌≤◌, ◌==◌, true, false, List, [], ◌∷◌, ◌++◌, length, get_or, set, None, Some, Ok, refl, sym, ap, ◌∙◌, subst, arith, inl, inr}
 use Rattle.std.proofs.lemmas.Bool.{cases_eq, eq-eqb, ne_eqb}
 use Rattle.std.proofs.lemmas.List.{length-set, get_or-set_same, get_or-set_other}
 use Rattle.harp_base.specs.declared.attr.Time.{Time}
@@ -8,11 +8,11 @@ use Rattle.harp_base.specs.declared.reply.Reply.TheVariants.{Done}
 use Rattle.file_tree.specs.declared.object.Slot.{Slot}
 use Rattle.file_tree.specs.declared.object.Body.{Body}
 use Rattle.file_tree.specs.declared.object.Body.TheVariants.{Directory}
-use Rattle.file_tree.specs.Tree.{Tree, Slots, place, slots_of, names_in, is_directory_at}
+use Rattle.file_tree.specs.Tree.{Tree, place, slots_of, names_in}
 use Rattle.file_tree.specs.Outcome.{change, slot_changed, slot_replaced, reslotted}
 use Rattle.file_tree.specs.Rename.{check_target}
 use Rattle.file_tree.specs.Sound.{IsSound}
-use Rattle.file_tree.proofs.SlotLaws.{one, IsFound, found}
+use Rattle.file_tree.proofs.SlotLaws.{IsFound, found}
 use Rattle.file_tree.proofs.SoundChanges.{one_itself, one_other}
 use Rattle.file_tree.proofs.SoundMoves.{cleared_names}
 use Rattle.harp_cells.specs.declared.value.Inode.{Inode}
@@ -23,7 +23,7 @@ use Rattle.harp_cells.specs.Effect.{Cells}
 use Rattle.nfs_calls.specs.declared.moving.Move.{Move}
 use Rattle.nfs_calls.specs.TreeCells.{object_at}
 use Rattle.nfs_calls.specs.Plans.{planned, totals_of}
-use Rattle.nfs_calls.specs.Entries.{link_of, relinked, loss, after_loss}
+use Rattle.nfs_calls.specs.Entries.{relinked, loss, after_loss}
 use Rattle.nfs_calls.specs.Moves.{slot_changes, directory_changes, moved_inode, links_over, moved_outcome, IsMoving}
 use Rattle.nfs_calls.proofs.Sets.{place_at, place_other, set_by_change}
 use Rattle.nfs_calls.proofs.Entries.{subdirectories, directory_share, subdirectories_set, share_of_found, slots_at}
@@ -46,8 +46,12 @@ same_subdirectories tree m to_name y j target =
 across_target : (cells : Cells) (tree : Tree) (m : Move) (name to_name : List ℕ) (y : ℕ × ℕ) (j : Inode) (now : Time) → IsSound tree → (m.dir ≡ m.to_dir → ⊥) → IsMoving tree m name to_name
     → IsTarget tree m to_name y j → check_target tree m.number (Some y) ≡ Ok tt
     → planned cells tree (call.Rename m.dir name m.to_dir to_name) (moved_outcome tree m.dir (m.slot, m.number) m.to_dir to_name (Some y) now)
-    ≡ Ok (Done, slot_changes m y.0 to_name ++ directory_changes m (relinked now (links_over m) m.to) now ++ loss y.1 j now
-    ++ change.Put (cell.Object m.number) (value.Object (moved_inode m now)) ∷ [], after_loss (totals_of tree) j)
+    ≡ Ok (
+      Done,
+      slot_changes m y.0 to_name ++ directory_changes m (relinked now (links_over m) m.to) now ++ loss y.1 j now
+          ++ change.Put (cell.Object m.number) (value.Object (moved_inode m now)) ∷ [],
+      after_loss (totals_of tree) j,
+    )
 across_target cells tree m name to_name y j now sound two is target checked =
     let o = object_at tree m.dir in
     let e = object_at tree m.to_dir in
@@ -93,8 +97,12 @@ across_target cells tree m name to_name y j now sound two is target checked =
 within_target : (cells : Cells) (tree : Tree) (m : Move) (name to_name : List ℕ) (y : ℕ × ℕ) (j : Inode) (now : Time) → IsSound tree → IsMoving tree (within m) name to_name
     → IsTarget tree m to_name y j → check_target tree m.number (Some y) ≡ Ok tt
     → planned cells tree (call.Rename m.to_dir name m.to_dir to_name) (moved_outcome tree m.to_dir (m.slot, m.number) m.to_dir to_name (Some y) now)
-    ≡ Ok (Done, slot_changes (within m) y.0 to_name ++ directory_changes (within m) (relinked now (links_over (within m)) m.to) now ++ loss y.1 j now
-    ++ change.Put (cell.Object m.number) (value.Object (moved_inode m now)) ∷ [], after_loss (totals_of tree) j)
+    ≡ Ok (
+      Done,
+      slot_changes (within m) y.0 to_name ++ directory_changes (within m) (relinked now (links_over (within m)) m.to) now ++ loss y.1 j now
+          ++ change.Put (cell.Object m.number) (value.Object (moved_inode m now)) ∷ [],
+      after_loss (totals_of tree) j,
+    )
 within_target cells tree m name to_name y j now sound is goal checked =
     let n = within m in
     let d = m.to_dir in
@@ -163,14 +171,22 @@ within_target cells tree m name to_name y j now sound is goal checked =
 pub target_planned : (cells : Cells) (tree : Tree) (m : Move) (name to_name : List ℕ) (y : ℕ × ℕ) (j : Inode) (now : Time) → IsSound tree → IsMoving tree m name to_name
     → IsTarget tree m to_name y j → check_target tree m.number (Some y) ≡ Ok tt
     → planned cells tree (call.Rename m.dir name m.to_dir to_name) (moved_outcome tree m.dir (m.slot, m.number) m.to_dir to_name (Some y) now)
-    ≡ Ok (Done, slot_changes m y.0 to_name ++ directory_changes m (relinked now (links_over m) m.to) now ++ loss y.1 j now
-    ++ change.Put (cell.Object m.number) (value.Object (moved_inode m now)) ∷ [], after_loss (totals_of tree) j)
+    ≡ Ok (
+      Done,
+      slot_changes m y.0 to_name ++ directory_changes m (relinked now (links_over m) m.to) now ++ loss y.1 j now
+          ++ change.Put (cell.Object m.number) (value.Object (moved_inode m now)) ∷ [],
+      after_loss (totals_of tree) j,
+    )
 target_planned cells tree m name to_name y j now sound is target checked = elim (cases_eq m.dir m.to_dir) [
   | inl one_dir ↦
       let same : m ≡ within m = ap (λ (d : ℕ). record m { dir = d }) one_dir in
       subst (λ (n : Move). planned cells tree (call.Rename n.dir name n.to_dir to_name) (moved_outcome tree n.dir (n.slot, n.number) n.to_dir to_name (Some y) now)
-      ≡ Ok (Done, slot_changes n y.0 to_name ++ directory_changes n (relinked now (links_over n) n.to) now ++ loss y.1 j now
-      ++ change.Put (cell.Object n.number) (value.Object (moved_inode n now)) ∷ [], after_loss (totals_of tree) j)) (sym same)
+      ≡ Ok (
+        Done,
+        slot_changes n y.0 to_name ++ directory_changes n (relinked now (links_over n) n.to) now ++ loss y.1 j now
+            ++ change.Put (cell.Object n.number) (value.Object (moved_inode n now)) ∷ [],
+        after_loss (totals_of tree) j,
+      )) (sym same)
       (within_target cells tree m name to_name y j now sound (subst (λ (n : Move). IsMoving tree n name to_name) same is) target checked)
   | inr two ↦ across_target cells tree m name to_name y j now sound two is target checked
 ]

@@ -118,7 +118,14 @@ fn rename_checked<R: CellRead>(
     match entry(cells, directories.dir, &directories.from, name)? {
         None => Err(Refusal::Status(Status::NoEnt)),
         Some((slot, number)) => rename_found(
-            alloc, cells, totals, directories, slot, number, to_name, now,
+            alloc,
+            cells,
+            totals,
+            directories,
+            slot,
+            number,
+            to_name,
+            now,
         ),
     }
 }

@@ -40,9 +40,13 @@ fn plan_in(
     to_name: NonEmpty<255>,
     now: Time,
 ) -> Result<Plan, AllocError>
-    ensures plan { IfOk result (λ p. plan_view p ≡ (Done, slot_changes moving.now to_slot to_name
-        ++ directory_changes moving.now to.now now
-        ++ change.Put (cell.Object moving.now.number) (value.Object (moved_inode moving.now now)) ∷ [], totals)) }
+    ensures plan { IfOk result (λ p. plan_view p ≡ (
+      Done,
+      slot_changes moving.now to_slot to_name
+          ++ directory_changes moving.now to.now now
+          ++ change.Put (cell.Object moving.now.number) (value.Object (moved_inode moving.now now)) ∷ [],
+      totals,
+    )) }
     ensures short { IfOk result (λ p. AreShort 13 p.changes.items) }
 {
     let mut changes = Vec::new(alloc);
@@ -67,10 +71,13 @@ fn plan_over(
     to_name: NonEmpty<255>,
     now: Time,
 ) -> Result<Plan, AllocError>
-    ensures plan { IfOk result (λ p. plan_view p ≡ (Done, slot_changes moving.now to_slot to_name
-        ++ directory_changes moving.now (relinked now (links_over moving.now) moving.now.to) now ++ loss target object.now now
-        ++ change.Put (cell.Object moving.now.number) (value.Object (moved_inode moving.now now)) ∷ [],
-        after_loss totals object.now)) }
+    ensures plan { IfOk result (λ p. plan_view p ≡ (
+      Done,
+      slot_changes moving.now to_slot to_name
+          ++ directory_changes moving.now (relinked now (links_over moving.now) moving.now.to) now ++ loss target object.now now
+          ++ change.Put (cell.Object moving.now.number) (value.Object (moved_inode moving.now now)) ∷ [],
+      after_loss totals object.now,
+    )) }
     ensures short { IfOk result (λ p. AreShort 13 p.changes.items) }
 {
     let to = relinked(&moving.to, links_over(moving), now);
@@ -237,5 +244,7 @@ pub fn move_over<R: CellRead>(
             totals,
         });
     }
-    Ok(plan_over(alloc, totals, moving, to_slot, target, &object, to_name, now)?)
+    Ok(plan_over(
+        alloc, totals, moving, to_slot, target, &object, to_name, now,
+    )?)
 }

@@ -1,4 +1,4 @@
-use Rattle.std.proofs.Common.{◌≡◌, ℕ, ◌*◌, length, ◌∙◌, sym, ap, Ok, refl}
+use Rattle.std.proofs.Common.{◌≡◌, ℕ, ◌*◌, length, ◌∙◌, sym, ap, Ok}
 use Rattle.file_tree.specs.Tree.{place, slots_of, with_entry, used_blocks}
 use Rattle.harp_cells.specs.declared.value.Inode.{Inode}
 use Rattle.nfs_calls.specs.declared.totals.Totals.{Totals}
@@ -27,7 +27,7 @@ returns-in_ok-plan_in-in-Ok-clause-plan g c t name told totals two is none =
     let count = room.slots_are s in
     let used : c.from.result ≡ used_blocks t.tree = c.from.ensures ∙ ap (λ (n : Totals). n.used) totals in
     let fits = ap (λ (n : ℕ). replaced_blocks n m.to.size (264 * c.in-Ok.room.slots)) (sym used)
-        ∙ ap (λ (n : ℕ). replaced_blocks c.from.result m.to.size (264 * n)) count ∙ c.in-Ok.ensures.step t s told is.to in
+    ∙ ap (λ (n : ℕ). replaced_blocks c.from.result m.to.size (264 * n)) count ∙ c.in-Ok.ensures.step t s told is.to in
     let next : c.args.totals.next ≡ length t.tree = ap (λ (n : Totals). n.next) totals in
     let after : Totals = record { next = c.args.totals.next; used = c.in-Ok.room.used } in
     across_planned t.cells t.tree m name c.args.to_name c.args.now c.in-Ok.room.slot c.in-Ok.room.slots c.in-Ok.room.used t.sound two is none room.slot count fits
