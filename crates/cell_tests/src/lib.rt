@@ -8,6 +8,8 @@ mod calls;
 #[cfg(test)]
 mod cells;
 #[cfg(test)]
+mod moves;
+#[cfg(test)]
 mod slots;
 #[cfg(test)]
 mod updates;

@@ -10,13 +10,13 @@ use nfs_calls::{Prepared, prepare};
 use std::alloc::Global;
 use std::test::Fail;
 
-const NOW: Time = Time {
+pub const NOW: Time = Time {
     seconds: 2,
     micros: 0,
 };
 
 /// The plan of an update of the worked tree, two seconds after the first tree.
-fn planned(alloc: Global, call: &Call) -> Result<Prepared, Fail>
+pub fn planned(alloc: Global, call: &Call) -> Result<Prepared, Fail>
     requires { is_update call.now ≡ true }
 {
     let mut cells = worked_cells(alloc)?;
@@ -24,7 +24,7 @@ fn planned(alloc: Global, call: &Call) -> Result<Prepared, Fail>
     Ok(prepare(alloc, &mut cells, call, stamp)?)
 }
 
-fn puts_object(change: &Change, number: u32, wanted: &Inode) -> bool {
+pub fn puts_object(change: &Change, number: u32, wanted: &Inode) -> bool {
     match change {
         Change::Put {
             cell: Cell::Object { object },
@@ -34,7 +34,7 @@ fn puts_object(change: &Change, number: u32, wanted: &Inode) -> bool {
     }
 }
 
-fn puts_slot(change: &Change, place: u32, number: u32, wanted: &[u8]) -> bool {
+pub fn puts_slot(change: &Change, place: u32, number: u32, wanted: &[u8]) -> bool {
     match change {
         Change::Put {
             cell: Cell::Slot { object: 1, slot },
@@ -54,7 +54,7 @@ fn puts_block(change: &Change, place: u32, wanted: &[u8]) -> bool {
     }
 }
 
-fn puts_totals(change: &Change, wanted_next: u32, wanted_used: u32) -> bool {
+pub fn puts_totals(change: &Change, wanted_next: u32, wanted_used: u32) -> bool {
     match change {
         Change::Put {
             cell: Cell::Meta,
@@ -64,7 +64,7 @@ fn puts_totals(change: &Change, wanted_next: u32, wanted_used: u32) -> bool {
     }
 }
 
-fn replies(alloc: Global, plan: &Prepared, wanted: &Reply) -> Result<bool, Fail> {
+pub fn replies(alloc: Global, plan: &Prepared, wanted: &Reply) -> Result<bool, Fail> {
     let got = spelled(alloc, &plan.reply)?;
     let wanted = spelled(alloc, wanted)?;
     Ok(got.as_slice() == wanted.as_slice())

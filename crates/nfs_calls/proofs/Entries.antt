@@ -1,17 +1,17 @@
 -- The attributes of directories and of what their entries name, after entries were taken away, added and replaced.
-use Rattle.std.proofs.Common.{◌≡◌, ℕ, suc, ◌+◌, ◌*◌, ◌-◌, ◌<◌, ◌≤◌, ◌==◌, Bool, true, false, cond, List, [], ◌∷◌, length, get_or, set, count_by, sum_by, Option, Some, None, refl, sym, ap, ◌∙◌, subst, arith, inl, inr}
-use Rattle.std.proofs.lemmas.Bool.{cases_eq, cases_Bool, eq-eqb}
+use Rattle.std.proofs.Common.{◌≡◌, ℕ, ◌+◌, ◌*◌, ◌<◌, ◌≤◌, Bool, false, cond, List, [], ◌∷◌, length, get_or, set, count_by, sum_by, Option, Some, None, refl, sym, ap, ◌∙◌, arith, inl, inr}
+use Rattle.std.proofs.lemmas.Bool.{cases_eq, eq-eqb}
 use Rattle.std.proofs.lemmas.List.Sums.{sum_by-cons, sum_by-set}
 use Rattle.harp_base.specs.declared.attr.Time.{Time}
 use Rattle.file_tree.specs.declared.object.Slot.{Slot}
 use Rattle.file_tree.specs.declared.object.Body.{Body}
 use Rattle.file_tree.specs.declared.object.Body.TheVariants.{Regular, Directory, Link}
 use Rattle.file_tree.specs.declared.object.Object.{Object}
-use Rattle.file_tree.specs.Tree.{Tree, Slots, place, slots_of, slots_within, kind_of, size_of, names_it, names_in, names_at, names_of, is_directory, is_directory_at, is_subdirectory, links_of, parent_of, with_entry}
+use Rattle.file_tree.specs.Tree.{Tree, Slots, place, slots_within, kind_of, size_of, names_in, names_of, is_directory, is_directory_at, is_subdirectory, links_of, parent_of, with_entry}
 use Rattle.file_tree.specs.Outcome.{reslotted, set_ctime}
 use Rattle.file_tree.specs.Sound.{IsSound}
 use Rattle.file_tree.proofs.Holders.{Holds, IsDirectory, parent_is, parent_holds, parent_of_root}
-use Rattle.file_tree.proofs.SlotLaws.{share, one, IsFound}
+use Rattle.file_tree.proofs.SlotLaws.{share, IsFound}
 use Rattle.harp_cells.specs.declared.value.Inode.{Inode}
 use Rattle.harp_cells.specs.CellsOfTree.{inode_of}
 use Rattle.nfs_calls.specs.TreeCells.{IsInode, inode_placed, inode_of_some, object_at}

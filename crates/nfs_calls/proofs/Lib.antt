@@ -15,6 +15,6 @@ pub mod Changed
 pub mod FilePlans
 pub mod NewPlans
 pub mod WritePlans
-pub mod Linkings
 pub mod Targets
 pub mod Renames
+pub mod Linkings

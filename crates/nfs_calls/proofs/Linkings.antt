@@ -1,5 +1,5 @@
 -- What a further entry of a file or a link makes of a tree.
-use Rattle.std.proofs.Common.{◌≡◌, ℕ, suc, ◌+◌, ◌-◌, ◌*◌, ◌<◌, ◌≤◌, ltb, Bool, true, false, cond, List, [], ◌∷◌, length, get_or, set, Option, Some, None, Ok, refl, sym, ap, ◌∙◌, subst, arith, inl, inr}
+use Rattle.std.proofs.Common.{◌≡◌, ℕ, ◌+◌, ◌*◌, ltb, Bool, true, false, cond, List, [], ◌∷◌, length, get_or, set, Option, Some, None, Ok, refl, sym, ap, ◌∙◌, subst, arith, inl, inr}
 use Rattle.std.proofs.lemmas.Bool.{cases_eq}
 use Rattle.std.proofs.lemmas.List.{get_or-set_other}
 use Rattle.harp_base.specs.declared.attr.Time.{Time}
@@ -8,13 +8,13 @@ use Rattle.harp_base.specs.declared.reply.Reply.TheVariants.{Done}
 use Rattle.harp_base.specs.declared.reply.Status.TheVariants.{NoSpc}
 use Rattle.file_tree.specs.declared.object.Object.{Object}
 use Rattle.file_tree.specs.declared.object.Slot.{Slot}
-use Rattle.file_tree.specs.Tree.{Tree, Slots, place, slots_of, slots_within, with_entry, free_from, blocks_of, used_blocks, names_in, names_at, names_of, size_of, is_directory, is_directory_at, kind_of, links_of, parent_of}
-use Rattle.file_tree.specs.Steps.{Step, ◌>>=◌, live, refuse}
+use Rattle.file_tree.specs.Tree.{Tree, Slots, place, slots_of, with_entry, blocks_of, used_blocks, names_at, names_of, size_of, is_directory, is_directory_at, parent_of}
+use Rattle.file_tree.specs.Steps.{◌>>=◌, live, refuse}
 use Rattle.file_tree.specs.Outcome.{add_entry, change, free_name, link, reslotted, set_ctime}
 use Rattle.file_tree.specs.Sound.{IsSound}
 use Rattle.file_tree.proofs.Bounds.{blocks_placed, names_of-le}
 use Rattle.file_tree.proofs.Kept.{length-change, place_changed, used_change}
-use Rattle.file_tree.proofs.Reslots.{Reslots, change_is, kinds_reslots, length_reslots, names_reslots, other_place, own_names, own_names_after, own_place, reslots_reslotted, used_reslots}
+use Rattle.file_tree.proofs.Reslots.{Reslots, change_is, kinds_reslots, length_reslots, names_reslots, other_place, own_names_after, reslots_reslotted, used_reslots}
 use Rattle.file_tree.proofs.SlotLaws.{names_entered}
 use Rattle.file_tree.proofs.SoundChanges.{kinds_set, names_at_set, names_of_set, one_itself, one_other}
 use Rattle.harp_cells.specs.declared.cell.Cell.TheVariants as cell

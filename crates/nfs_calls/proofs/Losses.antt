@@ -1,6 +1,6 @@
 -- An object that loses an entry, and the directory that the entry is taken away from.
-use Rattle.std.proofs.Common.{◌≡◌, ℕ, ◌+◌, ◌*◌, ◌-◌, ◌<◌, ◌≤◌, ◌==◌, ◌||◌, ◌&&◌, not, Bool, true, false, cond, List, [], ◌∷◌, ◌++◌, length, get_or, set, ◌⊎◌, Option, Some, None, Ok, refl, sym, ap, ◌∙◌, subst, arith, inl, inr}
-use Rattle.std.proofs.lemmas.Bool.{cases_eq, cases_Bool, cases_lt, ne_eqb, le-leb, lt-leb, false_from_ne_true}
+use Rattle.std.proofs.Common.{◌≡◌, ℕ, ◌+◌, ◌*◌, ◌-◌, ◌<◌, ◌≤◌, ◌==◌, ◌&&◌, not, Bool, true, false, cond, List, [], ◌∷◌, ◌++◌, length, get_or, set, ◌⊎◌, Option, Some, None, refl, sym, ap, ◌∙◌, subst, arith, inl, inr}
+use Rattle.std.proofs.lemmas.Bool.{cases_eq, cases_Bool, cases_lt, le-leb, lt-leb, false_from_ne_true}
 use Rattle.std.proofs.lemmas.List.{length-set, get_or-set_same}
 use Rattle.harp_base.specs.declared.attr.Kind.{Kind}
 use Rattle.harp_base.specs.declared.attr.Kind.TheVariants as kind
@@ -9,12 +9,12 @@ use Rattle.file_tree.specs.declared.object.Slot.{Slot}
 use Rattle.file_tree.specs.declared.object.Body.{Body}
 use Rattle.file_tree.specs.declared.object.Body.TheVariants.{Regular, Directory, Link}
 use Rattle.file_tree.specs.declared.object.Object.{Object}
-use Rattle.file_tree.specs.Tree.{Tree, Slots, place, slots_of, slots_within, kind_of, size_of, blocks_of, blocks_at, used_blocks, names_in, names_at, names_of, is_directory, is_directory_at, entry, parent_of}
+use Rattle.file_tree.specs.Tree.{Tree, Slots, place, slots_of, slots_within, kind_of, size_of, blocks_of, blocks_at, used_blocks, names_in, names_at, names_of, is_directory, is_directory_at, parent_of}
 use Rattle.file_tree.specs.Outcome.{change, slot_changed, slot_replaced, reslotted, set_ctime, lost_entry, removed}
 use Rattle.file_tree.specs.Sound.{IsSound}
 use Rattle.file_tree.proofs.Holders.{Holds}
-use Rattle.file_tree.proofs.SlotLaws.{one, IsFound, found}
-use Rattle.file_tree.proofs.StepLaws.{IsDirectoryOf, directory_is}
+use Rattle.file_tree.proofs.SlotLaws.{IsFound, found}
+use Rattle.file_tree.proofs.StepLaws.{directory_is}
 use Rattle.file_tree.proofs.WaysUp.{IsBare}
 use Rattle.file_tree.proofs.SoundChanges.{few_at, one_itself, one_other}
 use Rattle.file_tree.proofs.SoundMoves.{sound_removed, cleared_names, names_at-le, found_held}
@@ -23,7 +23,7 @@ use Rattle.harp_cells.specs.declared.value.Value.TheVariants as value
 use Rattle.harp_cells.specs.declared.cell.Cell.TheVariants as cell
 use Rattle.harp_cells.specs.declared.change.Change.{Change}
 use Rattle.harp_cells.specs.declared.change.Change.TheVariants as change
-use Rattle.harp_cells.specs.CellsOfTree.{inode_of, content_of, object_value, slot_value}
+use Rattle.harp_cells.specs.CellsOfTree.{content_of, object_value, slot_value}
 use Rattle.update_changes.specs.Table.{change_to, set_by, content_size, erases, loses, takes}
 use Rattle.nfs_calls.specs.declared.totals.Totals.{Totals}
 use Rattle.nfs_calls.specs.TreeCells.{IsInode, IsDirectory, object_at, bytes_within}
@@ -32,7 +32,7 @@ use Rattle.nfs_calls.specs.Entries.{is_directory_kind, link_of, relinked, unlink
 use Rattle.nfs_calls.proofs.Inodes as inodes
 use Rattle.nfs_calls.proofs.Inodes.{kind_is}
 use Rattle.nfs_calls.proofs.Sets.{IsSet, place_at, place_other, length_on, names_on, used_on, holds_on, kinds_on, set_by_change, set_by_last, set_by_loss}
-use Rattle.nfs_calls.proofs.Entries.{subdirectories, directory_share, subdirectories_set, share_of_found, no_parent, slots_at, directory_after, object_after, file_links}
+use Rattle.nfs_calls.proofs.Entries.{subdirectories, subdirectories_set, share_of_found, no_parent, slots_at, directory_after, object_after, file_links}
 
 -- ---- kinds
 

@@ -1,19 +1,19 @@
 -- What a tree keeps where an entry moves, and the attributes of what it touches.
-use Rattle.std.proofs.Common.{◌≡◌, ℕ, zero, suc, ◌+◌, ◌*◌, ◌-◌, ◌<◌, ◌≤◌, ◌==◌, ◌||◌, ◌&&◌, Bool, true, false, cond, List, [], ◌∷◌, ◌++◌, length, get_or, set, Option, Some, None, Ok, refl, sym, ap, ◌∙◌, subst, arith, inl, inr}
-use Rattle.std.proofs.lemmas.Bool.{cases_eq, cases_lt, cases_Bool, eq-eqb, ne_eqb, or_left, both_ways, false_from_ne_true}
-use Rattle.std.proofs.lemmas.List.{length-set, length-append, get_or-set_same, get_or-set_other, get_or_push, get_or_append_left, get_or_past}
+use Rattle.std.proofs.Common.{◌≡◌, ℕ, zero, suc, ◌+◌, ◌*◌, ◌-◌, ◌<◌, ◌≤◌, ◌==◌, ◌&&◌, true, false, cond, List, [], ◌∷◌, ◌++◌, length, get_or, set, Some, None, refl, sym, ap, ◌∙◌, subst, arith, inl, inr}
+use Rattle.std.proofs.lemmas.Bool.{cases_eq, cases_lt, cases_Bool, eq-eqb, ne_eqb, or_left, both_ways}
+use Rattle.std.proofs.lemmas.List.{length-set, length-append, get_or-set_same, get_or-set_other, get_or_push, get_or_append_left}
 use Rattle.harp_base.specs.declared.attr.Time.{Time}
 use Rattle.file_tree.specs.declared.object.Slot.{Slot}
 use Rattle.file_tree.specs.declared.object.Body.{Body}
-use Rattle.file_tree.specs.declared.object.Body.TheVariants.{Regular, Directory, Link}
+use Rattle.file_tree.specs.declared.object.Body.TheVariants.{Directory}
 use Rattle.file_tree.specs.declared.object.Object.{Object}
-use Rattle.file_tree.specs.Tree.{Tree, Slots, place, slots_of, slots_within, kind_of, size_of, blocks_of, blocks_at, used_blocks, names_in, names_at, names_of, is_directory, is_directory_at, entry, free_from, with_entry, links_of, parent_of}
+use Rattle.file_tree.specs.Tree.{Tree, Slots, place, slots_of, slots_within, names_in, names_at, names_of, is_directory, is_directory_at, free_from, with_entry, links_of, parent_of}
 use Rattle.file_tree.specs.Outcome.{reslotted, set_ctime}
 use Rattle.file_tree.specs.Rename.{is_above}
 use Rattle.file_tree.specs.Sound.{IsSound}
 use Rattle.file_tree.proofs.FreeSlots.{with_entry_set, with_entry_push}
 use Rattle.file_tree.proofs.Holders.{Holds, parent_is}
-use Rattle.file_tree.proofs.SlotLaws.{IsFound, found}
+use Rattle.file_tree.proofs.SlotLaws.{found}
 use Rattle.file_tree.proofs.SoundChanges.{root_at}
 use Rattle.file_tree.proofs.SoundMoves.{names_at-le, found_held}
 use Rattle.inode_dirs.proofs.SlotCounts.{entry_grows}
@@ -28,7 +28,7 @@ use Rattle.nfs_calls.specs.TreeCells.{IsInode, IsDirectory, object_at}
 use Rattle.nfs_calls.specs.Entries.{is_directory_kind, link_of, relinked}
 use Rattle.nfs_calls.specs.Moves.{slot_changes, directory_changes, moved_inode, IsMoving}
 use Rattle.nfs_calls.proofs.Entries.{subdirectories, slots_at, directory_after, object_after, links_stay, no_parent}
-use Rattle.nfs_calls.proofs.Losses.{stored_kind, kind_at, body_at, put_of, links_freed}
+use Rattle.nfs_calls.proofs.Losses.{stored_kind, body_at, put_of, links_freed}
 
 -- ---- numbers that differ
 

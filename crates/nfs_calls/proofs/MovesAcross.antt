@@ -1,5 +1,5 @@
 -- An entry that moves to a new slot of another directory.
-use Rattle.std.proofs.Common.{◌≡◌, ℕ, ◌+◌, ◌*◌, ◌-◌, ◌<◌, ◌≤◌, ◌==◌, Bool, true, false, List, [], ◌∷◌, ◌++◌, length, get_or, set, None, Some, Ok, Err, refl, sym, ap, ◌∙◌, subst, arith}
+use Rattle.std.proofs.Common.{◌≡◌, ℕ, ◌+◌, ◌*◌, ◌-◌, ◌≤◌, ◌==◌, Bool, true, false, List, [], ◌∷◌, ◌++◌, length, get_or, set, None, Some, Ok, Err, refl, sym, ap, ◌∙◌, subst, arith}
 use Rattle.std.proofs.lemmas.Bool.{ne_eqb, ltb-false}
 use Rattle.std.proofs.lemmas.List.{get_or-set_same}
 use Rattle.harp_base.specs.declared.attr.Time.{Time}
@@ -10,13 +10,13 @@ use Rattle.harp_base.specs.declared.reply.Status.TheVariants.{NoSpc}
 use Rattle.file_tree.specs.declared.object.Body.{Body}
 use Rattle.file_tree.specs.Tree.{Tree, Slots, place, slots_of, size_of, blocks_of, blocks_at, used_blocks, entry, free_from, with_entry}
 use Rattle.file_tree.specs.Steps.{◌>>=◌, refuse, room}
-use Rattle.file_tree.specs.Outcome.{change, slot_changed, reslotted}
+use Rattle.file_tree.specs.Outcome.{slot_changed, reslotted}
 use Rattle.file_tree.specs.Rename.{freed, check_target, moved_in}
 use Rattle.file_tree.specs.Sound.{IsSound}
 use Rattle.file_tree.proofs.Bounds.{subdirectories-le, blocks_placed}
 use Rattle.file_tree.proofs.SlotLaws.{IsFound, found, none_named}
 use Rattle.file_tree.proofs.SoundRename.{sound_moved_in}
-use Rattle.file_tree.proofs.StepLaws.{Given, done, unless, given_at}
+use Rattle.file_tree.proofs.StepLaws.{done, unless, given_at}
 use Rattle.inode_dirs.proofs.SlotCounts.{entry_grows}
 use Rattle.harp_cells.specs.declared.value.Inode.{Inode}
 use Rattle.harp_cells.specs.declared.value.Value.TheVariants as value
@@ -26,11 +26,11 @@ use Rattle.harp_cells.specs.Effect.{Cells}
 use Rattle.update_changes.specs.Table.{set_by, slot_pair}
 use Rattle.nfs_calls.specs.declared.moving.Move.{Move}
 use Rattle.nfs_calls.specs.TreeCells.{object_at}
-use Rattle.nfs_calls.specs.Plans.{planned, totals_of, replaced_blocks, entered}
+use Rattle.nfs_calls.specs.Plans.{planned, replaced_blocks, entered}
 use Rattle.nfs_calls.specs.Entries.{link_of}
 use Rattle.nfs_calls.specs.Moves.{slot_changes, directory_changes, moved_inode, moved_outcome, IsMoving}
 use Rattle.nfs_calls.proofs.Sets.{place_other, set_by_change}
-use Rattle.nfs_calls.proofs.Entries.{subdirectories, directory_share, subdirectories_entered, slots_at}
+use Rattle.nfs_calls.proofs.Entries.{directory_share, subdirectories_entered, slots_at}
 use Rattle.nfs_calls.proofs.Losses.{body_at, put_of, slot_by, link-le, link_share}
 use Rattle.nfs_calls.proofs.MovedEntry.{are_apart, entered_at, moved_put, directory_moved, from_put, slots_put, directories_put}
 use Rattle.nfs_calls.proofs.MovesIn.{moved_slot, tree_in, Enters, enters, freed_is, in_planned}

@@ -1,26 +1,23 @@
 -- An entry that moves to a new slot.
-use Rattle.std.proofs.Common.{◌≡◌, ℕ, ◌+◌, ◌*◌, ◌-◌, ◌<◌, ◌≤◌, ◌==◌, ◌&&◌, Bool, true, false, cond, min, max, List, [], ◌∷◌, ◌++◌, length, get_or, set, Option, Some, None, Ok, Err, refl, sym, ap, ◌∙◌, subst, arith, inl, inr}
-use Rattle.std.proofs.lemmas.Bool.{cases_eq, cases_lt, cases_Bool, eq-eqb, ne_eqb, lt-leb, ltb-true, ltb-false}
-use Rattle.std.proofs.lemmas.List.{length-set, get_or-set_same, get_or-set_other}
+use Rattle.std.proofs.Common.{◌≡◌, ℕ, ◌+◌, ◌*◌, List, [], ◌∷◌, ◌++◌, length, set, Some, None, Ok, refl, sym, ap, ◌∙◌, arith}
+use Rattle.std.proofs.lemmas.List.{length-set}
 use Rattle.harp_base.specs.declared.attr.Time.{Time}
 use Rattle.harp_base.specs.declared.call.Call.TheVariants as call
 use Rattle.harp_base.specs.declared.reply.Reply.{Reply}
 use Rattle.harp_base.specs.declared.reply.Reply.TheVariants.{Done}
-use Rattle.harp_base.specs.declared.reply.Status.{Status}
 use Rattle.file_tree.specs.declared.object.Slot.{Slot}
 use Rattle.file_tree.specs.declared.object.Body.{Body}
-use Rattle.file_tree.specs.declared.object.Body.TheVariants.{Regular, Directory, Link}
+use Rattle.file_tree.specs.declared.object.Body.TheVariants.{Directory}
 use Rattle.file_tree.specs.declared.object.Object.{Object}
-use Rattle.file_tree.specs.Tree.{Tree, Slots, place, slots_of, slots_within, size_of, blocks_of, blocks_at, used_blocks, names_in, names_at, names_of, is_directory, is_directory_at, entry, free_from, with_entry}
+use Rattle.file_tree.specs.Tree.{Tree, Slots, place, slots_of, slots_within, size_of, blocks_of, blocks_at, used_blocks, names_in, names_at, is_directory, is_directory_at, entry, free_from, with_entry}
 use Rattle.file_tree.specs.Steps.{room}
 use Rattle.file_tree.specs.Outcome.{change, slot_changed, slot_replaced, reslotted, set_ctime}
 use Rattle.file_tree.specs.Rename.{freed, check_target, moved_in}
 use Rattle.file_tree.specs.Sound.{IsSound}
 use Rattle.file_tree.proofs.Holders.{Holds}
-use Rattle.file_tree.proofs.SlotLaws.{IsFound, found, none_named, names_entered}
+use Rattle.file_tree.proofs.SlotLaws.{IsFound, found, names_entered}
 use Rattle.file_tree.proofs.SoundChanges.{one_itself, one_other}
 use Rattle.file_tree.proofs.SoundMoves.{cleared_names}
-use Rattle.file_tree.proofs.SoundRename.{sound_moved_in}
 use Rattle.harp_cells.specs.declared.value.Inode.{Inode}
 use Rattle.harp_cells.specs.declared.cell.Cell.TheVariants as cell
 use Rattle.harp_cells.specs.declared.change.Change.{Change}
@@ -30,13 +27,13 @@ use Rattle.harp_cells.specs.Effect.{Cells}
 use Rattle.update_changes.specs.Table.{set_by, slot_pair, dir_pair, moves, tree_changes}
 use Rattle.nfs_calls.specs.declared.moving.Move.{Move}
 use Rattle.nfs_calls.specs.declared.totals.Totals.{Totals}
-use Rattle.nfs_calls.specs.TreeCells.{IsInode, IsDirectory, object_at}
+use Rattle.nfs_calls.specs.TreeCells.{object_at}
 use Rattle.nfs_calls.specs.Plans.{planned, totals_of}
 use Rattle.nfs_calls.specs.Entries.{relinked, loss}
 use Rattle.nfs_calls.specs.Moves.{IsMoving, moved_outcome, slot_changes, directory_changes, moved_inode, links_over}
 use Rattle.nfs_calls.proofs.Sets.{IsSet, place_at, place_other, length_on, names_on, used_on, holds_on, kinds_on, set_by_change}
 use Rattle.nfs_calls.proofs.Losses.{body_at}
-use Rattle.nfs_calls.proofs.MovedEntry.{AreApart, IsMoved, move_held, are_apart, entered_at, entered_beside, moved_put}
+use Rattle.nfs_calls.proofs.MovedEntry.{IsMoved, are_apart}
 
 abbrev pub moved_slot : Move → List ℕ → Slot
 moved_slot m to_name = record { name = to_name; number = m.number }

@@ -1,7 +1,7 @@
 -- An entry that takes the place of another one.
-use Rattle.std.proofs.Common.{◌≡◌, ℕ, ◌+◌, ◌*◌, ◌-◌, ◌<◌, ◌≤◌, ◌==◌, Bool, true, false, List, [], ◌∷◌, ◌++◌, length, get_or, set, None, Some, Ok, refl, sym, ap, ◌∙◌, subst, arith, inl, inr}
-use Rattle.std.proofs.lemmas.Bool.{cases_eq, cases_Bool, eq-eqb, ne_eqb, false_from_ne_true}
-use Rattle.std.proofs.lemmas.List.{length-set, get_or-set_same, get_or-set_other}
+use Rattle.std.proofs.Common.{◌≡◌, ℕ, ◌+◌, ◌*◌, ◌≤◌, ◌==◌, Bool, true, false, List, [], ◌∷◌, ◌++◌, length, set, None, Some, Ok, refl, sym, ap, ◌∙◌, subst, arith, inl, inr}
+use Rattle.std.proofs.lemmas.Bool.{cases_eq, eq-eqb, ne_eqb, false_from_ne_true}
+use Rattle.std.proofs.lemmas.List.{length-set}
 use Rattle.harp_base.specs.declared.attr.Time.{Time}
 use Rattle.harp_base.specs.declared.call.Call.TheVariants as call
 use Rattle.harp_base.specs.declared.reply.Reply.TheVariants.{Done}
@@ -21,20 +21,18 @@ use Rattle.file_tree.proofs.SoundMoves.{cleared_names, share_found, found_held}
 use Rattle.file_tree.proofs.SoundRename.{sound_moved_over}
 use Rattle.file_tree.proofs.WaysUp.{IsBare}
 use Rattle.harp_cells.specs.declared.value.Inode.{Inode}
-use Rattle.harp_cells.specs.declared.value.Value.TheVariants as value
 use Rattle.harp_cells.specs.declared.cell.Cell.TheVariants as cell
 use Rattle.harp_cells.specs.declared.change.Change.{Change}
-use Rattle.harp_cells.specs.declared.change.Change.TheVariants as change
 use Rattle.harp_cells.specs.Effect.{Cells}
 use Rattle.update_changes.specs.Table.{set_by, slot_pair, dir_pair, loses, moves, tree_changes}
 use Rattle.nfs_calls.specs.declared.moving.Move.{Move}
 use Rattle.nfs_calls.specs.declared.totals.Totals.{Totals}
-use Rattle.nfs_calls.specs.TreeCells.{IsInode, IsDirectory, object_at}
+use Rattle.nfs_calls.specs.TreeCells.{IsInode, object_at}
 use Rattle.nfs_calls.specs.Plans.{planned, totals_of}
-use Rattle.nfs_calls.specs.Entries.{link_of, relinked, loss, after_loss}
-use Rattle.nfs_calls.specs.Moves.{slot_changes, directory_changes, moved_inode, links_over, moved_outcome, IsMoving}
+use Rattle.nfs_calls.specs.Entries.{loss, after_loss}
+use Rattle.nfs_calls.specs.Moves.{moved_outcome, IsMoving}
 use Rattle.nfs_calls.proofs.Sets.{IsSet, place_at, place_other, length_on, names_on, used_on, holds_on, kinds_on, set_by_change}
-use Rattle.nfs_calls.proofs.Losses.{IsLoss, loss_of, loses_is, totals_lost, body_at}
+use Rattle.nfs_calls.proofs.Losses.{loss_of, loses_is, totals_lost, body_at}
 use Rattle.nfs_calls.proofs.MovedEntry.{IsMoved, are_apart}
 use Rattle.nfs_calls.proofs.MovesIn.{moved_slot}
 

@@ -1,5 +1,5 @@
 -- An entry that gets another name in its directory.
-use Rattle.std.proofs.Common.{◌≡◌, ℕ, ◌+◌, ◌*◌, ◌<◌, ◌≤◌, ◌==◌, min, true, List, [], ◌∷◌, ◌++◌, length, get_or, set, None, Some, Ok, refl, sym, ap, ◌∙◌, subst, arith}
+use Rattle.std.proofs.Common.{◌≡◌, ℕ, ◌+◌, ◌*◌, ◌≤◌, ◌==◌, min, true, List, [], ◌∷◌, ◌++◌, length, get_or, set, None, Some, Ok, refl, sym, ap, ◌∙◌, subst, arith}
 use Rattle.std.proofs.lemmas.Bool.{eq-eqb, le-ltb}
 use Rattle.std.proofs.lemmas.List.{length-set, get_or-set_same}
 use Rattle.harp_base.specs.declared.attr.Time.{Time}
@@ -9,7 +9,7 @@ use Rattle.file_tree.specs.declared.object.Body.{Body}
 use Rattle.file_tree.specs.declared.object.Body.TheVariants.{Directory}
 use Rattle.file_tree.specs.Tree.{Tree, Slots, place, slots_of, size_of, blocks_of, blocks_at, used_blocks, entry, free_from, with_entry}
 use Rattle.file_tree.specs.Steps.{room}
-use Rattle.file_tree.specs.Outcome.{change, slot_changed, slot_replaced, reslotted}
+use Rattle.file_tree.specs.Outcome.{slot_changed, slot_replaced, reslotted}
 use Rattle.file_tree.specs.Rename.{freed}
 use Rattle.file_tree.specs.Sound.{IsSound}
 use Rattle.file_tree.proofs.SlotLaws.{IsFound, found, none_named}
@@ -26,7 +26,7 @@ use Rattle.nfs_calls.specs.Plans.{planned, totals_of}
 use Rattle.nfs_calls.specs.Entries.{relinked}
 use Rattle.nfs_calls.specs.Moves.{slot_changes, directory_changes, moved_inode, moved_outcome, IsMoving}
 use Rattle.nfs_calls.proofs.Sets.{place_at, set_by_change}
-use Rattle.nfs_calls.proofs.Entries.{subdirectories, directory_share, subdirectories_set, subdirectories_entered, share_of_found, slots_at}
+use Rattle.nfs_calls.proofs.Entries.{subdirectories, subdirectories_set, subdirectories_entered, share_of_found, slots_at}
 use Rattle.nfs_calls.proofs.Losses.{body_at, put_of, slot_by}
 use Rattle.nfs_calls.proofs.MovedEntry.{are_apart, entered_at, entered_beside, moved_put, directory_moved, slots_put, directories_put}
 use Rattle.nfs_calls.proofs.MovesIn.{moved_slot, tree_in, Enters, enters, in_planned}

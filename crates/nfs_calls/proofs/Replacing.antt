@@ -1,5 +1,5 @@
 -- The plan of an entry that takes the place of another one, in its directory or in another.
-use Rattle.std.proofs.Common.{◌≡◌, ℕ, ◌+◌, ◌*◌, ◌-◌, ◌<◌, ◌≤◌, ◌==◌, true, false, List, [], ◌∷◌, ◌++◌, length, get_or, set, None, Some, Ok, refl, sym, ap, ◌∙◌, subst, arith, inl, inr}
+use Rattle.std.proofs.Common.{◌≡◌, ℕ, ◌+◌, ◌*◌, ◌≤◌, ◌==◌, true, false, List, [], ◌∷◌, ◌++◌, length, get_or, set, None, Some, Ok, refl, sym, ap, ◌∙◌, subst, arith, inl, inr}
 use Rattle.std.proofs.lemmas.Bool.{cases_eq, eq-eqb, ne_eqb}
 use Rattle.std.proofs.lemmas.List.{length-set, get_or-set_same, get_or-set_other}
 use Rattle.harp_base.specs.declared.attr.Time.{Time}
@@ -8,11 +8,11 @@ use Rattle.harp_base.specs.declared.reply.Reply.TheVariants.{Done}
 use Rattle.file_tree.specs.declared.object.Slot.{Slot}
 use Rattle.file_tree.specs.declared.object.Body.{Body}
 use Rattle.file_tree.specs.declared.object.Body.TheVariants.{Directory}
-use Rattle.file_tree.specs.Tree.{Tree, Slots, place, slots_of, names_in, is_directory_at}
+use Rattle.file_tree.specs.Tree.{Tree, place, slots_of, names_in}
 use Rattle.file_tree.specs.Outcome.{change, slot_changed, slot_replaced, reslotted}
 use Rattle.file_tree.specs.Rename.{check_target}
 use Rattle.file_tree.specs.Sound.{IsSound}
-use Rattle.file_tree.proofs.SlotLaws.{one, IsFound, found}
+use Rattle.file_tree.proofs.SlotLaws.{IsFound, found}
 use Rattle.file_tree.proofs.SoundChanges.{one_itself, one_other}
 use Rattle.file_tree.proofs.SoundMoves.{cleared_names}
 use Rattle.harp_cells.specs.declared.value.Inode.{Inode}
@@ -23,7 +23,7 @@ use Rattle.harp_cells.specs.Effect.{Cells}
 use Rattle.nfs_calls.specs.declared.moving.Move.{Move}
 use Rattle.nfs_calls.specs.TreeCells.{object_at}
 use Rattle.nfs_calls.specs.Plans.{planned, totals_of}
-use Rattle.nfs_calls.specs.Entries.{link_of, relinked, loss, after_loss}
+use Rattle.nfs_calls.specs.Entries.{relinked, loss, after_loss}
 use Rattle.nfs_calls.specs.Moves.{slot_changes, directory_changes, moved_inode, links_over, moved_outcome, IsMoving}
 use Rattle.nfs_calls.proofs.Sets.{place_at, place_other, set_by_change}
 use Rattle.nfs_calls.proofs.Entries.{subdirectories, directory_share, subdirectories_set, share_of_found, slots_at}

@@ -1,24 +1,21 @@
 -- The calls that take an entry away.
 use Rattle.std.proofs.Common.{◌≡◌, ℕ, ◌+◌, ◌<◌, ◌^◌, Bool, true, false, List, length, Option, Some, None, Ok, Err, refl, sym, ap, ◌∙◌, arith}
-use Rattle.std.proofs.lemmas.Bool.{not-false}
 use Rattle.harp_base.specs.declared.attr.Time.{Time}
 use Rattle.harp_base.specs.declared.call.Call.TheVariants as call
 use Rattle.harp_base.specs.declared.reply.DirEntry.{DirEntry}
 use Rattle.harp_base.specs.declared.reply.Reply.{Reply}
 use Rattle.harp_base.specs.declared.reply.Reply.TheVariants.{Done}
 use Rattle.harp_base.specs.declared.reply.Status.{Status}
-use Rattle.harp_base.specs.declared.reply.Status.TheVariants.{Perm, NoEnt, NotDir, NotEmpty}
+use Rattle.harp_base.specs.declared.reply.Status.TheVariants.{Perm, NoEnt, NotEmpty}
 use Rattle.file_tree.specs.declared.object.Object.{Object}
-use Rattle.file_tree.specs.Tree.{Tree, Slots, place, slots_of, slots_within, entry, is_directory, is_directory_at}
+use Rattle.file_tree.specs.Tree.{Tree, Slots, place, slots_of, entry, is_directory_at}
 use Rattle.file_tree.specs.Steps.{refuse, check_name, is_dots, some_or}
 use Rattle.file_tree.specs.Outcome.{page_of, find, doomed, has_no_entry, removed, remove, remove_dir}
 use Rattle.file_tree.specs.Sound.{IsSound}
-use Rattle.file_tree.proofs.StepLaws.{Given, done, step, unless, given_at, some_is}
+use Rattle.file_tree.proofs.StepLaws.{Given, step, unless, given_at, some_is}
 use Rattle.file_tree.proofs.SlotLaws.{found}
 use Rattle.file_tree.proofs.SoundChanges.{live_from, one_itself}
 use Rattle.file_tree.proofs.SoundMoves.{cleared_names, names_at-le}
-use Rattle.file_tree.proofs.SoundCalls.{empty_is_bare}
-use Rattle.file_tree.proofs.WaysUp.{IsBare, file_is_bare}
 use Rattle.harp_cells.specs.declared.change.Change.{Change}
 use Rattle.harp_cells.specs.declared.value.Inode.{Inode}
 use Rattle.harp_cells.specs.Effect.{Cells}
@@ -29,10 +26,8 @@ use Rattle.inode_dirs.specs.Pages.{entries_under}
 use Rattle.inode_dirs.proofs.TreeCells.{cookies_fit, trees_hold_slots}
 use Rattle.inode_dirs.proofs.SlotCounts.{empty_is_last}
 use Rattle.nfs_calls.specs.declared.totals.Totals.{Totals}
-use Rattle.nfs_calls.specs.TreeCells.{IsInode, IsDirectory, object_at}
+use Rattle.nfs_calls.specs.TreeCells.{IsInode, IsDirectory}
 use Rattle.nfs_calls.specs.Plans.{planned, totals_of}
-use Rattle.nfs_calls.specs.Entries.{is_directory_kind, IsTaking}
-use Rattle.nfs_calls.proofs.Losses.{kind_at}
 
 found_entry : (slots : Slots) (name : List ℕ) (r : _) → some_or NoEnt (entry slots name) ≡ r → Given r (λ x. entry slots name ≡ Some x)
 unfolding Given
@@ -110,13 +105,7 @@ empty_is t told number i entries eof e is page =
     let fit : i.slots + 2 < 2 ^ 32 = omega (arith, cookies_fit t.tree number t.sound.limits, slots_stored t.tree number i is) in
     ap (λ (p : List DirEntry × Bool). p.1) (page slots (tells_own t told number i e is) fit) ∙ empty_is_last number i.parent slots
 
--- the refusals of a file, and of a directory with an entry
-pub remove_dir_file : (cells : Cells) (tree : Tree) (dir : ℕ) (name : List ℕ) (x : ℕ × ℕ) (now : Time) (i : Inode)
-    → IsDirectory tree dir i → doomed (slots_of (place tree dir)) name ≡ Ok x → is_directory_at (place tree x.1) ≡ false
-    → planned cells tree (call.RmDir dir name) (remove_dir tree dir name now) ≡ Err NotDir
-unfolding remove_dir
-remove_dir_file cells tree dir name x now i is found file = rw (is.lists, found, file) refl
-
+-- the refusal of a directory with an entry
 pub remove_dir_full : (cells : Cells) (tree : Tree) (dir : ℕ) (name : List ℕ) (x : ℕ × ℕ) (now : Time) (i : Inode)
     → IsDirectory tree dir i → doomed (slots_of (place tree dir)) name ≡ Ok x → is_directory_at (place tree x.1) ≡ true → has_no_entry (slots_of (place tree x.1)) ≡ false
     → planned cells tree (call.RmDir dir name) (remove_dir tree dir name now) ≡ Err NotEmpty

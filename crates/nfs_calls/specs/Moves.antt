@@ -1,14 +1,13 @@
 -- What changes where an entry moves, by the attributes that are stored.
-use Rattle.std.specs.Prelude.{◌≡◌, ℕ, ◌-◌, Bool, false, ◌&&◌, ◌==◌, List, [], ◌∷◌, ◌++◌, length, Option, Some, Ok, if◌then◌else◌}
+use Rattle.std.specs.Prelude.{◌≡◌, ℕ, ◌-◌, Bool, false, ◌&&◌, ◌==◌, List, [], ◌∷◌, length, Option, Some, Ok, if◌then◌else◌}
 use Rattle.harp_base.specs.declared.attr.Time.{Time}
 use Rattle.harp_base.specs.declared.reply.Reply.TheVariants.{Done}
 use Rattle.harp_base.specs.declared.reply.Status.{Status}
 use Rattle.harp_base.specs.declared.reply.Status.TheVariants.{Perm, NoEnt, NotDir, IsDir}
-use Rattle.file_tree.specs.Tree.{Tree, Slots, place, slots_of, entry, is_directory_at}
+use Rattle.file_tree.specs.Tree.{Tree, place, slots_of, entry, is_directory_at}
 use Rattle.file_tree.specs.Steps.{◌>>=◌, refuse, some_or, entry_name}
 use Rattle.file_tree.specs.Outcome.{Outcome}
 use Rattle.file_tree.specs.Rename.{is_above, check_target, moved_to}
-use Rattle.file_tree.specs.Sound.{IsSound}
 use Rattle.harp_cells.specs.declared.value.Inode.{Inode}
 use Rattle.harp_cells.specs.declared.value.Value.TheVariants as value
 use Rattle.harp_cells.specs.declared.cell.Cell.TheVariants as cell

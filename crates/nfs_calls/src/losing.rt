@@ -33,7 +33,7 @@ pub fn link_of(kind: Kind) -> u32
 }
 
 /// The blocks of 4096 bytes of a size.
-pub fn blocks_of(size: u32) -> u32
+fn blocks_of(size: u32) -> u32
     ensures { result ≡ blocks_of size }
 {
     size / 4096 + u32::from(size % 4096 != 0)

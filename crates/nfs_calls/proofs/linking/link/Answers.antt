@@ -1,7 +1,6 @@
 use Rattle.std.proofs.Common.{◌≡◌, false, sym, ◌∙◌}
 use Rattle.harp_base.specs.declared.reply.Status.TheVariants.{Perm}
-use Rattle.file_tree.specs.Tree.{is_directory, used_blocks}
-use Rattle.nfs_calls.specs.declared.totals.Totals.{Totals}
+use Rattle.file_tree.specs.Tree.{is_directory}
 use Rattle.nfs_calls.specs.TreeCells.{IsDirectory, IsInode, object_at}
 use Rattle.nfs_calls.proofs.Inodes.{kind_is}
 use Rattle.nfs_calls.proofs.Linkings.{IsComputed, IsLinking, link_of, link_plan}

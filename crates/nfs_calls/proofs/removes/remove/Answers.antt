@@ -1,5 +1,5 @@
 use Rattle.std.proofs.Common.{◌≡◌, ℕ, false, ◌∙◌, sym}
-use Rattle.file_tree.specs.Tree.{place, slots_of, is_directory_at}
+use Rattle.file_tree.specs.Tree.{place, is_directory_at}
 use Rattle.file_tree.proofs.WaysUp.{file_is_bare}
 use Rattle.nfs_calls.specs.TreeCells.{IsInode, IsDirectory}
 use Rattle.nfs_calls.proofs.Losses.{kind_at}

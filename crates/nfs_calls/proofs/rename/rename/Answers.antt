@@ -1,4 +1,4 @@
-use Rattle.std.proofs.Common.{◌≡◌, ℕ, List, true, false, None, Some, ◌∙◌, sym, ap, subst}
+use Rattle.std.proofs.Common.{◌≡◌, false, ◌∙◌, sym, subst}
 use Rattle.harp_base.specs.declared.call.Call.TheVariants as call
 use Rattle.file_tree.specs.Steps.{is_dots}
 use Rattle.file_tree.specs.Outcome.{Outcome}

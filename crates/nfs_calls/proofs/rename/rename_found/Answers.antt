@@ -1,6 +1,5 @@
-use Rattle.std.proofs.Common.{◌≡◌, ℕ, List, true, None, Some, ◌∙◌, sym, ap, subst}
-use Rattle.file_tree.specs.Tree.{place, slots_of, entry, is_directory_at}
-use Rattle.file_tree.proofs.StepLaws.{directory_is}
+use Rattle.std.proofs.Common.{◌≡◌, ℕ, None, Some, ◌∙◌, sym}
+use Rattle.file_tree.specs.Tree.{place, slots_of, entry}
 use Rattle.nfs_calls.specs.declared.moving.Move.{Move}
 use Rattle.nfs_calls.specs.TreeCells.{IsInode}
 use Rattle.nfs_calls.specs.Moves.{IsMoving}

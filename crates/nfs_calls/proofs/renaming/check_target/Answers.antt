@@ -1,5 +1,5 @@
 use Rattle.std.proofs.Common.{◌≡◌, false, true, ◌∙◌, sym, ap, Err}
-use Rattle.file_tree.specs.Tree.{place, slots_of, is_directory_at}
+use Rattle.file_tree.specs.Tree.{place, slots_of}
 use Rattle.file_tree.specs.Outcome.{has_no_entry}
 use Rattle.harp_base.specs.declared.reply.Status.{Status}
 use Rattle.nfs_calls.proofs.Losses.{kind_at}

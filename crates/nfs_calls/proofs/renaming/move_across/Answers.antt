@@ -1,4 +1,4 @@
-use Rattle.std.proofs.Common.{◌≡◌, ℕ, ◌*◌, length, ◌∙◌, sym, ap, Ok, refl}
+use Rattle.std.proofs.Common.{◌≡◌, ℕ, ◌*◌, length, ◌∙◌, sym, ap, Ok}
 use Rattle.file_tree.specs.Tree.{place, slots_of, with_entry, used_blocks}
 use Rattle.harp_cells.specs.declared.value.Inode.{Inode}
 use Rattle.nfs_calls.specs.declared.totals.Totals.{Totals}

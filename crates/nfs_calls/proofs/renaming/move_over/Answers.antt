@@ -1,4 +1,4 @@
-use Rattle.std.proofs.Common.{◌≡◌, ℕ, Some, Ok, ◌∙◌, sym, ap, refl}
+use Rattle.std.proofs.Common.{ℕ, Some, Ok, ◌∙◌, sym, ap, refl}
 use Rattle.file_tree.specs.Rename.{check_target}
 use Rattle.nfs_calls.specs.declared.totals.Totals.{Totals}
 use Rattle.nfs_calls.specs.TreeCells.{IsInode}

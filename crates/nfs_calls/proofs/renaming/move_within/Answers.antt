@@ -1,4 +1,4 @@
-use Rattle.std.proofs.Common.{◌≡◌, ◌∙◌, sym, ap, rules, min, Ok, refl}
+use Rattle.std.proofs.Common.{◌≡◌, ◌∙◌, sym, ap, min, Ok}
 use Rattle.file_tree.specs.Tree.{place, slots_of, free_from}
 use Rattle.nfs_calls.proofs.Entered.{tells_slots}
 use Rattle.nfs_calls.proofs.MovesWithin.{within_planned}
