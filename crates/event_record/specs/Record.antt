@@ -14,12 +14,14 @@ entry_of r = record { index = r.index; client = r.client; number = r.number; cal
 -- a record stands for its entry after these entries: where these cells stand for the book of the entries, its changes
 -- lead to cells that stand for the book with its entry
 abbrev pub StandsFor : Cells → List Entry → Record → Type 0
-StandsFor cells earlier r = StandForBook cells earlier → StandForBook (after r.changes cells) (earlier ++ entry_of r ∷ [])
+StandsFor cells earlier r =
+    StandForBook cells earlier → StandForBook (after r.changes cells) (earlier ++ entry_of r ∷ [])
 
 -- each of these records stands for its entry, in the cells that the records before it make of these ones
 abbrev pub AllStandFor : Cells → List Entry → List Record → Type 0
 AllStandFor cells earlier [] = Unit {0}
-AllStandFor cells earlier (r ∷ rs) = StandsFor cells earlier r × AllStandFor (after r.changes cells) (earlier ++ entry_of r ∷ []) rs
+AllStandFor cells earlier (r ∷ rs) =
+    StandsFor cells earlier r × AllStandFor (after r.changes cells) (earlier ++ entry_of r ∷ []) rs
 
 -- the changes of records, one after the other
 abbrev pub changes_of : List Record → List Change

@@ -78,7 +78,8 @@ last_of_client client items = folded_of client None items (none_of client)
 
 -- an answer leaves the leader
 answers_entry : (now : ℕ) (peer : Peer) (e : Entry) (l : Leading) (before after : Outputs)
-    → after.answers.items ≡ before.answers.items ++ answered peer (record { index = e.index; entry = e; asked = None }) ∷ []
+    → after.answers.items ≡ before.answers.items ++ answered peer (record { index = e.index; entry = e; asked = None })
+    ∷ []
     → after.committed ≡ before.committed → after.refusals ≡ before.refusals → after.sends ≡ before.sends
     → Asked now (Saying (Answers e.index e) ∷ []) peer l l before after
 answers_entry now peer e l before after answers committed refusals sends = record {
@@ -100,7 +101,8 @@ record IsKept (same told : Bool) (x : Entry) (index : ℕ) (reply : Reply) : Typ
   reply_is : reply ≡ x.reply
 
 is_kept : (same told lower : Bool) (x : Entry) (index : ℕ) (reply : Reply)
-    → Kept index reply ≡ (if same then (if told then Kept x.index x.reply else Pending) else (if lower then seen.Old else New))
+    → Kept index reply ≡ (if same then (if told then Kept x.index x.reply else Pending) else (if lower then seen.Old
+    else New))
     → IsKept same told x index reply
 is_kept true true lower x index reply h = record { number = refl; committed = refl; index_is = cc; reply_is = cc }
 is_kept true false lower x index reply h = absurd cc
@@ -108,7 +110,8 @@ is_kept false told true x index reply h = absurd cc
 is_kept false told false x index reply h = absurd cc
 
 -- a repeat whose update is committed says what the machine says
-pub repeated : (now client : ℕ) (ne : Entry) (peer : Peer) (index : ℕ) (reply : Reply) (l : Leading) (last : Option Entry) (before after : Outputs)
+pub repeated : (now client : ℕ) (ne : Entry) (peer : Peer) (index : ℕ) (reply : Reply) (l : Leading) (last : Option
+    Entry) (before after : Outputs)
     → IsOf client last → Kept index reply ≡ seen_after last ne.number l.server.cp
     → after.answers.items ≡ before.answers.items ++ (record {
       peer = peer;
@@ -123,15 +126,23 @@ pub repeated : (now client : ℕ) (ne : Entry) (peer : Peer) (index : ℕ) (repl
 unfolding IsOf
 repeated now client ne peer index reply l None before after of kept answers committed refusals sends = absurd cc
 repeated now client ne peer index reply l (Some x) before after of kept answers committed refusals sends =
-    let h = is_kept (ne.number == x.number) (nat_le x.index l.server.cp) (nat_lt ne.number x.number) x index reply kept in
+    let h = is_kept (ne.number == x.number) (nat_le x.index l.server.cp) (nat_lt ne.number x.number) x index reply kept
+    in
     let number : ne.number ≡ x.number = eqb-true ne.number x.number h.number in
     let moves : update_moves l.server ne (Some x) ≡ Saying (Answers x.index x) ∷ [] = rw (h.number, h.committed) refl in
-    let said : after.answers.items ≡ before.answers.items ++ answered peer (record { index = x.index; entry = x; asked = None }) ∷ [] =
+    let said : after.answers.items ≡ before.answers.items ++ answered peer (record {
+      index = x.index;
+      entry = x;
+      asked
+          = None;
+    }) ∷ [] =
     answers ∙ rw (h.index_is, h.reply_is, number, of) refl in
-    subst (λ ms. Asked now ms peer l l before after) (sym moves) (answers_entry now peer x l before after said committed refusals sends)
+    subst (λ ms. Asked now ms peer l l before after) (sym moves) (answers_entry now peer x l before after said
+    committed refusals sends)
 
 -- a new update goes to the log and to the partner, and its peer waits
-pub appends : (now cp told tlb grant : ℕ) (items : List Entry) (peers : List Peer) (peer : Peer) (e : Entry) (l : Leading) (before after : Outputs)
+pub appends : (now cp told tlb grant : ℕ) (items : List Entry) (peers : List Peer) (peer : Peer) (e : Entry) (l :
+    Leading) (before after : Outputs)
     → record { server = leading items cp told tlb grant; peers = peers } ≡ l
     → map sent after.sends.items ≡ map sent before.sends.items ++ (One, Event view_one (length items + 1) cp 0 e) ∷ []
     → after.committed ≡ before.committed → after.answers ≡ before.answers → after.refusals ≡ before.refusals
@@ -141,7 +152,8 @@ appends now cp told tlb grant items peers peer e l before after is sends committ
     let first : Leading = record { server = leading items cp told tlb grant; peers = peers } in
     let last : Leading = record { server = leading (items ++ e ∷ []) cp told tlb grant; peers = peers ++ peer ∷ [] } in
     let at : length items + 1 ≡ top first.server + 1 = omega arith in
-    let asked : Asked now (Appending e ∷ Sending One (Event view_one (top first.server + 1) cp 0 e) ∷ []) peer first last before after = record {
+    let asked : Asked now (Appending e ∷ Sending One (Event view_one (top first.server + 1) cp 0 e) ∷ []) peer first
+    last before after = record {
       makes = record {
         state = refl;
         committed = ap (λ c. map entered c.items) committed ∙ sym (append-nil (map entered before.committed.items));
@@ -151,5 +163,6 @@ appends now cp told tlb grant items peers peer e l before after is sends committ
       };
       waits = refl;
     } in
-    let P : Leading → Type 0 = λ l. Asked now (Appending e ∷ Sending One (Event view_one (top l.server + 1) l.server.cp 0 e) ∷ []) peer l last before after in
+    let P : Leading → Type 0 = λ l. Asked now (Appending e ∷ Sending One (Event view_one (top l.server + 1) l.server.cp
+    0 e) ∷ []) peer l last before after in
     subst P is asked

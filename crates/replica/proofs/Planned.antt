@@ -24,7 +24,8 @@ use Rattle.replica.specs.Cells.{HoldBook, PlansFor}
 -- ---- changes of the tree
 
 -- they leave the clients' cells
-client_kept : (c : Change) (client : ℕ) (held : Option Value) → changes_tree c ≡ true → changed (cell.Client client) held c ≡ held
+client_kept : (c : Change) (client : ℕ) (held : Option Value) → changes_tree c ≡ true
+    → changed (cell.Client client) held c ≡ held
 unfolding is_cell is_block_from
 client_kept (change.Put cell.Meta v) client held h = refl
 client_kept (change.Put (cell.Object object) v) client held h = refl
@@ -53,16 +54,25 @@ keeps : Entry → Change
 keeps e = change.Put (cell.Client e.client) (value.Client e.number e.index e.reply)
 
 -- it leaves the tree
-tree_stays : (cells : Cells) (tree : Tree) (stamp : ℕ) (e : Entry) → StandForTree cells tree stamp → StandForTree (after (keeps e ∷ []) cells) tree stamp
+tree_stays : (cells : Cells) (tree : Tree) (stamp : ℕ) (e : Entry) → StandForTree cells tree stamp
+    → StandForTree (after (keeps e ∷ []) cells) tree stamp
 unfolding is_cell keeps
-tree_stays cells tree stamp e h = record { meta = h.meta; object = h.object; block = h.block; ends = h.ends; slot = h.slot }
+tree_stays cells tree stamp e h = record {
+  meta = h.meta;
+  object = h.object;
+  block = h.block;
+  ends = h.ends;
+  slot =
+      h.slot;
+}
 
 client_at : (cells : Cells) (e : Entry) (client : ℕ) → after (keeps e ∷ []) cells (cell.Client client)
     ≡ (if (e.client == client) && true then client_value (Some e) else cells (cell.Client client))
 unfolding is_cell keeps
 client_at cells e client = refl
 
-put_last : (same : Bool) (update : Bool) (e : Entry) (last : Option Entry) (held : Option Value) → update ≡ true → held ≡ client_value last
+put_last : (same : Bool) (update : Bool) (e : Entry) (last : Option Entry) (held : Option Value) → update ≡ true
+    → held ≡ client_value last
     → (if same && true then client_value (Some e) else held) ≡ client_value (if update && same then Some e else last)
 put_last true true e last held h is = refl
 put_last false true e last held h is = is
@@ -71,39 +81,70 @@ put_last same false e last held h is = absurd cc
 -- ---- a new update
 
 -- its changes and the Put lead from the cells of a book to those of the book with it
-pub planned_stands : (held : Cells) (entries : List Entry) (changes : List Change) (e : Entry) → StandForBook held entries → is_update e.call ≡ true
-    → list_all changes_tree changes ≡ true → StandForTree (after changes held) (outcome (tree_after entries) e.call e.stamp).1 e.stamp
-    → StandForBook (after (changes ++ change.Put (cell.Client e.client) (value.Client e.number e.index e.reply) ∷ []) held) (entries ++ e ∷ [])
+pub planned_stands : (held : Cells) (entries : List Entry) (changes : List Change) (e : Entry)
+    → StandForBook held entries → is_update e.call ≡ true
+    → list_all changes_tree changes ≡ true → StandForTree (after changes held) (outcome (tree_after entries) e.call
+    e.stamp).1 e.stamp
+    → StandForBook (after (changes ++ change.Put (cell.Client e.client) (value.Client e.number e.index e.reply) ∷ [])
+    held) (entries ++ e ∷ [])
 unfolding keeps
 planned_stands held entries changes e stand update tree lead =
     let made = after (keeps e ∷ []) (after changes held) in
     let stamp : last_stamp (entries ++ e ∷ []) ≡ e.stamp = stamp_push entries e ∙ rw update refl in
-    let stays : StandForTree made (tree_next (tree_after entries) e) e.stamp = tree_stays (after changes held) (tree_next (tree_after entries) e) e.stamp e lead in
+    let stays : StandForTree made (tree_next (tree_after entries) e) e.stamp = tree_stays (after changes held)
+    (tree_next (tree_after entries) e) e.stamp e lead in
     let book : StandForBook made (entries ++ e ∷ []) = record {
       tree = subst (λ (t : Tree). StandForTree made t (last_stamp (entries ++ e ∷ []))) (sym (tree_push entries e))
           (subst (λ (n : ℕ). StandForTree made (tree_next (tree_after entries) e) n) (sym stamp) stays);
       client = λ client. client_at (after changes held) e client
-          ∙ put_last (e.client == client) (is_update e.call) e (last_of client entries) (after changes held (cell.Client client)) update
+          ∙ put_last (e.client == client) (is_update e.call) e (last_of client entries) (after changes held
+          (cell.Client client)) update
           (clients_stay changes held client tree ∙ stand.client client)
           ∙ ap client_value (sym (last_push client entries e));
     } in
-    subst (λ (cells : Cells). StandForBook cells (entries ++ e ∷ [])) (sym (after_both changes (keeps e ∷ []) held)) book
+    subst (λ (cells : Cells). StandForBook cells (entries ++ e ∷ [])) (sym (after_both changes (keeps e ∷ []) held))
+    book
 
 -- so a record of it stands for its entry
-pub record_stands : (entries : List Entry) (cells : Option Cells) (e : Entry) (call : Call) (changes all : List Change) → e.call ≡ call → is_update call ≡ true
+pub record_stands : (entries : List Entry) (cells : Option Cells) (e : Entry) (call : Call) (changes all : List Change)
+    → e.call ≡ call → is_update call ≡ true
     → AreShort 15 changes → (HoldBook entries cells → PlansFor entries call e.stamp cells e.reply changes)
     → all ≡ changes ++ change.Put (cell.Client e.client) (value.Client e.number e.index e.reply) ∷ []
     → IfSome cells (λ held. StandForBook held entries → StandForBook (after all held) (entries ++ e ∷ []))
 record_stands entries None e call changes all same update short plans are = tt
 record_stands entries (Some held) e call changes all same update short plans are = λ stand.
-    let leads = subst (λ (c : Call). StandForTree (after changes held) (outcome (tree_after entries) c e.stamp).1 e.stamp) (sym same) (plans stand).leads in
+    let leads = subst (λ (c : Call). StandForTree (after changes held) (outcome (tree_after entries) c e.stamp).1
+    e.stamp) (sym same) (plans stand).leads in
     subst (λ (cs : List Change). StandForBook (after cs held) (entries ++ e ∷ [])) (sym are)
     (planned_stands held entries changes e stand (ap is_update same ∙ update) short.tree leads)
 
 -- and its entry is the machine's
 pub entry_is : (now client number index stamp : ℕ) (call : Call) (items : List Entry) (e : Entry)
-    → e ≡ record { index = index; client = client; number = number; call = call; stamp = stamp; reply = (outcome (tree_after items) call stamp).0 }
+    → e ≡ record {
+      index = index;
+      client = client;
+      number = number;
+      call = call;
+      stamp = stamp;
+      reply = (outcome
+          (tree_after items) call stamp).0;
+    }
     → index ≡ length items + 1 → stamp ≡ max now (last_stamp items) → e ≡ new_entry now items client number call
 entry_is now client number index stamp call items e is at when =
-    is ∙ ap (λ (n : ℕ). let x : Entry = record { index = n; client = client; number = number; call = call; stamp = stamp; reply = (outcome (tree_after items) call stamp).0 } in x) at
-    ∙ ap (λ (n : ℕ). let x : Entry = record { index = length items + 1; client = client; number = number; call = call; stamp = n; reply = (outcome (tree_after items) call n).0 } in x) when
+    is ∙ ap (λ (n : ℕ). let x : Entry = record {
+      index = n;
+      client = client;
+      number = number;
+      call = call;
+      stamp =
+          stamp;
+      reply = (outcome (tree_after items) call stamp).0;
+    } in x) at
+    ∙ ap (λ (n : ℕ). let x : Entry = record {
+      index = length items + 1;
+      client = client;
+      number = number;
+      call = call;
+      stamp = n;
+      reply = (outcome (tree_after items) call n).0;
+    } in x) when

@@ -22,7 +22,8 @@ HoldBook entries cells = IfSome cells (λ held. StandForBook held entries)
 
 -- the reply is that of the outcome on the tree after these entries, and the changes lead from the cells, where they are
 -- there, to cells that stand for the outcome's tree
-pub record PlansFor (entries : List Entry) (call : Call) (stamp : ℕ) (cells : Option Cells) (reply : Reply) (changes : List Change) : Type 0 where
+pub record PlansFor (entries : List Entry) (call : Call) (stamp : ℕ) (cells : Option Cells) (reply : Reply)
+    (changes : List Change) : Type 0 where
   pub answers : reply ≡ (outcome (tree_after entries) call stamp).0
   pub leads : IfSome cells (λ held. StandForTree (after changes held) (outcome (tree_after entries) call stamp).1 stamp)
 

@@ -14,9 +14,9 @@ use Rattle.replica.specs.Servers.{Leading}
 use Rattle.replica.specs.declared.outputs.Answered.{Answered}
 use Rattle.replica.specs.declared.outputs.Outputs.{Outputs}
 
--- Beside these records, each of which stands for its entry, and of which cp are committed, stand the cells after those up
--- to CP and after all, the last stamp, and who asked for the records above CP. Cells are none once memory ran out while
--- changes were made of them
+-- Beside these records, each of which stands for its entry, and of which cp are committed, stand the cells after those
+-- up to CP and after all, the last stamp, and who asked for the records above CP. Cells are none once memory ran out
+-- while changes were made of them
 pub record Stands (records : List Record) (cp : ℕ) (committed appended : Option Cells) (stamp : ℕ) (peers : List Peer)
     : Type 0 where
   pub stand : AllStandFor no_values [] records

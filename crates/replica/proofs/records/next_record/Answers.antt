@@ -12,7 +12,15 @@ returns-clause-stands c entries =
     let p = c.in_ok-reply.field-0 in
     let planned = c.in_ok-reply.ensures in
     record_stands entries (held_in a.cells.now)
-    (record { index = a.index; client = a.asker.client; number = a.asker.number; call = c.in_ok-copy.field-0; stamp = a.stamp; reply = p.reply })
+    (record {
+      index = a.index;
+      client = a.asker.client;
+      number = a.asker.number;
+      call = c.in_ok-copy.field-0;
+      stamp =
+          a.stamp;
+      reply = p.reply;
+    })
     a.call.now p.changes.items c.new.result c.in_ok-copy.ensures c.requires planned.short (planned.plans entries)
     (c.new.ensures ∙ c.in_ok-push.ensures.items
     ∙ ap (λ x. p.changes.items ++ x ∷ []) (c.in_ok-keep.ensures

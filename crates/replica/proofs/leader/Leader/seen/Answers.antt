@@ -13,6 +13,8 @@ returns-clause-seen c =
     let l = c.self.inside in
     let h = c.self.invariant.5 in
     let a = c.args.asker in
-    let seen = c.seen_among.ensures.seen (map entry_of l.log.records) (hold_made l.log.records (held_in l.appended) h.stand h.at_top) in
-    subst (λ (x : Leading). IfOk c.seen_among.result (λ s. s ≡ seen_after (last_of a.client x.server.items) a.number x.server.cp)) c.self.view_is
+    let seen = c.seen_among.ensures.seen (map entry_of l.log.records) (hold_made l.log.records (held_in l.appended)
+    h.stand h.at_top) in
+    subst (λ (x : Leading). IfOk c.seen_among.result (λ s. s ≡ seen_after (last_of a.client x.server.items) a.number
+    x.server.cp)) c.self.view_is
     (rw c.cp-cp.ensures.value at seen)

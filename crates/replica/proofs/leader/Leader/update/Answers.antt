@@ -15,7 +15,10 @@ returns-in-Kept c =
     let last = last_of a.asker.client s.items in
     let said = c.answer.ensures in
     on_ok_weaker c.answer.result
-    (λ answers. subst (λ (l : Leading). Asked a.now (update_moves s ne last) a.asker.peer a.self.now l a.outs.now c.answer.new.self) (sym c.in_ok-seen.ensures.same)
-    (repeated a.now a.asker.client ne a.asker.peer c.in-Kept.index c.in-Kept.reply a.self.now last a.outs.now c.answer.new.self
-    (last_of_client a.asker.client s.items) (sym c.in-Kept.is ∙ c.in_ok-seen.ensures.seen) answers said.committed said.refusals said.sends))
+    (λ answers. subst (λ (l : Leading). Asked a.now (update_moves s ne last) a.asker.peer a.self.now l a.outs.now
+    c.answer.new.self) (sym c.in_ok-seen.ensures.same)
+    (repeated a.now a.asker.client ne a.asker.peer c.in-Kept.index c.in-Kept.reply a.self.now last a.outs.now
+    c.answer.new.self
+    (last_of_client a.asker.client s.items) (sym c.in-Kept.is
+    ∙ c.in_ok-seen.ensures.seen) answers said.committed said.refusals said.sends))
     said.answers
