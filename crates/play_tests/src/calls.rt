@@ -3,7 +3,7 @@
 use crate::row::{Row, result_of};
 use std::test::Fail;
 
-const ROWS: [Row; 5] = [
+pub const ROWS: [Row; 5] = [
     // Pages of a directory: the greatest one that fits, one that fits no entry, and pages behind a cookie.
     Row {
         schedule: b"ask 0 7 1 mkdir 1 61 755

@@ -157,9 +157,14 @@ end 6
     },
 ];
 
+/// The schedule, whole.
+pub fn schedule(alloc: Global) -> Result<Bytes, Fail> {
+    joined(alloc, &SCHEDULE)
+}
+
 #[test]
 fn plays_ends_of_a_file(rt: HostRuntime) -> Result<(), Fail> {
-    let schedule = joined(rt.alloc(), &SCHEDULE)?;
+    let schedule = schedule(rt.alloc())?;
     let trace = joined(rt.alloc(), &TRACE)?;
     let (status, sink) = result_of(&rt, "play", schedule.as_slice(), &[], &[])?;
     assert_eq!(rt; status, 0);

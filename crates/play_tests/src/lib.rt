@@ -9,3 +9,5 @@ mod ends;
 mod plays;
 #[cfg(test)]
 mod row;
+#[cfg(test)]
+mod side_by_side;
