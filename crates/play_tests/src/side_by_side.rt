@@ -51,10 +51,10 @@ fn agree(alloc: Global, trees: &mut Trees, call: &Call, millis: u64) -> Result<b
 
 /// Whether both agree on each ask of a schedule, a second apart.
 fn agree_on(alloc: Global, trees: &mut Trees, schedule: &[u8]) -> Result<bool, Fail> {
-    let mut millis = 0;
+    let mut millis = 0_u64;
     for line in schedule.split(|b| *b == b'\n') {
         if let Some(Step::Ask { call, .. }) = read_step(alloc, line)? {
-            millis = (millis + 1000) % 1_000_000;
+            millis = millis.saturating_add(1000);
             if !agree(alloc, trees, &call, millis)? {
                 return Ok(false);
             }
