@@ -2,7 +2,9 @@
 
 use dedup::{Seen, keep, seen};
 use file_tree::PlainTree;
-use harp_base::{Bounded, Bytes, Call, Kind, Reply, SetAttr, Time, is_update, write_reply};
+use harp_base::{
+    Bounded, Bytes, Call, Kind, Reply, SUPERUSER, SetAttr, Time, is_update, write_reply,
+};
 use harp_cells::{Cell, Change, Inode, MemCells, Moment, NonEmpty, Value};
 use nfs_calls::answer;
 use std::alloc::Global;
@@ -64,7 +66,7 @@ fn worked_tree(alloc: Global) -> Result<PlainTree, Fail> {
     let mut tree = PlainTree::new(alloc)?;
     for place in 0..4 {
         let call = update(alloc, place)?;
-        tree.apply(alloc, &call, 1000)?;
+        tree.apply(alloc, SUPERUSER, &call, 1000)?;
     }
     Ok(tree)
 }
@@ -219,8 +221,10 @@ fn compare(
     if is_update(call) {
         return Err(Fail::from("an update"));
     }
-    let wanted = spelled(alloc, &tree.apply(alloc, call, 2000)?)?;
-    let reply = answer(alloc, cells, call).ok().ok_or("no answer")?;
+    let wanted = spelled(alloc, &tree.apply(alloc, SUPERUSER, call, 2000)?)?;
+    let reply = answer(alloc, cells, SUPERUSER, call)
+        .ok()
+        .ok_or("no answer")?;
     let got = spelled(alloc, &reply)?;
     if got.as_slice() == wanted.as_slice() {
         Ok(())

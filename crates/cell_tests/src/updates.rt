@@ -4,7 +4,7 @@ ghost use Rattle.std.specs.Prelude.{◌≡◌, true};
 ghost use Rattle.harp_base.specs.Update.{is_update};
 
 use crate::calls::{inode, mode, name, spelled, worked_cells};
-use harp_base::{Attr, Bounded, Call, Kind, Reply, Status, Time};
+use harp_base::{Attr, Bounded, Call, Kind, Reply, SUPERUSER, Status, Time};
 use harp_cells::{Cell, Change, Inode, Moment, Value};
 use nfs_calls::{Prepared, prepare};
 use std::alloc::Global;
@@ -21,7 +21,7 @@ pub fn planned(alloc: Global, call: &Call) -> Result<Prepared, Fail>
 {
     let mut cells = worked_cells(alloc)?;
     let stamp = Moment::of(2000).ok_or("no stamp")?;
-    Ok(prepare(alloc, &mut cells, call, stamp)?)
+    Ok(prepare(alloc, &mut cells, SUPERUSER, call, stamp)?)
 }
 
 pub fn puts_object(change: &Change, number: u32, wanted: &Inode) -> bool {

@@ -9,7 +9,7 @@ use Rattle.harp_cells.specs.Effect.{Cells, after}
 
 -- the entry of the book that a record stands for, whatever the view in which it was appended
 abbrev pub entry_of : Record → Entry
-entry_of r = record { index = r.index; client = r.client; number = r.number; call = r.call; stamp = r.stamp; reply = r.reply }
+entry_of r = record { index = r.index; client = r.client; number = r.number; cred = r.cred; call = r.call; stamp = r.stamp; reply = r.reply }
 
 -- a record stands for its entry after these entries: where these cells stand for the book of the entries, its changes
 -- lead to cells that stand for the book with its entry

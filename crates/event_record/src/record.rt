@@ -4,7 +4,7 @@ ghost use Rattle.std.specs.Prelude.{◌≡◌, IfOk};
 
 use crate::changes::Changes;
 use crate::numbers::Index;
-use harp_base::{Call, Reply, ViewNo};
+use harp_base::{Call, Cred, Reply, ViewNo};
 use harp_cells::Moment;
 use std::alloc::{AllocError, Global};
 
@@ -20,6 +20,8 @@ pub struct Record {
     pub client: u32,
     /// The client's own number of the call.
     pub number: u64,
+    /// Who made the call.
+    pub cred: Cred,
     pub call: Call,
     /// The time of the update in milliseconds, below 2^62 + 2000.
     pub stamp: Moment,
@@ -38,6 +40,7 @@ impl Record {
             index: self.index,
             client: self.client,
             number: self.number,
+            cred: self.cred,
             call: self.call.copy(alloc)?,
             stamp: self.stamp,
             reply: self.reply.copy(alloc)?,

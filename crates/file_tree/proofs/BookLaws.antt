@@ -56,7 +56,7 @@ folded_updates tree (e ∷ entries) = elim (cases_Bool (is_update e.call)) [
       folded_updates (tree_next tree e) entries ∙ ap (fold tree_next tree) (sym more)
   | inr u ↦
       let same : updates (e ∷ entries) ≡ updates entries = rw u refl in
-      let kept : tree_next tree e ≡ tree = read_keeps tree e.call e.stamp u in
+      let kept : tree_next tree e ≡ tree = read_keeps tree e.cred e.call e.stamp u in
       ap (λ (t : Tree). fold tree_next t entries) kept ∙ folded_updates tree entries ∙ ap (fold tree_next tree) (sym same)
 ]
 

@@ -166,7 +166,7 @@ pub update_follows : (entries : List Entry) (e : Entry) → IsBook entries → i
 update_follows entries e book u = (follows_next entries e u, next_follows entries e book)
 
 pub read_follows : (entries : List Entry) (e : Entry) → is_update e.call ≡ false
-    → MayFollow entries e ↔ ((e.reply ≡ (outcome (tree_after entries) e.call e.stamp).0) × IsRead e)
+    → MayFollow entries e ↔ ((e.reply ≡ (outcome (tree_after entries) e.cred e.call e.stamp).0) × IsRead e)
 read_follows entries e u =
     (λ f. (f.reply, MatchBool-at_false (IsNextUpdate (updates entries) e) (IsRead e) u f.order), λ h. record { reply = h.0; order = rw u h.1 })
 

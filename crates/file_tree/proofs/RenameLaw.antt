@@ -2,9 +2,11 @@
 use Rattle.std.proofs.Common.{◌≡◌, ℕ, ◌==◌, ◌&&◌, false, not, List, length, Option, Some, None, Ok, refl, inl, inr}
 use Rattle.std.proofs.lemmas.Bool.{cases_Bool, eqb-false, ne_eqb, not-false}
 use Rattle.harp_base.specs.declared.attr.Time.{Time}
+use Rattle.harp_base.specs.declared.cred.Cred.{Cred}
 use Rattle.harp_base.specs.declared.reply.Status.TheVariants.{Perm, NoEnt, NotDir, IsDir, NotEmpty}
 use Rattle.file_tree.specs.Tree.{Tree, Slots, place, slots_of, entry, is_directory_at}
 use Rattle.file_tree.specs.Steps.{some_or, live, slots_in, is_dots, check_name, entry_name, room}
+use Rattle.file_tree.specs.Permissions.{searching, writing, allowed}
 use Rattle.file_tree.specs.Outcome.{has_no_entry}
 use Rattle.file_tree.specs.Rename.{is_above, check_target, moved_in, moved_to, rename}
 use Rattle.file_tree.specs.Sound.{IsSound}
@@ -58,18 +60,22 @@ moved_to_sound tree dir slots name x to_dir to_slots to_name (Some y) now is m e
     (sound_moved_over tree dir to_dir m.from.object m.to.object slots to_slots name to_name x y now is m.from.at m.from.body m.to.at m.to.body m.found (found to_slots to_name y e)
     (eqb-false y.1 x.1 other) (target_bare tree x.1 y target (eqb-false y.1 x.1 other)) m.apart))
 
-pub rename_sound : (tree : Tree) (dir : ℕ) (name : List ℕ) (to_dir : ℕ) (to_name : List ℕ) (now : Time) → IsSound tree → LeavesSound (rename tree dir name to_dir to_name now)
+pub rename_sound : (tree : Tree) (cred : Cred) (dir : ℕ) (name : List ℕ) (to_dir : ℕ) (to_name : List ℕ) (now : Time) → IsSound tree → LeavesSound (rename tree cred dir name to_dir to_name now)
 unfolding rename
-rename_sound tree dir name to_dir to_name now is =
+rename_sound tree cred dir name to_dir to_name now is =
     step (live tree dir) _ (λ y. IsSound y.1) (λ d d_lives.
     step (live tree to_dir) _ (λ y. IsSound y.1) (λ e e_lives.
     step (slots_in d.body) _ (λ y. IsSound y.1) (λ slots d_slots.
     step (slots_in e.body) _ (λ y. IsSound y.1) (λ to_slots e_slots.
+    step (allowed tree cred dir searching) _ (λ y. IsSound y.1) (λ a may_search.
+    step (allowed tree cred to_dir searching) _ (λ y. IsSound y.1) (λ b may_search_to.
     unless Perm (is_dots name) _ (λ y. IsSound y.1) (λ dots.
     unless Perm (is_dots to_name) _ (λ y. IsSound y.1) (λ to_dots.
     step (check_name name) _ (λ y. IsSound y.1) (λ u checked.
     step (check_name to_name) _ (λ y. IsSound y.1) (λ v to_checked.
     step (some_or NoEnt (entry slots name)) _ (λ y. IsSound y.1) (λ x x_is.
+    step (allowed tree cred dir writing) _ (λ y. IsSound y.1) (λ i may_write.
+    step (allowed tree cred to_dir writing) _ (λ y. IsSound y.1) (λ j may_write_to.
     unless Perm (is_directory_at (place tree x.1) && is_above (length tree) tree x.1 to_dir) _ (λ y. IsSound y.1) (λ apart.
     step (check_target tree x.1 (entry to_slots to_name)) _ (λ y. IsSound y.1) (λ w target.
     step (moved_to tree dir x to_dir to_slots to_name (entry to_slots to_name) now) _ (λ y. IsSound y.1) (λ new g.
@@ -83,4 +89,4 @@ rename_sound tree dir name to_dir to_name now is =
       right = entry_name_from to_name to_checked to_dots;
       apart = apart;
     })
-    refl target) g)))))))))))))
+    refl target) g)))))))))))))))))

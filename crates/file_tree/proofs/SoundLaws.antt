@@ -2,6 +2,7 @@
 use Rattle.std.proofs.Common.{◌≡◌, ℕ, zero, suc, true, List, [], ◌∷◌, length, fold, Ok, Err, refl, arith}
 use Rattle.harp_base.specs.declared.call.Call.{Call}
 use Rattle.harp_base.specs.declared.call.Call.TheVariants as call
+use Rattle.harp_base.specs.declared.cred.Cred.{Cred}
 use Rattle.harp_base.specs.Time.{time_of}
 use Rattle.file_tree.specs.Tree.{Tree, first_tree, place, names_of, is_directory_at}
 use Rattle.file_tree.specs.Rename.{is_above}
@@ -21,23 +22,23 @@ unfolding Given
 settled_sound tree (Ok x) is h = h
 settled_sound tree (Err s) is h = is
 
-pub outcome_sound : (tree : Tree) (c : Call) (stamp : ℕ) → IsSound tree → IsSound (outcome tree c stamp).1
-outcome_sound tree call.Null stamp is = is
-outcome_sound tree (call.GetAttr handle) stamp is = rw (read_keeps tree (call.GetAttr handle) stamp refl) is
-outcome_sound tree (call.SetAttr handle attr) stamp is = settled_sound tree _ is (set_attr_sound tree handle attr (time_of stamp) is)
-outcome_sound tree (call.Lookup dir name) stamp is = rw (read_keeps tree (call.Lookup dir name) stamp refl) is
-outcome_sound tree (call.ReadLink handle) stamp is = rw (read_keeps tree (call.ReadLink handle) stamp refl) is
-outcome_sound tree (call.Read handle offset count) stamp is = rw (read_keeps tree (call.Read handle offset count) stamp refl) is
-outcome_sound tree (call.Write handle offset bytes) stamp is = settled_sound tree _ is (write_sound tree handle offset bytes (time_of stamp) is)
-outcome_sound tree (call.Create dir name attr) stamp is = settled_sound tree _ is (create_sound tree dir name attr (time_of stamp) is)
-outcome_sound tree (call.Remove dir name) stamp is = settled_sound tree _ is (remove_sound tree dir name (time_of stamp) is)
-outcome_sound tree (call.Rename dir name to_dir to_name) stamp is = settled_sound tree _ is (rename_sound tree dir name to_dir to_name (time_of stamp) is)
-outcome_sound tree (call.Link handle dir name) stamp is = settled_sound tree _ is (link_sound tree handle dir name (time_of stamp) is)
-outcome_sound tree (call.SymLink dir name text attr) stamp is = settled_sound tree _ is (make_link_sound tree dir name text attr (time_of stamp) is)
-outcome_sound tree (call.MkDir dir name attr) stamp is = settled_sound tree _ is (make_dir_sound tree dir name attr (time_of stamp) is)
-outcome_sound tree (call.RmDir dir name) stamp is = settled_sound tree _ is (remove_dir_sound tree dir name (time_of stamp) is)
-outcome_sound tree (call.ReadDir dir cookie count) stamp is = rw (read_keeps tree (call.ReadDir dir cookie count) stamp refl) is
-outcome_sound tree (call.StatFs handle) stamp is = rw (read_keeps tree (call.StatFs handle) stamp refl) is
+pub outcome_sound : (tree : Tree) (cred : Cred) (c : Call) (stamp : ℕ) → IsSound tree → IsSound (outcome tree cred c stamp).1
+outcome_sound tree cred call.Null stamp is = is
+outcome_sound tree cred (call.GetAttr handle) stamp is = rw (read_keeps tree cred (call.GetAttr handle) stamp refl) is
+outcome_sound tree cred (call.SetAttr handle attr) stamp is = settled_sound tree _ is (set_attr_sound tree cred handle attr (time_of stamp) is)
+outcome_sound tree cred (call.Lookup dir name) stamp is = rw (read_keeps tree cred (call.Lookup dir name) stamp refl) is
+outcome_sound tree cred (call.ReadLink handle) stamp is = rw (read_keeps tree cred (call.ReadLink handle) stamp refl) is
+outcome_sound tree cred (call.Read handle offset count) stamp is = rw (read_keeps tree cred (call.Read handle offset count) stamp refl) is
+outcome_sound tree cred (call.Write handle offset bytes) stamp is = settled_sound tree _ is (write_sound tree cred handle offset bytes (time_of stamp) is)
+outcome_sound tree cred (call.Create dir name attr) stamp is = settled_sound tree _ is (create_sound tree cred dir name attr (time_of stamp) is)
+outcome_sound tree cred (call.Remove dir name) stamp is = settled_sound tree _ is (remove_sound tree cred dir name (time_of stamp) is)
+outcome_sound tree cred (call.Rename dir name to_dir to_name) stamp is = settled_sound tree _ is (rename_sound tree cred dir name to_dir to_name (time_of stamp) is)
+outcome_sound tree cred (call.Link handle dir name) stamp is = settled_sound tree _ is (link_sound tree cred handle dir name (time_of stamp) is)
+outcome_sound tree cred (call.SymLink dir name text attr) stamp is = settled_sound tree _ is (make_link_sound tree cred dir name text attr (time_of stamp) is)
+outcome_sound tree cred (call.MkDir dir name attr) stamp is = settled_sound tree _ is (make_dir_sound tree cred dir name attr (time_of stamp) is)
+outcome_sound tree cred (call.RmDir dir name) stamp is = settled_sound tree _ is (remove_dir_sound tree cred dir name (time_of stamp) is)
+outcome_sound tree cred (call.ReadDir dir cookie count) stamp is = rw (read_keeps tree cred (call.ReadDir dir cookie count) stamp refl) is
+outcome_sound tree cred (call.StatFs handle) stamp is = rw (read_keeps tree cred (call.StatFs handle) stamp refl) is
 
 first_objects : (number : ℕ) → IsSoundObject (place first_tree number)
 first_objects zero = tt
@@ -69,7 +70,7 @@ first_sound = record {
 -- the tree after each list of entries is sound
 pub folded_sound : (tree : Tree) (entries : List Entry) → IsSound tree → IsSound (fold tree_next tree entries)
 folded_sound tree [] is = is
-folded_sound tree (e ∷ entries) is = folded_sound (tree_next tree e) entries (outcome_sound tree e.call e.stamp is)
+folded_sound tree (e ∷ entries) is = folded_sound (tree_next tree e) entries (outcome_sound tree e.cred e.call e.stamp is)
 
 pub book_sound : (entries : List Entry) → IsSound (tree_after entries)
 book_sound entries = folded_sound first_tree entries first_sound

@@ -1,6 +1,8 @@
 -- What follows where the steps of a call succeed.
-use Rattle.std.proofs.Common.{◌≡◌, ℕ, ◌+◌, ◌*◌, ◌<◌, ◌≤◌, Bool, true, false, List, length, count_by, Option, Some, None, Ok, Err, refl, subst}
-use Rattle.std.proofs.lemmas.Bool.{ltb-false, leb-false}
+use Rattle.std.proofs.Common.{◌≡◌, ℕ, ◌+◌, ◌*◌, ◌<◌, ◌≤◌, ◌==◌, ◌||◌, Bool, true, false, List, length, count_by, Option, Some, None, Ok, Err, refl, subst}
+use Rattle.std.proofs.lemmas.Bool.{ltb-false, leb-false, cond_both}
+use Rattle.harp_base.specs.declared.attr.SetAttr.{SetAttr}
+use Rattle.harp_base.specs.declared.cred.Cred.{Cred}
 use Rattle.harp_base.specs.declared.reply.Status.{Status}
 use Rattle.harp_base.specs.declared.reply.Status.TheVariants.{NoSpc, NoEnt, Exist}
 use Rattle.file_tree.specs.declared.object.Body.{Body}
@@ -8,6 +10,7 @@ use Rattle.file_tree.specs.declared.object.Body.TheVariants.{Regular, Directory,
 use Rattle.file_tree.specs.declared.object.Object.{Object}
 use Rattle.file_tree.specs.Tree.{Tree, Slots, place, entry, with_entry, blocks_of, blocks_at, used_blocks}
 use Rattle.file_tree.specs.Steps.{Step, ◌>>=◌, refuse, some_or, live, slots_in, bytes_in, directory, is_dots, check_name, entry_name, room}
+use Rattle.file_tree.specs.Permissions.{searching, allowed, searched, size_alone, heeded}
 use Rattle.file_tree.specs.Outcome.{has_entry, find, doomed, free_name, room_for}
 use Rattle.file_tree.specs.Sound.{has_name}
 use Rattle.file_tree.proofs.Kept.{live_place}
@@ -71,6 +74,21 @@ pub directory_is : (tree : Tree) (dir : ℕ) (slots : Slots) → directory tree 
 directory_is tree dir slots e =
     given_at (directory tree dir) (IsDirectoryOf tree dir) slots
     (step (live tree dir) (λ o. slots_in o.body) (IsDirectoryOf tree dir) (λ o is. in_body tree dir o is (slots_in o.body) refl)) e
+
+-- a directory that the caller may search is one
+pub searched_slots : (tree : Tree) (cred : Cred) (dir : ℕ) (slots : Slots) → searched tree cred dir ≡ Ok slots → directory tree dir ≡ Ok slots
+searched_slots tree cred dir slots e =
+    given_at (searched tree cred dir) (λ ss. directory tree dir ≡ Ok ss) slots
+    (step (directory tree dir) _ (λ ss. directory tree dir ≡ Ok ss) (λ found d.
+    step (allowed tree cred dir searching) _ (λ ss. directory tree dir ≡ Ok ss) (λ u may. done found (λ ss. directory tree dir ≡ Ok ss) d))) e
+
+pub searched_is : (tree : Tree) (cred : Cred) (dir : ℕ) (slots : Slots) → searched tree cred dir ≡ Ok slots → IsDirectoryOf tree dir slots
+searched_is tree cred dir slots e = directory_is tree dir slots (searched_slots tree cred dir slots e)
+
+-- the size that a CREATE gives counts for each caller
+pub heeded_size : (cred : Cred) (uid : ℕ) (a : SetAttr) → (heeded cred uid a).size ≡ a.size
+heeded_size cred uid a =
+    cond_both ((cred.uid == 0) || (cred.uid == uid)) a (size_alone a) (λ (x : SetAttr). x.size ≡ a.size) (λ e. refl) (λ e. refl)
 
 pub some_is : {A : Type 0} (s : Status) (x : Option A) (y : A) → some_or s x ≡ Ok y → x ≡ Some y
 some_is s None y e = absurd cc

@@ -2,6 +2,7 @@
 
 ghost use Rattle.std.specs.Prelude.{◌≡◌, ◌<◌, ◌↔◌, ◌+◌, ◌++◌, ◌∷◌, [], ℕ, List, length, slice_index_or, true, false, Ok, Some};
 ghost use Rattle.harp_base.specs.declared.call.Call.{Call};
+ghost use Rattle.harp_base.specs.declared.cred.Cred.{Cred};
 ghost use Rattle.harp_base.specs.declared.reply.Reply.TheVariants.{Refused};
 ghost use Rattle.harp_base.specs.declared.reply.Status.{Status};
 ghost use Rattle.harp_base.specs.Update.{is_update};
@@ -16,10 +17,10 @@ ghost use Rattle.file_tree.specs.Book.{Entry, tree_next, tree_after, updates, Ma
 /// directory is a directory.
 pub fn tree_laws()
     ensures first_is_sound { IsSound first_tree }
-    ensures outcomes_keep_sound { (tree : Tree) (call : Call) (stamp : ℕ) → IsSound tree → IsSound (outcome tree call stamp).1 }
-    ensures reads_keep { (tree : Tree) (call : Call) (stamp : ℕ) → is_update call ≡ false → (outcome tree call stamp).1 ≡ tree }
-    ensures refusals_keep { (tree : Tree) (call : Call) (stamp : ℕ) (status : Status)
-        → (outcome tree call stamp).0 ≡ Refused status → (outcome tree call stamp).1 ≡ tree }
+    ensures outcomes_keep_sound { (tree : Tree) (cred : Cred) (call : Call) (stamp : ℕ) → IsSound tree → IsSound (outcome tree cred call stamp).1 }
+    ensures reads_keep { (tree : Tree) (cred : Cred) (call : Call) (stamp : ℕ) → is_update call ≡ false → (outcome tree cred call stamp).1 ≡ tree }
+    ensures refusals_keep { (tree : Tree) (cred : Cred) (call : Call) (stamp : ℕ) (status : Status)
+        → (outcome tree cred call stamp).0 ≡ Refused status → (outcome tree cred call stamp).1 ≡ tree }
     ensures all_are_sound { (entries : List Entry) → IsSound (tree_after entries) }
     ensures entries_live { (tree : Tree) (dir : ℕ) (slots : Slots) (name : List ℕ) (x : ℕ × ℕ)
         → IsSound tree → directory tree dir ≡ Ok slots → entry slots name ≡ Some x → is_some (place tree x.1) ≡ true }
@@ -39,7 +40,7 @@ pub fn book_laws()
     ensures stamp_appended { (entries : List Entry) (e : Entry) → last_stamp (entries ++ e ∷ []) ≡ stamp_next (last_stamp entries) e }
     ensures update_follows { (entries : List Entry) (e : Entry) → IsBook entries → is_update e.call ≡ true → MayFollow entries e ↔ ComesNext entries e }
     ensures read_follows { (entries : List Entry) (e : Entry) → is_update e.call ≡ false
-        → MayFollow entries e ↔ ((e.reply ≡ (outcome (tree_after entries) e.call e.stamp).0) × IsRead e) }
+        → MayFollow entries e ↔ ((e.reply ≡ (outcome (tree_after entries) e.cred e.call e.stamp).0) × IsRead e) }
     ensures begins_with_books { (entries more : List Entry) → IsBook (entries ++ more) → IsBook entries }
     ensures in_order { (entries : List Entry) → IsBook entries → (i j : ℕ) (d : Entry) → i < j → j < length (updates entries)
         → IsBefore (slice_index_or (updates entries) i d) (slice_index_or (updates entries) j d) }

@@ -73,7 +73,7 @@ enter book c (e ∷ es) u h =
     let rest = enter (book ++ e ∷ []) (c ++ e ∷ []) es more h.2 in (
       (
         record {
-          reply = h.1.reply ∙ ap (λ (t : Tree). (outcome t e.call e.stamp).0) tree;
+          reply = h.1.reply ∙ ap (λ (t : Tree). (outcome t e.cred e.call e.stamp).0) tree;
           order = subst (λ (b : Bool). MatchBool b (IsNextUpdate (updates book) e) (IsRead e)) (sym h.0) next;
         },
         rest.0,

@@ -4,6 +4,7 @@ use Rattle.std.specs.Prelude.{⊤}
 use Rattle.std.proofs.lemmas.List.{length-drop, length-take}
 use Rattle.harp_base.specs.declared.call.Call.{Call}
 use Rattle.harp_base.specs.Update.{is_update}
+use Rattle.harp_base.specs.declared.cred.Cred.{Cred}
 use Rattle.file_tree.specs.Book.{Entry, last_of}
 use Rattle.group_model.specs.Ask.{append, new_entry, on_ask, refuse, update_moves}
 use Rattle.group_model.specs.Choose.{choose}
@@ -143,11 +144,11 @@ update_adds q clock s e (Some last) = adds_if 1 q clock s (e.number == last.numb
     (one_more q clock s _ (keeping q clock s _ (keeps_if (nat_le last.index s.cp) _ [] (tt, tt) tt)))
     (adds_if 1 q clock s (nat_lt e.number last.number) _ _ (one_more q clock s _ (keeping q clock s _ (tt, tt))) (append_adds q clock s e))
 
-ask_adds : (q : Place) (clock : ℕ) (list : List Entry) (s : Server Entry) (client number : ℕ) (c : Call) → Adds 1 q clock s (on_ask q clock list s client number c)
-ask_adds q clock list s client number c = adds_if 1 q clock s (nat_lt 4095 client) _ _ (one_more q clock s _ (keeping q clock s _ (tt, tt)))
+ask_adds : (q : Place) (clock : ℕ) (list : List Entry) (s : Server Entry) (client number : ℕ) (cred : Cred) (c : Call) → Adds 1 q clock s (on_ask q clock list s client number cred c)
+ask_adds q clock list s client number cred c = adds_if 1 q clock s (nat_lt 4095 client) _ _ (one_more q clock s _ (keeping q clock s _ (tt, tt)))
     (adds_if 1 q clock s (all_of (is_active s.mode ∷ same q (leader s.plan.storers) ∷ [])) _ _
     (adds_if 1 q clock s (is_open s.mode) _ _
-    (adds_if 1 q clock s (is_update c) _ _ (update_adds q clock s (new_entry clock list client number c) (last_of client list))
+    (adds_if 1 q clock s (is_update c) _ _ (update_adds q clock s (new_entry clock list client number cred c) (last_of client list))
     (one_more q clock s _ (keeping q clock s _ (keeps_if (nat_le s.grant clock) _ _ (tt, tt) (tt, tt)))))
     (one_more q clock s _ (keeping q clock s _ (tt, tt))))
     (one_more q clock s _ (keeping q clock s _ (tt, tt))))
@@ -232,7 +233,7 @@ none q clock s ms h = let a = (adds_then 0 q clock s ms rebase h keeps_base).mos
 deed_adds : (q : Place) (clock : ℕ) (list : List Entry) (s : Server Entry) (d : Deed) → DeedGrows d (length s.items) (length (acts q clock s (and_then q clock s (does q clock list s d) rebase)).items)
 deed_adds q clock list s Tick = none q clock s _ (tick_adds q clock s)
 deed_adds q clock list s Suspect = none q clock s _ (keeping q clock s _ (keeps_if (nat_lt (s.promised / 3) limit) _ [] (tt, keeps_each _ _) tt))
-deed_adds q clock list s (Ask client number c) = (adds_then 1 q clock s (on_ask q clock list s client number c) rebase (ask_adds q clock list s client number c) keeps_base).most
+deed_adds q clock list s (Ask client number cred c) = (adds_then 1 q clock s (on_ask q clock list s client number cred c) rebase (ask_adds q clock list s client number cred c) keeps_base).most
 deed_adds q clock list s (Apply n) = none q clock s _ (keeping q clock s _ (keeps_if (all_of (settled_tests q s)) _ [] (tt, tt) tt))
 deed_adds q clock list s Flush = none q clock s _ (keeping q clock s _ (keeps_if (all_of (flush_tests q s)) _ [] (tt, tt) tt))
 deed_adds q clock list s ListTree = none q clock s _ (keeping q clock s _ (keeps_if (all_of (settled_tests q s)) _ [] (tt, tt) tt))
@@ -259,7 +260,7 @@ step_records size g q i P h k = by_if (λ (x : Group Entry). P (log_length x q))
 same_deed : (d : Deed) (n : ℕ) → DeedGrows d n n
 same_deed Tick n = le_refl n
 same_deed Suspect n = le_refl n
-same_deed (Ask client number c) n = omega arith
+same_deed (Ask client number cred c) n = omega arith
 same_deed (Apply k) n = le_refl n
 same_deed Flush n = le_refl n
 same_deed ListTree n = le_refl n

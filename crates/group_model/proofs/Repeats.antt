@@ -5,6 +5,7 @@ use Rattle.std.proofs.lemmas.Option.{slice_get_within}
 use Rattle.std.proofs.lemmas.List.{length-take-le}
 use Rattle.harp_base.specs.declared.call.Call.{Call}
 use Rattle.harp_base.specs.Update.{is_update}
+use Rattle.harp_base.specs.declared.cred.Cred.{Cred}
 use Rattle.file_tree.specs.Book.{Entry, MayFollow, last_next, last_of}
 use Rattle.file_tree.proofs.BookOrder.{next_follows}
 use Rattle.group_model.specs.Ask.{new_entry}
@@ -35,9 +36,9 @@ index_is xs k e h i =
     n.index ∙ ap (λ (m : ℕ). m + 1) size
 
 -- the entry of an update with a number above its client's last one may follow
-pub new_follows : (clock : ℕ) (list : List Entry) (client number : ℕ) (c : Call) → UpdatesFrom [] list → is_update c ≡ true → IfSome (last_of client list) (λ l. l.number < number)
-    → MayFollow list (new_entry clock list client number c)
-new_follows clock list client number c f u new = next_follows list (new_entry clock list client number c) (follows_all [] list f) (record {
+pub new_follows : (clock : ℕ) (list : List Entry) (client number : ℕ) (cred : Cred) (c : Call) → UpdatesFrom [] list → is_update c ≡ true → IfSome (last_of client list) (λ l. l.number < number)
+    → MayFollow list (new_entry clock list client number cred c)
+new_follows clock list client number cred c f u new = next_follows list (new_entry clock list client number cred c) (follows_all [] list f) (record {
   update = u;
   reply = refl;
   index = ap (λ (l : List Entry). length l + 1) (sym (only_updates [] list f));

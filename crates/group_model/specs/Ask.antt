@@ -1,6 +1,7 @@
 -- The answer to an ask, and appending.
 use Rattle.std.specs.Prelude.{ℕ, ◌+◌, ◌||◌, ◌==◌, nat_lt, nat_le, List, [], ◌∷◌, length, take, Option, None, Some, max, if◌then◌else◌}
 use Rattle.harp_base.specs.declared.call.Call.{Call}
+use Rattle.harp_base.specs.declared.cred.Cred.{Cred}
 use Rattle.file_tree.specs.Calls.{outcome}
 use Rattle.harp_base.specs.Update.{is_update}
 use Rattle.file_tree.specs.Book.{Entry, tree_after, last_of, last_stamp}
@@ -16,25 +17,27 @@ hint_of q (Follows p) = Some p
 hint_of q Outside = None
 
 -- Appending: the stamp is the larger of the clock and the last one, the reply is the outcome on the tree at top
-abbrev pub new_entry : ℕ → List Entry → ℕ → ℕ → Call → Entry
-new_entry clock list client number c = record {
+abbrev pub new_entry : ℕ → List Entry → ℕ → ℕ → Cred → Call → Entry
+new_entry clock list client number cred c = record {
   index = length list + 1;
   client = client;
   number = number;
+  cred = cred;
   call = c;
   stamp = max clock (last_stamp list);
-  reply = (outcome (tree_after list) c (max clock (last_stamp list))).0;
+  reply = (outcome (tree_after list) cred c (max clock (last_stamp list))).0;
 }
 
 -- a read's reply is its outcome on the tree at CP
-abbrev pub read_entry : ℕ → List Entry → ℕ → ℕ → Call → Entry
-read_entry cp list client number c = record {
+abbrev pub read_entry : ℕ → List Entry → ℕ → ℕ → Cred → Call → Entry
+read_entry cp list client number cred c = record {
   index = 0;
   client = client;
   number = number;
+  cred = cred;
   call = c;
   stamp = 0;
-  reply = (outcome (tree_after (take cp list)) c 0).0;
+  reply = (outcome (tree_after (take cp list)) cred c 0).0;
 }
 
 abbrev pub refuse : ℕ → ℕ → Cause → List (Move Entry)
@@ -60,13 +63,13 @@ abbrev pub read_moves : ℕ → Server Entry → Entry → List (Move Entry)
 read_moves clock s e = if nat_le s.grant clock then refuse e.client e.number NoPromise else Reading s.cp e ∷ []
 
 -- The answer to an ask; `list` is the server's list of entries up to its top
-abbrev pub on_ask : Place → ℕ → List Entry → Server Entry → ℕ → ℕ → Call → List (Move Entry)
-on_ask q clock list s client number c =
+abbrev pub on_ask : Place → ℕ → List Entry → Server Entry → ℕ → ℕ → Cred → Call → List (Move Entry)
+on_ask q clock list s client number cred c =
     if nat_lt 4095 client then refuse client number BadClient
     else (if all_of (is_active s.mode ∷ same q (leader s.plan.storers) ∷ [])
     then (if is_open s.mode
     then (if is_update c
-    then update_moves s (new_entry clock list client number c) (last_of client list)
-    else read_moves clock s (read_entry s.cp list client number c))
+    then update_moves s (new_entry clock list client number cred c) (last_of client list)
+    else read_moves clock s (read_entry s.cp list client number cred c))
     else refuse client number NotYetOpen)
     else refuse client number (NotLeader (hint_of q s.role)))

@@ -148,7 +148,7 @@ pub record Growth (g g' : Group Entry) : Type 0 where
 abbrev pub SaidRightly : Group Entry → Server Entry → Move Entry → Type 0
 SaidRightly g s (Saying (Answers n e)) = (0 < n) × (n ≤ length g.committed) × (slice_get g.committed (n - 1) ≡ Some e)
 SaidRightly g s (Reading n e) = (n ≡ length g.committed) × (is_update e.call ≡ false)
-    × (e.reply ≡ (outcome (tree_after g.book) e.call e.stamp).0)
+    × (e.reply ≡ (outcome (tree_after g.book) e.cred e.call e.stamp).0)
     × ((w : ℕ) → s.accepted < w → (g.page w).formed ≡ true → (g.page w).opened ≡ false)
 SaidRightly g s (Choosing plan from) = (g.page s.promised).formed ≡ false
 SaidRightly g s m = ⊤
@@ -190,7 +190,7 @@ abbrev pub log_length : Group Entry → Place → ℕ
 log_length g q = length (g.server q).items
 
 abbrev pub DeedGrows : Deed → ℕ → ℕ → Type 0
-DeedGrows (Ask client number c) old new = new ≤ old + 1
+DeedGrows (Ask client number cred c) old new = new ≤ old + 1
 DeedGrows d old new = new ≤ old
 
 abbrev pub DeliveryGrows : Message Entry → ℕ → ℕ → Type 0

@@ -2,6 +2,7 @@
 use Rattle.std.specs.Prelude.{◌≡◌, List, [], ◌∷◌, ◌++◌, None, Some}
 use Rattle.harp_base.specs.declared.call.Call.TheVariants as call
 use Rattle.harp_base.specs.declared.reply.Reply.TheVariants as reply
+use Rattle.harp_base.specs.declared.cred.TheConstants.{SUPERUSER}
 use Rattle.group_model.specs.Places.{Zero, One, Two}
 use Rattle.group_model.specs.State.{Log, Leads, Follows, Old, BadClient, NotLeader}
 use Rattle.group_model.specs.Step.{Happening, At, Deliver, Advance, Tick, Suspect, Ask}
@@ -10,14 +11,14 @@ use Rattle.group_model.specs.RowsOpening.{mode, directory, at, opening_steps, op
 
 abbrev pub refusals_of_an_ask_steps : List Happening
 refusals_of_an_ask_steps =
-    At Zero (Ask 4096 1 call.Null) ∷
-    At One (Ask 7 1 call.Null) ∷
-    At Two (Ask 7 1 call.Null) ∷
-    At Zero (Ask 7 5 (call.SetAttr 1 (mode 493))) ∷
-    At Zero (Ask 7 4 (call.SetAttr 1 (mode 493))) ∷
+    At Zero (Ask 4096 1 SUPERUSER call.Null) ∷
+    At One (Ask 7 1 SUPERUSER call.Null) ∷
+    At Two (Ask 7 1 SUPERUSER call.Null) ∷
+    At Zero (Ask 7 5 SUPERUSER (call.SetAttr 1 (mode 493))) ∷
+    At Zero (Ask 7 4 SUPERUSER (call.SetAttr 1 (mode 493))) ∷
     Deliver 9 ∷
     Deliver 10 ∷
-    At Zero (Ask 7 4 (call.SetAttr 1 (mode 493))) ∷
+    At Zero (Ask 7 4 SUPERUSER (call.SetAttr 1 (mode 493))) ∷
     []
 
 abbrev pub refusals_of_an_ask_lines : List Line
@@ -43,10 +44,10 @@ RefusalsOfAnAsk = play (opening_steps ++ refusals_of_an_ask_steps) ≡ opening_l
 
 abbrev pub repeat_steps : List Happening
 repeat_steps =
-    At Zero (Ask 7 1 (call.MkDir 1 (0x61 ∷ []) (mode 493))) ∷
+    At Zero (Ask 7 1 SUPERUSER (call.MkDir 1 (0x61 ∷ []) (mode 493))) ∷
     Deliver 9 ∷
     Deliver 10 ∷
-    At Zero (Ask 7 1 (call.MkDir 1 (0x61 ∷ []) (mode 493))) ∷
+    At Zero (Ask 7 1 SUPERUSER (call.MkDir 1 (0x61 ∷ []) (mode 493))) ∷
     []
 
 abbrev pub repeat_lines : List Line
@@ -68,7 +69,7 @@ Repeat = play (opening_steps ++ repeat_steps) ≡ opening_lines ++ repeat_lines
 
 abbrev pub acknowledged_three_times_steps : List Happening
 acknowledged_three_times_steps =
-    At Zero (Ask 7 1 (call.MkDir 1 (0x61 ∷ []) (mode 493))) ∷
+    At Zero (Ask 7 1 SUPERUSER (call.MkDir 1 (0x61 ∷ []) (mode 493))) ∷
     Deliver 9 ∷
     Deliver 9 ∷
     Deliver 11 ∷
@@ -97,7 +98,7 @@ AcknowledgedThreeTimes = play (opening_steps ++ acknowledged_three_times_steps) 
 
 abbrev pub update_taken_over_steps : List Happening
 update_taken_over_steps =
-    At Zero (Ask 7 1 (call.MkDir 1 (0x61 ∷ []) (mode 493))) ∷
+    At Zero (Ask 7 1 SUPERUSER (call.MkDir 1 (0x61 ∷ []) (mode 493))) ∷
     At Zero Suspect ∷
     Deliver 10 ∷
     Deliver 12 ∷
@@ -109,7 +110,7 @@ update_taken_over_steps =
     At Zero Tick ∷
     Advance 50 ∷
     At Zero Tick ∷
-    At Zero (Ask 7 1 (call.MkDir 1 (0x61 ∷ []) (mode 493))) ∷
+    At Zero (Ask 7 1 SUPERUSER (call.MkDir 1 (0x61 ∷ []) (mode 493))) ∷
     []
 
 abbrev pub update_taken_over_lines : List Line

@@ -3,6 +3,7 @@ use Rattle.std.specs.Prelude.{◌≡◌, List, [], ◌∷◌, ◌++◌}
 use Rattle.harp_base.specs.declared.call.Call.TheVariants as call
 use Rattle.harp_base.specs.declared.reply.Reply.TheVariants as reply
 use Rattle.harp_base.specs.declared.reply.Status.TheVariants.{NoEnt}
+use Rattle.harp_base.specs.declared.cred.TheConstants.{SUPERUSER}
 use Rattle.group_model.specs.Places.{Zero, One, Two}
 use Rattle.group_model.specs.State.{Log, Lost, Empty, Leads, Follows, Outside}
 use Rattle.group_model.specs.Step.{Happening, At, Deliver, CutAt, Boot, Advance, Tick, Suspect, Ask, Apply, ListTree, Power, Crash}
@@ -11,9 +12,9 @@ use Rattle.group_model.specs.RowsOpening.{mode, directory, at, opening_steps, op
 
 abbrev pub power_failure_steps : List Happening
 power_failure_steps =
-    At Zero (Ask 7 1 (call.MkDir 1 (0x61 ∷ []) (mode 493))) ∷
-    At Zero (Ask 7 2 (call.MkDir 1 (0x62 ∷ []) (mode 493))) ∷
-    At Zero (Ask 7 3 (call.Remove 1 (0x7a ∷ []))) ∷
+    At Zero (Ask 7 1 SUPERUSER (call.MkDir 1 (0x61 ∷ []) (mode 493))) ∷
+    At Zero (Ask 7 2 SUPERUSER (call.MkDir 1 (0x62 ∷ []) (mode 493))) ∷
+    At Zero (Ask 7 3 SUPERUSER (call.Remove 1 (0x7a ∷ []))) ∷
     Deliver 9 ∷
     Deliver 10 ∷
     Deliver 11 ∷
@@ -100,9 +101,9 @@ PowerFailure = play (opening_steps ++ power_failure_steps) ≡ opening_lines ++ 
 
 abbrev pub power_failure_cut_off_steps : List Happening
 power_failure_cut_off_steps =
-    At Zero (Ask 7 1 (call.MkDir 1 (0x61 ∷ []) (mode 493))) ∷
-    At Zero (Ask 7 2 (call.MkDir 1 (0x62 ∷ []) (mode 493))) ∷
-    At Zero (Ask 7 3 (call.Remove 1 (0x7a ∷ []))) ∷
+    At Zero (Ask 7 1 SUPERUSER (call.MkDir 1 (0x61 ∷ []) (mode 493))) ∷
+    At Zero (Ask 7 2 SUPERUSER (call.MkDir 1 (0x62 ∷ []) (mode 493))) ∷
+    At Zero (Ask 7 3 SUPERUSER (call.Remove 1 (0x7a ∷ []))) ∷
     Deliver 9 ∷
     Deliver 10 ∷
     Deliver 11 ∷
@@ -189,9 +190,9 @@ PowerFailureCutOff = play (opening_steps ++ power_failure_cut_off_steps) ≡ ope
 
 abbrev pub fuzzy_disk_steps : List Happening
 fuzzy_disk_steps =
-    At Zero (Ask 7 1 (call.MkDir 1 (0x61 ∷ []) (mode 493))) ∷
-    At Zero (Ask 7 2 (call.MkDir 1 (0x62 ∷ []) (mode 493))) ∷
-    At Zero (Ask 7 3 (call.Remove 1 (0x7a ∷ []))) ∷
+    At Zero (Ask 7 1 SUPERUSER (call.MkDir 1 (0x61 ∷ []) (mode 493))) ∷
+    At Zero (Ask 7 2 SUPERUSER (call.MkDir 1 (0x62 ∷ []) (mode 493))) ∷
+    At Zero (Ask 7 3 SUPERUSER (call.Remove 1 (0x7a ∷ []))) ∷
     Deliver 9 ∷
     Deliver 10 ∷
     Deliver 11 ∷

@@ -3,6 +3,7 @@ use Rattle.std.specs.Prelude.{◌≡◌, List, [], ◌∷◌, ◌++◌}
 use Rattle.harp_base.specs.declared.call.Call.TheVariants as call
 use Rattle.harp_base.specs.declared.reply.Reply.TheVariants as reply
 use Rattle.harp_base.specs.declared.reply.Status.TheVariants.{NoEnt}
+use Rattle.harp_base.specs.declared.cred.TheConstants.{SUPERUSER}
 use Rattle.group_model.specs.Places.{Zero, One, Two}
 use Rattle.group_model.specs.State.{Log, Lost, Leads, Follows}
 use Rattle.group_model.specs.Step.{Happening, At, Deliver, CutAt, CutDeliver, Boot, Tick, Suspect, Ask, Apply, Flush}
@@ -31,9 +32,9 @@ StopAtAJoin = play stop_at_a_join_steps ≡ stop_at_a_join_lines
 
 abbrev pub stop_before_the_mark_steps : List Happening
 stop_before_the_mark_steps =
-    At Zero (Ask 7 1 (call.MkDir 1 (0x61 ∷ []) (mode 493))) ∷
-    At Zero (Ask 7 2 (call.MkDir 1 (0x62 ∷ []) (mode 493))) ∷
-    At Zero (Ask 7 3 (call.Remove 1 (0x7a ∷ []))) ∷
+    At Zero (Ask 7 1 SUPERUSER (call.MkDir 1 (0x61 ∷ []) (mode 493))) ∷
+    At Zero (Ask 7 2 SUPERUSER (call.MkDir 1 (0x62 ∷ []) (mode 493))) ∷
+    At Zero (Ask 7 3 SUPERUSER (call.Remove 1 (0x7a ∷ []))) ∷
     Deliver 9 ∷
     Deliver 10 ∷
     Deliver 11 ∷
@@ -88,9 +89,9 @@ StopBeforeTheMark = play (opening_steps ++ stop_before_the_mark_steps) ≡ openi
 
 abbrev pub stop_after_the_mark_steps : List Happening
 stop_after_the_mark_steps =
-    At Zero (Ask 7 1 (call.MkDir 1 (0x61 ∷ []) (mode 493))) ∷
-    At Zero (Ask 7 2 (call.MkDir 1 (0x62 ∷ []) (mode 493))) ∷
-    At Zero (Ask 7 3 (call.Remove 1 (0x7a ∷ []))) ∷
+    At Zero (Ask 7 1 SUPERUSER (call.MkDir 1 (0x61 ∷ []) (mode 493))) ∷
+    At Zero (Ask 7 2 SUPERUSER (call.MkDir 1 (0x62 ∷ []) (mode 493))) ∷
+    At Zero (Ask 7 3 SUPERUSER (call.Remove 1 (0x7a ∷ []))) ∷
     Deliver 9 ∷
     Deliver 10 ∷
     Deliver 11 ∷

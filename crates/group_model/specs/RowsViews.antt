@@ -2,6 +2,7 @@
 use Rattle.std.specs.Prelude.{◌≡◌, List, [], ◌∷◌, ◌++◌}
 use Rattle.harp_base.specs.declared.call.Call.TheVariants as call
 use Rattle.harp_base.specs.declared.reply.Reply.TheVariants as reply
+use Rattle.harp_base.specs.declared.cred.TheConstants.{SUPERUSER}
 use Rattle.group_model.specs.Places.{Zero, One, Two}
 use Rattle.group_model.specs.State.{Log, Lost, Empty, Leads, Follows, Outside, NotYetOpen, NoPromise}
 use Rattle.group_model.specs.Step.{Happening, At, Deliver, Boot, Clock, Advance, Tick, Suspect, Ask, Crash}
@@ -17,10 +18,10 @@ opening_at_its_moment_steps =
     Deliver 3 ∷
     Deliver 4 ∷
     Deliver 5 ∷
-    At Zero (Ask 7 1 call.Null) ∷
+    At Zero (Ask 7 1 SUPERUSER call.Null) ∷
     Advance 2049 ∷
     At Zero Tick ∷
-    At Zero (Ask 7 1 call.Null) ∷
+    At Zero (Ask 7 1 SUPERUSER call.Null) ∷
     Advance 1 ∷
     At Zero Tick ∷
     []
@@ -51,7 +52,7 @@ OpeningAtItsMoment = play opening_at_its_moment_steps ≡ opening_at_its_moment_
 
 abbrev pub late_acknowledgement_steps : List Happening
 late_acknowledgement_steps =
-    At Zero (Ask 7 1 (call.MkDir 1 (0x61 ∷ []) (mode 493))) ∷
+    At Zero (Ask 7 1 SUPERUSER (call.MkDir 1 (0x61 ∷ []) (mode 493))) ∷
     Deliver 9 ∷
     At One Suspect ∷
     Deliver 12 ∷
@@ -111,7 +112,7 @@ promises_at_the_skew_steps =
     Deliver 7 ∷
     Deliver 8 ∷
     Advance 1949 ∷
-    At Zero (Ask 9 1 (call.GetAttr 1)) ∷
+    At Zero (Ask 9 1 SUPERUSER (call.GetAttr 1)) ∷
     At One Suspect ∷
     Deliver 10 ∷
     Deliver 11 ∷
@@ -120,7 +121,7 @@ promises_at_the_skew_steps =
     Clock One 3990 ∷
     Clock Two 4000 ∷
     Clock Zero 4000 ∷
-    At Zero (Ask 9 2 (call.GetAttr 1)) ∷
+    At Zero (Ask 9 2 SUPERUSER (call.GetAttr 1)) ∷
     Clock One 4049 ∷
     At One Tick ∷
     Clock One 4050 ∷

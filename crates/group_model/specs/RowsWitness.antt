@@ -2,6 +2,7 @@
 use Rattle.std.specs.Prelude.{◌≡◌, List, [], ◌∷◌, ◌++◌}
 use Rattle.harp_base.specs.declared.call.Call.TheVariants as call
 use Rattle.harp_base.specs.declared.reply.Reply.TheVariants as reply
+use Rattle.harp_base.specs.declared.cred.TheConstants.{SUPERUSER}
 use Rattle.group_model.specs.Places.{Zero, One, Two}
 use Rattle.group_model.specs.State.{Log, Lost, Empty, Leads, Follows, Outside}
 use Rattle.group_model.specs.Step.{Happening, At, Deliver, Boot, Advance, Tick, Suspect, Ask, ListTree, Power, Crash}
@@ -19,11 +20,11 @@ witness_steps =
     Deliver 13 ∷
     Deliver 14 ∷
     Deliver 15 ∷
-    At Zero (Ask 7 1 (call.MkDir 1 (0x61 ∷ []) (mode 493))) ∷
-    At Zero (Ask 7 2 (call.MkDir 1 (0x62 ∷ []) (mode 493))) ∷
-    At Zero (Ask 7 3 (call.MkDir 1 (0x63 ∷ []) (mode 493))) ∷
-    At Zero (Ask 7 4 (call.MkDir 1 (0x64 ∷ []) (mode 493))) ∷
-    At Zero (Ask 7 5 (call.MkDir 1 (0x65 ∷ []) (mode 493))) ∷
+    At Zero (Ask 7 1 SUPERUSER (call.MkDir 1 (0x61 ∷ []) (mode 493))) ∷
+    At Zero (Ask 7 2 SUPERUSER (call.MkDir 1 (0x62 ∷ []) (mode 493))) ∷
+    At Zero (Ask 7 3 SUPERUSER (call.MkDir 1 (0x63 ∷ []) (mode 493))) ∷
+    At Zero (Ask 7 4 SUPERUSER (call.MkDir 1 (0x64 ∷ []) (mode 493))) ∷
+    At Zero (Ask 7 5 SUPERUSER (call.MkDir 1 (0x65 ∷ []) (mode 493))) ∷
     Deliver 16 ∷
     Deliver 17 ∷
     Deliver 18 ∷
@@ -168,8 +169,8 @@ Witness = play (opening_steps ++ witness_steps) ≡ opening_lines ++ witness_lin
 
 abbrev pub abandoned_formation_steps : List Happening
 abandoned_formation_steps =
-    At Zero (Ask 7 1 (call.MkDir 1 (0x61 ∷ []) (mode 493))) ∷
-    At Zero (Ask 7 2 (call.MkDir 1 (0x62 ∷ []) (mode 493))) ∷
+    At Zero (Ask 7 1 SUPERUSER (call.MkDir 1 (0x61 ∷ []) (mode 493))) ∷
+    At Zero (Ask 7 2 SUPERUSER (call.MkDir 1 (0x62 ∷ []) (mode 493))) ∷
     Deliver 9 ∷
     Deliver 11 ∷
     At Zero Suspect ∷

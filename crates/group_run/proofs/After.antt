@@ -4,6 +4,7 @@ use Rattle.std.specs.Prelude.{⊤, option_map}
 use Rattle.trace_lines.specs.declared.step.Step.{Step}
 use Rattle.trace_lines.specs.declared.step.Step.TheVariants as step
 use Rattle.harp_base.specs.declared.call.Call.{Call}
+use Rattle.harp_base.specs.declared.cred.Cred.{Cred}
 use Rattle.file_tree.specs.Book.{Entry}
 use Rattle.group_model.specs.FixedStart.{starting, view_one}
 use Rattle.group_model.specs.Laws.{Whole}
@@ -118,7 +119,7 @@ leading_by g h ms f = f h.leads.items h.leads.cp h.leads.told h.leads.grant (g.s
 pub kind_early : (g : Group Entry) → Early g → (q : Place) (i : Input) (ms : List (Move Entry)) → Kind q (g.server q) i ms → Early (moved_by g q (g.server q) ms)
 kind_early g h q i _ quiet = h
 kind_early g h q i _ (refuses client number cause) = said_early g h q (Saying (Refuses client number cause)) refl refl
-kind_early g h q i _ (repeats index e client number call z is u) = said_early g h q (Saying (Answers index e)) refl refl
+kind_early g h q i _ (repeats index e client number cred call z is u) = said_early g h q (Saying (Answers index e)) refl refl
 kind_early g h q i _ (reads e z is u r) = said_early g h q (Reading (g.server q).cp e) refl refl
 kind_early g h q i _ (sends ms z is a) = subst (λ q. Early (moved_by g q (g.server q) ms)) (sym z)
     (leader_early g h ms (subst IsLeading (sym (sends_keep (g.clock Zero) ms (g.server Zero) a)) h.leads) (sent_early g.packets ms h.packets a))
@@ -186,16 +187,16 @@ none_above g k h q w lt f =
     let b : view_one < w = subst (λ n. n < w) (its_view g h q).1 lt in
     absurd (omega arith)
 
-ask_goes : (g : Group Entry) → Whole g → Early g → (q : Place) (client number : ℕ) (call : Call) → Goes g q (g.server q) (moves_of g q (Does (Ask client number call)))
-ask_goes g k h q client number call =
-    goes_next g q (g.server q) _ rebase (asked_freely g q (g.server q) (good_of g k q) (list_of g q) refl (none_above g k h q) client number call) (λ good. rebases _ q _ good)
+ask_goes : (g : Group Entry) → Whole g → Early g → (q : Place) (client number : ℕ) (cred : Cred) (call : Call) → Goes g q (g.server q) (moves_of g q (Does (Ask client number cred call)))
+ask_goes g k h q client number cred call =
+    goes_next g q (g.server q) _ rebase (asked_freely g q (g.server q) (good_of g k q) (list_of g q) refl (none_above g k h q) client number cred call) (λ good. rebases _ q _ good)
 
 -- each step is made of moves that keep the facts
 pub step_goes : (g : Group Entry) → Whole g → Early g → (s : Step) (q : Place) (i : Input) → begins g s ≡ Some (q, i) → Goes g q (g.server q) (moves_of g q i)
-step_goes g k h (step.Ask server client number call) q i e =
+step_goes g k h (step.Ask server client number cred call) q i e =
     let P : Place × Input → Type 0 = λ x. Goes g x.0 (g.server x.0) (moves_of g x.0 x.1) in
-    let same : (place_of server, Does (Ask client number call)) ≡ (q, i) = cc in
-    subst P same (ask_goes g k h (place_of server) client number call)
+    let same : (place_of server, Does (Ask client number cred call)) ≡ (q, i) = cc in
+    subst P same (ask_goes g k h (place_of server) client number cred call)
 step_goes g k h (step.Tick server) q i e =
     let P : Place × Input → Type 0 = λ x. Goes g x.0 (g.server x.0) (moves_of g x.0 x.1) in
     let same : (place_of server, Does Tick) ≡ (q, i) = cc in

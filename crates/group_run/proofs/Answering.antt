@@ -4,6 +4,7 @@ use Rattle.std.specs.Prelude.{Contains, ⊤}
 use Rattle.std.specs.List.{AllByRecursion}
 use Rattle.std.proofs.lemmas.List.Sums.{fold-append}
 use Rattle.harp_base.specs.declared.call.Call.{Call}
+use Rattle.harp_base.specs.declared.cred.Cred.{Cred}
 use Rattle.harp_base.specs.declared.server.ServerId.{ServerId}
 use Rattle.harp_base.specs.declared.server.ServerId.TheVariants as server
 use Rattle.harp_base.specs.declared.reply.Reply.{Reply}
@@ -55,7 +56,7 @@ AreReadless ms = AllByRecursion IsReadless ms
 pub record AnswersUpdates (q : Place) (i : Input) (ms : List (Move Entry)) : Type 0 where
   pub readless : AreReadless ms
   pub leads : (n : ℕ) (e : Entry) → In ms (Saying (Answers n e)) → q ≡ Zero
-  pub asks : (n : ℕ) (e : Entry) → In ms (Saying (Answers n e)) → (client number : ℕ) (call : Call) → i ≡ Does (Ask client number call) → is_update call ≡ true
+  pub asks : (n : ℕ) (e : Entry) → In ms (Saying (Answers n e)) → (client number : ℕ) (cred : Cred) (call : Call) → i ≡ Does (Ask client number cred call) → is_update call ≡ true
 
 -- the step reads, or answers updates alone
 pub data Answering (q : Place) (i : Input) : List (Move Entry) → Type 0 where
@@ -100,11 +101,11 @@ answers_readless n (e ∷ es) = (tt, answers_readless (n + 1) es)
 pub kind_answers : (q : Place) (s : Server Entry) (i : Input) (ms : List (Move Entry)) → Kind q s i ms → Answering q i ms
 kind_answers q s i _ quiet = silent q i [] tt
 kind_answers q s i _ (refuses client number cause) = silent q i (Saying (Refuses client number cause) ∷ []) (tt, tt)
-kind_answers q s i _ (repeats index e client number call z is u) = updating (Saying (Answers index e) ∷ []) (record {
+kind_answers q s i _ (repeats index e client number cred call z is u) = updating (Saying (Answers index e) ∷ []) (record {
   readless = (tt, tt);
   leads = λ n e x. z;
-  asks = λ n e x c m k same.
-      let both : Does (Ask client number call) ≡ Does (Ask c m k) = sym is ∙ same in
+  asks = λ n e x c m d k same.
+      let both : Does (Ask client number cred call) ≡ Does (Ask c m d k) = sym is ∙ same in
       let one : call ≡ k = cc in
       subst (λ k. is_update k ≡ true) one u;
 })
@@ -116,7 +117,7 @@ kind_answers q s i ms (notes t until z is) = silent q i ms (tt, tt)
 kind_answers q s i _ (commits t until es z is) = updating (Noting t 0 until ∷ Committing t ∷ answers s.cp es) (record {
   readless = (tt, (tt, answers_readless s.cp es));
   leads = λ n e x. z;
-  asks = λ n e x c m k same. absurd (let clash : Does (Ask c m k) ≡ Comes One _ = sym same ∙ is in cc);
+  asks = λ n e x c m d k same. absurd (let clash : Does (Ask c m d k) ≡ Comes One _ = sym same ∙ is in cc);
 })
 
 -- ---- answered lines at their places
@@ -175,10 +176,10 @@ answered_well g q ms w h n e i =
 abbrev pub RepliesToUpdates : Step → Type 0
 RepliesToUpdates s = (before : Trace) (client number index : ℕ) (reply : Reply) → IsUpdateReply before client number index reply → IsReplyIn (Some s) before client number index reply
 
-pub replies_to_updates : (g : Group Entry) (s : Step) (q : Place) (i : Input) → begins g s ≡ Some (q, i) → ((client number : ℕ) (call : Call) → i ≡ Does (Ask client number call) → is_update call ≡ true) → RepliesToUpdates s
-replies_to_updates g (step.Ask server client number call) q i b asks =
-    let pair : (place_of server, Does (Ask client number call)) ≡ (q, i) = cc in
-    let u = asks client number call (sym (ap (λ (x : Place × Input). x.1) pair)) in
+pub replies_to_updates : (g : Group Entry) (s : Step) (q : Place) (i : Input) → begins g s ≡ Some (q, i) → ((client number : ℕ) (cred : Cred) (call : Call) → i ≡ Does (Ask client number cred call) → is_update call ≡ true) → RepliesToUpdates s
+replies_to_updates g (step.Ask server client number cred call) q i b asks =
+    let pair : (place_of server, Does (Ask client number cred call)) ≡ (q, i) = cc in
+    let u = asks client number cred call (sym (ap (λ (x : Place × Input). x.1) pair)) in
     λ before c m k reply r. rw u r
 replies_to_updates g (step.Tick server) q i b asks = λ before c m k reply r. r
 replies_to_updates g (step.Deliver n) q i b asks = λ before c m k reply r. r

@@ -2,6 +2,7 @@
 use Rattle.std.proofs.Common.{◌≡◌, ℕ, zero, suc, ◌+◌, ◌-◌, ◌<◌, ◌||◌, ◌==◌, slice_get, Bool, true, false, List, [], ◌∷◌, ◌++◌, append_assoc, append-nil, length, take, drop, Option, Some, None, refl, sym, ap, ◌∙◌, subst, inl, inr, nat_lt, nat_le, if◌then◌else◌, max}
 use Rattle.std.specs.Prelude.{⊤, option_map}
 use Rattle.harp_base.specs.declared.call.Call.{Call}
+use Rattle.harp_base.specs.declared.cred.Cred.{Cred}
 use Rattle.harp_base.specs.Update.{is_update}
 use Rattle.file_tree.specs.Book.{Entry, last_of}
 use Rattle.group_model.specs.Ask.{append, hint_of, new_entry, on_ask, read_entry, refuse, update_moves}
@@ -73,17 +74,19 @@ AreLeaderSends (m ∷ ms) = IsLeaderSend m × AreLeaderSends ms
 pub record IsAsked (i : Input) (e : Entry) : Type 0 where
   pub client : ℕ
   pub number : ℕ
+  pub cred : Cred
   pub call : Call
-  pub input : i ≡ Does (Ask client number call)
+  pub input : i ≡ Does (Ask client number cred call)
   pub client_is : e.client ≡ client
   pub number_is : e.number ≡ number
+  pub cred_is : e.cred ≡ cred
   pub call_is : e.call ≡ call
 
 -- the moves of each kind of step
 pub data Kind (q : Place) (s : Server Entry) (i : Input) : List (Move Entry) → Type 0 where
   quiet : Kind q s i []
   refuses : (client number : ℕ) (cause : Cause) → Kind q s i (Saying (Refuses client number cause) ∷ [])
-  repeats : (index : ℕ) (e : Entry) (client number : ℕ) (call : Call) → q ≡ Zero → i ≡ Does (Ask client number call) → is_update call ≡ true
+  repeats : (index : ℕ) (e : Entry) (client number : ℕ) (cred : Cred) (call : Call) → q ≡ Zero → i ≡ Does (Ask client number cred call) → is_update call ≡ true
       → Kind q s i (Saying (Answers index e) ∷ [])
   reads : (e : Entry) → q ≡ Zero → IsAsked i e → is_update e.call ≡ false → (e.index ≡ 0) × (e.stamp ≡ 0) → Kind q s i (Reading s.cp e ∷ [])
   appends : (e : Entry) (index : ℕ) → q ≡ Zero → IsAsked i e → is_update e.call ≡ true
@@ -97,20 +100,20 @@ pub data Kind (q : Place) (s : Server Entry) (i : Input) : List (Move Entry) →
 
 -- ---- asks at the leader
 
-asked_kind : (clock : ℕ) (list items : List Entry) (cp told grant client number : ℕ) (call : Call) → is_update call ≡ true → (last : Option Entry)
-    → Kind Zero (leading items cp told grant) (Does (Ask client number call))
-    (and_then Zero clock (leading items cp told grant) (update_moves (leading items cp told grant) (new_entry clock list client number call) last) rebase)
+asked_kind : (clock : ℕ) (list items : List Entry) (cp told grant client number : ℕ) (cred : Cred) (call : Call) → is_update call ≡ true → (last : Option Entry)
+    → Kind Zero (leading items cp told grant) (Does (Ask client number cred call))
+    (and_then Zero clock (leading items cp told grant) (update_moves (leading items cp told grant) (new_entry clock list client number cred call) last) rebase)
 unfolding all_of
-asked_kind clock list items cp told grant client number call u last = by last
+asked_kind clock list items cp told grant client number cred call u last = by last
   where
     s : Server Entry
     s = leading items cp told grant
 
     i : Input
-    i = Does (Ask client number call)
+    i = Does (Ask client number cred call)
 
     e : Entry
-    e = new_entry clock list client number call
+    e = new_entry clock list client number cred call
 
     P : List (Move Entry) → Type 0
     P ms = Kind Zero s i (and_then Zero clock s ms rebase)
@@ -118,33 +121,33 @@ asked_kind clock list items cp told grant client number call u last = by last
     appended : P (append s e)
     appended = by_if P (nat_le room (length s.items) || nat_le limit (top s)) _ _
         (λ _. refuses client number _)
-        (λ _. appends e (top s + 1) refl (record { client = client; number = number; call = call; input = refl; client_is = refl; number_is = refl; call_is = refl }) u)
+        (λ _. appends e (top s + 1) refl (record { client = client; number = number; cred = cred; call = call; input = refl; client_is = refl; number_is = refl; cred_is = refl; call_is = refl }) u)
 
     by : (o : Option Entry) → P (update_moves s e o)
     by None = appended
     by (Some l) = by_if P (number == l.number) _ _
-        (λ _. by_if P (nat_le l.index s.cp) _ [] (λ _. repeats l.index l client number call refl refl u) (λ _. quiet))
+        (λ _. by_if P (nat_le l.index s.cp) _ [] (λ _. repeats l.index l client number cred call refl refl u) (λ _. quiet))
         (λ _. by_if P (nat_lt number l.number) _ _ (λ _. refuses client number _) (λ _. appended))
 
-leader_asked : (clock : ℕ) (list items : List Entry) (cp told grant client number : ℕ) (call : Call)
-    → Kind Zero (leading items cp told grant) (Does (Ask client number call))
-    (and_then Zero clock (leading items cp told grant) (on_free_ask Zero clock list (leading items cp told grant) client number call) rebase)
+leader_asked : (clock : ℕ) (list items : List Entry) (cp told grant client number : ℕ) (cred : Cred) (call : Call)
+    → Kind Zero (leading items cp told grant) (Does (Ask client number cred call))
+    (and_then Zero clock (leading items cp told grant) (on_free_ask Zero clock list (leading items cp told grant) client number cred call) rebase)
 unfolding all_of
-leader_asked clock list items cp told grant client number call =
-    by_if P (is_update call) (on_ask Zero clock list s client number call) (on_read Zero list s client number call)
+leader_asked clock list items cp told grant client number cred call =
+    by_if P (is_update call) (on_ask Zero clock list s client number cred call) (on_read Zero list s client number cred call)
     (λ u. by_if P (nat_lt 4095 client) _ _ (λ _. refuses client number _)
-    (λ _. by_if P (is_update call) (update_moves s (new_entry clock list client number call) (last_of client list)) _
-    (λ u. asked_kind clock list items cp told grant client number call u (last_of client list))
+    (λ _. by_if P (is_update call) (update_moves s (new_entry clock list client number cred call) (last_of client list)) _
+    (λ u. asked_kind clock list items cp told grant client number cred call u (last_of client list))
     (λ n. absurd (let clash : true ≡ false = sym u ∙ n in cc))))
     (λ r. by_if P (nat_lt 4095 client) _ _ (λ _. refuses client number _)
-    (λ _. reads (read_entry cp list client number call) refl
-    (record { client = client; number = number; call = call; input = refl; client_is = refl; number_is = refl; call_is = refl }) r (refl, refl)))
+    (λ _. reads (read_entry cp list client number cred call) refl
+    (record { client = client; number = number; cred = cred; call = call; input = refl; client_is = refl; number_is = refl; cred_is = refl; call_is = refl }) r (refl, refl)))
   where
     s : Server Entry
     s = leading items cp told grant
 
     P : List (Move Entry) → Type 0
-    P ms = Kind Zero s (Does (Ask client number call)) (and_then Zero clock s ms rebase)
+    P ms = Kind Zero s (Does (Ask client number cred call)) (and_then Zero clock s ms rebase)
 
 -- ---- ticks
 
@@ -189,29 +192,29 @@ outside_tick clock list size = quiet
 -- ---- asks elsewhere
 
 -- a server that leads nothing refuses
-follower_asked : (clock : ℕ) (list items : List Entry) (cp horizon client number : ℕ) (call : Call)
-    → Kind One (following items cp horizon) (Does (Ask client number call))
-    (and_then One clock (following items cp horizon) (on_free_ask One clock list (following items cp horizon) client number call) rebase)
+follower_asked : (clock : ℕ) (list items : List Entry) (cp horizon client number : ℕ) (cred : Cred) (call : Call)
+    → Kind One (following items cp horizon) (Does (Ask client number cred call))
+    (and_then One clock (following items cp horizon) (on_free_ask One clock list (following items cp horizon) client number cred call) rebase)
 unfolding all_of
-follower_asked clock list items cp horizon client number call =
+follower_asked clock list items cp horizon client number cred call =
     by_if P (is_update call) _ _
     (λ _. by_if P (nat_lt 4095 client) _ _ (λ _. refuses client number _) (λ _. refuses client number _))
     (λ _. by_if P (nat_lt 4095 client) _ _ (λ _. refuses client number _) (λ _. refuses client number _))
   where
     P : List (Move Entry) → Type 0
-    P ms = Kind One (following items cp horizon) (Does (Ask client number call)) (and_then One clock (following items cp horizon) ms rebase)
+    P ms = Kind One (following items cp horizon) (Does (Ask client number cred call)) (and_then One clock (following items cp horizon) ms rebase)
 
-outside_asked : (clock : ℕ) (list : List Entry) (client number : ℕ) (call : Call)
-    → Kind Two (starting Two) (Does (Ask client number call))
-    (and_then Two clock (starting Two) (on_free_ask Two clock list (starting Two) client number call) rebase)
+outside_asked : (clock : ℕ) (list : List Entry) (client number : ℕ) (cred : Cred) (call : Call)
+    → Kind Two (starting Two) (Does (Ask client number cred call))
+    (and_then Two clock (starting Two) (on_free_ask Two clock list (starting Two) client number cred call) rebase)
 unfolding all_of
-outside_asked clock list client number call =
+outside_asked clock list client number cred call =
     by_if P (is_update call) _ _
     (λ _. by_if P (nat_lt 4095 client) _ _ (λ _. refuses client number _) (λ _. refuses client number _))
     (λ _. by_if P (nat_lt 4095 client) _ _ (λ _. refuses client number _) (λ _. refuses client number _))
   where
     P : List (Move Entry) → Type 0
-    P ms = Kind Two (starting Two) (Does (Ask client number call)) (and_then Two clock (starting Two) ms rebase)
+    P ms = Kind Two (starting Two) (Does (Ask client number cred call)) (and_then Two clock (starting Two) ms rebase)
 
 -- ---- messages
 
@@ -316,18 +319,18 @@ tick_kind g h Two =
     subst (λ s. Kind Two s (Does Tick) (step_moves no_size Two (g.clock Two) (list_of g Two) s (Does Tick))) (sym h.outside)
     (outside_tick (g.clock Two) (list_of g Two) no_size)
 
-ask_kind : (g : Group Entry) → Early g → (q : Place) (client number : ℕ) (call : Call) → Kind q (g.server q) (Does (Ask client number call)) (moves_of g q (Does (Ask client number call)))
-ask_kind g h Zero client number call =
+ask_kind : (g : Group Entry) → Early g → (q : Place) (client number : ℕ) (cred : Cred) (call : Call) → Kind q (g.server q) (Does (Ask client number cred call)) (moves_of g q (Does (Ask client number cred call)))
+ask_kind g h Zero client number cred call =
     let l = h.leads in
-    subst (λ s. Kind Zero s (Does (Ask client number call)) (and_then Zero (g.clock Zero) s (on_free_ask Zero (g.clock Zero) (list_of g Zero) s client number call) rebase)) (sym l.is)
-    (leader_asked (g.clock Zero) (list_of g Zero) l.items l.cp l.told l.grant client number call)
-ask_kind g h One client number call =
+    subst (λ s. Kind Zero s (Does (Ask client number cred call)) (and_then Zero (g.clock Zero) s (on_free_ask Zero (g.clock Zero) (list_of g Zero) s client number cred call) rebase)) (sym l.is)
+    (leader_asked (g.clock Zero) (list_of g Zero) l.items l.cp l.told l.grant client number cred call)
+ask_kind g h One client number cred call =
     let f = h.follows in
-    subst (λ s. Kind One s (Does (Ask client number call)) (and_then One (g.clock One) s (on_free_ask One (g.clock One) (list_of g One) s client number call) rebase)) (sym f.is)
-    (follower_asked (g.clock One) (list_of g One) f.items f.cp f.horizon client number call)
-ask_kind g h Two client number call =
-    subst (λ s. Kind Two s (Does (Ask client number call)) (and_then Two (g.clock Two) s (on_free_ask Two (g.clock Two) (list_of g Two) s client number call) rebase)) (sym h.outside)
-    (outside_asked (g.clock Two) (list_of g Two) client number call)
+    subst (λ s. Kind One s (Does (Ask client number cred call)) (and_then One (g.clock One) s (on_free_ask One (g.clock One) (list_of g One) s client number cred call) rebase)) (sym f.is)
+    (follower_asked (g.clock One) (list_of g One) f.items f.cp f.horizon client number cred call)
+ask_kind g h Two client number cred call =
+    subst (λ s. Kind Two s (Does (Ask client number cred call)) (and_then Two (g.clock Two) s (on_free_ask Two (g.clock Two) (list_of g Two) s client number cred call) rebase)) (sym h.outside)
+    (outside_asked (g.clock Two) (list_of g Two) client number cred call)
 
 packet_at : (ps : List (Packet Entry)) (k : ℕ) (p : Packet Entry) → Each IsEarly ps → slice_get ps k ≡ Some p → IsEarly p
 packet_at [] k p h e = cc
@@ -339,10 +342,10 @@ numbered_early ps n p h = by_if (λ (o : Option (Packet Entry)). o ≡ Some p �
 
 -- the step that something begins is of a kind
 pub kind_of : (g : Group Entry) → Early g → (s : Step) (q : Place) (i : Input) → begins g s ≡ Some (q, i) → Kind q (g.server q) i (moves_of g q i)
-kind_of g h (step.Ask server client number call) q i e =
+kind_of g h (step.Ask server client number cred call) q i e =
     let P : Place × Input → Type 0 = λ x. Kind x.0 (g.server x.0) x.1 (moves_of g x.0 x.1) in
-    let same : (place_of server, Does (Ask client number call)) ≡ (q, i) = cc in
-    subst P same (ask_kind g h (place_of server) client number call)
+    let same : (place_of server, Does (Ask client number cred call)) ≡ (q, i) = cc in
+    subst P same (ask_kind g h (place_of server) client number cred call)
 kind_of g h (step.Tick server) q i e =
     let P : Place × Input → Type 0 = λ x. Kind x.0 (g.server x.0) x.1 (moves_of g x.0 x.1) in
     let same : (place_of server, Does Tick) ≡ (q, i) = cc in

@@ -68,7 +68,7 @@ answers_none n (e ∷ es) = (tt, answers_none (n + 1) es)
 pub kind_enters : (g : Group Entry) (q : Place) (i : Input) (ms : List (Move Entry)) → Kind q (g.server q) i ms → Enters i g (moved_by g q (g.server q) ms)
 kind_enters g q i _ quiet = nothing refl
 kind_enters g q i _ (refuses client number cause) = nothing refl
-kind_enters g q i _ (repeats index e client number call z is u) = nothing refl
+kind_enters g q i _ (repeats index e client number cred call z is u) = nothing refl
 kind_enters g q i _ (reads e z is u r) = read e is u refl
 kind_enters g q i _ (appends e index z is u) = nothing refl
 kind_enters g q i ms (sends _ z is a) = nothing (none_entered ms g q (g.server q) (sends_none ms a)).0

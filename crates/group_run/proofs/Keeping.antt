@@ -68,19 +68,20 @@ quiet_stands before g g' s h w same = record {
 -- the ask that an entry comes from
 pub record AsksFor (s : Step) (e : Entry) : Type 0 where
   pub server : ServerId
-  pub is : s ≡ step.Ask server e.client e.number e.call
+  pub is : s ≡ step.Ask server e.client e.number e.cred e.call
 
 pub asks_for : (g : Group Entry) (s : Step) (q : Place) (i : Input) (e : Entry) → begins g s ≡ Some (q, i) → IsAsked i e → AsksFor s e
-asks_for g (step.Ask server client number call) q i e b a =
-    let pair : (place_of server, Does (Ask client number call)) ≡ (q, i) = cc in
-    let both : Does (Ask client number call) ≡ Does (Ask a.client a.number a.call) = ap (λ (x : Place × Input). x.1) pair ∙ a.input in
+asks_for g (step.Ask server client number cred call) q i e b a =
+    let pair : (place_of server, Does (Ask client number cred call)) ≡ (q, i) = cc in
+    let both : Does (Ask client number cred call) ≡ Does (Ask a.client a.number a.cred a.call) = ap (λ (x : Place × Input). x.1) pair ∙ a.input in
     let c : client ≡ e.client = (let x : client ≡ a.client = cc in x ∙ sym a.client_is) in
     let n : number ≡ e.number = (let x : number ≡ a.number = cc in x ∙ sym a.number_is) in
+    let w : cred ≡ e.cred = (let x : cred ≡ a.cred = cc in x ∙ sym a.cred_is) in
     let k : call ≡ e.call = (let x : call ≡ a.call = cc in x ∙ sym a.call_is) in
-    record { server = server; is = rw (c, n, k) refl }
+    record { server = server; is = rw (c, n, w, k) refl }
 asks_for g (step.Tick server) q i e b a =
     let pair : (place_of server, Does Tick) ≡ (q, i) = cc in
-    let clash : Does Tick ≡ Does (Ask a.client a.number a.call) = ap (λ (x : Place × Input). x.1) pair ∙ a.input in
+    let clash : Does Tick ≡ Does (Ask a.client a.number a.cred a.call) = ap (λ (x : Place × Input). x.1) pair ∙ a.input in
     absurd cc
 asks_for g (step.Deliver n) q i e b a = came (numbered g.packets n) b
   where
@@ -88,7 +89,7 @@ asks_for g (step.Deliver n) q i e b a = came (numbered g.packets n) b
     came None b = absurd cc
     came (Some p) b =
         let pair : (p.to, Comes p.from p.body) ≡ (q, i) = cc in
-        let clash : Comes p.from p.body ≡ Does (Ask a.client a.number a.call) = ap (λ (x : Place × Input). x.1) pair ∙ a.input in
+        let clash : Comes p.from p.body ≡ Does (Ask a.client a.number a.cred a.call) = ap (λ (x : Place × Input). x.1) pair ∙ a.input in
         absurd cc
 asks_for g (step.Pump among) q i e b a = absurd cc
 asks_for g (step.Clock server reading) q i e b a = absurd cc
@@ -99,9 +100,9 @@ pub asked_now : (before : Trace) (g : Group Entry) (s : Step) (q : Place) (i : I
 asked_now before g s q i e b a =
     let ask = asks_for g s q i e b a in (
       ask.server,
-      subst (λ s. Contains (steps (before ++ line.Event s ∷ [])) (step.Ask ask.server e.client e.number e.call)) (sym ask.is)
-          (subst (λ ss. Contains ss (step.Ask ask.server e.client e.number e.call)) (sym (steps-append before (line.Event (step.Ask ask.server e.client e.number e.call) ∷ [])))
-          (Contains-push (steps before) (step.Ask ask.server e.client e.number e.call))),
+      subst (λ s. Contains (steps (before ++ line.Event s ∷ [])) (step.Ask ask.server e.client e.number e.cred e.call)) (sym ask.is)
+          (subst (λ ss. Contains ss (step.Ask ask.server e.client e.number e.cred e.call)) (sym (steps-append before (line.Event (step.Ask ask.server e.client e.number e.cred e.call) ∷ [])))
+          (Contains-push (steps before) (step.Ask ask.server e.client e.number e.cred e.call))),
     )
 
 -- ---- what an Ack commits
@@ -131,9 +132,9 @@ ack_shown before g (step.Deliver k) q t until shown z b n l = came (numbered g.p
           packet_is = shown k ∙ shown_where g.packets k p is ∙ rw (from, to, body) refl;
           reaches = l;
         }
-ack_shown before g (step.Ask server client number call) q t until shown z b n l =
-    let pair : (place_of server, Does (Ask client number call)) ≡ (q, Comes One (Ack view_one t 0 until)) = cc in
-    let clash : Does (Ask client number call) ≡ Comes One (Ack view_one t 0 until) = ap (λ (x : Place × Input). x.1) pair in
+ack_shown before g (step.Ask server client number cred call) q t until shown z b n l =
+    let pair : (place_of server, Does (Ask client number cred call)) ≡ (q, Comes One (Ack view_one t 0 until)) = cc in
+    let clash : Does (Ask client number cred call) ≡ Comes One (Ack view_one t 0 until) = ap (λ (x : Place × Input). x.1) pair in
     absurd cc
 ack_shown before g (step.Tick server) q t until shown z b n l =
     let pair : (place_of server, Does Tick) ≡ (q, Comes One (Ack view_one t 0 until)) = cc in
@@ -168,7 +169,7 @@ kind_acked before g h s q i b ms k n z0 l = by ms k l
     by : (ms : List (Move Entry)) → Kind q (g.server q) i ms → n ≤ ((moved_by g q (g.server q) ms).server Zero).cp → AckedIn (before ++ line.Event s ∷ []) n
     by ms quiet l = old [] refl l
     by ms (refuses client number cause) l = old (Saying (Refuses client number cause) ∷ []) refl l
-    by ms (repeats index e client number call z is u) l = old (Saying (Answers index e) ∷ []) refl l
+    by ms (repeats index e client number cred call z is u) l = old (Saying (Answers index e) ∷ []) refl l
     by ms (reads e z is u r) l = old (Reading (g.server q).cp e ∷ []) refl l
     by ms (appends e index z is u) l = old (Appending e ∷ Sending One (Event view_one index (g.server q).cp 0 e) ∷ []) refl l
     by ms (sends _ z is a) l = old ms (subst (λ x. (acts x (g.clock x) (g.server x) ms).cp ≡ (g.server x).cp) (sym z) (ap (λ (s : Server Entry). s.cp) (sends_keep (g.clock Zero) ms (g.server Zero) a))) l

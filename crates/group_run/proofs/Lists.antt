@@ -67,7 +67,7 @@ pub kind_list : (g : Group Entry) → Early g → (q : Place) (i : Input) (ms : 
     → (one_list (moved_by g q (g.server q) ms) ≡ one_list g) ⊎ Lengthens i (one_list g) (one_list (moved_by g q (g.server q) ms))
 kind_list g h q i _ quiet = inl refl
 kind_list g h q i _ (refuses client number cause) = inl refl
-kind_list g h q i _ (repeats index e client number call z is u) = inl refl
+kind_list g h q i _ (repeats index e client number cred call z is u) = inl refl
 kind_list g h q i _ (reads e z is u r) = inl refl
 kind_list g h q i ms (sends _ z is a) = inl (kept_list g q ms (sends_pages ms a))
 kind_list g h q i _ (appends e index z is u) = inr (record {

@@ -34,7 +34,7 @@ use Rattle.group_run.proofs.StateLines.{other_state, own_state, which}
 
 -- a call was asked before, at some server
 abbrev pub AskedIn : Trace → Entry → Type 0
-AskedIn before e = (s : ServerId) × Contains (steps before) (step.Ask s e.client e.number e.call)
+AskedIn before e = (s : ServerId) × Contains (steps before) (step.Ask s e.client e.number e.cred e.call)
 
 -- an Ack of the first view with a top of at least n was delivered to its leader
 abbrev pub AckedIn : Trace → ℕ → Type 0
@@ -55,7 +55,7 @@ pub record Stands (before : Trace) (g : Group Entry) : Type 0 where
 
 pub asked_more : (before more : Trace) (e : Entry) → AskedIn before e → AskedIn (before ++ more) e
 asked_more before more e h =
-    let s = step.Ask h.0 e.client e.number e.call in
+    let s = step.Ask h.0 e.client e.number e.cred e.call in
     (h.0, subst (λ ss. Contains ss s) (sym (steps-append before more)) (Contains-append_left (steps before) (steps more) s h.1))
 
 pub acked_more : (before more : Trace) (n : ℕ) → AckedIn before n → AckedIn (before ++ more) n

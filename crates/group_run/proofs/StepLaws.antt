@@ -198,10 +198,11 @@ read_replied before g s q i place index e b a r way =
     subst (λ w. IsReplyIn w (before ++ entered_line place e ∷ []) e.client e.number index e.reply) (sym (way ∙ ap Some ask.is)) (rw r (record {
       earlier = before;
       place = place;
-      entry = record { index = e.index; client = e.client; number = e.number; stamp = e.stamp; call = e.call; reply = e.reply };
+      entry = record { index = e.index; client = e.client; number = e.number; cred = e.cred; stamp = e.stamp; call = e.call; reply = e.reply };
       stands = refl;
       client_is = refl;
       number_is = refl;
+      cred_is = refl;
       call_is = refl;
       reply_is = refl;
     }))

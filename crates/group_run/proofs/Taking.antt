@@ -44,7 +44,7 @@ pub take_step : (C : Group Entry → List Line → Type 0) (g : Group Entry) →
     → ((g' : Group Entry) → Whole g' → SameBut g g' → C g' [])
     → ((q : Place) (i : Input) → begins g s ≡ Some (q, i) → C (stepped g (q, i)) (lines_of_moves g (stepped g (q, i)) q (moves_of g q i)))
     → C (group_after g s) (lines_where g (begins g s))
-take_step C g h (step.Ask server client number call) r e quiet moved = moved (place_of server) (Does (Ask client number call)) refl
+take_step C g h (step.Ask server client number cred call) r e quiet moved = moved (place_of server) (Does (Ask client number cred call)) refl
 take_step C g h (step.Tick server) r e quiet moved = moved (place_of server) (Does Tick) refl
 take_step C g h (step.Deliver n) r e quiet moved = came (numbered g.packets n) refl
   where

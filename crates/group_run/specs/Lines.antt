@@ -19,6 +19,7 @@ entered_line place e = line.Entered place (record {
   index = e.index;
   client = e.client;
   number = e.number;
+  cred = e.cred;
   stamp = e.stamp;
   call = e.call;
   reply = e.reply;

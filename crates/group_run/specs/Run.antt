@@ -31,7 +31,7 @@ first_scene = record { group = fixed_start; delivered = [] }
 
 -- the server that steps, and what its step begins with; none for the steps that change clocks
 abbrev pub begins : Group Entry → Step → Option (Place × Input)
-begins g (step.Ask server client number call) = Some (place_of server, Does (Ask client number call))
+begins g (step.Ask server client number cred call) = Some (place_of server, Does (Ask client number cred call))
 begins g (step.Tick server) = Some (place_of server, Does Tick)
 begins g (step.Deliver n) = option_map (λ (p : Packet Entry). (p.to, Comes p.from p.body)) (numbered g.packets n)
 begins g s = None
@@ -42,8 +42,8 @@ no_size before e = 0
 
 -- the moves of a server's step: those of the machine, but that a read is answered without a promise
 abbrev pub moves_of : Group Entry → Place → Input → List (Move Entry)
-moves_of g q (Does (Ask client number call)) =
-    and_then q (g.clock q) (g.server q) (on_free_ask q (g.clock q) (list_of g q) (g.server q) client number call) rebase
+moves_of g q (Does (Ask client number cred call)) =
+    and_then q (g.clock q) (g.server q) (on_free_ask q (g.clock q) (list_of g q) (g.server q) client number cred call) rebase
 moves_of g q i = step_of no_size g q i
 
 abbrev pub stepped : Group Entry → Place × Input → Group Entry

@@ -3,7 +3,7 @@
 ghost use Rattle.std.specs.Prelude.{◌≡◌, IfOk};
 
 use event_record::{Changes, Index, Moment, Record};
-use harp_base::{Bounded, Call, Reply, ServerId, ViewNo};
+use harp_base::{Bounded, Call, Reply, SUPERUSER, ServerId, ViewNo};
 use harp_cells::Change;
 use std::alloc::Global;
 use std::test::Fail;
@@ -26,6 +26,7 @@ fn record(alloc: Global, index: Index) -> Result<Record, Fail>
         index,
         client: 7,
         number: 1,
+        cred: SUPERUSER,
         call: Call::Write {
             handle: 2,
             offset: 0,

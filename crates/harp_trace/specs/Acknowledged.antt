@@ -23,7 +23,7 @@ pub record HasAcknowledged (before : Trace) (s : ServerId) (n : ℕ) : Type 0 wh
 
 -- an answered line belongs to a read where its step asks for one, else to an update
 abbrev pub answers_read : Option Step → Bool
-answers_read (Some (step.Ask server client number call)) = not (is_update call)
+answers_read (Some (step.Ask server client number cred call)) = not (is_update call)
 answers_read s = false
 
 abbrev pub IsAcknowledged : Trace → Line → Type 0

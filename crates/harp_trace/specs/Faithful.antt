@@ -1,6 +1,7 @@
 -- A faithful trace: its entered lines are a book, its answers are the book's, and each entry was asked for.
 use Rattle.std.specs.Prelude.{Bool, ◌≡◌, ℕ, ◌+◌, true, false, [], ◌∷◌, ◌++◌, length, Option, Some, None, Contains}
 use Rattle.harp_base.specs.declared.call.Call.{Call}
+use Rattle.harp_base.specs.declared.cred.Cred.{Cred}
 use Rattle.harp_base.specs.declared.reply.Reply.{Reply}
 use Rattle.harp_base.specs.declared.server.ServerId.{ServerId}
 use Rattle.trace_lines.specs.declared.step.Step.{Step}
@@ -27,25 +28,26 @@ pub record IsUpdateReply (before : Trace) (client number index : ℕ) (reply : R
   pub index_is : entry.index ≡ index
   pub reply_is : entry.reply ≡ reply
 
--- the line just before enters the read with this client, number, call and reply
-pub record IsReadReply (before : Trace) (client number : ℕ) (call : Call) (reply : Reply) : Type 0 where
+-- the line just before enters the read with this client, number, credential, call and reply
+pub record IsReadReply (before : Trace) (client number : ℕ) (cred : Cred) (call : Call) (reply : Reply) : Type 0 where
   pub earlier : Trace
   pub place : ℕ
   pub entry : BookEntry
   pub stands : before ≡ earlier ++ line.Entered place entry ∷ []
   pub client_is : entry.client ≡ client
   pub number_is : entry.number ≡ number
+  pub cred_is : entry.cred ≡ cred
   pub call_is : entry.call ≡ call
   pub reply_is : entry.reply ≡ reply
 
 -- the reply to an update is that of an entered update, the reply to a read that of the read just entered
-abbrev pub IsReplyTo : (updates : Bool) → Trace → ℕ → ℕ → ℕ → Call → Reply → Type 0
-IsReplyTo true before client number index call reply = IsUpdateReply before client number index reply
-IsReplyTo false before client number index call reply = IsReadReply before client number call reply
+abbrev pub IsReplyTo : (updates : Bool) → Trace → ℕ → ℕ → ℕ → Cred → Call → Reply → Type 0
+IsReplyTo true before client number index cred call reply = IsUpdateReply before client number index reply
+IsReplyTo false before client number index cred call reply = IsReadReply before client number cred call reply
 
 -- an answer of a step that asks for no read is one to an update
 abbrev pub IsReplyIn : Option Step → Trace → ℕ → ℕ → ℕ → Reply → Type 0
-IsReplyIn (Some (step.Ask server asker asked call)) before client number index reply = IsReplyTo (is_update call) before client number index call reply
+IsReplyIn (Some (step.Ask server asker asked cred call)) before client number index reply = IsReplyTo (is_update call) before client number index cred call reply
 IsReplyIn s before client number index reply = IsUpdateReply before client number index reply
 
 -- an answer is its call's reply in the book
@@ -55,7 +57,7 @@ IsBookReply before l = Unit {0}
 
 -- an entered call was asked before, at some server
 abbrev pub WasAsked : Trace → Line → Type 0
-WasAsked before (line.Entered place entry) = (server : ServerId) × Contains (steps before) (step.Ask server entry.client entry.number entry.call)
+WasAsked before (line.Entered place entry) = (server : ServerId) × Contains (steps before) (step.Ask server entry.client entry.number entry.cred entry.call)
 WasAsked before l = Unit {0}
 
 pub record IsFaithful (trace : Trace) : Type 0 where

@@ -11,7 +11,7 @@ abbrev pub Trace : Type 0
 Trace = List Line
 
 abbrev pub entry_of : BookEntry → Entry
-entry_of e = record { index = e.index; client = e.client; number = e.number; call = e.call; stamp = e.stamp; reply = e.reply }
+entry_of e = record { index = e.index; client = e.client; number = e.number; cred = e.cred; call = e.call; stamp = e.stamp; reply = e.reply }
 
 abbrev pub entered_by : Line → List Entry
 entered_by (line.Entered place entry) = entry_of entry ∷ []

@@ -8,13 +8,15 @@ use Rattle.harp_base.specs.declared.attr.Kind.TheVariants as kind
 use Rattle.harp_base.specs.declared.attr.SetAttr.{SetAttr}
 use Rattle.harp_base.specs.declared.attr.Time.{Time}
 use Rattle.harp_base.specs.declared.call.Call.TheVariants as call
+use Rattle.harp_base.specs.declared.cred.Cred.{Cred}
 use Rattle.harp_base.specs.declared.reply.Reply.TheVariants.{Attr as AttrReply}
 use Rattle.file_tree.specs.declared.object.Body.{Body}
 use Rattle.file_tree.specs.declared.object.Body.TheVariants as body
 use Rattle.file_tree.specs.declared.object.Object.{Object}
 use Rattle.file_tree.specs.Tree.{Tree, slots_within, kind_of, size_of, attr_at}
 use Rattle.file_tree.specs.Steps.{Step, ◌>>=◌}
-use Rattle.file_tree.specs.Outcome.{LEAVE, given, given_mode, given_time, mtime_for_size, body_with, resized, with_fields, with_size, set_fields, set_attr, change}
+use Rattle.file_tree.specs.Permissions.{LEAVE}
+use Rattle.file_tree.specs.Outcome.{given, given_mode, given_time, mtime_for_size, body_with, resized, with_fields, with_size, set_fields, set_attr, change}
 use Rattle.file_tree.proofs.Kept.{place_changed}
 use Rattle.harp_cells.specs.Effect.{Cells}
 use Rattle.harp_cells.specs.declared.cell.Cell.TheVariants as cell
@@ -149,22 +151,13 @@ is_set cells tree number i a now totals used s is inode changes totals_are =
       totals = totals_are ∙ sym (set_totals tree number i a now totals used is);
     }
 
-pub set_fields_is : (tree : Tree) (number : ℕ) (i : Inode) (a : SetAttr) (now : Time) → IsInode tree number i
-    → with_size tree number (object_at tree number).body a.size ≡ Ok (bytes_given (object_at tree number).body a.size)
-    → set_fields tree number a now ≡ Ok (set_tree tree number a now)
-unfolding set_fields
-set_fields_is tree number i a now is sized =
-    let o = object_at tree number in
-    ap (λ (r : Step Object). r >>= λ (x : Object). with_size tree number x.body a.size >>= λ (bytes : Option (List ℕ)). Ok (change tree number (with_fields a bytes now))) (live_is tree number i is)
-    ∙ ap (λ (r : Step (Option (List ℕ))). r >>= λ (bytes : Option (List ℕ)). Ok (change tree number (with_fields a bytes now))) sized
-
 pub put_behind : (changes more wanted put : List Change) → changes ≡ wanted → more ≡ changes ++ put → more ≡ wanted ++ put
 put_behind changes more wanted put e f = f ∙ ap (λ (l : List Change). l ++ put) e
 
-pub set_attr_plan : (cells : Cells) (tree : Tree) (number : ℕ) (a : SetAttr) (now : Time) (s : Set) (attr : Attr)
-    → set_fields tree number a now ≡ Ok (set_tree tree number a now) → IsSet cells tree (set_tree tree number a now) number a.size s → attr ≡ attr_by number s.inode
-    → planned cells tree (call.SetAttr number a) (set_attr tree number a now) ≡ Ok (AttrReply attr, s.changes.items, s.totals)
+pub set_attr_plan : (cells : Cells) (tree : Tree) (cred : Cred) (number : ℕ) (a : SetAttr) (now : Time) (s : Set) (attr : Attr)
+    → set_fields tree cred number a now ≡ Ok (set_tree tree number a now) → IsSet cells tree (set_tree tree number a now) number a.size s → attr ≡ attr_by number s.inode
+    → planned cells tree (call.SetAttr number a) (set_attr tree cred number a now) ≡ Ok (AttrReply attr, s.changes.items, s.totals)
 unfolding set_attr tree_changes
-set_attr_plan cells tree number a now s attr done is e =
+set_attr_plan cells tree cred number a now s attr done is e =
     ap (λ (r : Step Tree). planned cells tree (call.SetAttr number a) (r >>= λ (new : Tree). Ok (AttrReply (attr_at new number), new))) done
     ∙ (let one = sym (e ∙ is.attr) in let two = sym is.changes in let three = sym is.totals in λ k. Ok (AttrReply (one k), two k, three k))

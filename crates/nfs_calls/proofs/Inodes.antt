@@ -5,9 +5,11 @@ use Rattle.harp_base.specs.declared.attr.Kind.TheVariants as kind
 use Rattle.file_tree.specs.declared.object.Body.{Body}
 use Rattle.file_tree.specs.declared.object.Body.TheVariants.{Regular, Directory, Link}
 use Rattle.file_tree.specs.declared.object.Object.{Object}
+use Rattle.harp_base.specs.declared.cred.Cred.{Cred}
 use Rattle.harp_base.specs.declared.reply.Status.TheVariants.{Stale}
 use Rattle.file_tree.specs.Tree.{Tree, place, is_directory_at, attr_at, attr_zero, attr_of_place, used_blocks, size_of, kind_of}
 use Rattle.file_tree.specs.Steps.{live, some_or, bytes_in, text_in}
+use Rattle.file_tree.specs.Permissions.{reading, may, may_at, allowed}
 use Rattle.file_tree.specs.Outcome.{read, read_link}
 use Rattle.file_tree.specs.Sound.{IsSound, IsSoundBody, IsSoundObject}
 use Rattle.harp_base.specs.declared.attr.Attr.{Attr}
@@ -119,13 +121,19 @@ kind_is tree number i is = sym (ap (λ (j : Inode). j.kind) is.is)
 pub content_at : (tree : Tree) (number : ℕ) (i : Inode) → IsInode tree number i → content_of (place tree number) ≡ bytes_within (object_at tree number).body
 content_at tree number i is = ap content_of is.at
 
-pub read_is : (tree : Tree) (number offset count : ℕ) (i : Inode) (attr : Attr) (bytes : List ℕ) → IsInode tree number i
-    → bytes_in (object_at tree number).body ≡ Ok (bytes_within (object_at tree number).body) → attr ≡ attr_by number i
-    → bytes ≡ take (min count 8192) (drop offset (content_of (place tree number)))
-    → read tree number offset count ≡ Ok (Bytes attr bytes, tree)
+-- what a caller may do with an object, by its stored attributes
+pub may_stored : (tree : Tree) (cred : Cred) (number want : ℕ) (i : Inode) → IsInode tree number i
+    → may_at cred (place tree number) want ≡ may cred i.mode i.uid i.gid want
+may_stored tree cred number want i is =
+    ap (λ (x : Option Object). may_at cred x want) is.at ∙ sym (ap (λ (j : Inode). may cred j.mode j.uid j.gid want) is.is)
+
+pub read_is : (tree : Tree) (cred : Cred) (number offset count : ℕ) (i : Inode) (attr : Attr) (bytes : List ℕ) → IsInode tree number i
+    → bytes_in (object_at tree number).body ≡ Ok (bytes_within (object_at tree number).body) → allowed tree cred number reading ≡ Ok tt
+    → attr ≡ attr_by number i → bytes ≡ take (min count 8192) (drop offset (content_of (place tree number)))
+    → read tree cred number offset count ≡ Ok (Bytes attr bytes, tree)
 unfolding read
-read_is tree number offset count i attr bytes is file a b =
-    rw (live_is tree number i is, file, a, b, content_at tree number i is, attr_is tree number i is) refl
+read_is tree cred number offset count i attr bytes is file reads a b =
+    rw (live_is tree number i is, file, reads, a, b, content_at tree number i is, attr_is tree number i is) refl
 
 linked : (b : Body) → text_in b ≡ Ok (bytes_within b) → IsSoundBody b → length (bytes_within b) ≤ 1024
 linked (Link text) e h = h

@@ -4,12 +4,14 @@ use Rattle.std.proofs.lemmas.Bool.{cases_eq}
 use Rattle.std.proofs.lemmas.List.{get_or-set_other}
 use Rattle.harp_base.specs.declared.attr.Time.{Time}
 use Rattle.harp_base.specs.declared.call.Call.TheVariants as call
+use Rattle.harp_base.specs.declared.cred.Cred.{Cred}
 use Rattle.harp_base.specs.declared.reply.Reply.TheVariants.{Done}
 use Rattle.harp_base.specs.declared.reply.Status.TheVariants.{NoSpc}
 use Rattle.file_tree.specs.declared.object.Object.{Object}
 use Rattle.file_tree.specs.declared.object.Slot.{Slot}
 use Rattle.file_tree.specs.Tree.{Tree, Slots, place, slots_of, with_entry, blocks_of, used_blocks, names_at, names_of, size_of, is_directory, is_directory_at, parent_of}
 use Rattle.file_tree.specs.Steps.{◌>>=◌, live, refuse}
+use Rattle.file_tree.specs.Permissions.{writing, allowed, searched}
 use Rattle.file_tree.specs.Outcome.{add_entry, change, free_name, link, reslotted, set_ctime}
 use Rattle.file_tree.specs.Sound.{IsSound}
 use Rattle.file_tree.proofs.Bounds.{blocks_placed, names_of-le}
@@ -243,21 +245,22 @@ pub record IsComputed (dir handle : ℕ) (f i : Inode) (name : List ℕ) (room :
   pub named : stored ≡ name
   pub are : changes ≡ links_by dir room.slot stored with handle file
 
-pub link_plan : (t : TreeCells) (totals : Totals) (handle dir : ℕ) (f i : Inode) (name : List ℕ) (room : Room) (now : Time) (changes : List Change)
+pub link_plan : (t : TreeCells) (totals : Totals) (cred : Cred) (handle dir : ℕ) (f i : Inode) (name : List ℕ) (room : Room) (now : Time) (changes : List Change)
     → totals ≡ totals_of t.tree → IsLinking t.tree handle dir f i name room → live t.tree handle ≡ Ok (object_at t.tree handle)
-    → free_name (slots_of (place t.tree dir)) name ≡ Ok tt
+    → searched t.tree cred dir ≡ Ok (slots_of (place t.tree dir)) → free_name (slots_of (place t.tree dir)) name ≡ Ok tt → allowed t.tree cred dir writing ≡ Ok tt
     → add_entry t.tree dir (slots_of (place t.tree dir)) (link_of name handle) now ≡ Ok (between t.tree handle dir name now)
     → IsComputed dir handle f i name room now changes
-    → planned t.cells t.tree (call.Link handle dir name) (link t.tree handle dir name now) ≡ Ok (Done, changes, record { next = totals.next; used = room.used })
+    → planned t.cells t.tree (call.Link handle dir name) (link t.tree cred handle dir name now) ≡ Ok (Done, changes, record { next = totals.next; used = room.used })
 unfolding link tree_changes
-link_plan t totals handle dir f i name room now changes are is lives free added computed =
+link_plan t totals cred handle dir f i name room now changes are is lives searches free writes added computed =
     let wanted : changes ≡ links_by dir room.slot name (entered i room.slots 0 now) handle (linked f now) =
     computed.are ∙ (λ k. links_by dir room.slot (computed.named k) (computed.directory k) handle (computed.linked_is k)) in
     rw (
       lives,
-      is.directory.lists,
+      searches,
       is.kind,
       free,
+      writes,
       added,
       linked_changes t.tree handle dir f i name room now t.sound is,
       linked_totals t.tree handle dir f i name room now is,

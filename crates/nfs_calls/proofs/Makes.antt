@@ -7,6 +7,7 @@ use Rattle.harp_base.specs.declared.attr.Kind.TheVariants as kind
 use Rattle.harp_base.specs.declared.attr.SetAttr.{SetAttr}
 use Rattle.harp_base.specs.declared.attr.Time.{Time}
 use Rattle.harp_base.specs.declared.call.Call.TheVariants as call
+use Rattle.harp_base.specs.declared.cred.Cred.{Cred}
 use Rattle.harp_base.specs.declared.reply.Reply.TheVariants.{Node}
 use Rattle.harp_base.specs.declared.reply.Status.{Status}
 use Rattle.harp_base.specs.declared.reply.Status.TheVariants.{NoSpc}
@@ -16,7 +17,8 @@ use Rattle.file_tree.specs.declared.object.Object.{Object}
 use Rattle.file_tree.specs.declared.object.Slot.{Slot}
 use Rattle.file_tree.specs.Tree.{Tree, Slots, place, slots_of, slots_within, with_entry, free_from, blocks_of, blocks_at, used_blocks, size_of, names_in, names_at, names_of, is_directory, is_directory_at, links_of, parent_of, kind_of, attr_at}
 use Rattle.file_tree.specs.Steps.{Step, ◌>>=◌, refuse}
-use Rattle.file_tree.specs.Outcome.{LEAVE, room_for, reslotted, with_object, made, given_mode, free_name, make_dir}
+use Rattle.file_tree.specs.Permissions.{LEAVE, searched, may_make}
+use Rattle.file_tree.specs.Outcome.{room_for, reslotted, with_object, made, given_mode, free_name, make_dir}
 use Rattle.file_tree.specs.Sound.{IsSound, IsSoundObject}
 use Rattle.file_tree.proofs.Kept.{place_within, place_changed, place_push, used_push}
 use Rattle.file_tree.proofs.Bounds.{blocks_placed}
@@ -293,28 +295,28 @@ unfolding parent_of
 no_parent tree number e = rw e refl
 
 -- a new directory
-pub made_directory : (tree : Tree) (dir : ℕ) (i : Inode) (name : List ℕ) (a : SetAttr) (room : Room) (now : Time) → IsNew tree dir i name (made a (body.Directory []) now) room
-    → inode_of (made_tree tree dir name (made a (body.Directory []) now) now) (length tree) (made a (body.Directory []) now) ≡ made_inode a kind.Directory 2 dir 0 now
+pub made_directory : (tree : Tree) (dir : ℕ) (i : Inode) (name : List ℕ) (cred : Cred) (a : SetAttr) (room : Room) (now : Time) → IsNew tree dir i name (made cred a (body.Directory []) now) room
+    → inode_of (made_tree tree dir name (made cred a (body.Directory []) now) now) (length tree) (made cred a (body.Directory []) now) ≡ made_inode cred a kind.Directory 2 dir 0 now
 unfolding made_inode links_of
-made_directory tree dir i name a room now is =
-    let o = made a (body.Directory []) now in
+made_directory tree dir i name cred a room now is =
+    let o = made cred a (body.Directory []) now in
     let new = made_tree tree dir name o now in
     let at = made_new tree dir i name o room now is in
     let two = root_within tree is.sound.root in
     let parent = parent_is new dir (length tree) (made_sound tree dir i name o room now is).entries (ap is_directory_at at)
     (λ e. omega (arith, e, two)) (new_held tree dir i name o room now is) in
-    same_inode (inode_of new (length tree) o) (made_inode a kind.Directory 2 dir 0 now) refl refl refl refl refl parent refl refl refl refl refl
+    same_inode (inode_of new (length tree) o) (made_inode cred a kind.Directory 2 dir 0 now) refl refl refl refl refl parent refl refl refl refl refl
 
 -- a new file or link
-pub made_file : (tree : Tree) (dir : ℕ) (i : Inode) (name : List ℕ) (a : SetAttr) (b : Body) (room : Room) (now : Time) → IsNew tree dir i name (made a b now) room
+pub made_file : (tree : Tree) (dir : ℕ) (i : Inode) (name : List ℕ) (cred : Cred) (a : SetAttr) (b : Body) (room : Room) (now : Time) → IsNew tree dir i name (made cred a b now) room
     → is_directory b ≡ false → length (slots_within b) ≡ 0
-    → inode_of (made_tree tree dir name (made a b now) now) (length tree) (made a b now) ≡ made_inode a (kind_of b) 1 0 (size_of b) now
+    → inode_of (made_tree tree dir name (made cred a b now) now) (length tree) (made cred a b now) ≡ made_inode cred a (kind_of b) 1 0 (size_of b) now
 unfolding made_inode
-made_file tree dir i name a b room now is file none =
-    let o = made a b now in
+made_file tree dir i name cred a b room now is file none =
+    let o = made cred a b now in
     let new = made_tree tree dir name o now in
     let at = made_new tree dir i name o room now is in
-    same_inode (inode_of new (length tree) o) (made_inode a (kind_of b) 1 0 (size_of b) now) refl refl refl refl
+    same_inode (inode_of new (length tree) o) (made_inode cred a (kind_of b) 1 0 (size_of b) now) refl refl refl refl
     (file_links new (length tree) b file ∙ new_names tree dir i name o room now is)
     (no_parent new (length tree) (ap is_directory_at at ∙ file)) refl none refl refl refl
 
@@ -363,14 +365,15 @@ pub computed_changes : (tree : Tree) (dir : ℕ) (i : Inode) (name text : List �
 computed_changes tree dir i name text room more wanted now totals made changes are c =
     c.are ∙ (λ k. makes_by dir room.slot (c.named k) (c.directory k) (are k).next (c.inode k) text)
 
-pub make_dir_plan : (t : TreeCells) (totals : Totals) (dir : ℕ) (i : Inode) (name : List ℕ) (a : SetAttr) (room : Room) (now : Time) (made_as : Inode) (attr : Attr) (changes : List Change)
-    → totals ≡ totals_of t.tree → IsOpen t.tree dir i name 0 room → free_name (slots_of (place t.tree dir)) name ≡ Ok tt
-    → IsComputed dir i name [] room 1 (made_inode a kind.Directory 2 dir 0 now) now totals made_as changes → attr ≡ attr_by totals.next made_as
-    → planned t.cells t.tree (call.MkDir dir name a) (make_dir t.tree dir name a now)
+pub make_dir_plan : (t : TreeCells) (totals : Totals) (cred : Cred) (dir : ℕ) (i : Inode) (name : List ℕ) (a : SetAttr) (room : Room) (now : Time) (made_as : Inode) (attr : Attr) (changes : List Change)
+    → totals ≡ totals_of t.tree → IsOpen t.tree dir i name 0 room → searched t.tree cred dir ≡ Ok (slots_of (place t.tree dir)) → may_make t.tree cred dir a ≡ Ok tt
+    → free_name (slots_of (place t.tree dir)) name ≡ Ok tt
+    → IsComputed dir i name [] room 1 (made_inode cred a kind.Directory 2 dir 0 now) now totals made_as changes → attr ≡ attr_by totals.next made_as
+    → planned t.cells t.tree (call.MkDir dir name a) (make_dir t.tree cred dir name a now)
     ≡ Ok (Node totals.next attr, changes, record { next = totals.next + 1; used = room.used })
 unfolding make_dir tree_changes
-make_dir_plan t totals dir i name a room now made_as attr changes are is free computed attributes =
-    let o = made a (body.Directory []) now in
+make_dir_plan t totals cred dir i name a room now made_as attr changes are is searches makes free computed attributes =
+    let o = made cred a (body.Directory []) now in
     let n : IsNew t.tree dir i name o room = record {
       sound = t.sound;
       directory = is.directory;
@@ -382,8 +385,8 @@ make_dir_plan t totals dir i name a room now made_as attr changes are is free co
       bare = λ k. refl;
     } in
     let new = made_tree t.tree dir name o now in
-    let inode = made_directory t.tree dir i name a room now n in
+    let inode = made_directory t.tree dir i name cred a room now n in
     let attr_is = attr_placed new (length t.tree) o (made_new t.tree dir i name o room now n) ∙ ap (attr_by (length t.tree)) inode in
     let changes_are = made_changes t.tree dir i name o room now [] n in
-    let wanted = computed_changes t.tree dir i name [] room 1 (made_inode a kind.Directory 2 dir 0 now) now totals made_as changes are computed in
-    rw (is.directory.lists, free, is.fits, attr_is, changes_are, inode, made_totals t.tree dir i name o room now n, attributes, computed.inode, wanted, are) refl
+    let wanted = computed_changes t.tree dir i name [] room 1 (made_inode cred a kind.Directory 2 dir 0 now) now totals made_as changes are computed in
+    rw (searches, free, makes, is.fits, attr_is, changes_are, inode, made_totals t.tree dir i name o room now n, attributes, computed.inode, wanted, are) refl

@@ -7,11 +7,13 @@ use Rattle.harp_base.specs.declared.attr.Kind.TheVariants as kind
 use Rattle.harp_base.specs.declared.attr.SetAttr.{SetAttr}
 use Rattle.harp_base.specs.declared.attr.Time.{Time}
 use Rattle.harp_base.specs.declared.call.Call.TheVariants as call
+use Rattle.harp_base.specs.declared.cred.Cred.{Cred}
 use Rattle.harp_base.specs.declared.reply.Reply.TheVariants.{Done, Node}
 use Rattle.harp_base.specs.declared.reply.Status.{Status}
 use Rattle.file_tree.specs.declared.object.Body.TheVariants as body
 use Rattle.file_tree.specs.Tree.{Tree, place, slots_of, entry, blocks_of, used_blocks}
-use Rattle.file_tree.specs.Steps.{refuse, directory, entry_name}
+use Rattle.file_tree.specs.Steps.{refuse, entry_name}
+use Rattle.file_tree.specs.Permissions.{searched, may_make}
 use Rattle.file_tree.specs.Outcome.{LARGEST, given, has_entry, room_for, made, make_link, create, create_again, create_new, is_regular, is_regular_at}
 use Rattle.file_tree.proofs.SlotLaws.{no_entry, none_named}
 use Rattle.harp_cells.specs.Effect.{Cells}
@@ -31,15 +33,15 @@ passed s false e = refl
 
 -- ---- links
 
-pub make_link_plan : (t : TreeCells) (totals : Totals) (dir : ℕ) (i : Inode) (name text : List ℕ) (a : SetAttr) (room : Room) (now : Time) (made_as : Inode) (changes : List Change)
+pub make_link_plan : (t : TreeCells) (totals : Totals) (cred : Cred) (dir : ℕ) (i : Inode) (name text : List ℕ) (a : SetAttr) (room : Room) (now : Time) (made_as : Inode) (changes : List Change)
     → totals ≡ totals_of t.tree → IsOpen t.tree dir i name (length text) room → entry_name name ≡ Ok tt → ltb 1024 (length text) ≡ false
-    → has_entry (slots_of (place t.tree dir)) name ≡ false
-    → IsComputed dir i name text room 0 (made_inode a kind.Link 1 0 (length text) now) now totals made_as changes
-    → planned t.cells t.tree (call.SymLink dir name text a) (make_link t.tree dir name text a now)
+    → has_entry (slots_of (place t.tree dir)) name ≡ false → searched t.tree cred dir ≡ Ok (slots_of (place t.tree dir)) → may_make t.tree cred dir a ≡ Ok tt
+    → IsComputed dir i name text room 0 (made_inode cred a kind.Link 1 0 (length text) now) now totals made_as changes
+    → planned t.cells t.tree (call.SymLink dir name text a) (make_link t.tree cred dir name text a now)
     ≡ Ok (Done, changes, record { next = totals.next + 1; used = room.used })
 unfolding make_link tree_changes
-make_link_plan t totals dir i name text a room now made_as changes are is right short new computed =
-    let o = made a (body.Link text) now in
+make_link_plan t totals cred dir i name text a room now made_as changes are is right short new searches makes computed =
+    let o = made cred a (body.Link text) now in
     let n : IsNew t.tree dir i name o room = record {
       sound = t.sound;
       directory = is.directory;
@@ -50,24 +52,24 @@ make_link_plan t totals dir i name text a room now made_as changes are is right 
       object = (mode_fits a.mode, ltb-false _ _ short);
       bare = λ k. refl;
     } in
-    let inode = made_file t.tree dir i name a (body.Link text) room now n refl refl in
+    let inode = made_file t.tree dir i name cred a (body.Link text) room now n refl refl in
     let changes_are = made_changes t.tree dir i name o room now text n in
-    let wanted = computed_changes t.tree dir i name text room 0 (made_inode a kind.Link 1 0 (length text) now) now totals made_as changes are computed in
-    rw (is.directory.lists, right, short, new, is.fits, changes_are, inode, made_totals t.tree dir i name o room now n, wanted, are) refl
+    let wanted = computed_changes t.tree dir i name text room 0 (made_inode cred a kind.Link 1 0 (length text) now) now totals made_as changes are computed in
+    rw (searches, right, short, new, makes, is.fits, changes_are, inode, made_totals t.tree dir i name o room now n, wanted, are) refl
 
 -- ---- files
 
-pub create_new_plan : (t : TreeCells) (totals : Totals) (dir : ℕ) (i : Inode) (name : List ℕ) (a : SetAttr) (room : Room) (now : Time) (made_as : Inode) (attr : Attr) (changes : List Change)
+pub create_new_plan : (t : TreeCells) (totals : Totals) (cred : Cred) (dir : ℕ) (i : Inode) (name : List ℕ) (a : SetAttr) (room : Room) (now : Time) (made_as : Inode) (attr : Attr) (changes : List Change)
     → totals ≡ totals_of t.tree → IsOpen t.tree dir i name (given a.size 0) room → entry_name name ≡ Ok tt → ltb LARGEST (given a.size 0) ≡ false
-    → entry (slots_of (place t.tree dir)) name ≡ None
-    → IsComputed dir i name [] room 0 (made_inode a kind.Regular 1 0 (given a.size 0) now) now totals made_as changes → attr ≡ attr_by totals.next made_as
-    → planned t.cells t.tree (call.Create dir name a) (create_new t.tree dir (slots_of (place t.tree dir)) name a now)
+    → entry (slots_of (place t.tree dir)) name ≡ None → may_make t.tree cred dir a ≡ Ok tt
+    → IsComputed dir i name [] room 0 (made_inode cred a kind.Regular 1 0 (given a.size 0) now) now totals made_as changes → attr ≡ attr_by totals.next made_as
+    → planned t.cells t.tree (call.Create dir name a) (create_new t.tree cred dir (slots_of (place t.tree dir)) name a now)
     ≡ Ok (Node totals.next attr, changes, record { next = totals.next + 1; used = room.used })
 unfolding create_new tree_changes
-create_new_plan t totals dir i name a room now made_as attr changes are is right small none computed attributes =
+create_new_plan t totals cred dir i name a room now made_as attr changes are is right small none makes computed attributes =
     let size = given a.size 0 in
     let b = body.Regular (replicate size 0) in
-    let o = made a b now in
+    let o = made cred a b now in
     let long : length (replicate size 0) ≡ size = length-replicate {A = ℕ} size 0 in
     let n : IsNew t.tree dir i name o room = record {
       sound = t.sound;
@@ -80,18 +82,18 @@ create_new_plan t totals dir i name a room now made_as attr changes are is right
       bare = λ k. refl;
     } in
     let new = made_tree t.tree dir name o now in
-    let inode = made_file t.tree dir i name a b room now n refl refl ∙ ap (λ (m : ℕ). made_inode a kind.Regular 1 0 m now) long in
+    let inode = made_file t.tree dir i name cred a b room now n refl refl ∙ ap (λ (m : ℕ). made_inode cred a kind.Regular 1 0 m now) long in
     let attr_is = attr_placed new (length t.tree) o (made_new t.tree dir i name o room now n) ∙ ap (attr_by (length t.tree)) inode in
     let changes_are = made_changes t.tree dir i name o room now [] n in
-    let wanted = computed_changes t.tree dir i name [] room 0 (made_inode a kind.Regular 1 0 size now) now totals made_as changes are computed in
-    rw (small, is.fits, attr_is, none, changes_are, inode, made_totals t.tree dir i name o room now n, attributes, computed.inode, wanted, are) refl
+    let wanted = computed_changes t.tree dir i name [] room 0 (made_inode cred a kind.Regular 1 0 size now) now totals made_as changes are computed in
+    rw (makes, small, is.fits, attr_is, none, changes_are, inode, made_totals t.tree dir i name o room now n, attributes, computed.inode, wanted, are) refl
 
 -- an entry that is there gets attributes
-pub create_sets : (cells : Cells) (tree : Tree) (dir : ℕ) (name : List ℕ) (a : SetAttr) (now : Time) (x : ℕ × ℕ) → directory tree dir ≡ Ok (slots_of (place tree dir))
+pub create_sets : (cells : Cells) (tree : Tree) (cred : Cred) (dir : ℕ) (name : List ℕ) (a : SetAttr) (now : Time) (x : ℕ × ℕ) → searched tree cred dir ≡ Ok (slots_of (place tree dir))
     → entry_name name ≡ Ok tt → entry (slots_of (place tree dir)) name ≡ Some x
-    → planned cells tree (call.Create dir name a) (create tree dir name a now) ≡ sets_planned cells tree x.1 a.size (create_again tree x.1 a now)
+    → planned cells tree (call.Create dir name a) (create tree cred dir name a now) ≡ sets_planned cells tree x.1 a.size (create_again tree cred x.1 a now)
 unfolding create tree_changes
-create_sets cells tree dir name a now x lists right found = rw (lists, right, found) refl
+create_sets cells tree cred dir name a now x searches right found = rw (searches, right, found) refl
 
 pub regular_at : (tree : Tree) (number : ℕ) (i : Inode) → IsInode tree number i → is_regular_at (place tree number) ≡ is_regular (object_at tree number).body
 regular_at tree number i is = ap is_regular_at is.at

@@ -3,9 +3,11 @@ use Rattle.std.proofs.Common.{◌≡◌, ℕ, ◌&&◌, Bool, true, false, List,
 use Rattle.std.specs.Prelude.{IfOk}
 use Rattle.harp_base.specs.declared.attr.Time.{Time}
 use Rattle.harp_base.specs.declared.call.Call.TheVariants as call
+use Rattle.harp_base.specs.declared.cred.Cred.{Cred}
 use Rattle.harp_base.specs.declared.reply.Status.TheVariants.{Perm}
 use Rattle.file_tree.specs.Tree.{Tree, place, slots_of, slots_within, entry, is_directory_at}
 use Rattle.file_tree.specs.Steps.{slots_in, is_dots, check_name}
+use Rattle.file_tree.specs.Permissions.{searching, allowed}
 use Rattle.file_tree.specs.Outcome.{Outcome}
 use Rattle.file_tree.specs.Rename.{is_above, rename}
 use Rattle.harp_cells.specs.declared.reads.CellFault.{CellFault}
@@ -52,9 +54,9 @@ pub directory_from : (tree : Tree) (number : ℕ) (i : Inode) → IsInode tree n
 directory_from tree number i is e = record { own = is; lists = rw is.at e }
 
 -- a rename whose directories and names are right
-pub rename_is : (tree : Tree) (dir : ℕ) (i : Inode) (name : List ℕ) (to_dir : ℕ) (j : Inode) (to_name : List ℕ) (now : Time) → IsDirectory tree dir i → IsDirectory tree to_dir j
-    → is_dots name ≡ false → is_dots to_name ≡ false → check_name name ≡ Ok tt → check_name to_name ≡ Ok tt
-    → found_outcome tree dir name to_dir to_name now ≡ rename tree dir name to_dir to_name now
+pub rename_is : (tree : Tree) (cred : Cred) (dir : ℕ) (i : Inode) (name : List ℕ) (to_dir : ℕ) (j : Inode) (to_name : List ℕ) (now : Time) → IsDirectory tree dir i → IsDirectory tree to_dir j
+    → allowed tree cred dir searching ≡ Ok tt → allowed tree cred to_dir searching ≡ Ok tt → is_dots name ≡ false → is_dots to_name ≡ false → check_name name ≡ Ok tt → check_name to_name ≡ Ok tt
+    → found_outcome tree cred dir name to_dir to_name now ≡ rename tree cred dir name to_dir to_name now
 unfolding rename
-rename_is tree dir i name to_dir j to_name now is to dots to_dots checked to_checked =
-    rw (live_is tree dir i is.own, live_is tree to_dir j to.own, body_at tree dir i is, body_at tree to_dir j to, dots, to_dots, checked, to_checked) refl
+rename_is tree cred dir i name to_dir j to_name now is to searches to_searches dots to_dots checked to_checked =
+    rw (live_is tree dir i is.own, live_is tree to_dir j to.own, body_at tree dir i is, body_at tree to_dir j to, searches, to_searches, dots, to_dots, checked, to_checked) refl

@@ -2,14 +2,16 @@
 use Rattle.std.proofs.Common.{◌≡◌, ℕ, ◌+◌, ◌<◌, ◌^◌, Bool, true, false, List, length, Option, Some, None, Ok, Err, refl, sym, ap, ◌∙◌, arith}
 use Rattle.harp_base.specs.declared.attr.Time.{Time}
 use Rattle.harp_base.specs.declared.call.Call.TheVariants as call
+use Rattle.harp_base.specs.declared.cred.Cred.{Cred}
 use Rattle.harp_base.specs.declared.reply.DirEntry.{DirEntry}
 use Rattle.harp_base.specs.declared.reply.Reply.{Reply}
 use Rattle.harp_base.specs.declared.reply.Reply.TheVariants.{Done}
 use Rattle.harp_base.specs.declared.reply.Status.{Status}
-use Rattle.harp_base.specs.declared.reply.Status.TheVariants.{Perm, NoEnt, NotEmpty}
+use Rattle.harp_base.specs.declared.reply.Status.TheVariants.{Perm, NoEnt, NotDir, IsDir, NotEmpty}
 use Rattle.file_tree.specs.declared.object.Object.{Object}
 use Rattle.file_tree.specs.Tree.{Tree, Slots, place, slots_of, entry, is_directory_at}
 use Rattle.file_tree.specs.Steps.{refuse, check_name, is_dots, some_or}
+use Rattle.file_tree.specs.Permissions.{writing, allowed, searched}
 use Rattle.file_tree.specs.Outcome.{page_of, find, doomed, has_no_entry, removed, remove, remove_dir}
 use Rattle.file_tree.specs.Sound.{IsSound}
 use Rattle.file_tree.proofs.StepLaws.{Given, step, unless, given_at, some_is}
@@ -58,30 +60,48 @@ named_lives tree dir name x sound e none =
     let there = live.1 in
     absurd cc
 
-pub remove_planned : (cells : Cells) (tree : Tree) (dir : ℕ) (name : List ℕ) (x : ℕ × ℕ) (now : Time) (i j : Inode) (view : Reply × List Change × Totals)
-    → IsDirectory tree dir i → doomed (slots_of (place tree dir)) name ≡ Ok x → is_directory_at (place tree x.1) ≡ false
-    → view ≡ (Done, takes tree (removed tree dir x now) dir (Some x), totals_of (removed tree dir x now))
-    → planned cells tree (call.Remove dir name) (remove tree dir name now) ≡ Ok view
-unfolding remove tree_changes
-remove_planned cells tree dir name x now i j view is found file e =
-    rw (is.lists, found, file, e) (rw (doomed_entry (slots_of (place tree dir)) name x found) refl)
+-- a directory that a caller may take entries from
+pub record MayTake (tree : Tree) (cred : Cred) (dir : ℕ) : Type 0 where
+  pub searches : searched tree cred dir ≡ Ok (slots_of (place tree dir))
+  pub writes : allowed tree cred dir writing ≡ Ok tt
 
-pub remove_dir_planned : (cells : Cells) (tree : Tree) (dir : ℕ) (name : List ℕ) (x : ℕ × ℕ) (now : Time) (i j : Inode) (view : Reply × List Change × Totals)
-    → IsDirectory tree dir i → doomed (slots_of (place tree dir)) name ≡ Ok x → is_directory_at (place tree x.1) ≡ true → has_no_entry (slots_of (place tree x.1)) ≡ true
+pub remove_planned : (cells : Cells) (tree : Tree) (cred : Cred) (dir : ℕ) (name : List ℕ) (x : ℕ × ℕ) (now : Time) (i j : Inode) (view : Reply × List Change × Totals)
+    → MayTake tree cred dir → doomed (slots_of (place tree dir)) name ≡ Ok x → is_directory_at (place tree x.1) ≡ false
     → view ≡ (Done, takes tree (removed tree dir x now) dir (Some x), totals_of (removed tree dir x now))
-    → planned cells tree (call.RmDir dir name) (remove_dir tree dir name now) ≡ Ok view
+    → planned cells tree (call.Remove dir name) (remove tree cred dir name now) ≡ Ok view
+unfolding remove tree_changes
+remove_planned cells tree cred dir name x now i j view is found file e =
+    rw (is.searches, found, is.writes, file, e) (rw (doomed_entry (slots_of (place tree dir)) name x found) refl)
+
+pub remove_dir_planned : (cells : Cells) (tree : Tree) (cred : Cred) (dir : ℕ) (name : List ℕ) (x : ℕ × ℕ) (now : Time) (i j : Inode) (view : Reply × List Change × Totals)
+    → MayTake tree cred dir → doomed (slots_of (place tree dir)) name ≡ Ok x → is_directory_at (place tree x.1) ≡ true → has_no_entry (slots_of (place tree x.1)) ≡ true
+    → view ≡ (Done, takes tree (removed tree dir x now) dir (Some x), totals_of (removed tree dir x now))
+    → planned cells tree (call.RmDir dir name) (remove_dir tree cred dir name now) ≡ Ok view
 unfolding remove_dir tree_changes
-remove_dir_planned cells tree dir name x now i j view is found directory empty e =
-    rw (is.lists, found, directory, empty, e) (rw (doomed_entry (slots_of (place tree dir)) name x found) refl)
+remove_dir_planned cells tree cred dir name x now i j view is found directory empty e =
+    rw (is.searches, found, is.writes, directory, empty, e) (rw (doomed_entry (slots_of (place tree dir)) name x found) refl)
+
+-- the refusals of an object of another kind
+pub remove_directory : (cells : Cells) (tree : Tree) (cred : Cred) (dir : ℕ) (name : List ℕ) (x : ℕ × ℕ) (now : Time)
+    → MayTake tree cred dir → doomed (slots_of (place tree dir)) name ≡ Ok x → is_directory_at (place tree x.1) ≡ true
+    → planned cells tree (call.Remove dir name) (remove tree cred dir name now) ≡ Err IsDir
+unfolding remove
+remove_directory cells tree cred dir name x now is found directory = rw (is.searches, found, is.writes, directory) refl
+
+pub remove_dir_file : (cells : Cells) (tree : Tree) (cred : Cred) (dir : ℕ) (name : List ℕ) (x : ℕ × ℕ) (now : Time)
+    → MayTake tree cred dir → doomed (slots_of (place tree dir)) name ≡ Ok x → is_directory_at (place tree x.1) ≡ false
+    → planned cells tree (call.RmDir dir name) (remove_dir tree cred dir name now) ≡ Err NotDir
+unfolding remove_dir
+remove_dir_file cells tree cred dir name x now is found file = rw (is.searches, found, is.writes, file) refl
 
 -- a plan by its parts
 pub same_plan : (reply : Reply) (a b : List Change) (m n : Totals) → a ≡ b → m ≡ n → (let p : Reply × List Change × Totals = (reply, a, m) in p) ≡ (let q : Reply × List Change × Totals = (reply, b, n) in q)
 same_plan reply a b m n e f = rw (e, f) refl
 
 -- what wasn't refused
-pub allowed : (s : Status) (b : Bool) → refuse s b ≡ Ok tt → b ≡ false
-allowed s false e = refl
-allowed s true e = absurd cc
+pub not_refused : (s : Status) (b : Bool) → refuse s b ≡ Ok tt → b ≡ false
+not_refused s false e = refl
+not_refused s true e = absurd cc
 
 -- the stored number of slots is that of an object
 slots_stored : (tree : Tree) (number : ℕ) (i : Inode) → IsInode tree number i → length (slots_of (place tree number)) ≡ i.slots
@@ -106,8 +126,8 @@ empty_is t told number i entries eof e is page =
     ap (λ (p : List DirEntry × Bool). p.1) (page slots (tells_own t told number i e is) fit) ∙ empty_is_last number i.parent slots
 
 -- the refusal of a directory with an entry
-pub remove_dir_full : (cells : Cells) (tree : Tree) (dir : ℕ) (name : List ℕ) (x : ℕ × ℕ) (now : Time) (i : Inode)
-    → IsDirectory tree dir i → doomed (slots_of (place tree dir)) name ≡ Ok x → is_directory_at (place tree x.1) ≡ true → has_no_entry (slots_of (place tree x.1)) ≡ false
-    → planned cells tree (call.RmDir dir name) (remove_dir tree dir name now) ≡ Err NotEmpty
+pub remove_dir_full : (cells : Cells) (tree : Tree) (cred : Cred) (dir : ℕ) (name : List ℕ) (x : ℕ × ℕ) (now : Time) (i : Inode)
+    → MayTake tree cred dir → doomed (slots_of (place tree dir)) name ≡ Ok x → is_directory_at (place tree x.1) ≡ true → has_no_entry (slots_of (place tree x.1)) ≡ false
+    → planned cells tree (call.RmDir dir name) (remove_dir tree cred dir name now) ≡ Err NotEmpty
 unfolding remove_dir
-remove_dir_full cells tree dir name x now i is found directory full = rw (is.lists, found, directory, full) refl
+remove_dir_full cells tree cred dir name x now i is found directory full = rw (is.searches, found, is.writes, directory, full) refl

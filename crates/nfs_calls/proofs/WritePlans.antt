@@ -8,6 +8,7 @@ use Rattle.harp_base.specs.declared.attr.Attr.{Attr}
 use Rattle.harp_base.specs.declared.attr.Kind.TheVariants as kind
 use Rattle.harp_base.specs.declared.attr.Time.{Time}
 use Rattle.harp_base.specs.declared.call.Call.TheVariants as call
+use Rattle.harp_base.specs.declared.cred.Cred.{Cred}
 use Rattle.harp_base.specs.declared.reply.Reply.TheVariants.{Attr as AttrReply}
 use Rattle.harp_base.specs.declared.reply.Status.TheVariants.{NoSpc}
 use Rattle.harp_cells.specs.declared.cell.Cell.{Cell}
@@ -18,6 +19,7 @@ use Rattle.harp_cells.specs.declared.value.Value.{Value}
 use Rattle.harp_cells.specs.declared.value.Value.TheVariants as value
 use Rattle.file_tree.specs.Tree.{Tree, place, blocks_at, blocks_of, used_blocks, kind_of, size_of, slots_within, attr_at}
 use Rattle.file_tree.specs.Steps.{◌>>=◌, refuse, bytes_in}
+use Rattle.file_tree.specs.Permissions.{writing, allowed}
 use Rattle.file_tree.specs.Outcome.{LARGEST, change, rewritten, write, written}
 use Rattle.file_tree.proofs.FileBytes.{length-written}
 use Rattle.file_tree.proofs.Kept.{place_changed}
@@ -82,25 +84,26 @@ puts_short changes object offset count e le =
 
 -- ---- the plan
 
--- a file whose bytes are written
-pub record IsWritten (tree : Tree) (number : ℕ) (i : Inode) : Type 0 where
+-- a file whose bytes a caller may write
+pub record IsWritten (tree : Tree) (cred : Cred) (number : ℕ) (i : Inode) : Type 0 where
   pub own : IsInode tree number i
   pub bytes : bytes_in (object_at tree number).body ≡ Ok (bytes_within (object_at tree number).body)
   pub file : i.kind ≡ kind.Regular
+  pub may : allowed tree cred number writing ≡ Ok tt
 
-file_size : (tree : Tree) (number : ℕ) (i : Inode) → IsWritten tree number i → length (bytes_within (object_at tree number).body) ≡ i.size
-file_size tree number i is =
+file_size : (tree : Tree) (cred : Cred) (number : ℕ) (i : Inode) → IsWritten tree cred number i → length (bytes_within (object_at tree number).body) ≡ i.size
+file_size tree cred number i is =
     let body = bytes_are (object_at tree number).body _ is.bytes in
     sym (ap size_of body) ∙ sym (ap (λ (j : Inode). j.size) is.own.is)
 
-pub write_nothing : (t : TreeCells) (number offset : ℕ) (bytes : List ℕ) (now : Time) (i : Inode) (totals : Totals) (attr : Attr) (changes : List Change)
-    → IsWritten t.tree number i → totals ≡ totals_of t.tree → ltb LARGEST (offset + length bytes) ≡ false → (length bytes == 0) ≡ true
+pub write_nothing : (t : TreeCells) (cred : Cred) (number offset : ℕ) (bytes : List ℕ) (now : Time) (i : Inode) (totals : Totals) (attr : Attr) (changes : List Change)
+    → IsWritten t.tree cred number i → totals ≡ totals_of t.tree → ltb LARGEST (offset + length bytes) ≡ false → (length bytes == 0) ≡ true
     → attr ≡ attr_by number i → changes ≡ []
-    → planned t.cells t.tree (call.Write number offset bytes) (write t.tree number offset bytes now) ≡ Ok (AttrReply attr, changes, totals)
+    → planned t.cells t.tree (call.Write number offset bytes) (write t.tree cred number offset bytes now) ≡ Ok (AttrReply attr, changes, totals)
 unfolding write tree_changes
-write_nothing t number offset bytes now i totals attr changes is are small test attributes nothing =
+write_nothing t cred number offset bytes now i totals attr changes is are small test attributes nothing =
     let attr_own = sym (attr_is t.tree number i is.own) in
-    rw (live_is t.tree number i is.own, is.bytes, small, test, attr_own, attributes, nothing, are) refl
+    rw (live_is t.tree number i is.own, is.bytes, is.may, small, test, attr_own, attributes, nothing, are) refl
 
 room_by : (used old new after : ℕ) (b : Bool) → (refuse NoSpc b >>= λ (u : Unit {0}). Ok (used + blocks_of new - blocks_of old)) ≡ Ok after → b ≡ false
 room_by used old new after true e = absurd cc
@@ -120,19 +123,19 @@ pub record IsPlaced (cells : Cells) (number offset : ℕ) (bytes : List ℕ) (no
   pub inode : j ≡ record i { size = size; mtime = now; ctime = now }
   pub are : changes ≡ puts cells number i.size offset bytes ++ changing.Put (cell.Object number) (value.Object j) ∷ []
 
-pub write_plan : (t : TreeCells) (number offset : ℕ) (bytes : List ℕ) (now : Time) (i j : Inode) (totals : Totals) (size used : ℕ) (attr : Attr) (changes : List Change)
-    → IsWritten t.tree number i → totals ≡ totals_of t.tree → ltb LARGEST (offset + length bytes) ≡ false → (length bytes == 0) ≡ false
+pub write_plan : (t : TreeCells) (cred : Cred) (number offset : ℕ) (bytes : List ℕ) (now : Time) (i j : Inode) (totals : Totals) (size used : ℕ) (attr : Attr) (changes : List Change)
+    → IsWritten t.tree cred number i → totals ≡ totals_of t.tree → ltb LARGEST (offset + length bytes) ≡ false → (length bytes == 0) ≡ false
     → replaced_blocks totals.used i.size size ≡ Ok used → IsPlaced t.cells number offset bytes now i j size changes → attr ≡ attr_by number j
-    → planned t.cells t.tree (call.Write number offset bytes) (write t.tree number offset bytes now)
+    → planned t.cells t.tree (call.Write number offset bytes) (write t.tree cred number offset bytes now)
     ≡ Ok (AttrReply attr, changes, record { next = totals.next; used = used })
 unfolding write tree_changes
-write_plan t number offset bytes now i j totals size used attr changes is are small test fit placed attributes =
+write_plan t cred number offset bytes now i j totals size used attr changes is are small test fit placed attributes =
     let o = object_at t.tree number in
     let old = bytes_within o.body in
     let f = rewritten now (written old offset bytes) in
     let new = change t.tree number f in
     let body = bytes_are o.body old is.bytes in
-    let long = file_size t.tree number i is in
+    let long = file_size t.tree cred number i is in
     let wanted : size ≡ max (length old) (offset + length bytes) = placed.size_is ∙ ap (λ (n : ℕ). max n (offset + length bytes)) (sym long) in
     let sized : size_of (f o).body ≡ size = length-written old offset bytes ∙ sym wanted in
     let keeps : KeepsKind o (f o) = record { kind = sym (ap kind_of body); slots = sym (ap slots_within body) } in
@@ -151,7 +154,7 @@ write_plan t number offset bytes now i j totals size used attr changes is are sm
     (λ k. puts t.cells number (content k) offset bytes ++ put k) ∙ sym placed.are in
     let changes_are : tree_changes t.cells t.tree new (call.Write number offset bytes) ≡ changes =
     ap (λ (b : Bool). cond b [] (puts t.cells number (content_size t.tree number) offset bytes ++ set_by new (cell.Object number ∷ []))) test ∙ list in
-    let done : write t.tree number offset bytes now ≡ Ok (AttrReply (attr_at new number), new) = rw (live_is t.tree number i is.own, is.bytes, small, test, fits) refl in
+    let done : write t.tree cred number offset bytes now ≡ Ok (AttrReply (attr_at new number), new) = rw (live_is t.tree number i is.own, is.bytes, is.may, small, test, fits) refl in
     ap (planned t.cells t.tree (call.Write number offset bytes)) done ∙ (λ k. Ok (AttrReply (attr_own k), changes_are k, totals_new k))
 
 -- the same of changes that were added to none

@@ -1,11 +1,13 @@
 -- What changes where an entry moves, by the attributes that are stored.
 use Rattle.std.specs.Prelude.{◌≡◌, ℕ, ◌-◌, Bool, false, ◌&&◌, ◌==◌, List, [], ◌∷◌, length, Option, Some, Ok, if◌then◌else◌}
 use Rattle.harp_base.specs.declared.attr.Time.{Time}
+use Rattle.harp_base.specs.declared.cred.Cred.{Cred}
 use Rattle.harp_base.specs.declared.reply.Reply.TheVariants.{Done}
 use Rattle.harp_base.specs.declared.reply.Status.{Status}
 use Rattle.harp_base.specs.declared.reply.Status.TheVariants.{Perm, NoEnt, NotDir, IsDir}
 use Rattle.file_tree.specs.Tree.{Tree, place, slots_of, entry, is_directory_at}
 use Rattle.file_tree.specs.Steps.{◌>>=◌, refuse, some_or, entry_name}
+use Rattle.file_tree.specs.Permissions.{writing, allowed}
 use Rattle.file_tree.specs.Outcome.{Outcome}
 use Rattle.file_tree.specs.Rename.{is_above, check_target, moved_to}
 use Rattle.harp_cells.specs.declared.value.Inode.{Inode}
@@ -61,9 +63,11 @@ apart_outcome tree dir x to_dir to_name now = do
   moved_outcome tree dir x to_dir to_name (entry (slots_of (place tree to_dir)) to_name) now
 
 -- all after the names were checked
-abbrev pub found_outcome : Tree → ℕ → List ℕ → ℕ → List ℕ → Time → Outcome
-found_outcome tree dir name to_dir to_name now = do
+abbrev pub found_outcome : Tree → Cred → ℕ → List ℕ → ℕ → List ℕ → Time → Outcome
+found_outcome tree cred dir name to_dir to_name now = do
   x ← some_or NoEnt (entry (slots_of (place tree dir)) name)
+  _ ← allowed tree cred dir writing
+  _ ← allowed tree cred to_dir writing
   apart_outcome tree dir x to_dir to_name now
 
 -- an entry that may move: both are directories, and the object isn't above the one that it moves to

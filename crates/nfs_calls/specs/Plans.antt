@@ -5,13 +5,15 @@ use Rattle.harp_base.specs.declared.attr.SetAttr.{SetAttr}
 use Rattle.harp_base.specs.declared.attr.Time.{Time}
 use Rattle.harp_base.specs.declared.call.Call.{Call}
 use Rattle.harp_base.specs.declared.call.Call.TheVariants as call
+use Rattle.harp_base.specs.declared.cred.Cred.{Cred}
 use Rattle.harp_base.specs.declared.reply.Reply.{Reply}
 use Rattle.harp_base.specs.declared.reply.Status.TheVariants.{NoSpc}
 use Rattle.file_tree.specs.declared.object.Body.{Body}
 use Rattle.file_tree.specs.Tree.{Tree, attr_at, blocks_of, used_blocks}
 use Rattle.file_tree.specs.Steps.{Step, ◌>>=◌, refuse}
 use Rattle.file_tree.specs.Calls.{settled}
-use Rattle.file_tree.specs.Outcome.{Outcome, LEAVE, given, given_mode, given_time, mtime_for_size, resized, change, with_fields}
+use Rattle.file_tree.specs.Permissions.{LEAVE}
+use Rattle.file_tree.specs.Outcome.{Outcome, given, given_mode, given_time, mtime_for_size, resized, change, with_fields}
 use Rattle.harp_cells.specs.declared.cell.Cell.TheVariants as cell
 use Rattle.harp_cells.specs.declared.change.Change.{Change}
 use Rattle.harp_cells.specs.declared.change.Change.TheVariants as changing
@@ -64,13 +66,13 @@ entered i slots more now = record i {
   ctime = now;
 }
 
--- the attributes of a new object
-unfoldable pub made_inode : SetAttr → Kind → ℕ → ℕ → ℕ → Time → Inode
-made_inode a kind links parent size now = record {
+-- the attributes of a caller's new object
+unfoldable pub made_inode : Cred → SetAttr → Kind → ℕ → ℕ → ℕ → Time → Inode
+made_inode cred a kind links parent size now = record {
   kind = kind;
   mode = given_mode a.mode 0;
-  uid = given a.uid 0;
-  gid = given a.gid 0;
+  uid = given a.uid cred.uid;
+  gid = given a.gid cred.gid;
   links = links;
   parent = parent;
   size = size;

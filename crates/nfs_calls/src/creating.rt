@@ -14,16 +14,18 @@ ghost use Rattle.nfs_calls.specs.TreeCells.{IsDirectory};
 ghost use Rattle.nfs_calls.specs.Plans.{FitsName, plan_view, planned, sets_planned, totals_of};
 ghost use Rattle.nfs_calls.specs.Gives.{Gives};
 
-use crate::directory::{directory, entry};
+use crate::directory::entry;
 use crate::entering::entered;
-use crate::inode::{attr_by, inode_at};
+use crate::inode::{attr_by, inode_at, live};
 use crate::making::{Entering, made, make, name_of, room_for};
 use crate::names::{entry_name, refuse};
+use crate::permissions::{may_make, searched};
 use crate::plan::Plan;
 use crate::refusal::Refusal;
 use crate::setting::{given, set_fields};
 use crate::totals::Totals;
-use harp_base::{Kind, Reply, SetAttr, Status, Time};
+use file_tree::heeded;
+use harp_base::{Cred, Kind, Reply, SetAttr, Status, Time};
 use harp_cells::{CellFault, CellRead, Inode};
 use std::alloc::Global;
 
@@ -57,13 +59,14 @@ fn create_again<R: CellRead>(
     alloc: Global,
     cells: &mut R,
     totals: Totals,
+    cred: Cred,
     number: u32,
     attr: &SetAttr,
     now: Time,
 ) -> Result<Plan, Refusal>
     ensures plan { (t : TreeCells) → R.cells cells.old ≡ Some t.cells → totals ≡ totals_of t.tree
         → Gives plan_view result
-        (sets_planned t.cells t.tree number attr.now.size (create_again t.tree number attr.now now)) }
+        (sets_planned t.cells t.tree number attr.now.size (create_again t.tree cred number attr.now now)) }
     ensures short { IfOk result (λ p. AreShort 13 p.changes.items) }
     ensures kept { R.cells cells.new ≡ R.cells cells.old }
     ensures rose { result ≡ Err (Refusal.Fault CellFault.StoreFailed) → Rose (R.faults cells.old) (R.faults cells.new) }
@@ -71,7 +74,9 @@ fn create_again<R: CellRead>(
 {
     let regular = is_regular_at(cells, number)?;
     refuse(Status::Exist, !regular)?;
-    let set = set_fields(alloc, cells, totals, number, attr, now)?;
+    let inode = live(cells, number)?;
+    let heeded = heeded(cred, inode.uid, attr);
+    let set = set_fields(alloc, cells, totals, cred, number, &heeded, now)?;
     Ok(Plan {
         reply: Reply::Node {
             handle: number,
@@ -88,6 +93,7 @@ fn create_new<R: CellRead>(
     alloc: Global,
     cells: &mut R,
     totals: Totals,
+    cred: Cred,
     dir: u32,
     inode: &Inode,
     name: &[u8],
@@ -99,16 +105,17 @@ fn create_new<R: CellRead>(
         → IsDirectory t.tree dir inode.now → entry_name name.now ≡ Ok tt
         → entry (slots_of (place t.tree dir)) name.now ≡ None
         → Gives plan_view result (planned t.cells t.tree (call.Create dir name.now attr.now)
-        (create_new t.tree dir (slots_of (place t.tree dir)) name.now attr.now now)) }
+        (create_new t.tree cred dir (slots_of (place t.tree dir)) name.now attr.now now)) }
     ensures short { IfOk result (λ p. AreShort 13 p.changes.items) }
     ensures kept { R.cells cells.new ≡ R.cells cells.old }
     ensures rose { result ≡ Err (Refusal.Fault CellFault.StoreFailed) → Rose (R.faults cells.old) (R.faults cells.new) }
     ensures count { R.faults cells.old ≤ R.faults cells.new }
 {
+    may_make(cred, inode, attr)?;
     let size = given(attr.size, 0);
     refuse(Status::FBig, size > 2_147_483_647)?;
     let room = room_for(cells, totals, dir, inode, size)?;
-    let made = made(attr, Kind::Regular, 1, 0, size, now);
+    let made = made(cred, attr, Kind::Regular, 1, 0, size, now);
     let entering = Entering {
         dir,
         inode: entered(inode, room.slots, 0, now),
@@ -136,6 +143,7 @@ pub fn create<R: CellRead>(
     alloc: Global,
     cells: &mut R,
     totals: Totals,
+    cred: Cred,
     dir: u32,
     name: &[u8],
     attr: &SetAttr,
@@ -143,16 +151,16 @@ pub fn create<R: CellRead>(
 ) -> Result<Plan, Refusal>
     ensures plan { (t : TreeCells) → R.cells cells.old ≡ Some t.cells → totals ≡ totals_of t.tree
         → Gives plan_view result
-        (planned t.cells t.tree (call.Create dir name.now attr.now) (create t.tree dir name.now attr.now now)) }
+        (planned t.cells t.tree (call.Create dir name.now attr.now) (create t.tree cred dir name.now attr.now now)) }
     ensures short { IfOk result (λ p. AreShort 13 p.changes.items) }
     ensures kept { R.cells cells.new ≡ R.cells cells.old }
     ensures rose { result ≡ Err (Refusal.Fault CellFault.StoreFailed) → Rose (R.faults cells.old) (R.faults cells.new) }
     ensures count { R.faults cells.old ≤ R.faults cells.new }
 {
-    let inode = directory(cells, dir)?;
+    let inode = searched(cells, cred, dir)?;
     entry_name(name)?;
     match entry(cells, dir, &inode, name)? {
-        Some((_, number)) => create_again(alloc, cells, totals, number, attr, now),
-        None => create_new(alloc, cells, totals, dir, &inode, name, attr, now),
+        Some((_, number)) => create_again(alloc, cells, totals, cred, number, attr, now),
+        None => { create_new(alloc, cells, totals, cred, dir, &inode, name, attr, now) },
     }
 }

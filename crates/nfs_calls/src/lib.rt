@@ -12,6 +12,7 @@ mod losing;
 mod making;
 mod moving;
 mod names;
+mod permissions;
 mod plan;
 mod preparing;
 mod pushes;
@@ -26,4 +27,5 @@ mod totals;
 mod writing;
 
 pub use answering::answer;
+pub use file_tree::may;
 pub use preparing::{Prepared, prepare};

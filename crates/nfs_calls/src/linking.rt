@@ -15,17 +15,18 @@ ghost use Rattle.nfs_calls.specs.TreeCells.{IsDirectory, IsRoom};
 ghost use Rattle.nfs_calls.specs.Plans.{linked, links_by, plan_view, planned, replaced_blocks, totals_of};
 ghost use Rattle.nfs_calls.specs.Gives.{Gives};
 
-use crate::directory::directory;
 use crate::entering::{Room, entered, free_name, room_in};
 use crate::inode::live;
 use crate::making::{Entering, name_of};
 use crate::names::refuse;
+use crate::permissions::{allowed, searched};
 use crate::plan::Plan;
 use crate::pushes::{put_object, put_slot};
 use crate::refusal::Refusal;
 use crate::space::capped;
 use crate::totals::Totals;
-use harp_base::{Kind, Reply, Status, Time};
+use file_tree::TO_WRITE;
+use harp_base::{Cred, Kind, Reply, Status, Time};
 use harp_cells::{CellFault, CellRead, Change, Inode};
 use std::alloc::{AllocError, Global};
 
@@ -105,6 +106,7 @@ pub fn link<R: CellRead>(
     alloc: Global,
     cells: &mut R,
     totals: Totals,
+    cred: Cred,
     handle: u32,
     dir: u32,
     name: &[u8],
@@ -112,16 +114,17 @@ pub fn link<R: CellRead>(
 ) -> Result<Plan, Refusal>
     ensures plan { (t : TreeCells) → R.cells cells.old ≡ Some t.cells → totals ≡ totals_of t.tree
         → Gives plan_view result
-        (planned t.cells t.tree (call.Link handle dir name.now) (link t.tree handle dir name.now now)) }
+        (planned t.cells t.tree (call.Link handle dir name.now) (link t.tree cred handle dir name.now now)) }
     ensures short { IfOk result (λ p. AreShort 13 p.changes.items) }
     ensures kept { R.cells cells.new ≡ R.cells cells.old }
     ensures rose { result ≡ Err (Refusal.Fault CellFault.StoreFailed) → Rose (R.faults cells.old) (R.faults cells.new) }
     ensures count { R.faults cells.old ≤ R.faults cells.new }
 {
     let target = live(cells, handle)?;
-    let inode = directory(cells, dir)?;
+    let inode = searched(cells, cred, dir)?;
     refuse(Status::Perm, is_directory(target.kind))?;
     free_name(cells, dir, &inode, name)?;
+    allowed(cred, &inode, TO_WRITE)?;
     let room = room_beside(cells, totals, dir, &inode)?;
     let entering = Entering {
         dir,

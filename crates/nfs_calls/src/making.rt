@@ -14,17 +14,17 @@ ghost use Rattle.nfs_calls.specs.TreeCells.{IsDirectory, IsRoom};
 ghost use Rattle.nfs_calls.specs.Plans.{FitsName, made_inode, makes_by, plan_view, planned, replaced_blocks, totals_of};
 ghost use Rattle.nfs_calls.specs.Gives.{Gives};
 
-use crate::directory::directory;
 use crate::entering::{Room, entered, free_name, has_entry, room_in};
 use crate::inode::attr_by;
 use crate::names::{entry_name, refuse};
+use crate::permissions::{may_make, searched};
 use crate::plan::Plan;
 use crate::pushes::{put_object, put_slot};
 use crate::refusal::Refusal;
 use crate::setting::{given, given_mode, given_time};
 use crate::space::blocks_of;
 use crate::totals::Totals;
-use harp_base::{Kind, Reply, SetAttr, Status, Time};
+use harp_base::{Cred, Kind, Reply, SetAttr, Status, Time};
 use harp_cells::{Cell, CellFault, CellRead, Change, Inode, NonEmpty, Value};
 use std::alloc::{AllocError, Global};
 
@@ -57,16 +57,24 @@ pub fn room_for<R: CellRead>(
     Ok(room)
 }
 
-/// The attributes of a new object.
+/// The attributes of a caller's new object.
 #[tactic(auto, unfolding(crate::specs::Plans::made_inode))]
-pub fn made(attr: &SetAttr, kind: Kind, links: u32, parent: u32, size: u32, now: Time) -> Inode
-    ensures { result ≡ made_inode attr.now kind links parent size now }
+pub fn made(
+    cred: Cred,
+    attr: &SetAttr,
+    kind: Kind,
+    links: u32,
+    parent: u32,
+    size: u32,
+    now: Time,
+) -> Inode
+    ensures { result ≡ made_inode cred attr.now kind links parent size now }
 {
     Inode {
         kind,
         mode: given_mode(attr.mode, 0),
-        uid: given(attr.uid, 0),
-        gid: given(attr.gid, 0),
+        uid: given(attr.uid, cred.uid),
+        gid: given(attr.gid, cred.gid),
         links,
         parent,
         size,
@@ -149,6 +157,7 @@ pub fn make_dir<R: CellRead>(
     alloc: Global,
     cells: &mut R,
     totals: Totals,
+    cred: Cred,
     dir: u32,
     name: &[u8],
     attr: &SetAttr,
@@ -156,16 +165,17 @@ pub fn make_dir<R: CellRead>(
 ) -> Result<Plan, Refusal>
     ensures plan { (t : TreeCells) → R.cells cells.old ≡ Some t.cells → totals ≡ totals_of t.tree
         → Gives plan_view result
-        (planned t.cells t.tree (call.MkDir dir name.now attr.now) (make_dir t.tree dir name.now attr.now now)) }
+        (planned t.cells t.tree (call.MkDir dir name.now attr.now) (make_dir t.tree cred dir name.now attr.now now)) }
     ensures short { IfOk result (λ p. AreShort 13 p.changes.items) }
     ensures kept { R.cells cells.new ≡ R.cells cells.old }
     ensures rose { result ≡ Err (Refusal.Fault CellFault.StoreFailed) → Rose (R.faults cells.old) (R.faults cells.new) }
     ensures count { R.faults cells.old ≤ R.faults cells.new }
 {
-    let inode = directory(cells, dir)?;
+    let inode = searched(cells, cred, dir)?;
     free_name(cells, dir, &inode, name)?;
+    may_make(cred, &inode, attr)?;
     let room = room_for(cells, totals, dir, &inode, 0)?;
-    let made = made(attr, Kind::Directory, 2, dir, 0, now);
+    let made = made(cred, attr, Kind::Directory, 2, dir, 0, now);
     let entering = Entering {
         dir,
         inode: entered(&inode, room.slots, 1, now),
@@ -193,6 +203,7 @@ pub fn make_link<R: CellRead>(
     alloc: Global,
     cells: &mut R,
     totals: Totals,
+    cred: Cred,
     dir: u32,
     name: &[u8],
     text: &[u8],
@@ -201,20 +212,21 @@ pub fn make_link<R: CellRead>(
 ) -> Result<Plan, Refusal>
     ensures plan { (t : TreeCells) → R.cells cells.old ≡ Some t.cells → totals ≡ totals_of t.tree
         → Gives plan_view result (planned t.cells t.tree (call.SymLink dir name.now text.now attr.now)
-        (make_link t.tree dir name.now text.now attr.now now)) }
+        (make_link t.tree cred dir name.now text.now attr.now now)) }
     ensures short { IfOk result (λ p. AreShort 13 p.changes.items) }
     ensures kept { R.cells cells.new ≡ R.cells cells.old }
     ensures rose { result ≡ Err (Refusal.Fault CellFault.StoreFailed) → Rose (R.faults cells.old) (R.faults cells.new) }
     ensures count { R.faults cells.old ≤ R.faults cells.new }
 {
-    let inode = directory(cells, dir)?;
+    let inode = searched(cells, cred, dir)?;
     entry_name(name)?;
     refuse(Status::NameTooLong, text.len() > 1024)?;
     let taken = has_entry(cells, dir, &inode, name)?;
     refuse(Status::Exist, taken)?;
+    may_make(cred, &inode, attr)?;
     let size = text.len() as u32;
     let room = room_for(cells, totals, dir, &inode, size)?;
-    let made = made(attr, Kind::Link, 1, 0, size, now);
+    let made = made(cred, attr, Kind::Link, 1, 0, size, now);
     let entering = Entering {
         dir,
         inode: entered(&inode, room.slots, 0, now),

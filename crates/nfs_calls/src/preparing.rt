@@ -25,7 +25,7 @@ use crate::rename::rename;
 use crate::setting::set_attr;
 use crate::totals::{Totals, read_totals};
 use crate::writing::write;
-use harp_base::{Call, Reply, Time, time_of};
+use harp_base::{Call, Cred, Reply, Time, time_of};
 use harp_cells::{Cell, CellFault, CellRead, Change, Moment, Value};
 use std::alloc::{AllocError, Global};
 
@@ -41,22 +41,48 @@ fn plan_entry<R: CellRead>(
     alloc: Global,
     cells: &mut R,
     totals: Totals,
+    cred: Cred,
     call: &Call,
     now: Time,
 ) -> Result<Plan, Refusal>
     requires { changes_entries call.now ≡ true }
     ensures plan { (t : TreeCells) → R.cells cells.old ≡ Some t.cells → totals ≡ totals_of t.tree
-        → Gives plan_view result (planned t.cells t.tree call.now (answered t.tree call.now now)) }
+        → Gives plan_view result (planned t.cells t.tree call.now (answered t.tree cred call.now now)) }
     ensures short { IfOk result (λ p. AreShort 13 p.changes.items) }
     ensures kept { R.cells cells.new ≡ R.cells cells.old }
     ensures rose { result ≡ Err (Refusal.Fault CellFault.StoreFailed) → Rose (R.faults cells.old) (R.faults cells.new) }
     ensures count { R.faults cells.old ≤ R.faults cells.new }
 {
     match call {
-        Call::Remove { dir, name } => remove(alloc, cells, totals, *dir, name.as_slice(), now),
-        Call::RmDir { dir, name } => remove_dir(alloc, cells, totals, *dir, name.as_slice(), now),
+        Call::Remove { dir, name } => remove(
+            alloc,
+            cells,
+            totals,
+            cred,
+            *dir,
+            name.as_slice(),
+            now,
+        ),
+        Call::RmDir { dir, name } => remove_dir(
+            alloc,
+            cells,
+            totals,
+            cred,
+            *dir,
+            name.as_slice(),
+            now,
+        ),
         Call::Link { handle, dir, name } => {
-            link(alloc, cells, totals, *handle, *dir, name.as_slice(), now)
+            link(
+                alloc,
+                cells,
+                totals,
+                cred,
+                *handle,
+                *dir,
+                name.as_slice(),
+                now,
+            )
         }
         Call::Rename {
             dir,
@@ -65,7 +91,9 @@ fn plan_entry<R: CellRead>(
             to_name,
         } => {
             let (name, to_name) = (name.as_slice(), to_name.as_slice());
-            rename(alloc, cells, totals, *dir, name, *to_dir, to_name, now)
+            rename(
+                alloc, cells, totals, cred, *dir, name, *to_dir, to_name, now,
+            )
         }
         Call::Null
         | Call::GetAttr { .. }
@@ -87,32 +115,33 @@ fn plan_update<R: CellRead>(
     alloc: Global,
     cells: &mut R,
     totals: Totals,
+    cred: Cred,
     call: &Call,
     now: Time,
 ) -> Result<Plan, Refusal>
     requires { is_update call.now ≡ true }
     ensures plan { (t : TreeCells) → R.cells cells.old ≡ Some t.cells → totals ≡ totals_of t.tree
-        → Gives plan_view result (planned t.cells t.tree call.now (answered t.tree call.now now)) }
+        → Gives plan_view result (planned t.cells t.tree call.now (answered t.tree cred call.now now)) }
     ensures short { IfOk result (λ p. AreShort 13 p.changes.items) }
     ensures kept { R.cells cells.new ≡ R.cells cells.old }
     ensures rose { result ≡ Err (Refusal.Fault CellFault.StoreFailed) → Rose (R.faults cells.old) (R.faults cells.new) }
     ensures count { R.faults cells.old ≤ R.faults cells.new }
 {
     match call {
-        Call::SetAttr { handle, attr } => set_attr(alloc, cells, totals, *handle, attr, now),
+        Call::SetAttr { handle, attr } => set_attr(alloc, cells, totals, cred, *handle, attr, now),
         Call::Write {
             handle,
             offset,
             bytes,
         } => {
             let bytes = bytes.as_slice();
-            write(alloc, cells, totals, *handle, *offset, bytes, now)
+            write(alloc, cells, totals, cred, *handle, *offset, bytes, now)
         }
         Call::Create { dir, name, attr } => {
-            create(alloc, cells, totals, *dir, name.as_slice(), attr, now)
+            create(alloc, cells, totals, cred, *dir, name.as_slice(), attr, now)
         }
         Call::MkDir { dir, name, attr } => {
-            make_dir(alloc, cells, totals, *dir, name.as_slice(), attr, now)
+            make_dir(alloc, cells, totals, cred, *dir, name.as_slice(), attr, now)
         }
         Call::SymLink {
             dir,
@@ -121,10 +150,10 @@ fn plan_update<R: CellRead>(
             attr,
         } => {
             let (name, text) = (name.as_slice(), text.as_slice());
-            make_link(alloc, cells, totals, *dir, name, text, attr, now)
+            make_link(alloc, cells, totals, cred, *dir, name, text, attr, now)
         }
         Call::Remove { .. } | Call::Rename { .. } | Call::Link { .. } | Call::RmDir { .. } => {
-            plan_entry(alloc, cells, totals, call, now)
+            plan_entry(alloc, cells, totals, cred, call, now)
         }
         Call::Null
         | Call::GetAttr { .. }
@@ -141,18 +170,19 @@ fn settled<R: CellRead>(
     alloc: Global,
     cells: &mut R,
     totals: Totals,
+    cred: Cred,
     call: &Call,
     now: Time,
 ) -> Result<Plan, CellFault>
     requires { is_update call.now ≡ true }
     ensures plan { (t : TreeCells) → R.cells cells.old ≡ Some t.cells → totals ≡ totals_of t.tree
-        → IfOk result (λ p. plan_view p ≡ settled_plan t.cells t.tree call.now (answered t.tree call.now now)) }
+        → IfOk result (λ p. plan_view p ≡ settled_plan t.cells t.tree call.now (answered t.tree cred call.now now)) }
     ensures short { IfOk result (λ p. AreShort 13 p.changes.items) }
     ensures kept { R.cells cells.new ≡ R.cells cells.old }
     ensures rose { result ≡ Err CellFault.StoreFailed → Rose (R.faults cells.old) (R.faults cells.new) }
     ensures count { R.faults cells.old ≤ R.faults cells.new }
 {
-    match plan_update(alloc, cells, totals, call, now) {
+    match plan_update(alloc, cells, totals, cred, call, now) {
         Ok(plan) => Ok(plan),
         Err(Refusal::Status(status)) => Ok(Plan {
             reply: Reply::Refused { status },
@@ -179,22 +209,23 @@ fn put_totals(changes: &mut Vec<Change>, totals: Totals, stamp: Moment) -> Resul
     Ok(())
 }
 
-/// The reply to an update at a stamp in milliseconds, and the changes of cells that it makes: from cells that stand for a
+/// The reply to a caller's update at a stamp in milliseconds, and the changes of cells that it makes: from cells that stand for a
 /// sound tree they lead to cells that stand for the tree of the outcome. A status of NFS is a reply, and changes nothing
 /// but the stamp. At most 15 changes are made, all of cells of the tree, and at most three put a block.
 pub fn prepare<R: CellRead>(
     alloc: Global,
     cells: &mut R,
+    cred: Cred,
     call: &Call,
     stamp: Moment,
 ) -> Result<Prepared, CellFault>
     requires { is_update call.now ≡ true }
     ensures reply { (t : TreeCells) → R.cells cells.old ≡ Some t.cells
-        → IfOk result (λ p. p.reply ≡ (outcome t.tree call.now stamp).0) }
+        → IfOk result (λ p. p.reply ≡ (outcome t.tree cred call.now stamp).0) }
     ensures changes { (t : TreeCells) → R.cells cells.old ≡ Some t.cells
-        → IfOk result (λ p. p.changes.items ≡ update_changes t.cells t.tree call.now stamp) }
+        → IfOk result (λ p. p.changes.items ≡ update_changes t.cells t.tree cred call.now stamp) }
     ensures leads { (t : TreeCells) → R.cells cells.old ≡ Some t.cells
-        → IfOk result (λ p. StandForTree (after p.changes.items t.cells) (outcome t.tree call.now stamp).1 stamp) }
+        → IfOk result (λ p. StandForTree (after p.changes.items t.cells) (outcome t.tree cred call.now stamp).1 stamp) }
     ensures short { IfOk result (λ p. AreShort 15 p.changes.items) }
     ensures kept { R.cells cells.new ≡ R.cells cells.old }
     ensures rose { result ≡ Err CellFault.StoreFailed → Rose (R.faults cells.old) (R.faults cells.new) }
@@ -202,7 +233,7 @@ pub fn prepare<R: CellRead>(
 {
     let totals = read_totals(cells)?;
     let now = time_of(stamp.get());
-    let mut plan = settled(alloc, cells, totals, call, now)?;
+    let mut plan = settled(alloc, cells, totals, cred, call, now)?;
     put_totals(&mut plan.changes, plan.totals, stamp)?;
     Ok(Prepared {
         reply: plan.reply,

@@ -11,9 +11,11 @@ ghost use Rattle.nfs_calls.specs.Gives.{Gives};
 use crate::directory::{directory, resolve};
 use crate::file::{bytes_in, content, text_in};
 use crate::inode::{attr_at, attr_by, live};
+use crate::permissions::{allowed, searched};
 use crate::refusal::Refusal;
 use crate::totals::read_totals;
-use harp_base::{Bounded, Entries, Reply};
+use file_tree::TO_READ;
+use harp_base::{Bounded, Cred, Entries, Reply};
 use harp_cells::{CellFault, CellRead};
 use inode_dirs::list_from;
 use std::alloc::Global;
@@ -35,14 +37,19 @@ pub fn get_attr<R: CellRead>(cells: &mut R, handle: u32) -> Result<Reply, Refusa
 
 /// LOOKUP (RFC 1094, section 2.2.5): `.` and `..` stand for the directory and its parent.
 #[tactic(auto, unfolding(file_tree::specs::Outcome::lookup))]
-pub fn lookup<R: CellRead>(cells: &mut R, dir: u32, name: &[u8]) -> Result<Reply, Refusal>
+pub fn lookup<R: CellRead>(
+    cells: &mut R,
+    cred: Cred,
+    dir: u32,
+    name: &[u8],
+) -> Result<Reply, Refusal>
     ensures reply { (t : TreeCells) → R.cells cells.old ≡ Some t.cells
-        → Gives (λ r. (r, t.tree)) result (lookup t.tree dir name.now) }
+        → Gives (λ r. (r, t.tree)) result (lookup t.tree cred dir name.now) }
     ensures kept { R.cells cells.new ≡ R.cells cells.old }
     ensures rose { result ≡ Err (Refusal.Fault CellFault.StoreFailed) → Rose (R.faults cells.old) (R.faults cells.new) }
     ensures count { R.faults cells.old ≤ R.faults cells.new }
 {
-    let inode = directory(cells, dir)?;
+    let inode = searched(cells, cred, dir)?;
     let number = resolve(cells, dir, &inode, name)?;
     let attr = attr_at(cells, number)?;
     Ok(Reply::Node {
@@ -73,18 +80,20 @@ pub fn read_link<R: CellRead>(alloc: Global, cells: &mut R, handle: u32) -> Resu
 pub fn read<R: CellRead>(
     alloc: Global,
     cells: &mut R,
+    cred: Cred,
     handle: u32,
     offset: u32,
     count: u32,
 ) -> Result<Reply, Refusal>
     ensures reply { (t : TreeCells) → R.cells cells.old ≡ Some t.cells
-        → Gives (λ r. (r, t.tree)) result (read t.tree handle offset count) }
+        → Gives (λ r. (r, t.tree)) result (read t.tree cred handle offset count) }
     ensures kept { R.cells cells.new ≡ R.cells cells.old }
     ensures rose { result ≡ Err (Refusal.Fault CellFault.StoreFailed) → Rose (R.faults cells.old) (R.faults cells.new) }
     ensures count { R.faults cells.old ≤ R.faults cells.new }
 {
     let inode = live(cells, handle)?;
     bytes_in(inode.kind)?;
+    allowed(cred, &inode, TO_READ)?;
     let bytes = content(alloc, cells, handle, &inode, offset, count.min(8192))?;
     Ok(Reply::Bytes {
         attr: attr_by(handle, &inode),
@@ -97,17 +106,19 @@ pub fn read<R: CellRead>(
 pub fn read_dir<R: CellRead>(
     alloc: Global,
     cells: &mut R,
+    cred: Cred,
     dir: u32,
     cookie: u32,
     count: u32,
 ) -> Result<Reply, Refusal>
     ensures reply { (t : TreeCells) → R.cells cells.old ≡ Some t.cells
-        → Gives (λ r. (r, t.tree)) result (read_dir t.tree dir cookie count) }
+        → Gives (λ r. (r, t.tree)) result (read_dir t.tree cred dir cookie count) }
     ensures kept { R.cells cells.new ≡ R.cells cells.old }
     ensures rose { result ≡ Err (Refusal.Fault CellFault.StoreFailed) → Rose (R.faults cells.old) (R.faults cells.new) }
     ensures count { R.faults cells.old ≤ R.faults cells.new }
 {
     let inode = directory(cells, dir)?;
+    allowed(cred, &inode, TO_READ)?;
     let page = list_from(alloc, cells, dir, inode.parent, inode.slots, cookie, count)?;
     Ok(Reply::Page {
         entries: Entries::new(page.entries),

@@ -14,14 +14,16 @@ ghost use Rattle.nfs_calls.specs.Gives.{Gives};
 ghost use Rattle.nfs_calls.specs.Plans.{plan_view, planned, totals_of};
 ghost use Rattle.nfs_calls.specs.Entries.{IsTaking};
 
-use crate::directory::{directory, find};
+use crate::directory::find;
 use crate::losing::{after_loss, is_directory, link_of, lose, named, relinked};
 use crate::names::{is_dots, refuse};
+use crate::permissions::{allowed, searched};
 use crate::plan::Plan;
 use crate::pushes::{erase_slot, put_object};
 use crate::refusal::Refusal;
 use crate::totals::Totals;
-use harp_base::{Reply, Status, Time};
+use file_tree::TO_WRITE;
+use harp_base::{Cred, Reply, Status, Time};
 use harp_cells::{CellFault, CellRead, Inode};
 use inode_dirs::list_from;
 use std::alloc::{AllocError, Global};
@@ -98,21 +100,25 @@ pub fn remove<R: CellRead>(
     alloc: Global,
     cells: &mut R,
     totals: Totals,
+    cred: Cred,
     dir: u32,
     name: &[u8],
     now: Time,
 ) -> Result<Plan, Refusal>
     ensures plan { (t : TreeCells) → R.cells cells.old ≡ Some t.cells → totals ≡ totals_of t.tree
-        → Gives plan_view result (planned t.cells t.tree (call.Remove dir name.now) (remove t.tree dir name.now now)) }
+        → Gives plan_view result (planned t.cells t.tree (call.Remove dir name.now) (remove t.tree cred dir name.now now)) }
     ensures short { IfOk result (λ p. AreShort 13 p.changes.items) }
     ensures kept { R.cells cells.new ≡ R.cells cells.old }
     ensures rose { result ≡ Err (Refusal.Fault CellFault.StoreFailed) → Rose (R.faults cells.old) (R.faults cells.new) }
     ensures count { R.faults cells.old ≤ R.faults cells.new }
 {
-    let inode = directory(cells, dir)?;
+    let inode = searched(cells, cred, dir)?;
     let (slot, number) = doomed(cells, dir, &inode, name)?;
+    allowed(cred, &inode, TO_WRITE)?;
     let object = named(cells, number)?;
-    refuse(Status::IsDir, is_directory(object.kind))?;
+    if is_directory(object.kind) {
+        return Err(Refusal::Status(Status::IsDir));
+    }
     Ok(take(alloc, totals, dir, &inode, slot, number, &object, now)?)
 }
 
@@ -122,19 +128,21 @@ pub fn remove_dir<R: CellRead>(
     alloc: Global,
     cells: &mut R,
     totals: Totals,
+    cred: Cred,
     dir: u32,
     name: &[u8],
     now: Time,
 ) -> Result<Plan, Refusal>
     ensures plan { (t : TreeCells) → R.cells cells.old ≡ Some t.cells → totals ≡ totals_of t.tree
-        → Gives plan_view result (planned t.cells t.tree (call.RmDir dir name.now) (remove_dir t.tree dir name.now now)) }
+        → Gives plan_view result (planned t.cells t.tree (call.RmDir dir name.now) (remove_dir t.tree cred dir name.now now)) }
     ensures short { IfOk result (λ p. AreShort 13 p.changes.items) }
     ensures kept { R.cells cells.new ≡ R.cells cells.old }
     ensures rose { result ≡ Err (Refusal.Fault CellFault.StoreFailed) → Rose (R.faults cells.old) (R.faults cells.new) }
     ensures count { R.faults cells.old ≤ R.faults cells.new }
 {
-    let inode = directory(cells, dir)?;
+    let inode = searched(cells, cred, dir)?;
     let (slot, number) = doomed(cells, dir, &inode, name)?;
+    allowed(cred, &inode, TO_WRITE)?;
     let object = named(cells, number)?;
     if !is_directory(object.kind) {
         return Err(Refusal::Status(Status::NotDir));

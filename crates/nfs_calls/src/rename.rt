@@ -19,11 +19,13 @@ use crate::losing::{is_directory, named};
 use crate::making::name_of;
 use crate::moving::{Directories, Move};
 use crate::names::{check_name, is_dots, refuse};
+use crate::permissions::allowed;
 use crate::plan::Plan;
 use crate::refusal::Refusal;
 use crate::renaming::{move_in, move_over};
 use crate::totals::Totals;
-use harp_base::{Status, Time};
+use file_tree::{TO_SEARCH, TO_WRITE};
+use harp_base::{Cred, Status, Time};
 use harp_cells::{CellFault, CellRead, Inode};
 use inode_dirs::is_below;
 use std::alloc::Global;
@@ -98,6 +100,7 @@ fn rename_checked<R: CellRead>(
     alloc: Global,
     cells: &mut R,
     totals: Totals,
+    cred: Cred,
     directories: &Directories,
     name: &[u8],
     to_name: &[u8],
@@ -109,7 +112,7 @@ fn rename_checked<R: CellRead>(
         → entry_name to_name.now ≡ Ok tt
         → Gives plan_view result
         (planned t.cells t.tree (call.Rename directories.now.dir name.now directories.now.to_dir to_name.now)
-        (found_outcome t.tree directories.now.dir name.now directories.now.to_dir to_name.now now)) }
+        (found_outcome t.tree cred directories.now.dir name.now directories.now.to_dir to_name.now now)) }
     ensures short { IfOk result (λ p. AreShort 13 p.changes.items) }
     ensures kept { R.cells cells.new ≡ R.cells cells.old }
     ensures rose { result ≡ Err (Refusal.Fault CellFault.StoreFailed) → Rose (R.faults cells.old) (R.faults cells.new) }
@@ -117,16 +120,20 @@ fn rename_checked<R: CellRead>(
 {
     match entry(cells, directories.dir, &directories.from, name)? {
         None => Err(Refusal::Status(Status::NoEnt)),
-        Some((slot, number)) => rename_found(
-            alloc,
-            cells,
-            totals,
-            directories,
-            slot,
-            number,
-            to_name,
-            now,
-        ),
+        Some((slot, number)) => {
+            allowed(cred, &directories.from, TO_WRITE)?;
+            allowed(cred, &directories.to, TO_WRITE)?;
+            rename_found(
+                alloc,
+                cells,
+                totals,
+                directories,
+                slot,
+                number,
+                to_name,
+                now,
+            )
+        }
     }
 }
 
@@ -136,6 +143,7 @@ pub fn rename<R: CellRead>(
     alloc: Global,
     cells: &mut R,
     totals: Totals,
+    cred: Cred,
     dir: u32,
     name: &[u8],
     to_dir: u32,
@@ -144,7 +152,7 @@ pub fn rename<R: CellRead>(
 ) -> Result<Plan, Refusal>
     ensures plan { (t : TreeCells) → R.cells cells.old ≡ Some t.cells → totals ≡ totals_of t.tree
         → Gives plan_view result (planned t.cells t.tree (call.Rename dir name.now to_dir to_name.now)
-        (rename t.tree dir name.now to_dir to_name.now now)) }
+        (rename t.tree cred dir name.now to_dir to_name.now now)) }
     ensures short { IfOk result (λ p. AreShort 13 p.changes.items) }
     ensures kept { R.cells cells.new ≡ R.cells cells.old }
     ensures rose { result ≡ Err (Refusal.Fault CellFault.StoreFailed) → Rose (R.faults cells.old) (R.faults cells.new) }
@@ -154,6 +162,8 @@ pub fn rename<R: CellRead>(
     let to = live(cells, to_dir)?;
     slots_in(from.kind)?;
     slots_in(to.kind)?;
+    allowed(cred, &from, TO_SEARCH)?;
+    allowed(cred, &to, TO_SEARCH)?;
     refuse(Status::Perm, is_dots(name))?;
     refuse(Status::Perm, is_dots(to_name))?;
     check_name(name)?;
@@ -164,5 +174,5 @@ pub fn rename<R: CellRead>(
         to_dir,
         to,
     };
-    rename_checked(alloc, cells, totals, &directories, name, to_name, now)
+    rename_checked(alloc, cells, totals, cred, &directories, name, to_name, now)
 }

@@ -16,12 +16,14 @@ ghost use Rattle.nfs_calls.specs.Gives.{Gives, Tells};
 use crate::file::bytes_in;
 use crate::inode::{attr_by, live};
 use crate::names::refuse;
+use crate::permissions::{allowed, settable};
 use crate::plan::Plan;
 use crate::pushes::put_object;
 use crate::refusal::Refusal;
 use crate::space::replaced;
 use crate::totals::Totals;
-use harp_base::{Reply, SetAttr, Status, Time};
+use file_tree::TO_WRITE;
+use harp_base::{Cred, Reply, SetAttr, Status, Time};
 use harp_cells::{CellFault, CellRead, Change, Inode};
 use inode_blocks::cut_to;
 use std::alloc::Global;
@@ -80,10 +82,10 @@ fn set_inode(inode: &Inode, attr: &SetAttr, now: Time) -> Inode
 
 /// The used blocks with an object of a given size, which only a file gets.
 #[tactic(auto, unfolding(file_tree::specs::Outcome::with_size))]
-fn with_size(inode: &Inode, used: u32, size: u32) -> Result<u32, Status>
+fn with_size(cred: Cred, inode: &Inode, used: u32, size: u32) -> Result<u32, Status>
     ensures step { (tree : Tree) (number : ℕ) → IsInode tree number inode.now → used_blocks tree ≡ used
         → Tells (λ _. bytes_given (object_at tree number).body size) result
-        (with_size tree number (object_at tree number).body size) }
+        (with_size tree cred number (object_at tree number).body size) }
     ensures used { IfOk result (λ after. used_with used inode.now.size size ≡ Ok after) }
     ensures file { IfOk result (λ _. size ≢ LEAVE → inode.now.kind ≡ kinds.Regular) }
     ensures small { IfOk result (λ _. size ≢ LEAVE → size ≤ 2147483647) }
@@ -92,6 +94,7 @@ fn with_size(inode: &Inode, used: u32, size: u32) -> Result<u32, Status>
         return Ok(used);
     }
     bytes_in(inode.kind)?;
+    allowed(cred, inode, TO_WRITE)?;
     refuse(Status::FBig, size > 2_147_483_647)?;
     replaced(u64::from(used), inode.size, u64::from(size))
 }
@@ -134,12 +137,13 @@ pub fn set_fields<R: CellRead>(
     alloc: Global,
     cells: &mut R,
     totals: Totals,
+    cred: Cred,
     handle: u32,
     attr: &SetAttr,
     now: Time,
 ) -> Result<Set, Refusal>
     ensures step { (t : TreeCells) → R.cells cells.old ≡ Some t.cells → totals ≡ totals_of t.tree
-        → Gives (λ _. set_tree t.tree handle attr.now now) result (set_fields t.tree handle attr.now now) }
+        → Gives (λ _. set_tree t.tree handle attr.now now) result (set_fields t.tree cred handle attr.now now) }
     ensures set { (t : TreeCells) → R.cells cells.old ≡ Some t.cells → totals ≡ totals_of t.tree
         → IfOk result (IsSet t.cells t.tree (set_tree t.tree handle attr.now now) handle attr.now.size) }
     ensures short { IfOk result (λ s. AreShort 3 s.changes.items) }
@@ -148,7 +152,8 @@ pub fn set_fields<R: CellRead>(
     ensures count { R.faults cells.old ≤ R.faults cells.new }
 {
     let inode = live(cells, handle)?;
-    let used = with_size(&inode, totals.used, attr.size)?;
+    settable(cred, &inode, attr)?;
+    let used = with_size(cred, &inode, totals.used, attr.size)?;
     let mut changes = resize(alloc, cells, handle, inode.size, attr.size)?;
     let new = set_inode(&inode, attr, now);
     put_object(&mut changes, handle, &new)?;
@@ -168,19 +173,20 @@ pub fn set_attr<R: CellRead>(
     alloc: Global,
     cells: &mut R,
     totals: Totals,
+    cred: Cred,
     handle: u32,
     attr: &SetAttr,
     now: Time,
 ) -> Result<Plan, Refusal>
     ensures plan { (t : TreeCells) → R.cells cells.old ≡ Some t.cells → totals ≡ totals_of t.tree
         → Gives plan_view result
-        (planned t.cells t.tree (call.SetAttr handle attr.now) (set_attr t.tree handle attr.now now)) }
+        (planned t.cells t.tree (call.SetAttr handle attr.now) (set_attr t.tree cred handle attr.now now)) }
     ensures short { IfOk result (λ p. AreShort 13 p.changes.items) }
     ensures kept { R.cells cells.new ≡ R.cells cells.old }
     ensures rose { result ≡ Err (Refusal.Fault CellFault.StoreFailed) → Rose (R.faults cells.old) (R.faults cells.new) }
     ensures count { R.faults cells.old ≤ R.faults cells.new }
 {
-    let set = set_fields(alloc, cells, totals, handle, attr, now)?;
+    let set = set_fields(alloc, cells, totals, cred, handle, attr, now)?;
     Ok(Plan {
         reply: Reply::Attr {
             attr: attr_by(handle, &set.inode),

@@ -14,12 +14,14 @@ ghost use Rattle.nfs_calls.specs.Gives.{Gives};
 use crate::file::bytes_in;
 use crate::inode::{attr_by, live};
 use crate::names::refuse;
+use crate::permissions::allowed;
 use crate::plan::Plan;
 use crate::pushes::put_object;
 use crate::refusal::Refusal;
 use crate::space::replaced;
 use crate::totals::Totals;
-use harp_base::{Reply, Status, Time};
+use file_tree::TO_WRITE;
+use harp_base::{Cred, Reply, Status, Time};
 use harp_cells::{CellFault, CellRead, Change, Inode};
 use inode_blocks::write_bytes;
 use std::alloc::Global;
@@ -53,6 +55,7 @@ pub fn write<R: CellRead>(
     alloc: Global,
     cells: &mut R,
     totals: Totals,
+    cred: Cred,
     handle: u32,
     offset: u32,
     bytes: &[u8],
@@ -60,7 +63,7 @@ pub fn write<R: CellRead>(
 ) -> Result<Plan, Refusal>
     ensures plan { (t : TreeCells) → R.cells cells.old ≡ Some t.cells → totals ≡ totals_of t.tree
         → Gives plan_view result
-        (planned t.cells t.tree (call.Write handle offset bytes.now) (write t.tree handle offset bytes.now now)) }
+        (planned t.cells t.tree (call.Write handle offset bytes.now) (write t.tree cred handle offset bytes.now now)) }
     ensures short { length bytes.now ≤ 8192 → IfOk result (λ p. AreShort 13 p.changes.items) }
     ensures kept { R.cells cells.new ≡ R.cells cells.old }
     ensures rose { result ≡ Err (Refusal.Fault CellFault.StoreFailed) → Rose (R.faults cells.old) (R.faults cells.new) }
@@ -68,6 +71,7 @@ pub fn write<R: CellRead>(
 {
     let inode = live(cells, handle)?;
     bytes_in(inode.kind)?;
+    allowed(cred, &inode, TO_WRITE)?;
     let end = u64::from(offset) + bytes.len() as u64;
     refuse(Status::FBig, end > 2_147_483_647)?;
     if bytes.is_empty() {

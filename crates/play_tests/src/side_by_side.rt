@@ -3,7 +3,7 @@
 use crate::calls::ROWS;
 use crate::ends::schedule;
 use file_tree::PlainTree;
-use harp_base::{Bytes, Call, Reply, is_update, write_reply};
+use harp_base::{Bytes, Call, Reply, SUPERUSER, is_update, write_reply};
 use harp_cells::{MemCells, Moment};
 use nfs_calls::{answer, prepare};
 use schedule_text::read_step;
@@ -26,9 +26,9 @@ fn over_cells(
     stamp: Moment,
 ) -> Result<Reply, Fail> {
     if !is_update(call) {
-        return Ok(answer(alloc, cells, call)?);
+        return Ok(answer(alloc, cells, SUPERUSER, call)?);
     }
-    let plan = prepare(alloc, cells, call, stamp)?;
+    let plan = prepare(alloc, cells, SUPERUSER, call, stamp)?;
     cells.apply(alloc, plan.changes.as_slice())?;
     Ok(plan.reply)
 }
@@ -42,7 +42,7 @@ fn spelled(alloc: Global, reply: &Reply) -> Result<Bytes, Fail> {
 /// Whether both give the same reply.
 fn agree(alloc: Global, trees: &mut Trees, call: &Call, millis: u64) -> Result<bool, Fail> {
     let stamp = Moment::of(millis).ok_or("no stamp")?;
-    let plain = trees.plain.apply(alloc, call, millis)?;
+    let plain = trees.plain.apply(alloc, SUPERUSER, call, millis)?;
     let other = over_cells(alloc, &mut trees.cells, call, stamp)?;
     let wanted = spelled(alloc, &plain)?;
     let got = spelled(alloc, &other)?;

@@ -5,6 +5,7 @@ use Rattle.std.proofs.lemmas.Bool.{cases_Bool, eq-eqb, eqb-true, le-ltb}
 use Rattle.std.proofs.lemmas.Bool.Decides.{eqb_tells}
 use Rattle.std.proofs.lemmas.List.{append-nil}
 use Rattle.harp_base.specs.declared.call.Call.{Call}
+use Rattle.harp_base.specs.declared.cred.Cred.{Cred}
 use Rattle.harp_base.specs.declared.peer.Peer.{Peer}
 use Rattle.harp_base.specs.Update.{is_update}
 use Rattle.harp_base.specs.declared.reply.Reply.{Reply}
@@ -25,25 +26,25 @@ use Rattle.replica.specs.declared.outputs.Outputs.{Outputs}
 
 -- ---- which moves
 
-pub asks_update : (now client number cp t lb grant : ℕ) (items : List Entry) (call : Call) (s : Server Entry)
+pub asks_update : (now client number cp t lb grant : ℕ) (items : List Entry) (cred : Cred) (call : Call) (s : Server Entry)
     → leading items cp t lb grant ≡ s
     → is_update call ≡ true → client ≤ 4095
-    → on_free_ask Zero now s.items s client number call
-    ≡ update_moves s (new_entry now s.items client number call) (last_of client s.items)
+    → on_free_ask Zero now s.items s client number cred call
+    ≡ update_moves s (new_entry now s.items client number cred call) (last_of client s.items)
 unfolding all_of
-asks_update now client number cp t lb grant items call s is update few =
-    let P : Server Entry → Type 0 = λ s. on_free_ask Zero now s.items s client number call
-    ≡ update_moves s (new_entry now s.items client number call) (last_of client s.items) in
+asks_update now client number cp t lb grant items cred call s is update few =
+    let P : Server Entry → Type 0 = λ s. on_free_ask Zero now s.items s client number cred call
+    ≡ update_moves s (new_entry now s.items client number cred call) (last_of client s.items) in
     subst P is (rw (update, le-ltb 4095 client few) refl)
 
-pub asks_read : (now client number cp t lb grant : ℕ) (items : List Entry) (call : Call) (s : Server Entry)
+pub asks_read : (now client number cp t lb grant : ℕ) (items : List Entry) (cred : Cred) (call : Call) (s : Server Entry)
     → leading items cp t lb grant ≡ s
     → is_update call ≡ false → client ≤ 4095
-    → on_free_ask Zero now s.items s client number call ≡ Reading s.cp (read_entry s.cp s.items client number call) ∷ []
+    → on_free_ask Zero now s.items s client number cred call ≡ Reading s.cp (read_entry s.cp s.items client number cred call) ∷ []
 unfolding all_of
-asks_read now client number cp t lb grant items call s is update few =
-    let P : Server Entry → Type 0 = λ s. on_free_ask Zero now s.items s client number call
-    ≡ Reading s.cp (read_entry s.cp s.items client number call) ∷ [] in
+asks_read now client number cp t lb grant items cred call s is update few =
+    let P : Server Entry → Type 0 = λ s. on_free_ask Zero now s.items s client number cred call
+    ≡ Reading s.cp (read_entry s.cp s.items client number cred call) ∷ [] in
     subst P is (rw (update, le-ltb 4095 client few) refl)
 
 -- ---- repeats

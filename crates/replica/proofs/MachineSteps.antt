@@ -4,6 +4,7 @@ use Rattle.std.specs.Prelude.{◌&&◌, ◌||◌, ◌==◌, not, if◌then◌els
 use Rattle.std.proofs.lemmas.Bool.{cases_Bool, le-ltb}
 use Rattle.std.proofs.lemmas.List.{append-nil}
 use Rattle.harp_base.specs.declared.call.Call.{Call}
+use Rattle.harp_base.specs.declared.cred.Cred.{Cred}
 use Rattle.harp_base.specs.Update.{is_update}
 use Rattle.file_tree.specs.Book.{Entry, last_of}
 use Rattle.group_model.specs.Ask.{append, new_entry, on_ask, update_moves}
@@ -143,28 +144,28 @@ plain_update s e (Some last) =
     (plain_if (nat_le last.index s.cp) _ _ (tt, tt) tt)
     (plain_if (nat_lt e.number last.number) _ _ (tt, tt) (plain_append s e))
 
-plain_ask : (clock client number : ℕ) (list : List Entry) (s : Server Entry) (call : Call)
-    → ArePlain (on_ask Zero clock list s client number call)
-plain_ask clock client number list s call =
+plain_ask : (clock client number : ℕ) (list : List Entry) (s : Server Entry) (cred : Cred) (call : Call)
+    → ArePlain (on_ask Zero clock list s client number cred call)
+plain_ask clock client number list s cred call =
     plain_if (nat_lt 4095 client) _ _ (tt, tt)
     (plain_if (all_of (is_active s.mode ∷ same Zero (leader s.plan.storers) ∷ [])) _ _
     (plain_if (is_open s.mode) _ _
-    (plain_if (is_update call) _ _ (plain_update s (new_entry clock list client number call) (last_of client list))
+    (plain_if (is_update call) _ _ (plain_update s (new_entry clock list client number cred call) (last_of client list))
     (plain_if (nat_le s.grant clock) _ _ (tt, tt) (tt, tt)))
     (tt, tt))
     (tt, tt))
 
 pub leader_is_asked : LeaderIsAsked
-leader_is_asked s client number call is update size clock list =
+leader_is_asked s client number cred call is update size clock list =
     let first = leading s.items s.cp s.told_top s.told_lb s.grant in
     let P : Server Entry → Type 0 =
-    λ s. step size Zero clock list s (Does (Ask client number call))
-    ≡ on_free_ask Zero clock list s client number call in
-    let free : on_free_ask Zero clock list first client number call
-    ≡ on_ask Zero clock list first client number call = rw update refl in
+    λ s. step size Zero clock list s (Does (Ask client number cred call))
+    ≡ on_free_ask Zero clock list s client number cred call in
+    let free : on_free_ask Zero clock list first client number cred call
+    ≡ on_ask Zero clock list first client number cred call = rw update refl in
     subst P (sym is) (ends clock s.cp s.told_top s.told_lb s.grant s.items (on_ask Zero clock list first client
-    number call)
-    (plain_ask clock client number list first call) ∙ sym free)
+    number cred call)
+    (plain_ask clock client number list first cred call) ∙ sym free)
 
 -- a message that is tried as a misfit, then heeded by these moves
 leader_hears : (clock cp t lb grant : ℕ) (items : List Entry) (misfit heeded : Bool) (ms : List (Move Entry))
@@ -251,10 +252,10 @@ partner_ticks s is size clock list =
 
 pub partner_is_asked : PartnerIsAsked
 unfolding all_of
-partner_is_asked s client number call is size clock list =
+partner_is_asked s client number cred call is size clock list =
     let P : Server Entry → Type 0 =
-    λ s. step size One clock list s (Does (Ask client number call))
-    ≡ on_free_ask One clock list s client number call in
+    λ s. step size One clock list s (Does (Ask client number cred call))
+    ≡ on_free_ask One clock list s client number cred call in
     subst P (sym is) (elim (cases_Bool (nat_lt 4095 client)) [
       | inl u ↦ elim (cases_Bool (is_update call)) [ inl w ↦ rw (u, w) refl | inr w ↦ rw (u, w) refl ]
       | inr u ↦ elim (cases_Bool (is_update call)) [ inl w ↦ rw (u, w) refl | inr w ↦ rw (u, w) refl ]

@@ -4,6 +4,7 @@ use Rattle.std.specs.Prelude.{◌==◌, ◌&&◌, if◌then◌else◌, max, IfSo
 use Rattle.std.specs.List.{list_all}
 use Rattle.std.proofs.lemmas.Bool.{and_parts}
 use Rattle.harp_base.specs.declared.call.Call.{Call}
+use Rattle.harp_base.specs.declared.cred.Cred.{Cred}
 use Rattle.harp_base.specs.Update.{is_update}
 use Rattle.file_tree.specs.Book.{Entry, last_of, last_stamp, tree_after, tree_next}
 use Rattle.file_tree.specs.Calls.{outcome}
@@ -83,7 +84,7 @@ put_last same false e last held h is = absurd cc
 -- its changes and the Put lead from the cells of a book to those of the book with it
 pub planned_stands : (held : Cells) (entries : List Entry) (changes : List Change) (e : Entry)
     → StandForBook held entries → is_update e.call ≡ true
-    → list_all changes_tree changes ≡ true → StandForTree (after changes held) (outcome (tree_after entries) e.call
+    → list_all changes_tree changes ≡ true → StandForTree (after changes held) (outcome (tree_after entries) e.cred e.call
     e.stamp).1 e.stamp
     → StandForBook (after (changes ++ change.Put (cell.Client e.client) (value.Client e.number e.index e.reply) ∷ [])
     held) (entries ++ e ∷ [])
@@ -106,45 +107,49 @@ planned_stands held entries changes e stand update tree lead =
     book
 
 -- so a record of it stands for its entry
-pub record_stands : (entries : List Entry) (cells : Option Cells) (e : Entry) (call : Call) (changes all : List Change)
-    → e.call ≡ call → is_update call ≡ true
-    → AreShort 15 changes → (HoldBook entries cells → PlansFor entries call e.stamp cells e.reply changes)
+pub record_stands : (entries : List Entry) (cells : Option Cells) (e : Entry) (cred : Cred) (call : Call) (changes all : List Change)
+    → e.cred ≡ cred → e.call ≡ call → is_update call ≡ true
+    → AreShort 15 changes → (HoldBook entries cells → PlansFor entries cred call e.stamp cells e.reply changes)
     → all ≡ changes ++ change.Put (cell.Client e.client) (value.Client e.number e.index e.reply) ∷ []
     → IfSome cells (λ held. StandForBook held entries → StandForBook (after all held) (entries ++ e ∷ []))
-record_stands entries None e call changes all same update short plans are = tt
-record_stands entries (Some held) e call changes all same update short plans are = λ stand.
-    let leads = subst (λ (c : Call). StandForTree (after changes held) (outcome (tree_after entries) c e.stamp).1
-    e.stamp) (sym same) (plans stand).leads in
+record_stands entries None e cred call changes all who same update short plans are = tt
+record_stands entries (Some held) e cred call changes all who same update short plans are = λ stand.
+    let leads = subst (λ (c : Call). StandForTree (after changes held) (outcome (tree_after entries) e.cred c e.stamp).1
+    e.stamp) (sym same) (subst (λ (w : Cred). StandForTree (after changes held) (outcome (tree_after entries) w call
+    e.stamp).1 e.stamp) (sym who) (plans stand).leads) in
     subst (λ (cs : List Change). StandForBook (after cs held) (entries ++ e ∷ [])) (sym are)
     (planned_stands held entries changes e stand (ap is_update same ∙ update) short.tree leads)
 
 -- and its entry is the machine's
-pub entry_is : (now client number index stamp : ℕ) (call : Call) (items : List Entry) (e : Entry)
+pub entry_is : (now client number index stamp : ℕ) (cred : Cred) (call : Call) (items : List Entry) (e : Entry)
     → e ≡ record {
       index = index;
       client = client;
       number = number;
+      cred = cred;
       call = call;
       stamp = stamp;
       reply = (outcome
-          (tree_after items) call stamp).0;
+          (tree_after items) cred call stamp).0;
     }
-    → index ≡ length items + 1 → stamp ≡ max now (last_stamp items) → e ≡ new_entry now items client number call
-entry_is now client number index stamp call items e is at when =
+    → index ≡ length items + 1 → stamp ≡ max now (last_stamp items) → e ≡ new_entry now items client number cred call
+entry_is now client number index stamp cred call items e is at when =
     is ∙ ap (λ (n : ℕ). let x : Entry = record {
       index = n;
       client = client;
       number = number;
+      cred = cred;
       call = call;
       stamp =
           stamp;
-      reply = (outcome (tree_after items) call stamp).0;
+      reply = (outcome (tree_after items) cred call stamp).0;
     } in x) at
     ∙ ap (λ (n : ℕ). let x : Entry = record {
       index = length items + 1;
       client = client;
       number = number;
+      cred = cred;
       call = call;
       stamp = n;
-      reply = (outcome (tree_after items) call n).0;
+      reply = (outcome (tree_after items) cred call n).0;
     } in x) when

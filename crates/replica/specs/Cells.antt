@@ -1,6 +1,7 @@
 -- The cells that a leader keeps in memory.
 use Rattle.std.specs.Prelude.{◌≡◌, ℕ, List, Option, None, Some, IfSome}
 use Rattle.harp_base.specs.declared.call.Call.{Call}
+use Rattle.harp_base.specs.declared.cred.Cred.{Cred}
 use Rattle.harp_base.specs.declared.reply.Reply.{Reply}
 use Rattle.event_record.specs.declared.record.Record.{Record}
 use Rattle.event_record.specs.Record.{changes_of}
@@ -22,10 +23,10 @@ HoldBook entries cells = IfSome cells (λ held. StandForBook held entries)
 
 -- the reply is that of the outcome on the tree after these entries, and the changes lead from the cells, where they are
 -- there, to cells that stand for the outcome's tree
-pub record PlansFor (entries : List Entry) (call : Call) (stamp : ℕ) (cells : Option Cells) (reply : Reply)
+pub record PlansFor (entries : List Entry) (cred : Cred) (call : Call) (stamp : ℕ) (cells : Option Cells) (reply : Reply)
     (changes : List Change) : Type 0 where
-  pub answers : reply ≡ (outcome (tree_after entries) call stamp).0
-  pub leads : IfSome cells (λ held. StandForTree (after changes held) (outcome (tree_after entries) call stamp).1 stamp)
+  pub answers : reply ≡ (outcome (tree_after entries) cred call stamp).0
+  pub leads : IfSome cells (λ held. StandForTree (after changes held) (outcome (tree_after entries) cred call stamp).1 stamp)
 
 -- cells without any value
 abbrev pub no_values : Cells

@@ -1,7 +1,6 @@
 -- What the moves of a step say: the messages, answers and refusals, and the entries that come into the book.
 use Rattle.std.specs.Prelude.{◌≡◌, ℕ, ◌-◌, List, [], ◌∷◌, ◌++◌, take, drop, map, Option, None, Some, option_map}
 use Rattle.std.specs.List.{flat_map}
-use Rattle.harp_base.specs.declared.call.Call.{Call}
 use Rattle.harp_base.specs.declared.peer.Peer.{Peer}
 use Rattle.event_record.specs.Record.{entry_of}
 use Rattle.file_tree.specs.Book.{Entry}
@@ -15,6 +14,7 @@ use Rattle.trace_lines.specs.declared.line.Cause.TheVariants as cause
 use Rattle.wire.specs.declared.message.Message.{Message as Wire}
 use Rattle.wire.specs.declared.message.Message.TheVariants as wire
 use Rattle.replica.specs.declared.outputs.Answered.{Answered}
+use Rattle.replica.specs.declared.outputs.AskedRead.{AskedRead}
 use Rattle.replica.specs.declared.outputs.Outputs.{Outputs}
 use Rattle.replica.specs.declared.outputs.Refused.{Refused}
 use Rattle.replica.specs.declared.outputs.Sent.{Sent}
@@ -44,11 +44,11 @@ in_turn say [] peers = []
 in_turn say (x ∷ xs) [] = []
 in_turn say (x ∷ xs) (peer ∷ peers) = say peer x ∷ in_turn say xs peers
 
--- an answer: the index that it names, the entry, and the call of a read
+-- an answer: the index that it names, the entry, and what was asked where it is a read
 pub record Answer : Type 0 where
   pub index : ℕ
   pub entry : Entry
-  pub asked : Option Call
+  pub asked : Option AskedRead
 
 abbrev pub answered_say : Say Entry → List Answer
 answered_say (Answers index e) = record { index = index; entry = e; asked = None } ∷ []
@@ -57,7 +57,7 @@ answered_say (Lists n) = []
 
 abbrev pub answered_by : Move Entry → List Answer
 answered_by (Saying say) = answered_say say
-answered_by (Reading index e) = record { index = index; entry = e; asked = Some e.call } ∷ []
+answered_by (Reading index e) = record { index = index; entry = e; asked = Some (record { cred = e.cred; call = e.call }) } ∷ []
 answered_by m = []
 
 abbrev pub answered : Peer → Answer → Answered
@@ -116,6 +116,7 @@ entered e = record {
   index = e.index;
   client = e.client;
   number = e.number;
+  cred = e.cred;
   call = e.call;
   stamp = e.stamp;
   reply = e.reply;

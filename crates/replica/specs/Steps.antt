@@ -1,6 +1,7 @@
 -- What the machine's step is at the leader and at the partner.
 use Rattle.std.specs.Prelude.{◌≡◌, ℕ, true, List, [], if◌then◌else◌}
 use Rattle.harp_base.specs.declared.call.Call.{Call}
+use Rattle.harp_base.specs.declared.cred.Cred.{Cred}
 use Rattle.harp_base.specs.Update.{is_update}
 use Rattle.file_tree.specs.Book.{Entry}
 use Rattle.group_model.specs.Effects.{taken}
@@ -27,8 +28,8 @@ abbrev pub LeaderTicks : Type 0
 LeaderTicks = (s : Server Entry) → IsLeading s → IsStep Zero s (λ clock list. tick Zero clock s) Tick
 
 abbrev pub LeaderIsAsked : Type 0
-LeaderIsAsked = (s : Server Entry) (client number : ℕ) (call : Call) → IsLeading s → is_update call ≡ true
-    → IsStep Zero s (λ clock list. on_free_ask Zero clock list s client number call) (Ask client number call)
+LeaderIsAsked = (s : Server Entry) (client number : ℕ) (cred : Cred) (call : Call) → IsLeading s → is_update call ≡ true
+    → IsStep Zero s (λ clock list. on_free_ask Zero clock list s client number cred call) (Ask client number cred call)
 
 abbrev pub LeaderHearsAck : Type 0
 LeaderHearsAck = (s : Server Entry) (from : Place) (v t lb until : ℕ) → IsLeading s
@@ -39,8 +40,8 @@ abbrev pub PartnerTicks : Type 0
 PartnerTicks = (s : Server Entry) → IsFollowing s → IsStep One s (λ clock list. []) Tick
 
 abbrev pub PartnerIsAsked : Type 0
-PartnerIsAsked = (s : Server Entry) (client number : ℕ) (call : Call) → IsFollowing s
-    → IsStep One s (λ clock list. on_free_ask One clock list s client number call) (Ask client number call)
+PartnerIsAsked = (s : Server Entry) (client number : ℕ) (cred : Cred) (call : Call) → IsFollowing s
+    → IsStep One s (λ clock list. on_free_ask One clock list s client number cred call) (Ask client number cred call)
 
 abbrev pub PartnerHearsEvent : Type 0
 PartnerHearsEvent = (s : Server Entry) (from : Place) (v index cp base : ℕ) (e : Entry) → IsFollowing s

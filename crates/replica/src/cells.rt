@@ -12,7 +12,7 @@ ghost use Rattle.update_changes.specs.Short.{AreShort};
 
 use dedup::{Seen, seen};
 use event_record::Moment;
-use harp_base::{Call, Reply};
+use harp_base::{Call, Cred, Reply};
 use harp_cells::{Change, MemCells};
 use nfs_calls::{Prepared, answer, prepare};
 use std::alloc::{AllocError, Global};
@@ -21,16 +21,17 @@ use std::alloc::{AllocError, Global};
 pub(crate) fn reply_to_read(
     alloc: Global,
     cells: &mut Option<MemCells>,
+    cred: Cred,
     call: &Call,
 ) -> Result<Reply, AllocError>
     requires { is_update call.now ≡ false }
     ensures reply { (entries : List Entry) → HoldBook entries (held_in cells.old)
-        → IfOk result (λ reply. reply ≡ (outcome (tree_after entries) call.now 0).0) }
+        → IfOk result (λ reply. reply ≡ (outcome (tree_after entries) cred call.now 0).0) }
     ensures same { held_in cells.new ≡ held_in cells.old }
 {
     match cells {
         None => Err(AllocError),
-        Some(cells) => match answer(alloc, cells, call) {
+        Some(cells) => match answer(alloc, cells, cred, call) {
             Ok(reply) => Ok(reply),
             Err(_) => Err(AllocError),
         },
@@ -62,19 +63,20 @@ pub(crate) fn seen_among(
 pub(crate) fn plan(
     alloc: Global,
     cells: &mut Option<MemCells>,
+    cred: Cred,
     call: &Call,
     stamp: Moment,
 ) -> Result<Prepared, AllocError>
     requires { is_update call.now ≡ true }
     ensures plans { (entries : List Entry) → HoldBook entries (held_in cells.old)
-        → IfOk result (λ p. PlansFor entries call.now stamp (held_in cells.old) p.reply p.changes.items) }
+        → IfOk result (λ p. PlansFor entries cred call.now stamp (held_in cells.old) p.reply p.changes.items) }
     ensures short { IfOk result (λ p. AreShort 15 p.changes.items) }
     ensures there { OnOk result (IsSome (held_in cells.old)) }
     ensures same { held_in cells.new ≡ held_in cells.old }
 {
     match cells {
         None => Err(AllocError),
-        Some(cells) => match prepare(alloc, cells, call, stamp) {
+        Some(cells) => match prepare(alloc, cells, cred, call, stamp) {
             Ok(prepared) => Ok(prepared),
             Err(_) => Err(AllocError),
         },

@@ -11,5 +11,5 @@ mod view;
 
 pub use laws::steps_are_the_groups;
 pub use leader::Leader;
-pub use outputs::{Answered, Outputs, Refused, Sent};
+pub use outputs::{Answered, AskedRead, Outputs, Refused, Sent};
 pub use partner::Partner;

@@ -4,7 +4,7 @@ ghost use Rattle.std.specs.Prelude.{◌≡◌, ◌++◌, ◌∷◌, [], map, OnO
 ghost use Rattle.group_model.specs.Names.{place_of};
 ghost use Rattle.replica.specs.Said.{entered, heard, sent};
 
-use harp_base::{Call, Peer, Reply, ServerId};
+use harp_base::{Call, Cred, Peer, Reply, ServerId};
 use std::alloc::{AllocError, Global};
 use trace_lines::{BookEntry, Cause};
 use wire::Message;
@@ -20,8 +20,15 @@ pub struct Answered {
     /// The place of an update among the updates, from 1; of a read how many updates are committed.
     pub index: u64,
     pub reply: Reply,
-    /// The call of a read. An update stands in the book with its own.
-    pub asked: Option<Call>,
+    /// The call of a read, and who made it. An update stands in the book with its own.
+    pub asked: Option<AskedRead>,
+}
+
+/// A read that was asked.
+#[derive(Debug, Drop)]
+pub struct AskedRead {
+    pub cred: Cred,
+    pub call: Call,
 }
 
 /// An ask that is refused.
@@ -42,12 +49,13 @@ pub struct Sent {
     pub message: Message,
 }
 
-/// Who asks, for which client, and by which number.
+/// Who asks, for which client, by which number, and with which credential.
 #[derive(Clone, Copy)]
 pub struct Asker {
     pub peer: Peer,
     pub client: u32,
     pub number: u64,
+    pub cred: Cred,
 }
 
 /// What calls gave, each list in its order.
@@ -100,6 +108,7 @@ impl Outputs {
             peer,
             client,
             number,
+            ..
         } = asker;
         self.refusals.push(Refused {
             peer,

@@ -20,7 +20,7 @@ use crate::outputs::{Asker, Outputs};
 use crate::records::ROOM;
 use crate::view::{is_view_one, view_one};
 use event_record::{Moment, Record};
-use harp_base::{Call, Held, Mode, Peer, Role, ServerId, StateLine, ViewNo};
+use harp_base::{Call, Cred, Held, Mode, Peer, Role, ServerId, StateLine, ViewNo};
 use std::alloc::{AllocError, Global};
 use std::marker::Model;
 use trace_lines::Cause;
@@ -89,11 +89,12 @@ impl Partner {
         peer: Peer,
         client: u32,
         number: u64,
+        cred: Cred,
         call: &Call,
         outs: &mut Outputs,
     ) -> Result<(), AllocError>
         ensures makes { OnOk result ((clock : ℕ) → Makes One clock
-            (on_free_ask One clock self.now.items self.now client number call.now) (peer ∷ [])
+            (on_free_ask One clock self.now.items self.now client number cred call.now) (peer ∷ [])
             self.now self.now outs.old outs.new) }
         ensures follows { IsFollowing self.now }
     {
@@ -103,6 +104,7 @@ impl Partner {
             peer,
             client,
             number,
+            cred,
         };
         let hint = Some(ServerId::Zero);
         let cause = if client > 4095 {

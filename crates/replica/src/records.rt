@@ -58,22 +58,24 @@ pub(crate) fn next_record(
           index = index;
           client = asker.client;
           number = asker.number;
+          cred = asker.cred;
           call = call.now;
           stamp = stamp;
-          reply = (outcome (tree_after entries) call.now stamp).0;
+          reply = (outcome (tree_after entries) asker.cred call.now stamp).0;
         }) }
     ensures index { IfOk result (λ r. r.index ≡ index) }
     ensures there { OnOk result (IsSome (held_in cells.old)) }
     ensures stands { (entries : List Entry) → IfSome (held_in cells.old) (λ held. IfOk result (StandsFor held entries)) }
     ensures same { held_in cells.new ≡ held_in cells.old }
 {
-    let Prepared { reply, mut changes } = plan(alloc, cells, call, stamp)?;
+    let Prepared { reply, mut changes } = plan(alloc, cells, asker.cred, call, stamp)?;
     changes.push(keep(alloc, asker.client, asker.number, index.get(), &reply)?)?;
     Ok(Record {
         stamped: view_one(),
         index,
         client: asker.client,
         number: asker.number,
+        cred: asker.cred,
         call: call.copy(alloc)?,
         stamp,
         reply,
@@ -89,6 +91,7 @@ pub(crate) fn entry_copy(alloc: Global, item: &Record) -> Result<BookEntry, Allo
         index: item.index.get(),
         client: item.client,
         number: item.number,
+        cred: item.cred,
         stamp: item.stamp.get(),
         call: item.call.copy(alloc)?,
         reply: item.reply.copy(alloc)?,

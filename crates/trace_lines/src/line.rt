@@ -3,7 +3,7 @@
 ghost use Rattle.std.specs.Prelude.{◌≡◌, IfOk};
 
 use crate::step::Step;
-use harp_base::{Call, Reply, ServerId, StateLine, ViewNo};
+use harp_base::{Call, Cred, Reply, ServerId, StateLine, ViewNo};
 use std::alloc::{AllocError, Global};
 
 /// A call that stands in the book, with its reply. A read has the index 0 and the stamp 0.
@@ -14,6 +14,8 @@ pub struct BookEntry {
     pub client: u32,
     /// The client's own number of the call.
     pub number: u64,
+    /// Who made the call.
+    pub cred: Cred,
     /// Milliseconds of the clock at which the update was appended.
     pub stamp: u64,
     pub call: Call,
@@ -29,6 +31,7 @@ impl BookEntry {
             index: self.index,
             client: self.client,
             number: self.number,
+            cred: self.cred,
             stamp: self.stamp,
             call: self.call.copy(alloc)?,
             reply: self.reply.copy(alloc)?,

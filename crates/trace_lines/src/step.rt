@@ -1,6 +1,6 @@
 //! What a line of a schedule asks for.
 
-use harp_base::{Call, ServerId};
+use harp_base::{Call, Cred, ServerId};
 
 /// One step of a schedule.
 #[derive(Debug, Drop)]
@@ -10,6 +10,7 @@ pub enum Step {
         server: ServerId,
         client: u32,
         number: u64,
+        cred: Cred,
         call: Call,
     },
     /// The packet of this number, from 0, reaches its server.

@@ -44,42 +44,42 @@ leads t c stamp (Ok x) h = with_totals (tree_changes t.cells t.tree x.1 c) t.cel
 leads t c stamp (Err status) h = with_totals [] t.cells t.tree stamp (each_stands t.cells t.tree t.stamp t.stand)
 
 pub updates_lead : UpdatesLead
-updates_lead t (call.SetAttr handle attr) stamp is =
-    leads t (call.SetAttr handle attr) stamp (answered t.tree (call.SetAttr handle attr) (time_of stamp))
-    (set_attr_leads t handle attr (time_of stamp))
-updates_lead t (call.Write handle offset bytes) stamp is =
-    leads t (call.Write handle offset bytes) stamp (answered t.tree (call.Write handle offset bytes) (time_of stamp))
-    (write_leads t handle offset bytes (time_of stamp))
-updates_lead t (call.Create dir name attr) stamp is =
-    leads t (call.Create dir name attr) stamp (answered t.tree (call.Create dir name attr) (time_of stamp))
-    (create_leads t dir name attr (time_of stamp))
-updates_lead t (call.Remove dir name) stamp is =
-    leads t (call.Remove dir name) stamp (answered t.tree (call.Remove dir name) (time_of stamp))
-    (remove_leads t dir name (time_of stamp))
-updates_lead t (call.Rename dir name to_dir to_name) stamp is =
+updates_lead t cred (call.SetAttr handle attr) stamp is =
+    leads t (call.SetAttr handle attr) stamp (answered t.tree cred (call.SetAttr handle attr) (time_of stamp))
+    (set_attr_leads t cred handle attr (time_of stamp))
+updates_lead t cred (call.Write handle offset bytes) stamp is =
+    leads t (call.Write handle offset bytes) stamp (answered t.tree cred (call.Write handle offset bytes) (time_of stamp))
+    (write_leads t cred handle offset bytes (time_of stamp))
+updates_lead t cred (call.Create dir name attr) stamp is =
+    leads t (call.Create dir name attr) stamp (answered t.tree cred (call.Create dir name attr) (time_of stamp))
+    (create_leads t cred dir name attr (time_of stamp))
+updates_lead t cred (call.Remove dir name) stamp is =
+    leads t (call.Remove dir name) stamp (answered t.tree cred (call.Remove dir name) (time_of stamp))
+    (remove_leads t cred dir name (time_of stamp))
+updates_lead t cred (call.Rename dir name to_dir to_name) stamp is =
     leads t (call.Rename dir name to_dir to_name) stamp
-    (answered t.tree (call.Rename dir name to_dir to_name) (time_of stamp))
-    (rename_leads t dir name to_dir to_name (time_of stamp))
-updates_lead t (call.Link handle dir name) stamp is =
-    leads t (call.Link handle dir name) stamp (answered t.tree (call.Link handle dir name) (time_of stamp))
-    (link_leads t handle dir name (time_of stamp))
-updates_lead t (call.SymLink dir name text attr) stamp is =
+    (answered t.tree cred (call.Rename dir name to_dir to_name) (time_of stamp))
+    (rename_leads t cred dir name to_dir to_name (time_of stamp))
+updates_lead t cred (call.Link handle dir name) stamp is =
+    leads t (call.Link handle dir name) stamp (answered t.tree cred (call.Link handle dir name) (time_of stamp))
+    (link_leads t cred handle dir name (time_of stamp))
+updates_lead t cred (call.SymLink dir name text attr) stamp is =
     leads t (call.SymLink dir name text attr) stamp
-    (answered t.tree (call.SymLink dir name text attr) (time_of stamp))
-    (make_link_leads t dir name text attr (time_of stamp))
-updates_lead t (call.MkDir dir name attr) stamp is =
-    leads t (call.MkDir dir name attr) stamp (answered t.tree (call.MkDir dir name attr) (time_of stamp))
-    (make_dir_leads t dir name attr (time_of stamp))
-updates_lead t (call.RmDir dir name) stamp is =
-    leads t (call.RmDir dir name) stamp (answered t.tree (call.RmDir dir name) (time_of stamp))
-    (remove_dir_leads t dir name (time_of stamp))
-updates_lead t call.Null stamp is = absurd cc
-updates_lead t (call.GetAttr handle) stamp is = absurd cc
-updates_lead t (call.Lookup dir name) stamp is = absurd cc
-updates_lead t (call.ReadLink handle) stamp is = absurd cc
-updates_lead t (call.Read handle offset count) stamp is = absurd cc
-updates_lead t (call.ReadDir dir cookie count) stamp is = absurd cc
-updates_lead t (call.StatFs handle) stamp is = absurd cc
+    (answered t.tree cred (call.SymLink dir name text attr) (time_of stamp))
+    (make_link_leads t cred dir name text attr (time_of stamp))
+updates_lead t cred (call.MkDir dir name attr) stamp is =
+    leads t (call.MkDir dir name attr) stamp (answered t.tree cred (call.MkDir dir name attr) (time_of stamp))
+    (make_dir_leads t cred dir name attr (time_of stamp))
+updates_lead t cred (call.RmDir dir name) stamp is =
+    leads t (call.RmDir dir name) stamp (answered t.tree cred (call.RmDir dir name) (time_of stamp))
+    (remove_dir_leads t cred dir name (time_of stamp))
+updates_lead t cred call.Null stamp is = absurd cc
+updates_lead t cred (call.GetAttr handle) stamp is = absurd cc
+updates_lead t cred (call.Lookup dir name) stamp is = absurd cc
+updates_lead t cred (call.ReadLink handle) stamp is = absurd cc
+updates_lead t cred (call.Read handle offset count) stamp is = absurd cc
+updates_lead t cred (call.ReadDir dir cookie count) stamp is = absurd cc
+updates_lead t cred (call.StatFs handle) stamp is = absurd cc
 
 -- ---- cells of clients and of saved logs
 

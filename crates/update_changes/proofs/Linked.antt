@@ -5,6 +5,7 @@ use Rattle.std.proofs.lemmas.Bool.{cases_eq, ne_eqb, or_from}
 use Rattle.std.proofs.lemmas.List.{get_or-set_other}
 use Rattle.harp_base.specs.declared.attr.Time.{Time}
 use Rattle.harp_base.specs.declared.call.Call.TheVariants as call
+use Rattle.harp_base.specs.declared.cred.Cred.{Cred}
 use Rattle.harp_base.specs.declared.reply.Reply.{Reply}
 use Rattle.harp_base.specs.declared.reply.Status.TheVariants.{Perm}
 use Rattle.file_tree.specs.declared.object.Slot.{Slot}
@@ -12,12 +13,13 @@ use Rattle.file_tree.specs.declared.object.Body.{Body}
 use Rattle.file_tree.specs.declared.object.Object.{Object}
 use Rattle.file_tree.specs.Tree.{Tree, Slots, place, slots_of, slots_within, free_from, with_entry, is_directory}
 use Rattle.file_tree.specs.Steps.{live, directory, room}
+use Rattle.file_tree.specs.Permissions.{writing, allowed, searched}
 use Rattle.file_tree.specs.Outcome.{change, reslotted, set_ctime, add_entry, free_name, link}
 use Rattle.file_tree.proofs.Kept.{live_place}
 use Rattle.file_tree.proofs.SlotLaws.{names_entered}
 use Rattle.file_tree.proofs.Reslots.{Reslots, reslots_reslotted, own_place, other_place, change_is, place_set}
 use Rattle.file_tree.proofs.SoundChanges.{one_other}
-use Rattle.file_tree.proofs.StepLaws.{done, step, unless, given_at, IsDirectoryOf, directory_is}
+use Rattle.file_tree.proofs.StepLaws.{done, step, unless, given_at, IsDirectoryOf, searched_is}
 use Rattle.harp_cells.specs.declared.cell.Cell.{Cell}
 use Rattle.harp_cells.specs.declared.cell.Cell.TheVariants as cell
 use Rattle.harp_cells.specs.Effect.{after, is_cell}
@@ -211,16 +213,17 @@ added tree dir slots s now new e =
     (λ (x : Tree). x ≡ change tree dir (reslotted now (with_entry slots s)))
     (λ u enough. done _ (λ (x : Tree). x ≡ change tree dir (reslotted now (with_entry slots s))) refl)) e
 
-pub link_leads : (t : TreeCells) (handle dir : ℕ) (name : List ℕ) (now : Time) (reply : Reply) (new : Tree)
-    → link t.tree handle dir name now ≡ Ok (reply, new)
+pub link_leads : (t : TreeCells) (cred : Cred) (handle dir : ℕ) (name : List ℕ) (now : Time) (reply : Reply) (new : Tree)
+    → link t.tree cred handle dir name now ≡ Ok (reply, new)
     → AllStand (after (tree_changes t.cells t.tree new (call.Link handle dir name)) t.cells) new
 unfolding link tree_changes
-link_leads t handle dir name now reply new e =
-    given_at (link t.tree handle dir name now) (LinkLeads t handle dir) (reply, new)
+link_leads t cred handle dir name now reply new e =
+    given_at (link t.tree cred handle dir name now) (LinkLeads t handle dir) (reply, new)
     (step (live t.tree handle) _ (LinkLeads t handle dir) (λ o lives.
-    step (directory t.tree dir) _ (LinkLeads t handle dir) (λ slots d.
+    step (searched t.tree cred dir) _ (LinkLeads t handle dir) (λ slots d.
     unless Perm (is_directory o.body) _ (LinkLeads t handle dir) (λ file.
     step (free_name slots name) _ (LinkLeads t handle dir) (λ u f.
+    step (allowed t.tree cred dir writing) _ (LinkLeads t handle dir) (λ v may.
     step (add_entry t.tree dir slots (record { name = name; number = handle }) now) _ (LinkLeads t handle dir)
     (λ mid g.
     done _ (LinkLeads t handle dir)
@@ -231,7 +234,7 @@ link_leads t handle dir name now reply new e =
       object = o;
       lives = live_place t.tree handle o lives;
       file = file;
-      of = directory_is t.tree dir slots d;
+      of = searched_is t.tree cred dir slots d;
       becomes = ap (λ (x : Tree). change x handle (set_ctime now))
           (added t.tree dir slots (record { name = name; number = handle }) now mid g);
-    })))))))) e
+    }))))))))) e

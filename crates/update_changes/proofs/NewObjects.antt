@@ -6,15 +6,18 @@ use Rattle.std.proofs.lemmas.List.{get_or_past}
 use Rattle.harp_base.specs.declared.attr.Time.{Time}
 use Rattle.harp_base.specs.declared.attr.SetAttr.{SetAttr}
 use Rattle.harp_base.specs.declared.call.Call.TheVariants as call
+use Rattle.harp_base.specs.declared.cred.Cred.{Cred}
 use Rattle.harp_base.specs.declared.reply.Reply.{Reply}
+use Rattle.harp_base.specs.declared.reply.Reply.TheVariants.{Node}
 use Rattle.harp_base.specs.declared.reply.Status.TheVariants.{FBig, NameTooLong, Exist}
 use Rattle.file_tree.specs.declared.object.Body.{Body}
 use Rattle.file_tree.specs.declared.object.Body.TheVariants as body
 use Rattle.file_tree.specs.declared.object.Object.{Object}
-use Rattle.file_tree.specs.Tree.{Tree, Slots, place, slots_within, entry}
-use Rattle.file_tree.specs.Steps.{directory, entry_name}
+use Rattle.file_tree.specs.Tree.{Tree, Slots, place, slots_within, entry, attr_at}
+use Rattle.file_tree.specs.Steps.{live, entry_name}
+use Rattle.file_tree.specs.Permissions.{searched, may_make, heeded}
 use Rattle.file_tree.specs.Outcome.{LARGEST, given, made, with_object, has_entry, free_name, room_for, is_regular, is_regular_at, set_fields, create_again, create_new, create_at, create, make_dir, make_link}
-use Rattle.file_tree.proofs.StepLaws.{Given, done, step, unless, given_at, IsDirectoryOf, directory_is, room_for_is}
+use Rattle.file_tree.proofs.StepLaws.{Given, done, step, unless, given_at, IsDirectoryOf, searched_is, searched_slots, room_for_is, heeded_size}
 use Rattle.harp_cells.specs.declared.value.Value.{Value}
 use Rattle.harp_cells.specs.Effect.{Cells, after}
 use Rattle.harp_cells.specs.CellsOfTree.{content_of}
@@ -81,104 +84,111 @@ making t dir slots full name size o now d room bare = record {
       (room_for_is t.tree dir slots name size full room).slots_are;
 }
 
-new_dir : (t : TreeCells) (dir : ℕ) (slots full : Slots) (name : List ℕ) (a : SetAttr) (now : Time)
+new_dir : (t : TreeCells) (cred : Cred) (dir : ℕ) (slots full : Slots) (name : List ℕ) (a : SetAttr) (now : Time)
     → IsDirectoryOf t.tree dir slots
     → room_for t.tree dir slots name 0 ≡ Ok full
-    → AllStand (after (makes t.tree (with_object t.tree dir full (made a (body.Directory []) now) now) dir
-    []) t.cells) (with_object t.tree dir full (made a (body.Directory []) now) now)
-new_dir t dir slots full name a now d room =
-    let o = made a (body.Directory []) now in
+    → AllStand (after (makes t.tree (with_object t.tree dir full (made cred a (body.Directory []) now) now) dir
+    []) t.cells) (with_object t.tree dir full (made cred a (body.Directory []) now) now)
+new_dir t cred dir slots full name a now d room =
+    let o = made cred a (body.Directory []) now in
     let new = with_object t.tree dir full o now in
     let m = making t dir slots full name 0 o now d room refl in
     makes_lead t dir o new [] m
     (no_text new (length t.tree) (ap content_of (new_place t.tree dir o new m)))
 
-pub make_dir_leads : (t : TreeCells) (dir : ℕ) (name : List ℕ) (a : SetAttr) (now : Time) (reply : Reply) (new : Tree)
-    → make_dir t.tree dir name a now ≡ Ok (reply, new)
+pub make_dir_leads : (t : TreeCells) (cred : Cred) (dir : ℕ) (name : List ℕ) (a : SetAttr) (now : Time) (reply : Reply) (new : Tree)
+    → make_dir t.tree cred dir name a now ≡ Ok (reply, new)
     → AllStand (after (tree_changes t.cells t.tree new (call.MkDir dir name a)) t.cells) new
 unfolding make_dir tree_changes
-make_dir_leads t dir name a now reply new e =
-    given_at (make_dir t.tree dir name a now) (MakesLead t dir []) (reply, new)
-    (step (directory t.tree dir) _ (MakesLead t dir []) (λ slots d.
+make_dir_leads t cred dir name a now reply new e =
+    given_at (make_dir t.tree cred dir name a now) (MakesLead t dir []) (reply, new)
+    (step (searched t.tree cred dir) _ (MakesLead t dir []) (λ slots d.
     step (free_name slots name) _ (MakesLead t dir []) (λ u f.
+    step (may_make t.tree cred dir a) _ (MakesLead t dir []) (λ v may.
     step (room_for t.tree dir slots name 0) _ (MakesLead t dir []) (λ full room.
-    done _ (MakesLead t dir []) (new_dir t dir slots full name a now (directory_is t.tree dir slots d) room))))) e
+    done _ (MakesLead t dir []) (new_dir t cred dir slots full name a now (searched_is t.tree cred dir slots d) room)))))) e
 
-new_link : (t : TreeCells) (dir : ℕ) (slots full : Slots) (name text : List ℕ) (a : SetAttr) (now : Time)
+new_link : (t : TreeCells) (cred : Cred) (dir : ℕ) (slots full : Slots) (name text : List ℕ) (a : SetAttr) (now : Time)
     → IsDirectoryOf t.tree dir slots
     → room_for t.tree dir slots name (length text) ≡ Ok full → length text ≤ 1024
-    → AllStand (after (makes t.tree (with_object t.tree dir full (made a (body.Link text) now) now) dir text) t.cells)
-    (with_object t.tree dir full (made a (body.Link text) now) now)
-new_link t dir slots full name text a now d room short =
-    let o = made a (body.Link text) now in
+    → AllStand (after (makes t.tree (with_object t.tree dir full (made cred a (body.Link text) now) now) dir text) t.cells)
+    (with_object t.tree dir full (made cred a (body.Link text) now) now)
+new_link t cred dir slots full name text a now d room short =
+    let o = made cred a (body.Link text) now in
     let new = with_object t.tree dir full o now in
     let m = making t dir slots full name (length text) o now d room refl in
     makes_lead t dir o new text m
     (a_text new (length t.tree) text (ap content_of (new_place t.tree dir o new m))
     (omega (arith, short)))
 
-pub make_link_leads : (t : TreeCells) (dir : ℕ) (name text : List ℕ) (a : SetAttr) (now : Time) (reply : Reply)
+pub make_link_leads : (t : TreeCells) (cred : Cred) (dir : ℕ) (name text : List ℕ) (a : SetAttr) (now : Time) (reply : Reply)
     (new : Tree)
-    → make_link t.tree dir name text a now ≡ Ok (reply, new)
+    → make_link t.tree cred dir name text a now ≡ Ok (reply, new)
     → AllStand (after (tree_changes t.cells t.tree new (call.SymLink dir name text a)) t.cells) new
 unfolding make_link tree_changes
-make_link_leads t dir name text a now reply new e =
-    given_at (make_link t.tree dir name text a now) (MakesLead t dir text) (reply, new)
-    (step (directory t.tree dir) _ (MakesLead t dir text) (λ slots d.
+make_link_leads t cred dir name text a now reply new e =
+    given_at (make_link t.tree cred dir name text a now) (MakesLead t dir text) (reply, new)
+    (step (searched t.tree cred dir) _ (MakesLead t dir text) (λ slots d.
     step (entry_name name) _ (MakesLead t dir text) (λ u right.
     unless NameTooLong (nat_lt 1024 (length text)) _ (MakesLead t dir text) (λ short.
     unless Exist (has_entry slots name) _ (MakesLead t dir text) (λ none.
+    step (may_make t.tree cred dir a) _ (MakesLead t dir text) (λ v may.
     step (room_for t.tree dir slots name (length text)) _ (MakesLead t dir text) (λ full room.
-    done _ (MakesLead t dir text) (new_link t dir slots full name text a now (directory_is t.tree dir slots d) room
-    (ltb-false _ _ short)))))))) e
+    done _ (MakesLead t dir text) (new_link t cred dir slots full name text a now (searched_is t.tree cred dir slots d) room
+    (ltb-false _ _ short))))))))) e
 
 -- ---- CREATE
 
-new_file : (t : TreeCells) (dir : ℕ) (slots full : Slots) (name : List ℕ) (a : SetAttr) (now : Time) (size : ℕ)
+new_file : (t : TreeCells) (cred : Cred) (dir : ℕ) (slots full : Slots) (name : List ℕ) (a : SetAttr) (now : Time) (size : ℕ)
     → IsDirectoryOf t.tree dir slots
     → room_for t.tree dir slots name size ≡ Ok full
     → AllStand (after (makes t.tree
-    (with_object t.tree dir full (made a (body.Regular (replicate size 0)) now) now) dir []) t.cells)
-    (with_object t.tree dir full (made a (body.Regular (replicate size 0)) now) now)
-new_file t dir slots full name a now size d room =
-    let o = made a (body.Regular (replicate size 0)) now in
+    (with_object t.tree dir full (made cred a (body.Regular (replicate size 0)) now) now) dir []) t.cells)
+    (with_object t.tree dir full (made cred a (body.Regular (replicate size 0)) now) now)
+new_file t cred dir slots full name a now size d room =
+    let o = made cred a (body.Regular (replicate size 0)) now in
     let new = with_object t.tree dir full o now in
     let m = making t dir slots full name size o now d room refl in
     makes_lead t dir o new [] m
     (zeros new (length t.tree) size o (new_place t.tree dir o new m) refl)
 
-create_new_leads : (t : TreeCells) (dir : ℕ) (slots : Slots) (name : List ℕ) (a : SetAttr) (now : Time)
+create_new_leads : (t : TreeCells) (cred : Cred) (dir : ℕ) (slots : Slots) (name : List ℕ) (a : SetAttr) (now : Time)
     → IsDirectoryOf t.tree dir slots
-    → Given (create_new t.tree dir slots name a now) (MakesLead t dir [])
+    → Given (create_new t.tree cred dir slots name a now) (MakesLead t dir [])
 unfolding create_new
-create_new_leads t dir slots name a now d =
+create_new_leads t cred dir slots name a now d =
+    step (may_make t.tree cred dir a) _ (MakesLead t dir []) (λ v may.
     unless FBig (nat_lt LARGEST (given a.size 0)) _ (MakesLead t dir []) (λ small.
     step (room_for t.tree dir slots name (given a.size 0)) _ (MakesLead t dir []) (λ full room.
-    done _ (MakesLead t dir []) (new_file t dir slots full name a now (given a.size 0) d room)))
+    done _ (MakesLead t dir []) (new_file t cred dir slots full name a now (given a.size 0) d room))))
 
 -- what a call leads to where a name stands for this
 abbrev CreateLeads : TreeCells → ℕ → ℕ → Option (ℕ × ℕ) → Reply × Tree → Type 0
 CreateLeads t dir size found x = AllStand (after (creates t.cells t.tree x.1 dir size found) t.cells) x.1
 
-create_at_leads : (t : TreeCells) (dir : ℕ) (slots : Slots) (name : List ℕ) (found : Option (ℕ × ℕ)) (a : SetAttr)
+create_at_leads : (t : TreeCells) (cred : Cred) (dir : ℕ) (slots : Slots) (name : List ℕ) (found : Option (ℕ × ℕ)) (a : SetAttr)
     (now : Time) → IsDirectoryOf t.tree dir slots
-    → Given (create_at t.tree dir slots name found a now) (CreateLeads t dir a.size found)
+    → Given (create_at t.tree cred dir slots name found a now) (CreateLeads t dir a.size found)
 unfolding create_again
-create_at_leads t dir slots name None a now d = create_new_leads t dir slots name a now d
-create_at_leads t dir slots name (Some x) a now d =
+create_at_leads t cred dir slots name None a now d = create_new_leads t cred dir slots name a now d
+create_at_leads t cred dir slots name (Some x) a now d =
     unless Exist (not (is_regular_at (place t.tree x.1))) _ (CreateLeads t dir a.size (Some x)) (λ regular.
-    step (set_fields t.tree x.1 a now) _ (CreateLeads t dir a.size (Some x)) (λ new e.
-    done _ (CreateLeads t dir a.size (Some x)) (set_fields_leads t x.1 a now new e)))
+    step (live t.tree x.1) _ (CreateLeads t dir a.size (Some x)) (λ o lives.
+    let fields = heeded cred o.uid a in
+    step (set_fields t.tree cred x.1 fields now) _ (CreateLeads t dir a.size (Some x)) (λ new e.
+    done _ (CreateLeads t dir a.size (Some x))
+    (subst (λ (size : ℕ). CreateLeads t dir size (Some x) (Node x.1 (attr_at new x.1), new)) (heeded_size cred o.uid a)
+    (set_fields_leads t cred x.1 fields now new e)))))
 
-pub create_leads : (t : TreeCells) (dir : ℕ) (name : List ℕ) (a : SetAttr) (now : Time) (reply : Reply) (new : Tree)
-    → create t.tree dir name a now ≡ Ok (reply, new)
+pub create_leads : (t : TreeCells) (cred : Cred) (dir : ℕ) (name : List ℕ) (a : SetAttr) (now : Time) (reply : Reply) (new : Tree)
+    → create t.tree cred dir name a now ≡ Ok (reply, new)
     → AllStand (after (tree_changes t.cells t.tree new (call.Create dir name a)) t.cells) new
 unfolding create tree_changes
-create_leads t dir name a now reply new e =
-    given_at (create t.tree dir name a now) (CreateLeads t dir a.size (entry_in t.tree dir name)) (reply, new)
-    (step (directory t.tree dir) _ (CreateLeads t dir a.size (entry_in t.tree dir name)) (λ slots d.
+create_leads t cred dir name a now reply new e =
+    given_at (create t.tree cred dir name a now) (CreateLeads t dir a.size (entry_in t.tree dir name)) (reply, new)
+    (step (searched t.tree cred dir) _ (CreateLeads t dir a.size (entry_in t.tree dir name)) (λ slots d.
     step (entry_name name) _ (CreateLeads t dir a.size (entry_in t.tree dir name)) (λ u right.
-    subst (λ (found : Option (ℕ × ℕ)). Given (create_at t.tree dir slots name (entry slots name) a now)
+    subst (λ (found : Option (ℕ × ℕ)). Given (create_at t.tree cred dir slots name (entry slots name) a now)
     (CreateLeads t dir a.size found))
-    (ap (λ (ss : Slots). entry ss name) (sym (slots_placed t.tree dir slots d)))
-    (create_at_leads t dir slots name (entry slots name) a now (directory_is t.tree dir slots d))))) e
+    (ap (λ (ss : Slots). entry ss name) (sym (slots_placed t.tree dir slots (searched_slots t.tree cred dir slots d))))
+    (create_at_leads t cred dir slots name (entry slots name) a now (searched_is t.tree cred dir slots d))))) e

@@ -3,11 +3,13 @@ use Rattle.std.proofs.Common.{◌≡◌, ℕ, ◌==◌, ◌&&◌, true, List, le
 use Rattle.std.proofs.lemmas.Bool.{eqb-false}
 use Rattle.harp_base.specs.declared.attr.Time.{Time}
 use Rattle.harp_base.specs.declared.call.Call.TheVariants as call
+use Rattle.harp_base.specs.declared.cred.Cred.{Cred}
 use Rattle.harp_base.specs.declared.reply.Reply.{Reply}
 use Rattle.harp_base.specs.declared.reply.Reply.TheVariants.{Done}
 use Rattle.harp_base.specs.declared.reply.Status.TheVariants.{Perm, NoEnt}
 use Rattle.file_tree.specs.Tree.{Tree, Slots, place, slots_of, slots_within, entry, is_directory_at}
 use Rattle.file_tree.specs.Steps.{some_or, live, slots_in, is_dots, check_name, room}
+use Rattle.file_tree.specs.Permissions.{searching, writing, allowed}
 use Rattle.file_tree.specs.Rename.{is_above, check_target, moved_in, moved_to, rename}
 use Rattle.file_tree.proofs.Kept.{live_place}
 use Rattle.file_tree.proofs.SlotLaws.{found}
@@ -99,21 +101,25 @@ moved_leads cells tree stamp dir slots name x to_dir to_slots to_name now reply 
     (given_at (moved_to tree dir x to_dir to_slots to_name y now) (Leads cells tree dir to_dir x y) new
     (moved_to_leads cells tree stamp dir slots name x to_dir to_slots to_name y now stand way refl target) moved)
 
-renamed : (cells : Cells) (tree : Tree) (stamp dir : ℕ) (name : List ℕ) (to_dir : ℕ) (to_name : List ℕ) (now : Time)
+renamed : (cells : Cells) (tree : Tree) (cred : Cred) (stamp dir : ℕ) (name : List ℕ) (to_dir : ℕ) (to_name : List ℕ) (now : Time)
     → StandForTree cells tree stamp
-    → Given (rename tree dir name to_dir to_name now) (LeadsTo cells tree dir name to_dir to_name)
+    → Given (rename tree cred dir name to_dir to_name now) (LeadsTo cells tree dir name to_dir to_name)
 unfolding rename
-renamed cells tree stamp dir name to_dir to_name now stand =
+renamed cells tree cred stamp dir name to_dir to_name now stand =
     let P = LeadsTo cells tree dir name to_dir to_name in
     step (live tree dir) _ P (λ d d_lives.
     step (live tree to_dir) _ P (λ e e_lives.
     step (slots_in d.body) _ P (λ slots d_slots.
     step (slots_in e.body) _ P (λ to_slots e_slots.
+    step (allowed tree cred dir searching) _ P (λ a may_search.
+    step (allowed tree cred to_dir searching) _ P (λ b may_search_to.
     unless Perm (is_dots name) _ P (λ dots.
     unless Perm (is_dots to_name) _ P (λ to_dots.
     step (check_name name) _ P (λ u checked.
     step (check_name to_name) _ P (λ v to_checked.
     step (some_or NoEnt (entry slots name)) _ P (λ x x_is.
+    step (allowed tree cred dir writing) _ P (λ i may_write.
+    step (allowed tree cred to_dir writing) _ P (λ j may_write_to.
     unless Perm (is_directory_at (place tree x.1) && is_above (length tree) tree x.1 to_dir) _ P (λ apart.
     step (check_target tree x.1 (entry to_slots to_name)) _ P (λ w target.
     step (moved_to tree dir x to_dir to_slots to_name (entry to_slots to_name) now) _ P (λ new moved.
@@ -124,13 +130,13 @@ renamed cells tree stamp dir name to_dir to_name now stand =
     } in
     done _ P
     (moved_leads cells tree stamp dir slots name x to_dir to_slots to_name now Done new stand way target
-    moved)))))))))))))
+    moved)))))))))))))))))
 
 -- RENAME
-pub rename_leads : (t : TreeCells) (dir : ℕ) (name : List ℕ) (to_dir : ℕ) (to_name : List ℕ) (now : Time)
-    (reply : Reply) (new : Tree) → rename t.tree dir name to_dir to_name now ≡ Ok (reply, new)
+pub rename_leads : (t : TreeCells) (cred : Cred) (dir : ℕ) (name : List ℕ) (to_dir : ℕ) (to_name : List ℕ) (now : Time)
+    (reply : Reply) (new : Tree) → rename t.tree cred dir name to_dir to_name now ≡ Ok (reply, new)
     → AllStand (after (tree_changes t.cells t.tree new (call.Rename dir name to_dir to_name)) t.cells) new
 unfolding tree_changes
-rename_leads t dir name to_dir to_name now reply new e =
-    given_at (rename t.tree dir name to_dir to_name now) (LeadsTo t.cells t.tree dir name to_dir to_name) (reply, new)
-    (renamed t.cells t.tree t.stamp dir name to_dir to_name now t.stand) e
+rename_leads t cred dir name to_dir to_name now reply new e =
+    given_at (rename t.tree cred dir name to_dir to_name now) (LeadsTo t.cells t.tree dir name to_dir to_name) (reply, new)
+    (renamed t.cells t.tree cred t.stamp dir name to_dir to_name now t.stand) e

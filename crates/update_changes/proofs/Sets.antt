@@ -1,5 +1,5 @@
 -- The changes of SETATTR and WRITE lead.
-use Rattle.std.proofs.Common.{◌≡◌, ℕ, ◌+◌, ◌==◌, max, Bool, true, false, List, [], ◌∷◌, ◌++◌, length, set, Option, Some, None, Ok, refl, sym, ap, ◌∙◌, subst, inl, inr, ◌⊎◌}
+use Rattle.std.proofs.Common.{◌≡◌, ℕ, ◌+◌, ◌==◌, not, max, Bool, true, false, List, [], ◌∷◌, ◌++◌, length, set, Option, Some, None, Ok, refl, sym, ap, ◌∙◌, subst, inl, inr, ◌⊎◌}
 use Rattle.std.specs.Bool.{if◌then◌else◌}
 use Rattle.std.specs.List.{list_any}
 use Rattle.std.specs.Prelude.{nat_lt}
@@ -7,14 +7,16 @@ use Rattle.std.proofs.lemmas.Bool.{cases_eq, ne_eqb, or_from}
 use Rattle.harp_base.specs.declared.attr.Time.{Time}
 use Rattle.harp_base.specs.declared.attr.SetAttr.{SetAttr}
 use Rattle.harp_base.specs.declared.call.Call.TheVariants as call
+use Rattle.harp_base.specs.declared.cred.Cred.{Cred}
 use Rattle.harp_base.specs.declared.reply.Reply.{Reply}
-use Rattle.harp_base.specs.declared.reply.Status.TheVariants.{FBig}
+use Rattle.harp_base.specs.declared.reply.Status.TheVariants.{Perm, FBig}
 use Rattle.file_tree.specs.declared.object.Body.{Body}
 use Rattle.file_tree.specs.declared.object.Body.TheVariants as body
 use Rattle.file_tree.specs.declared.object.Object.{Object}
 use Rattle.file_tree.specs.Tree.{Tree, place, slots_of, slots_within, names_in, is_directory}
 use Rattle.file_tree.specs.Steps.{live, bytes_in, room}
-use Rattle.file_tree.specs.Outcome.{LEAVE, LARGEST, change, body_with, resized, written, rewritten, with_fields, with_size, set_fields, set_attr, write}
+use Rattle.file_tree.specs.Permissions.{LEAVE, writing, allowed, may_set}
+use Rattle.file_tree.specs.Outcome.{LARGEST, change, body_with, resized, written, rewritten, with_fields, with_size, set_fields, set_attr, write}
 use Rattle.file_tree.proofs.Kept.{live_place}
 use Rattle.file_tree.proofs.Reslots.{place_set, change_is}
 use Rattle.file_tree.proofs.StepLaws.{Given, done, step, unless, either, given_at, bytes_are}
@@ -123,15 +125,16 @@ IsSized size b bytes =
     (((size == LEAVE) ≡ true) × (bytes ≡ None))
     ⊎ (((size == LEAVE) ≡ false) × (old : List ℕ) × (b ≡ body.Regular old) × (bytes ≡ Some (resized old size)))
 
-sized : (tree : Tree) (number : ℕ) (b : Body) (size : ℕ) → Given (with_size tree number b size) (IsSized size b)
+sized : (tree : Tree) (cred : Cred) (number : ℕ) (b : Body) (size : ℕ) → Given (with_size tree cred number b size) (IsSized size b)
 unfolding with_size
-sized tree number b size =
+sized tree cred number b size =
     either (size == LEAVE) _ _ (IsSized size b)
     (λ e. done None (IsSized size b) (inl (e, refl)))
     (λ e. step (bytes_in b) _ (IsSized size b) (λ old is.
+    step (allowed tree cred number writing) _ (IsSized size b) (λ v may.
     unless FBig (nat_lt LARGEST size) _ (IsSized size b) (λ small.
     step (room tree number size) _ (IsSized size b) (λ u enough.
-    done (Some (resized old size)) (IsSized size b) (inr (e, old, bytes_are b old is, refl))))))
+    done (Some (resized old size)) (IsSized size b) (inr (e, old, bytes_are b old is, refl)))))))
 
 -- the content of a file in a tree
 content_is : (tree : Tree) (number : ℕ) (o : Object) (old : List ℕ) → place tree number ≡ Some o
@@ -176,32 +179,33 @@ fields_lead t number o a bytes now new at (inr sized) is =
     (ap (body_with o.body) sized.3) (cut_leads t number a.size o sized.1 at sized.2))
 
 -- the attributes of a file, a directory or a link are set
-pub set_fields_leads : (t : TreeCells) (number : ℕ) (a : SetAttr) (now : Time) (new : Tree)
-    → set_fields t.tree number a now ≡ Ok new
+pub set_fields_leads : (t : TreeCells) (cred : Cred) (number : ℕ) (a : SetAttr) (now : Time) (new : Tree)
+    → set_fields t.tree cred number a now ≡ Ok new
     → AllStand (after (sets t.cells t.tree new number a.size) t.cells) new
 unfolding set_fields
-set_fields_leads t number a now new e =
-    given_at (set_fields t.tree number a now)
+set_fields_leads t cred number a now new e =
+    given_at (set_fields t.tree cred number a now)
     (λ n. AllStand (after (sets t.cells t.tree n number a.size) t.cells) n) new
     (step (live t.tree number) _ (λ n. AllStand (after (sets t.cells t.tree n number a.size) t.cells) n) (λ o lives.
-    step (with_size t.tree number o.body a.size) _
+    unless Perm (not (may_set cred a o.uid o.gid)) _ (λ n. AllStand (after (sets t.cells t.tree n number a.size) t.cells) n) (λ may.
+    step (with_size t.tree cred number o.body a.size) _
     (λ n. AllStand (after (sets t.cells t.tree n number a.size) t.cells) n) (λ bytes f.
     done _ (λ n. AllStand (after (sets t.cells t.tree n number a.size) t.cells) n)
     (fields_lead t number o a bytes now _ (live_place t.tree number o lives)
-    (given_at (with_size t.tree number o.body a.size) (IsSized a.size o.body) bytes
-    (sized t.tree number o.body a.size) f) refl)))) e
+    (given_at (with_size t.tree cred number o.body a.size) (IsSized a.size o.body) bytes
+    (sized t.tree cred number o.body a.size) f) refl))))) e
 
-pub set_attr_leads : (t : TreeCells) (number : ℕ) (a : SetAttr) (now : Time) (reply : Reply) (new : Tree)
-    → set_attr t.tree number a now ≡ Ok (reply, new)
+pub set_attr_leads : (t : TreeCells) (cred : Cred) (number : ℕ) (a : SetAttr) (now : Time) (reply : Reply) (new : Tree)
+    → set_attr t.tree cred number a now ≡ Ok (reply, new)
     → AllStand (after (tree_changes t.cells t.tree new (call.SetAttr number a)) t.cells) new
 unfolding set_attr tree_changes
-set_attr_leads t number a now reply new e =
-    given_at (set_attr t.tree number a now)
+set_attr_leads t cred number a now reply new e =
+    given_at (set_attr t.tree cred number a now)
     (λ x. AllStand (after (sets t.cells t.tree x.1 number a.size) t.cells) x.1) (reply, new)
-    (step (set_fields t.tree number a now) _
+    (step (set_fields t.tree cred number a now) _
     (λ x. AllStand (after (sets t.cells t.tree x.1 number a.size) t.cells) x.1) (λ n f.
     done _ (λ x. AllStand (after (sets t.cells t.tree x.1 number a.size) t.cells) x.1)
-    (set_fields_leads t number a now n f))) e
+    (set_fields_leads t cred number a now n f))) e
 
 -- ---- WRITE
 
@@ -246,14 +250,15 @@ some_lead t number offset bytes new e stand =
     (sym e)
     stand
 
-pub write_leads : (t : TreeCells) (number offset : ℕ) (bytes : List ℕ) (now : Time) (reply : Reply) (new : Tree)
-    → write t.tree number offset bytes now ≡ Ok (reply, new)
+pub write_leads : (t : TreeCells) (cred : Cred) (number offset : ℕ) (bytes : List ℕ) (now : Time) (reply : Reply) (new : Tree)
+    → write t.tree cred number offset bytes now ≡ Ok (reply, new)
     → AllStand (after (tree_changes t.cells t.tree new (call.Write number offset bytes)) t.cells) new
 unfolding write tree_changes writes
-write_leads t number offset bytes now reply new e =
-    given_at (write t.tree number offset bytes now) (λ x. WriteLeads t number offset bytes x.1) (reply, new)
+write_leads t cred number offset bytes now reply new e =
+    given_at (write t.tree cred number offset bytes now) (λ x. WriteLeads t number offset bytes x.1) (reply, new)
     (step (live t.tree number) _ (λ x. WriteLeads t number offset bytes x.1) (λ o lives.
     step (bytes_in o.body) _ (λ x. WriteLeads t number offset bytes x.1) (λ old was.
+    step (allowed t.tree cred number writing) _ (λ x. WriteLeads t number offset bytes x.1) (λ v may.
     unless FBig (nat_lt LARGEST (offset + length bytes)) _ (λ x. WriteLeads t number offset bytes x.1) (λ small.
     either (length bytes == 0) _ _ (λ x. WriteLeads t number offset bytes x.1)
     (λ none. done _ (λ x. WriteLeads t number offset bytes x.1) (nothing_leads t number offset bytes none))
@@ -262,4 +267,4 @@ write_leads t number offset bytes now reply new e =
     done _ (λ x. WriteLeads t number offset bytes x.1)
     (some_lead t number offset bytes _ some
     (bytes_lead t number offset bytes o old now _ (live_place t.tree number o lives)
-    (bytes_are o.body old was) refl)))))))) e
+    (bytes_are o.body old was) refl))))))))) e

@@ -5,10 +5,12 @@ use Rattle.std.proofs.lemmas.List.{get_or-set_other}
 use Rattle.std.proofs.lemmas.List.Elements.{All-append}
 use Rattle.harp_base.specs.declared.attr.Time.{Time}
 use Rattle.harp_base.specs.declared.call.Call.TheVariants as call
+use Rattle.harp_base.specs.declared.cred.Cred.{Cred}
 use Rattle.harp_base.specs.declared.reply.Reply.{Reply}
 use Rattle.harp_base.specs.declared.reply.Status.TheVariants.{Perm, NoEnt, NotDir, IsDir, NotEmpty}
 use Rattle.file_tree.specs.Tree.{Tree, Slots, place, slots_of, slots_within, names_at, entry, is_directory_at}
 use Rattle.file_tree.specs.Steps.{directory, is_dots, check_name, some_or}
+use Rattle.file_tree.specs.Permissions.{writing, allowed, searched}
 use Rattle.file_tree.specs.Outcome.{change, slot_changed, removed, find, doomed, remove, remove_dir, has_no_entry}
 use Rattle.file_tree.proofs.Holders.{Holds}
 use Rattle.file_tree.proofs.SlotLaws.{IsFound, found}
@@ -17,7 +19,7 @@ use Rattle.file_tree.proofs.WaysUp.{IsBare, file_is_bare}
 use Rattle.file_tree.proofs.SoundChanges.{one_other}
 use Rattle.file_tree.proofs.SoundMoves.{cleared_names, found_held}
 use Rattle.file_tree.proofs.SoundCalls.{empty_is_bare}
-use Rattle.file_tree.proofs.StepLaws.{Given, done, step, unless, given_at, IsDirectoryOf, directory_is}
+use Rattle.file_tree.proofs.StepLaws.{Given, done, step, unless, given_at, IsDirectoryOf, searched_is}
 use Rattle.harp_cells.specs.declared.cell.Cell.TheVariants as cell
 use Rattle.harp_cells.specs.Effect.{Cells, after}
 use Rattle.harp_cells.specs.CellsOfTree.{StandForTree}
@@ -122,47 +124,49 @@ taken_leads cells tree stamp dir slots name x now stand is e bare =
 abbrev LeadsTo : Cells → Tree → ℕ → List ℕ → Reply × Tree → Type 0
 LeadsTo cells tree dir name r = AllStand (after (takes tree r.1 dir (entry_in tree dir name)) cells) r.1
 
-removes : (cells : Cells) (tree : Tree) (stamp dir : ℕ) (name : List ℕ) (now : Time) → StandForTree cells tree stamp
-    → Given (remove tree dir name now) (LeadsTo cells tree dir name)
+removes : (cells : Cells) (tree : Tree) (cred : Cred) (stamp dir : ℕ) (name : List ℕ) (now : Time) → StandForTree cells tree stamp
+    → Given (remove tree cred dir name now) (LeadsTo cells tree dir name)
 unfolding remove
-removes cells tree stamp dir name now stand =
+removes cells tree cred stamp dir name now stand =
     let P = LeadsTo cells tree dir name in
-    step (directory tree dir) _ P (λ slots d.
+    step (searched tree cred dir) _ P (λ slots d.
     step (doomed slots name) _ P (λ x f.
+    step (allowed tree cred dir writing) _ P (λ v may.
     unless IsDir _ _ P (λ file.
     done _ P
-    (taken_leads cells tree stamp dir slots name x now stand (directory_is tree dir slots d)
+    (taken_leads cells tree stamp dir slots name x now stand (searched_is tree cred dir slots d)
     (doomed_entry slots name x f)
-    (file_is_bare tree x.1 file)))))
+    (file_is_bare tree x.1 file))))))
 
-removes_dir : (cells : Cells) (tree : Tree) (stamp dir : ℕ) (name : List ℕ) (now : Time) → StandForTree cells tree stamp
-    → Given (remove_dir tree dir name now) (LeadsTo cells tree dir name)
+removes_dir : (cells : Cells) (tree : Tree) (cred : Cred) (stamp dir : ℕ) (name : List ℕ) (now : Time) → StandForTree cells tree stamp
+    → Given (remove_dir tree cred dir name now) (LeadsTo cells tree dir name)
 unfolding remove_dir
-removes_dir cells tree stamp dir name now stand =
+removes_dir cells tree cred stamp dir name now stand =
     let P = LeadsTo cells tree dir name in
-    step (directory tree dir) _ P (λ slots d.
+    step (searched tree cred dir) _ P (λ slots d.
     step (doomed slots name) _ P (λ x f.
+    step (allowed tree cred dir writing) _ P (λ v may.
     unless NotDir (not (is_directory_at (place tree x.1))) _ P (λ kind.
     unless NotEmpty (not (has_no_entry (slots_of (place tree x.1)))) _ P (λ empty.
     done _ P
-    (taken_leads cells tree stamp dir slots name x now stand (directory_is tree dir slots d)
+    (taken_leads cells tree stamp dir slots name x now stand (searched_is tree cred dir slots d)
     (doomed_entry slots name x f)
-    (empty_is_bare tree x.1 (not-false _ empty)))))))
+    (empty_is_bare tree x.1 (not-false _ empty))))))))
 
 -- REMOVE
-pub remove_leads : (t : TreeCells) (dir : ℕ) (name : List ℕ) (now : Time) (reply : Reply) (new : Tree)
-    → remove t.tree dir name now ≡ Ok (reply, new)
+pub remove_leads : (t : TreeCells) (cred : Cred) (dir : ℕ) (name : List ℕ) (now : Time) (reply : Reply) (new : Tree)
+    → remove t.tree cred dir name now ≡ Ok (reply, new)
     → AllStand (after (tree_changes t.cells t.tree new (call.Remove dir name)) t.cells) new
 unfolding tree_changes
-remove_leads t dir name now reply new e =
-    given_at (remove t.tree dir name now) (LeadsTo t.cells t.tree dir name) (reply, new)
-    (removes t.cells t.tree t.stamp dir name now t.stand) e
+remove_leads t cred dir name now reply new e =
+    given_at (remove t.tree cred dir name now) (LeadsTo t.cells t.tree dir name) (reply, new)
+    (removes t.cells t.tree cred t.stamp dir name now t.stand) e
 
 -- RMDIR
-pub remove_dir_leads : (t : TreeCells) (dir : ℕ) (name : List ℕ) (now : Time) (reply : Reply) (new : Tree)
-    → remove_dir t.tree dir name now ≡ Ok (reply, new)
+pub remove_dir_leads : (t : TreeCells) (cred : Cred) (dir : ℕ) (name : List ℕ) (now : Time) (reply : Reply) (new : Tree)
+    → remove_dir t.tree cred dir name now ≡ Ok (reply, new)
     → AllStand (after (tree_changes t.cells t.tree new (call.RmDir dir name)) t.cells) new
 unfolding tree_changes
-remove_dir_leads t dir name now reply new e =
-    given_at (remove_dir t.tree dir name now) (LeadsTo t.cells t.tree dir name) (reply, new)
-    (removes_dir t.cells t.tree t.stamp dir name now t.stand) e
+remove_dir_leads t cred dir name now reply new e =
+    given_at (remove_dir t.tree cred dir name now) (LeadsTo t.cells t.tree dir name) (reply, new)
+    (removes_dir t.cells t.tree cred t.stamp dir name now t.stand) e

@@ -2,9 +2,11 @@
 use Rattle.std.specs.Prelude.{ℕ, ◌==◌, ◌&&◌, List, [], ◌∷◌, ◌++◌, length, map, Option, Some, None, Ok, Err, if◌then◌else◌}
 use Rattle.harp_base.specs.declared.call.Call.{Call}
 use Rattle.harp_base.specs.declared.call.Call.TheVariants as call
+use Rattle.harp_base.specs.declared.cred.Cred.{Cred}
 use Rattle.harp_base.specs.Time.{time_of}
 use Rattle.file_tree.specs.Tree.{Tree, place, slots_of, entry, free_from, used_blocks}
-use Rattle.file_tree.specs.Outcome.{Outcome, LEAVE}
+use Rattle.file_tree.specs.Permissions.{LEAVE}
+use Rattle.file_tree.specs.Outcome.{Outcome}
 use Rattle.file_tree.specs.Rename.{freed}
 use Rattle.file_tree.specs.Calls.{answered, outcome}
 use Rattle.file_tree.specs.Book.{Entry}
@@ -134,7 +136,7 @@ abbrev pub changes_by : Cells → Tree → Call → Outcome → List Change
 changes_by cells old c (Ok x) = tree_changes cells old x.1 c
 changes_by cells old c (Err status) = []
 
--- the changes of an update at a stamp
-abbrev pub update_changes : Cells → Tree → Call → ℕ → List Change
-update_changes cells tree c stamp =
-    changes_by cells tree c (answered tree c (time_of stamp)) ++ meta_put (outcome tree c stamp).1 stamp ∷ []
+-- the changes of a caller's update at a stamp
+abbrev pub update_changes : Cells → Tree → Cred → Call → ℕ → List Change
+update_changes cells tree cred c stamp =
+    changes_by cells tree c (answered tree cred c (time_of stamp)) ++ meta_put (outcome tree cred c stamp).1 stamp ∷ []

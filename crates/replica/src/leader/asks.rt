@@ -16,11 +16,11 @@ ghost use Rattle.replica.specs.Servers.{IsLeading};
 
 use crate::cells::{make_changes, reply_to_read, seen_among};
 use crate::leader::Leader;
-use crate::outputs::{Answered, Asker, Outputs};
+use crate::outputs::{Answered, AskedRead, Asker, Outputs};
 use crate::records::{ROOM, event_of, next_record};
 use dedup::Seen;
 use event_record::{Index, Moment};
-use harp_base::{Call, Peer, Reply, ServerId, is_update};
+use harp_base::{Call, Cred, Peer, Reply, ServerId, is_update};
 use std::alloc::{AllocError, Global};
 use trace_lines::Cause;
 
@@ -36,13 +36,14 @@ impl Leader {
         peer: Peer,
         client: u32,
         number: u64,
+        cred: Cred,
         call: &Call,
         now: u64,
         outs: &mut Outputs,
     ) -> Result<(), AllocError>
         requires { now < 2 ^ 62 }
         ensures asked { OnOk result (Asked now
-            (on_free_ask Zero now self.old.server.items self.old.server client number call.now) peer
+            (on_free_ask Zero now self.old.server.items self.old.server client number cred call.now) peer
             self.old self.new outs.old outs.new) }
         ensures leads { IsLeading self.old.server }
     {
@@ -52,6 +53,7 @@ impl Leader {
             peer,
             client,
             number,
+            cred,
         };
         if client > 4095 {
             return outs.refuse(asker, Cause::BadClient);
@@ -74,11 +76,14 @@ impl Leader {
     ) -> Result<(), AllocError>
         requires { is_update call.now ≡ false }
         ensures { let s = self.old.server in OnOk result (Asked now
-            (Reading s.cp (read_entry s.cp s.items asker.client asker.number call.now) ∷ []) asker.peer
+            (Reading s.cp (read_entry s.cp s.items asker.client asker.number asker.cred call.now) ∷ []) asker.peer
             self.old self.new outs.old outs.new) }
     {
-        let asked = call.copy(alloc)?;
-        let reply = self.reply(alloc, call)?;
+        let asked = AskedRead {
+            cred: asker.cred,
+            call: call.copy(alloc)?,
+        };
+        let reply = self.reply(alloc, asker.cred, call)?;
         outs.answer(Answered {
             peer: asker.peer,
             client: asker.client,
@@ -91,14 +96,14 @@ impl Leader {
     }
 
     /// The reply to a read.
-    fn reply(&mut self, alloc: Global, call: &Call) -> Result<Reply, AllocError>
+    fn reply(&mut self, alloc: Global, cred: Cred, call: &Call) -> Result<Reply, AllocError>
         requires { is_update call.now ≡ false }
         ensures reply { let s = self.old.server in IfOk result (λ reply. reply
-            ≡ (outcome (tree_after (take s.cp s.items)) call.now 0).0) }
+            ≡ (outcome (tree_after (take s.cp s.items)) cred call.now 0).0) }
         ensures same { self.new ≡ self.old }
     {
         let _ = self.log.cp();
-        reply_to_read(alloc, &mut self.committed, call)
+        reply_to_read(alloc, &mut self.committed, cred, call)
     }
 
     /// An update is a repeat of the client's last one, older than it, or new. A repeat is answered where the update is
@@ -114,7 +119,7 @@ impl Leader {
         requires update { is_update call.now ≡ true }
         requires now { now < 2 ^ 62 }
         ensures { let s = self.old.server in OnOk result (Asked now
-            (update_moves s (new_entry now s.items asker.client asker.number call.now)
+            (update_moves s (new_entry now s.items asker.client asker.number asker.cred call.now)
             (last_of asker.client s.items)) asker.peer self.old self.new outs.old outs.new) }
     {
         match self.seen(alloc, asker)? {
@@ -155,7 +160,7 @@ impl Leader {
         requires update { is_update call.now ≡ true }
         requires now { now < 2 ^ 62 }
         ensures { let s = self.old.server in OnOk result (Asked now
-            (append s (new_entry now s.items asker.client asker.number call.now)) asker.peer
+            (append s (new_entry now s.items asker.client asker.number asker.cred call.now)) asker.peer
             self.old self.new outs.old outs.new) }
     {
         if self.log.top() >= ROOM {
@@ -176,7 +181,7 @@ impl Leader {
         requires room { length self.old.server.items < 16384 }
         requires update { is_update call.now ≡ true }
         requires now { now < 2 ^ 62 }
-        ensures { let s = self.old.server in let e = new_entry now s.items asker.client asker.number call.now in
+        ensures { let s = self.old.server in let e = new_entry now s.items asker.client asker.number asker.cred call.now in
             OnOk result (Asked now (Appending e ∷ Sending One (Event view_one (top s + 1) s.cp 0 e) ∷ []) asker.peer
             self.old self.new outs.old outs.new) }
     {

@@ -14,14 +14,15 @@ returns-then-is_empty-clause-plan g c t told totals =
     let a = c.args in
     let i = c.in_ok-inode.inode in
     let own = c.in_ok-inode.ensures.inode t told in
-    let is : IsWritten t.tree a.handle i = record {
+    let is : IsWritten t.tree a.cred a.handle i = record {
       own = own;
       bytes = c.in_ok-bytes_in.ensures.step (object_at t.tree a.handle).body (kind_is t.tree a.handle i own);
       file = c.in_ok-bytes_in.ensures.kind;
+      may = sym (c.in_ok-allowed.ensures t.tree a.handle own);
     } in
     let small : ltb LARGEST (a.offset + length a.bytes.now) ≡ false =
     ap (λ (n : ℕ). ltb LARGEST (n + length a.bytes.now)) (sym c.from.ensures) ∙ passed FBig _ c.in_ok-refuse.ensures in
-    write_nothing t a.handle a.offset a.bytes.now a.now i a.totals c.attr_by.result _ is totals small (sym c.if-is_empty.ensures) c.attr_by.ensures
+    write_nothing t a.cred a.handle a.offset a.bytes.now a.now i a.totals c.attr_by.result _ is totals small (sym c.if-is_empty.ensures) c.attr_by.ensures
     c.new.ensures.items
 
 pub returns-clause-plan : goal.returns-clause-plan
@@ -29,10 +30,11 @@ returns-clause-plan g c t told totals =
     let a = c.args in
     let i = c.in_ok-inode.inode in
     let own = c.in_ok-inode.ensures.inode t told in
-    let is : IsWritten t.tree a.handle i = record {
+    let is : IsWritten t.tree a.cred a.handle i = record {
       own = own;
       bytes = c.in_ok-bytes_in.ensures.step (object_at t.tree a.handle).body (kind_is t.tree a.handle i own);
       file = c.in_ok-bytes_in.ensures.kind;
+      may = sym (c.in_ok-allowed.ensures t.tree a.handle own);
     } in
     let small : ltb LARGEST (a.offset + length a.bytes.now) ≡ false =
     ap (λ (n : ℕ). ltb LARGEST (n + length a.bytes.now)) (sym c.from.ensures) ∙ passed FBig _ c.in_ok-refuse.ensures in
@@ -45,5 +47,5 @@ returns-clause-plan g c t told totals =
       inode = refl;
       are = put_behind _ _ _ _ (c.in_ok-changes.ensures.changes t.cells (c.live.ensures.kept ∙ told)) c.in_ok-put_object.ensures;
     } in
-    write_plan t a.handle a.offset a.bytes.now a.now i (record i { size = c.max-size.result; mtime = a.now; ctime = a.now }) a.totals c.max-size.result c.in_ok-used.used c.attr_by-2.result
+    write_plan t a.cred a.handle a.offset a.bytes.now a.now i (record i { size = c.max-size.result; mtime = a.now; ctime = a.now }) a.totals c.max-size.result c.in_ok-used.used c.attr_by-2.result
     c.put_object.new.changes.items is totals small (sym c.if-is_empty.ensures) room placed c.attr_by-2.ensures

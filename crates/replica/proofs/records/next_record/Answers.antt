@@ -1,4 +1,4 @@
-use Rattle.std.proofs.Common.{◌∙◌, ◌++◌, ◌∷◌, [], ap}
+use Rattle.std.proofs.Common.{◌∙◌, ◌++◌, ◌∷◌, [], refl, ap}
 use Rattle.harp_cells.specs.declared.cell.Cell.TheVariants as cell
 use Rattle.harp_cells.specs.declared.change.Change.TheVariants as change
 use Rattle.harp_cells.specs.declared.value.Value.TheVariants as value
@@ -16,12 +16,13 @@ returns-clause-stands c entries =
       index = a.index;
       client = a.asker.client;
       number = a.asker.number;
+      cred = a.asker.cred;
       call = c.in_ok-copy.field-0;
       stamp =
           a.stamp;
       reply = p.reply;
     })
-    a.call.now p.changes.items c.new.result c.in_ok-copy.ensures c.requires planned.short (planned.plans entries)
+    a.asker.cred a.call.now p.changes.items c.new.result refl c.in_ok-copy.ensures c.requires planned.short (planned.plans entries)
     (c.new.ensures ∙ c.in_ok-push.ensures.items
     ∙ ap (λ x. p.changes.items ++ x ∷ []) (c.in_ok-keep.ensures
     ∙ ap (λ n. change.Put (cell.Client a.asker.client) (value.Client a.asker.number n p.reply)) c.get.ensures.value))

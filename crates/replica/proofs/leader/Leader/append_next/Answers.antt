@@ -24,13 +24,13 @@ use Rattle.replica.proofs.leader.Leader.append_next.Goals as goal
 
 -- the entry of the record is the machine's
 is_new : (c : goal.In-Ok) → entry_of c.in_ok-item.item ≡ new_entry c.args.now (map entry_of c.self.inside.log.records)
-    c.args.asker.client c.args.asker.number c.args.call.now
+    c.args.asker.client c.args.asker.number c.args.asker.cred c.args.call.now
 is_new c =
     let l = c.self.inside in
     let h = c.self.invariant in
     let items = map entry_of l.log.records in
     let many : length items ≡ length l.log.records = length-map l.log.records entry_of in
-    entry_is c.args.now c.args.asker.client c.args.asker.number c.new-index.result c.new-moment.result c.args.call.now
+    entry_is c.args.now c.args.asker.client c.args.asker.number c.new-index.result c.new-moment.result c.args.asker.cred c.args.call.now
     items (entry_of c.in_ok-item.item)
     (c.in_ok-item.ensures.entry items (hold_made l.log.records (held_in l.appended) h.5.stand h.5.at_top))
     (omega (arith, many, c.new-index.ensures, c.top.ensures.value, h.0))
@@ -62,9 +62,9 @@ returns c =
     let h = c.self.invariant in
     let item = c.in_ok-item.item in
     let items = map entry_of l.log.records in
-    let ne = new_entry a.now items a.asker.client a.asker.number a.call.now in
+    let ne = new_entry a.now items a.asker.client a.asker.number a.asker.cred a.call.now in
     let s = a.self.now.server in
-    let e = new_entry a.now s.items a.asker.client a.asker.number a.call.now in
+    let e = new_entry a.now s.items a.asker.client a.asker.number a.asker.cred a.call.now in
     let many : length items ≡ length l.log.records = length-map l.log.records entry_of in
     let index : item.index ≡ length items + 1 = omega (
       arith,
@@ -103,7 +103,7 @@ returns c =
     (map-append entry_of l.log.records (item ∷ []) ∙ ap (λ (e : Entry). items ++ e ∷ []) (is_new c)) in
     subst (λ (x : Leading). Asked a.now (Appending e ∷ Sending One (Event view_one (top s + 1) s.cp 0 e) ∷ [])
     a.asker.peer a.self.now x a.outs.now c.send.new.self) (sym last)
-    (subst (λ es. let e = new_entry a.now es a.asker.client a.asker.number a.call.now in
+    (subst (λ es. let e = new_entry a.now es a.asker.client a.asker.number a.asker.cred a.call.now in
     Asked a.now (Appending e ∷ Sending One (Event view_one (top s + 1) s.cp 0 e) ∷ []) a.asker.peer a.self.now
     (record {
       server = leading (items ++ ne ∷ []) l.log.cp l.told_top l.told_lb l.grant;

@@ -12,7 +12,7 @@ returns-then-is_update-clause-asked c =
     let a = c.args in
     subst (λ ms. OnOk c.update.result (Asked a.now ms a.peer a.self.now c.update.new.self a.outs.now c.update.new.outs))
     (sym (asks_update a.now a.client a.number l.log.cp l.told_top l.told_lb l.grant (map entry_of
-    l.log.records) a.call.now a.self.now.server
+    l.log.records) a.cred a.call.now a.self.now.server
     (ap (λ (x : Leading). x.server) c.self.view_is) (sym c.if-is_update.ensures) (omega arith))) c.update.ensures
 
 pub returns-else-is_update-clause-asked : goal.returns-else-is_update-clause-asked
@@ -21,5 +21,5 @@ returns-else-is_update-clause-asked c =
     let a = c.args in
     subst (λ ms. OnOk c.read.result (Asked a.now ms a.peer a.self.now c.read.new.self a.outs.now c.read.new.outs))
     (sym (asks_read a.now a.client a.number l.log.cp l.told_top l.told_lb l.grant (map entry_of l.log.records)
-    a.call.now a.self.now.server
+    a.cred a.call.now a.self.now.server
     (ap (λ (x : Leading). x.server) c.self.view_is) (sym c.if-is_update.ensures) (omega arith))) c.read.ensures

@@ -13,7 +13,7 @@ returns-clause-reply c =
     let l = c.self.inside in
     let h = c.self.invariant.5 in
     subst (λ (x : Leading). IfOk c.reply_to_read.result (λ reply. reply ≡ (outcome (tree_after (take x.server.cp
-    x.server.items)) c.args.call.now 0).0))
+    x.server.items)) c.args.cred c.args.call.now 0).0))
     c.self.view_is
     (c.reply_to_read.ensures.reply (take l.log.cp (map entry_of l.log.records)) (hold_front l.log.records l.log.cp
     (held_in l.committed) h.stand h.at_cp))

@@ -11,7 +11,7 @@ pub returns-in-Kept : goal.returns-in-Kept
 returns-in-Kept c =
     let a = c.args in
     let s = a.self.now.server in
-    let ne = new_entry a.now s.items a.asker.client a.asker.number a.call.now in
+    let ne = new_entry a.now s.items a.asker.client a.asker.number a.asker.cred a.call.now in
     let last = last_of a.asker.client s.items in
     let said = c.answer.ensures in
     on_ok_weaker c.answer.result
