@@ -6,11 +6,11 @@ use Rattle.std.proofs.lemmas.List.{length-take, length-drop}
 use Rattle.std.proofs.lemmas.List.Elements.{filter-append}
 use Rattle.harp_base.specs.Update.{is_update}
 use Rattle.file_tree.specs.Book.{Entry, updates, MayFollow, IsBook}
-use Rattle.group_model.specs.Effects.{NewLog, booted, demoted_by, down, load_tests, loaded, lost_log, resting, saving}
+use Rattle.group_model.specs.Effects.{NewLog, booted, demoted_by, down, empty_log, lengthened, load_tests, loaded, lost_log, resting, saved_log, saving}
 use Rattle.group_model.specs.Entered.{AnswerOk, AnswersOk, BodyWithin, Books, IsTidy, ServerWithin, Tidy, UpdatesFrom, Within}
 use Rattle.group_model.specs.Facts.{Ok}
 use Rattle.group_model.specs.Laws.{Grows}
-use Rattle.group_model.specs.Limits.{can_have, is_log, is_outside, limit, room}
+use Rattle.group_model.specs.Limits.{IsDelta, can_have, is_log, is_outside, limit, room}
 use Rattle.group_model.specs.Moves.{Accepting, Appending, Applying, Basing, Booting, Choosing, Committing, Demoting, Falling, Flushing, Hearing, Heeding, Joining, Move, Noting, Opening, Pulling, Reading, Saving, Saying, Sending, Staging, act, moved, new_entries, said_after}
 use Rattle.group_model.specs.Places.{Place, all_of, at, is_p2, number, put}
 use Rattle.group_model.specs.State.{Answered, Answers, Empty, Group, Held, JoinMade, Joins, Lists, Live, Log, Lost, Mark, Mode, Open, Packet, Page, Pulls, Refuses, Rests, Saved, Say, Server, Waits, mark_of, top}
@@ -51,6 +51,7 @@ BesideMay g q s (Basing n) = s.held ≡ Log
 BesideMay g q s (Applying n) = s.held ≡ Log
 BesideMay g q s Flushing = s.held ≡ Log
 BesideMay g q s (Demoting v) = v / 3 ≤ limit
+BesideMay g q s (Booting d) = IsDelta d
 BesideMay g q s (Reading n e) = MayFollow g.book e × (is_update e.call ≡ false) × (n ≡ length g.committed) × ((w : ℕ) → s.accepted < w → (g.page w).formed ≡ true → (g.page w).opened ≡ false)
 BesideMay g q s (Saying say) = SayMay g.page g.committed s.accepted say
 BesideMay g q s (Sending to m) = BodyWithin m
@@ -139,37 +140,44 @@ sizes_moved g q s (Appending x) h may = size_put g h s.accepted _ (λ f. let a =
 sizes_moved g q s m h may = h.list
 
 demoted_within : (s : Server Entry) (v : ℕ) (b : Bool) → v / 3 ≤ limit → ServerWithin s → ServerWithin (demoted_by b s v)
-demoted_within s v true le h = record { count = h.count; items = zero-le; saved = λ u x. cc }
-demoted_within s v false le h = record { count = le; items = zero-le; saved = λ u x. cc }
+demoted_within s v true le h = record { count = h.count; items = zero-le; saved = λ u x. cc; longest = h.longest; delta = h.delta }
+demoted_within s v false le h = record { count = le; items = zero-le; saved = λ u x. cc; longest = h.longest; delta = h.delta }
 
 saving_within : (q : Place) (s : Server Entry) (o : Option (Saved Entry)) → ServerWithin s → ServerWithin (down (mark_of (saving q s o)))
-saving_within q s (Some v) h = record { count = h.count; items = zero-le; saved = h.saved }
+saving_within q s (Some v) h = record { count = h.count; items = zero-le; saved = h.saved; longest = h.longest; delta = λ u. cc }
 saving_within q s None h = by_if (λ (x : Server Entry). ServerWithin (down (mark_of x))) (is_log s.held) _ _
-    (λ _. record { count = h.count; items = zero-le; saved = λ v x. let y : record { base = s.base; cp = s.cp; items = s.items } ≡ v = cc in subst (λ (v : Saved Entry). length v.items ≤ room) y h.items })
-    (λ _. record { count = h.count; items = zero-le; saved = h.saved })
+    (λ _. record { count = h.count; items = zero-le; saved = λ v x. let y : record { base = s.base; cp = s.cp; items = s.items } ≡ v = cc in subst (λ (v : Saved Entry). length v.items ≤ room) y h.items; longest = h.longest; delta = λ u. cc })
+    (λ _. record { count = h.count; items = zero-le; saved = h.saved; longest = h.longest; delta = λ u. cc })
 
-booted_within : (q : Place) (clock : ℕ) (s : Server Entry) → ServerWithin s → ServerWithin (booted q clock (mark_of s))
-booted_within q clock s h = by_if (λ (x : Server Entry). ServerWithin x) (is_p2 q && is_outside s.role) _ _
-    (λ _. record { count = h.count; items = zero-le; saved = h.saved })
+booted_within : (q : Place) (clock d : ℕ) → IsDelta d → (s : Server Entry) → ServerWithin s → ServerWithin (booted q clock d (mark_of s))
+booted_within q clock d is s h = by_if (λ (x : Server Entry). ServerWithin x) (is_p2 q && is_outside s.role) _ _
+    (λ _. rests Empty (empty_log s.lb) zero-le)
     (λ _. loads s.saved refl)
   where
-    loads : (o : Option (Saved Entry)) → s.saved ≡ o → ServerWithin (loaded q clock (mark_of s) o)
-    loads None e = record { count = h.count; items = zero-le; saved = h.saved }
+    rests : (held : Held) (n : NewLog Entry) → length n.items ≤ room → ServerWithin (resting clock d (lengthened d (mark_of s)) held n)
+    rests held n few =
+        let a = is.0 in
+        let b = is.1 in
+        let c = h.longest.1 in
+        record { count = h.count; items = few; saved = h.saved; longest = (omega arith, omega arith); delta = λ _. (is, omega arith) }
+
+    loads : (o : Option (Saved Entry)) → s.saved ≡ o → ServerWithin (loaded q clock d (lengthened d (mark_of s)) o)
+    loads None e = rests Lost (lost_log s.lb) zero-le
     loads (Some v) e = by_if (λ (x : Server Entry). ServerWithin x) (all_of (can_have q s.role ∷ load_tests s.lb v)) _ _
-        (λ _. record { count = h.count; items = h.saved v e; saved = h.saved })
-        (λ _. record { count = h.count; items = zero-le; saved = h.saved })
+        (λ _. rests Log (saved_log q s.lb v) (h.saved v e))
+        (λ _. rests Lost (lost_log s.lb) zero-le)
 
 server_moved : (q : Place) (clock : ℕ) (g : Group Entry) (s : Server Entry) (m : Move Entry) → ServerWithin s → BesideMay g q s m → ServerWithin (act q clock s m)
-server_moved q clock g s (Joining v duty) h may = record { count = may; items = h.items; saved = h.saved }
-server_moved q clock g s (Accepting plan role n) h may = record { count = h.count; items = may.0; saved = λ v x. cc }
-server_moved q clock g s (Heeding items cp base) h may = record { count = h.count; items = (let a = length-drop (base - s.base) items in let b = may.0 in omega arith); saved = h.saved }
-server_moved q clock g s (Appending x) h may = record { count = h.count; items = (let a = may.0 in let b = length-append s.items (x ∷ []) in omega arith); saved = h.saved }
-server_moved q clock g s (Basing n) h may = record { count = h.count; items = (let a = length-drop (n - s.base) s.items in let b = h.items in omega arith); saved = h.saved }
+server_moved q clock g s (Joining v duty) h may = record { count = may; items = h.items; saved = h.saved; longest = h.longest; delta = h.delta }
+server_moved q clock g s (Accepting plan role n) h may = record { count = h.count; items = may.0; saved = λ v x. cc; longest = h.longest; delta = h.delta }
+server_moved q clock g s (Heeding items cp base) h may = record { count = h.count; items = (let a = length-drop (base - s.base) items in let b = may.0 in omega arith); saved = h.saved; longest = h.longest; delta = h.delta }
+server_moved q clock g s (Appending x) h may = record { count = h.count; items = (let a = may.0 in let b = length-append s.items (x ∷ []) in omega arith); saved = h.saved; longest = h.longest; delta = h.delta }
+server_moved q clock g s (Basing n) h may = record { count = h.count; items = (let a = length-drop (n - s.base) s.items in let b = h.items in omega arith); saved = h.saved; longest = h.longest; delta = h.delta }
 server_moved q clock g s (Demoting v) h may = demoted_within s v (nat_lt v s.promised) may h
 server_moved q clock g s Saving h may = saving_within q s s.saved h
-server_moved q clock g s Falling h may = record { count = h.count; items = zero-le; saved = h.saved }
-server_moved q clock g s Booting h may = booted_within q clock s h
-server_moved q clock g s m h may = record { count = h.count; items = h.items; saved = h.saved }
+server_moved q clock g s Falling h may = record { count = h.count; items = zero-le; saved = h.saved; longest = h.longest; delta = λ u. cc }
+server_moved q clock g s (Booting d) h may = booted_within q clock d may s h
+server_moved q clock g s m h may = record { count = h.count; items = h.items; saved = h.saved; longest = h.longest; delta = h.delta }
 
 packets_moved : (g : Group Entry) (q : Place) (s : Server Entry) (m : Move Entry) → Within g → BesideMay g q s m → Each (λ (p : Packet Entry). BodyWithin p.body) (moved g q s m).packets
 packets_moved g q s (Sending to m) h may = (may, h.packet)
@@ -178,6 +186,7 @@ packets_moved g q s m h may = h.packet
 within_moved : (g : Group Entry) (q : Place) (s : Server Entry) → g.server q ≡ s → (m : Move Entry) → Within g → BesideMay g q s m → Within (moved g q s m)
 within_moved g q s e m h may = record {
   server = servers_within g h q _ (server_moved q (g.clock q) g s m (subst (λ (s : Server Entry). ServerWithin s) e (h.server q)) may);
+  delta = h.delta;
   list = sizes_moved g q s m h may;
   packet = packets_moved g q s m h may;
 }
@@ -196,21 +205,21 @@ not_joining Open a j = j
 not_joining Live a j = j
 
 -- a server that rests without its memory
-rests_tidy : (clock : ℕ) (m : Mark Entry) (held : Held) (n : NewLog Entry) → (held ≡ Lost → (n.base ≡ n.lb) × (n.ap ≡ n.lb) × (n.cp ≡ n.lb) × (n.items ≡ []))
-    → (held ≡ Empty → (n.base ≡ 0) × (n.ap ≡ 0) × (n.cp ≡ 0) × (n.items ≡ [])) → IsTidy (resting clock m held n)
-rests_tidy clock m held n lost empty = record { report = λ _. refl; plan = λ _. refl; pulls = λ _. (refl, refl); heard = λ _. refl; acks = λ _. (refl, refl, refl); lost = λ e. let x = lost e in (x.0, x.1, x.2, x.3, refl); empty = λ e. let x = empty e in (x.0, x.1, x.2, x.3, refl) }
+rests_tidy : (clock d : ℕ) (m : Mark Entry) (held : Held) (n : NewLog Entry) → (held ≡ Lost → (n.base ≡ n.lb) × (n.ap ≡ n.lb) × (n.cp ≡ n.lb) × (n.items ≡ []))
+    → (held ≡ Empty → (n.base ≡ 0) × (n.ap ≡ 0) × (n.cp ≡ 0) × (n.items ≡ [])) → IsTidy (resting clock d m held n)
+rests_tidy clock d m held n lost empty = record { report = λ _. refl; plan = λ _. refl; pulls = λ _. (refl, refl); heard = λ _. refl; acks = λ _. (refl, refl, refl); lost = λ e. let x = lost e in (x.0, x.1, x.2, x.3, refl); empty = λ e. let x = empty e in (x.0, x.1, x.2, x.3, refl) }
 
-booted_tidy : (q : Place) (clock : ℕ) (m : Mark Entry) → IsTidy (booted q clock m)
-booted_tidy q clock m = by_if (λ (x : Server Entry). IsTidy x) (is_p2 q && is_outside m.role) _ _
-    (λ _. rests_tidy clock m Empty _ (λ e. cc) (λ _. (refl, refl, refl, refl)))
+booted_tidy : (q : Place) (clock d : ℕ) (m : Mark Entry) → IsTidy (booted q clock d m)
+booted_tidy q clock d m = by_if (λ (x : Server Entry). IsTidy x) (is_p2 q && is_outside m.role) _ _
+    (λ _. rests_tidy clock d (lengthened d m) Empty _ (λ e. cc) (λ _. (refl, refl, refl, refl)))
     (λ _. loads m.saved)
   where
-    lost : IsTidy (resting clock m Lost (lost_log m.lb))
-    lost = rests_tidy clock m Lost _ (λ _. (refl, refl, refl, refl)) (λ e. cc)
+    lost : IsTidy (resting clock d (lengthened d m) Lost (lost_log m.lb))
+    lost = rests_tidy clock d (lengthened d m) Lost _ (λ _. (refl, refl, refl, refl)) (λ e. cc)
 
-    loads : (o : Option (Saved Entry)) → IsTidy (loaded q clock m o)
+    loads : (o : Option (Saved Entry)) → IsTidy (loaded q clock d (lengthened d m) o)
     loads None = lost
-    loads (Some v) = by_if (λ (x : Server Entry). IsTidy x) (all_of (can_have q m.role ∷ load_tests m.lb v)) _ _ (λ _. rests_tidy clock m Log _ (λ e. cc) (λ e. cc)) (λ _. lost)
+    loads (Some v) = by_if (λ (x : Server Entry). IsTidy x) (all_of (can_have q m.role ∷ load_tests m.lb v)) _ _ (λ _. rests_tidy clock d (lengthened d m) Log _ (λ e. cc) (λ e. cc)) (λ _. lost)
 
 pub down_tidy : (m : Mark Entry) → IsTidy (down m)
 down_tidy m = record { report = λ _. refl; plan = λ _. refl; pulls = λ _. (refl, refl); heard = λ _. refl; acks = λ _. (refl, refl, refl); lost = λ _. (refl, refl, refl, refl, refl); empty = λ e. cc }
@@ -291,7 +300,7 @@ tidy_moved q clock g s Flushing h may = log_tidy s _ refl refl refl refl refl re
 tidy_moved q clock g s (Demoting v) h may = demoted_tidy s v (nat_lt v s.promised) h
 tidy_moved q clock g s Saving h may = down_tidy (mark_of (saving q s s.saved))
 tidy_moved q clock g s Falling h may = down_tidy (mark_of s)
-tidy_moved q clock g s Booting h may = booted_tidy q clock (mark_of s)
+tidy_moved q clock g s (Booting d) h may = booted_tidy q clock d (mark_of s)
 tidy_moved q clock g s m h may = record { report = h.report; plan = h.plan; pulls = h.pulls; heard = h.heard; acks = h.acks; lost = h.lost; empty = h.empty }
 
 pub beside_moved : (g : Group Entry) → Ok g → Beside g → (q : Place) (s : Server Entry) → g.server q ≡ s → (m : Move Entry) → SettledMay g q s m → BasesMay g q s m → BesideMay g q s m → Ok (moved g q s m) → Beside (moved g q s m)

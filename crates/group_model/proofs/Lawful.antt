@@ -8,10 +8,11 @@ use Rattle.group_model.specs.Effects.{booted, down}
 use Rattle.group_model.specs.Entered.{AnswerOk}
 use Rattle.group_model.specs.Facts.{Ok}
 use Rattle.group_model.specs.Laws.{AllSaidRightly, AreRecords, BaseUnder, BasesOnBothDisks, CommittedSurvives, EveryLaterView, Grows, Growth, OneBook, ReadsAlone, SaidRightly, StandsFor, TwoOutcomes, Whole, WithinLimits}
+use Rattle.group_model.specs.Limits.{delta_tests}
 use Rattle.group_model.specs.Moves.{Booting, Choosing, Committing, Falling, Move, Opening, Reading, Saying, act, answered_after, book_after, moved, moved_by, new_entries, said_after}
 use Rattle.group_model.specs.Places.{Place, all_of, number}
 use Rattle.group_model.specs.State.{Answered, Answers, Beat, Event, Group, Lists, Log, Message, Packet, Page, Refuses, Say, Server, mark_of, top}
-use Rattle.group_model.specs.Step.{Advance, At, Boot, Clock, Comes, Crash, CutAt, CutDeliver, Deed, Deliver, Does, Happening, Input, clock_tests, cut_delivered, cut_steps, delivered, happens, numbered, run, step_of, steps, writes_any}
+use Rattle.group_model.specs.Step.{Advance, At, Boot, Clock, Comes, Crash, CutAt, CutDeliver, Deed, Deliver, Delta, Does, Happening, Input, clock_tests, cut_delivered, cut_steps, delivered, happens, numbered, run, step_of, steps, writes_any}
 use Rattle.group_model.specs.Words.{Part, Sure}
 use Rattle.group_model.proofs.Common.{by_if, sure_up}
 use Rattle.group_model.proofs.Lists.{get_drop}
@@ -20,10 +21,9 @@ use Rattle.group_model.proofs.Growth.{grows_same, grows_then}
 use Rattle.group_model.proofs.BookLists.{follows_all}
 use Rattle.group_model.proofs.Entering.{front_is}
 use Rattle.group_model.proofs.Reading.{exclusive}
-use Rattle.group_model.proofs.Moving.{Goes, May, goes_grows, goes_one, at_self}
-use Rattle.group_model.proofs.Quiet.{boot_kept}
+use Rattle.group_model.proofs.Moving.{Goes, May, goes_grows, at_self}
 use Rattle.group_model.proofs.Steps.{Known, falls}
-use Rattle.group_model.proofs.Safe.{good_of, happens_whole, input_goes, sent_known}
+use Rattle.group_model.proofs.Safe.{boot_goes, good_of, happens_whole, input_goes, sent_known}
 
 -- what is sure in a view is within the start of each later one
 sure_starts : {E : Type 0} (g : Group E) → Ok g → (v w c : ℕ) → v < w → (g.page w).formed ≡ true → Sure g.page g.committed v c → c ≤ (g.page w).plan.start
@@ -103,6 +103,9 @@ within_limits g h = record {
   log = λ q. (h.within.server q).items;
   saved = λ q v e. (h.within.server q).saved v e;
   list = h.within.list;
+  delta = h.within.delta;
+  longest = λ q. (h.within.server q).longest;
+  promises = λ q. (h.within.server q).delta;
 }
 
 -- ---- growth
@@ -180,9 +183,10 @@ happens_grow size g w (CutDeliver n) = came (numbered g.packets n) refl
     came None e = growth_same g
     came (Some p) e = cut_grow size g w p.to (Comes p.from p.body) (sent_known g w n p e)
 happens_grow size g w (Boot q) = by_if (λ (x : Group Entry). Growth g x) (g.server q).up g _ (λ _. growth_same g)
-    (λ _. moves_grow g q (Booting ∷ []) (goes_one g q (g.server q) Booting (good_of g w q) (tt, tt, tt) (boot_kept g w.ok q (g.server q) refl)))
+    (λ _. moves_grow g q (Booting g.delta ∷ []) (boot_goes g w q))
 happens_grow size g w (Clock q t) = by_if (λ (x : Group Entry). Growth g x) (all_of (clock_tests g q t)) _ g (λ _. growth_none g _ refl refl refl refl refl) (λ _. growth_same g)
 happens_grow size g w (Advance d) = growth_none g _ refl refl refl refl refl
+happens_grow size g w (Delta d) = by_if (λ (x : Group Entry). Growth g x) (all_of (delta_tests d)) _ g (λ _. growth_none g _ refl refl refl refl refl) (λ _. growth_same g)
 
 pub run_grows : (size : List Entry → Entry → ℕ) (hs : List Happening) (g : Group Entry) → Whole g → Growth g (run size g hs)
 run_grows size [] g w = growth_same g
@@ -258,5 +262,5 @@ cut_deliveries size g n p e = subst (λ (o : Option (Packet Entry)). (cut_delive
 pub crash_keeps_the_mark : (size : List Entry → Entry → ℕ) (g : Group Entry) (q : Place) → (g.server q).up ≡ true → (happens size g (At q Crash)).server q ≡ down (mark_of (g.server q))
 crash_keeps_the_mark size g q u = ap (λ (x : Group Entry). x.server q) (fallen_only size g q) ∙ by_if (λ (x : Group Entry). x.server q ≡ down (mark_of (g.server q))) (g.server q).up _ g (λ _. at_self g.server q _) (λ f. cc (u, f))
 
-pub boot_from_the_mark : (size : List Entry → Entry → ℕ) (g : Group Entry) (q : Place) → (g.server q).up ≡ false → (happens size g (Boot q)).server q ≡ booted q (g.clock q) (mark_of (g.server q))
-boot_from_the_mark size g q u = by_if (λ (x : Group Entry). x.server q ≡ booted q (g.clock q) (mark_of (g.server q))) (g.server q).up g _ (λ f. cc (u, f)) (λ _. at_self g.server q _)
+pub boot_from_the_mark : (size : List Entry → Entry → ℕ) (g : Group Entry) (q : Place) → (g.server q).up ≡ false → (happens size g (Boot q)).server q ≡ booted q (g.clock q) g.delta (mark_of (g.server q))
+boot_from_the_mark size g q u = by_if (λ (x : Group Entry). x.server q ≡ booted q (g.clock q) g.delta (mark_of (g.server q))) (g.server q).up g _ (λ f. cc (u, f)) (λ _. at_self g.server q _)

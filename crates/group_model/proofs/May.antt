@@ -3,7 +3,7 @@ use Rattle.std.proofs.Common.{◌≡◌, ℕ, ◌+◌, ◌<◌, ◌≤◌, true,
 use Rattle.group_model.specs.Effects.{NewLog, accepting, heeding, joined_server, opening, report_of}
 use Rattle.group_model.specs.Moves.{entered, into_page, new_page, raised_page}
 use Rattle.group_model.specs.Places.{IsIn, Place, Trio, at, coordinator, get, leader, partner, put}
-use Rattle.group_model.specs.State.{Chose, Collects, Duty, Group, Log, Open, Outside, Plan, Report, Role, Server, Waits}
+use Rattle.group_model.specs.State.{Chose, Collects, Duty, Group, Log, Open, Outside, Plan, Report, Role, Server, Waits, longest_of}
 use Rattle.group_model.specs.Words.{IsActive, Part, Sure}
 
 -- The choice of the coordinator c, from the joins that it was told: `from` is the greatest accepted view
@@ -88,13 +88,14 @@ pub record MayHeed {E : Type 0} (g : Group E) (q : Place) (s : Server E) (items 
   pub opened : (g.page s.accepted).opened ≡ true
   pub cp_sure : Sure g.page g.committed s.accepted cp
   pub base_lb : base ≤ s.lb
+  pub lasts : s.delta ≤ longest_of s.longest
   pub longer : length s.items ≤ length items
   pub within : s.base + length items ≤ length (g.page s.accepted).list
   pub part : Part s.base items (g.page s.accepted).list
 
 abbrev pub heeded : {E : Type 0} → Group E → Place → List E → ℕ → ℕ → Group E
 heeded g q items cp base = raised g q (heeding (g.server q) items cp base (g.clock q))
-    (max (g.page (g.server q).accepted).held_twice ((g.server q).base + length items)) (max (g.page (g.server q).accepted).until (g.clock q + 2000))
+    (max (g.page (g.server q).accepted).held_twice ((g.server q).base + length items)) (max (g.page (g.server q).accepted).until (g.clock q + (g.server q).delta))
 
 -- The open leader appends an entry
 pub record MayAppend {E : Type 0} (g : Group E) (q : Place) (s : Server E) : Type 0 where

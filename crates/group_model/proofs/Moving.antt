@@ -4,6 +4,7 @@ use Rattle.std.proofs.Common.{◌≡◌, ℕ, List, [], ◌∷◌, ◌++◌, Opt
 use Rattle.group_model.proofs.May.{MayAccept, MayAppend, MayChoose, MayCommit, MayHeed, MayJoin, committing_group}
 use Rattle.group_model.specs.Bases.{Bases}
 use Rattle.group_model.specs.Effects.{NewLog}
+use Rattle.group_model.specs.Entered.{ServerWithin}
 use Rattle.group_model.specs.Facts.{BodyOk, Ok, ServerOk}
 use Rattle.group_model.specs.Laws.{Grows, Near}
 use Rattle.group_model.specs.Moves.{Accepting, Appending, Choosing, Collecting, Committing, Heeding, Joining, Move, Sending, act, acts, book_after, moved, moved_by}
@@ -41,6 +42,10 @@ pub record Good (g : Group Entry) (q : Place) (s : Server Entry) : Type 0 where
 -- what is so of the server
 pub its : {g : Group Entry} {q : Place} {s : Server Entry} → Good g q s → Fine g q s
 its {g = g} {q = q} {s = s} h = fine g h.ok q s h.is
+
+-- what is so of its numbers
+pub its_within : {g : Group Entry} {q : Place} {s : Server Entry} → Good g q s → ServerWithin s
+its_within {q = q} h = subst (λ (s : Server Entry). ServerWithin s) h.is (h.beside.within.server q)
 
 -- what each move asks beside what makes its facts
 abbrev pub May : Group Entry → Place → Server Entry → Move Entry → Type 0

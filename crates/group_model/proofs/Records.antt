@@ -31,7 +31,7 @@ abbrev pub Keeps : Move Entry → Type 0
 Keeps (Appending e) = ⊥
 Keeps (Heeding items cp base) = ⊥
 Keeps (Accepting plan role n) = ⊥
-Keeps Booting = ⊥
+Keeps (Booting d) = ⊥
 Keeps m = ⊤
 
 abbrev pub KeepsAll : List (Move Entry) → Type 0
@@ -50,7 +50,7 @@ move_keeps q clock s Falling k = zero-le
 move_keeps q clock s (Appending e) k = absurd k
 move_keeps q clock s (Heeding items cp base) k = absurd k
 move_keeps q clock s (Accepting plan role n) k = absurd k
-move_keeps q clock s Booting k = absurd k
+move_keeps q clock s (Booting d) k = absurd k
 move_keeps q clock s m k = le_refl _
 
 -- the moves add at most n records

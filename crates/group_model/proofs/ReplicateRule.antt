@@ -19,7 +19,7 @@ use Rattle.group_model.proofs.Accepting.{same_is}
 use Rattle.group_model.proofs.Raising.{leader_not_partner}
 use Rattle.group_model.proofs.Tests.{each_of, is_le, is_lt, is_eq', open_is, active_is}
 use Rattle.group_model.proofs.Quiet.{note_kept}
-use Rattle.group_model.proofs.Moving.{Good, its, Goes, goes_done, goes_more, heeding', committing}
+use Rattle.group_model.proofs.Moving.{Good, its, its_within, Goes, goes_done, goes_more, heeding', committing}
 use Rattle.group_model.proofs.Adopting.{if_true}
 use Rattle.group_model.proofs.Bases.{lbs_of}
 use Rattle.group_model.proofs.Sends.{Steady, goes_send, goes_where, partner_lb, steady_goes, steady_none, steady_say}
@@ -46,12 +46,13 @@ heeded g q s h up from v cp base items f o sure start low led space more = goes_
       opened = subst (λ (n : ℕ). (g.page n).opened ≡ true) e o;
       cp_sure = subst (λ (n : ℕ). Sure g.page g.committed n cp) e sure;
       base_lb = is_le base s.lb tests.1.0;
+      lasts = ((its_within h).delta up).1;
       longer = new.0;
       within = new.1;
       part = new.2;
     }))
     (λ k.
-    let p' = put_is g.page s.accepted (raised_page (g.page s.accepted) (max (g.page s.accepted).held_twice (s.base + length items)) (max (g.page s.accepted).until (g.clock q + 2000))) in
+    let p' = put_is g.page s.accepted (raised_page (g.page s.accepted) (max (g.page s.accepted).held_twice (s.base + length items)) (max (g.page s.accepted).until (g.clock q + s.delta))) in
     let g1 = moved g q s (Heeding items cp base) in
     let s1 = act q (g.clock q) s (Heeding items cp base) in
     let known = its k in
@@ -61,12 +62,12 @@ heeded g q s h up from v cp base items f o sure start low led space more = goes_
     let longer = new.0 in
     let low : s.lb ≤ s.base + length items = omega arith in
     goes_send g1 q s1 from _ [] k
-    (subst (λ (n : ℕ). ((g1.page n).formed ≡ true) × ((g1.page n).opened ≡ true) × (q ≡ partner (g1.page n).plan.storers) × (s.base + length items ≤ (g1.page n).held_twice) × (g.clock q + 2000 ≤ (g1.page n).until) × (s.lb ≤ s.base + length items)) (sym e) (
+    (subst (λ (n : ℕ). ((g1.page n).formed ≡ true) × ((g1.page n).opened ≡ true) × (q ≡ partner (g1.page n).plan.storers) × (s.base + length items ≤ (g1.page n).held_twice) × (g.clock q + s.delta ≤ (g1.page n).until) × (s.lb ≤ s.base + length items)) (sym e) (
       known.views.formed,
       (known.modes.follows refl).1,
       (known.modes.follows refl).0,
       subst (λ (p : Page _). s.base + length items ≤ p.held_twice) (sym p') (omega arith),
-      subst (λ (p : Page _). g.clock q + 2000 ≤ p.until) (sym p') (omega arith),
+      subst (λ (p : Page _). g.clock q + s.delta ≤ p.until) (sym p') (omega arith),
       low,
     ))
     (tt, subst (λ (n : ℕ). ((g1.page n).formed ≡ true) × ((g1.page n).plan.storers ≡ S01 → s.lb ≤ lbs_of g1.server One)) (sym e) (known.views.formed, partner_lb g1 q s1 k (known.modes.follows refl).0), tt) goes_done))

@@ -161,9 +161,9 @@ unfolding limit
 few = omega arith
 
 within : (q : Place) → ServerWithin (starting q)
-within Zero = record { count = few; items = zero-le; saved = λ v e. cc }
-within One = record { count = few; items = zero-le; saved = λ v e. cc }
-within Two = record { count = few; items = zero-le; saved = λ v e. cc }
+within Zero = record { count = few; items = zero-le; saved = λ v e. cc; longest = (omega arith, omega arith); delta = λ u. ((omega arith, omega arith), le_refl _) }
+within One = record { count = few; items = zero-le; saved = λ v e. cc; longest = (omega arith, omega arith); delta = λ u. ((omega arith, omega arith), le_refl _) }
+within Two = record { count = few; items = zero-le; saved = λ v e. cc; longest = (omega arith, omega arith); delta = λ u. ((omega arith, omega arith), le_refl _) }
 
 pub start_whole : Whole fixed_start
 start_whole = record {
@@ -181,7 +181,7 @@ start_whole = record {
   bases = record { server = bases; page = λ w f. by_view (λ w. ((starting_page w).plan.base ≤ 0) × ((starting_page w).plan.base ≤ 0)) (le_refl _, le_refl _) (le_refl _, le_refl _) w f; join = λ j i l. by_join (λ j. (j.report.base ≤ 0) × (j.report.base ≤ 0)) (le_refl _, le_refl _) (le_refl _, le_refl _) j i; packet = tt };
   answers = record { each = λ a i. absurd i };
   books = record { list = λ w f. by_view (λ w. UpdatesFrom [] (starting_page w).list) tt tt w f; book = tt; updates = refl };
-  within = record { server = within; list = λ w f. by_view (λ w. length (starting_page w).list ≤ limit) zero-le zero-le w f; packet = tt };
+  within = record { server = within; delta = (omega arith, omega arith); list = λ w f. by_view (λ w. length (starting_page w).list ≤ limit) zero-le zero-le w f; packet = tt };
   tidy = record { each = tidy };
   near = λ x y. omega arith;
 }

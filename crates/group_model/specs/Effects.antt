@@ -2,7 +2,7 @@
 use Rattle.std.specs.Prelude.{ℕ, ◌+◌, ◌-◌, ◌&&◌, ◌==◌, nat_lt, nat_le, Bool, true, false, List, [], ◌∷◌, ◌++◌, length, drop, Option, None, Some, max, min, if◌then◌else◌}
 use Rattle.group_model.specs.Limits.{by_held, can_have, is_log, is_outside, room}
 use Rattle.group_model.specs.Places.{Zero, One, Two, Place, Trio, all_of, get, is_p2, nobody, partner, with_at}
-use Rattle.group_model.specs.State.{Duty, Empty, Follows, Held, Joins, Leads, Live, Log, Lost, Mark, NoDuty, Open, Outside, Plan, Report, Rests, Role, Saved, Server, Waits, no_plan, no_report, top}
+use Rattle.group_model.specs.State.{Duty, Empty, Follows, Held, Joins, Leads, Live, Log, Lost, Mark, NoDuty, Open, Outside, Plan, Report, Rests, Role, Saved, Server, Waits, longest_of, mark_of, no_plan, no_report, top}
 
 -- the log that a server has afterwards
 pub record NewLog (E : Type 0) : Type 0 where
@@ -82,7 +82,7 @@ heeding s items cp base clock = record s {
   items = drop (base - s.base) items;
   cp = max s.cp (min cp (s.base + length items));
   heard = nobody;
-  horizon = max s.horizon (clock + 2000);
+  horizon = max s.horizon (clock + s.delta);
 }
 
 -- what is left of a server that is down: its mark
@@ -94,6 +94,7 @@ down m = record {
   role = m.role;
   lb = m.lb;
   saved = m.saved;
+  longest = m.longest;
   held = Lost;
   base = m.lb;
   ap = m.lb;
@@ -110,6 +111,7 @@ down m = record {
   grant = 0;
   served = 0;
   duty = NoDuty;
+  delta = 0;
   horizon = 0;
 }
 
@@ -128,9 +130,9 @@ saving q s None =
     else s
 saving q s (Some v) = s
 
--- a server that is up again and rests; it promised nobody anything after its horizon
-abbrev pub resting : {E : Type 0} → ℕ → Mark E → Held → NewLog E → Server E
-resting clock m held n = record (down m) {
+-- a server that is up again and rests; no boot of this disk promised anything after its horizon
+abbrev pub resting : {E : Type 0} → (clock delta : ℕ) → Mark E → Held → NewLog E → Server E
+resting clock delta m held n = record (down m) {
   up = true;
   held = held;
   lb = n.lb;
@@ -138,7 +140,8 @@ resting clock m held n = record (down m) {
   ap = n.ap;
   cp = n.cp;
   items = n.items;
-  horizon = clock + 2000;
+  delta = delta;
+  horizon = clock + longest_of m.longest;
 }
 
 abbrev pub lost_log : {E : Type 0} → ℕ → NewLog E
@@ -162,32 +165,42 @@ abbrev pub load_tests : {E : Type 0} → ℕ → Saved E → List Bool
 load_tests lb v = nat_le v.base lb ∷ nat_le lb v.cp ∷ nat_le v.cp (v.base + length v.items)
     ∷ nat_le (length v.items) room ∷ []
 
-abbrev pub loaded : {E : Type 0} → Place → ℕ → Mark E → Option (Saved E) → Server E
-loaded q clock m None = resting clock m Lost (lost_log m.lb)
-loaded q clock m (Some v) =
+abbrev pub loaded : {E : Type 0} → Place → (clock delta : ℕ) → Mark E → Option (Saved E) → Server E
+loaded q clock delta m None = resting clock delta m Lost (lost_log m.lb)
+loaded q clock delta m (Some v) =
     if all_of (can_have q m.role ∷ load_tests m.lb v)
-    then resting clock m Log (saved_log q m.lb v)
-    else resting clock m Lost (lost_log m.lb)
+    then resting clock delta m Log (saved_log q m.lb v)
+    else resting clock delta m Lost (lost_log m.lb)
 
--- Boot, from the mark and the clock alone: empty at server 2 with the role outside, held where the mark has a saved
--- log and a role that a choice can give, else lost
-abbrev pub booted : {E : Type 0} → Place → ℕ → Mark E → Server E
-booted q clock m = if is_p2 q && is_outside m.role then resting clock m Empty (empty_log m.lb)
-    else loaded q clock m m.saved
+-- empty at server 2 with the role outside, held where the mark has a saved log and a role that a choice can give,
+-- else lost
+abbrev pub rested : {E : Type 0} → Place → (clock delta : ℕ) → Mark E → Server E
+rested q clock delta m = if is_p2 q && is_outside m.role then resting clock delta m Empty (empty_log m.lb)
+    else loaded q clock delta m m.saved
 
--- the mark of a disk that has none
+-- the mark that a boot goes on from: its longest is the greater of the kept one and this boot's delta
+abbrev pub lengthened : {E : Type 0} → (delta : ℕ) → Mark E → Mark E
+lengthened delta m = record m { longest = Some (max delta (longest_of m.longest)) }
+
+-- Boot, from the mark, the clock and the group's delta alone. The mark is written before anything else, so a boot that
+-- fails at it is none, or a boot and a crash
+abbrev pub booted : {E : Type 0} → Place → (clock delta : ℕ) → Mark E → Server E
+booted q clock delta m = rested q clock delta (lengthened delta m)
+
+-- the mark of a disk that has none, at the group's delta
 abbrev pub first_role : Place → Role
 first_role Zero = Leads One
 first_role One = Follows Zero
 first_role Two = Outside
 
-abbrev pub first_mark : (E : Type 0) → Place → Mark E
-first_mark E q = record {
+abbrev pub first_mark : (E : Type 0) → (delta : ℕ) → Place → Mark E
+first_mark E delta q = record {
   promised = 0;
   accepted = 0;
   role = first_role q;
   lb = 0;
   saved = Some (record { base = 0; cp = 0; items = [] });
+  longest = Some delta;
 }
 
 -- Demotion at a server that promised a higher view: it drops its log, and its part in that view goes on. Else it
@@ -204,12 +217,18 @@ demoted_by true s v = record s {
   items = [];
   served = 0;
 }
-demoted_by false s v = record (down (record { promised = v; accepted = v; role = Outside; lb = s.lb; saved = None })) {
+demoted_by false s v = record (down (record (mark_of s) {
+  promised = v;
+  accepted = v;
+  role = Outside;
+  saved = None;
+})) {
   up = s.up;
   held = Empty;
   base = 0;
   ap = 0;
   cp = 0;
+  delta = s.delta;
   horizon = s.horizon;
 }
 

@@ -2,9 +2,9 @@
 use Rattle.std.specs.Prelude.{◌≡◌, ℕ, ◌-◌, ◌/◌, ◌<◌, ◌≤◌, ◌⊎◌, true, List, [], ◌∷◌, ◌++◌, length, Some, slice_get, ⊤}
 use Rattle.harp_base.specs.Update.{is_update}
 use Rattle.file_tree.specs.Book.{Entry, updates, MayFollow, IsBook}
-use Rattle.group_model.specs.Limits.{limit, room}
+use Rattle.group_model.specs.Limits.{IsDelta, limit, room}
 use Rattle.group_model.specs.Places.{Place, nobody}
-use Rattle.group_model.specs.State.{Answered, Empty, Group, Invite, Joins, Live, Lost, Message, Open, Packet, Page, Pulls, Rests, Saved, Server, no_plan, no_report}
+use Rattle.group_model.specs.State.{Answered, Empty, Group, Invite, Joins, Live, Lost, Message, Open, Packet, Page, Pulls, Rests, Saved, Server, longest_of, no_plan, no_report}
 use Rattle.group_model.specs.Words.{Each, In, IsJoining, Sure}
 
 -- An answered update stands in the book at its index, and what the view's list begins with up to it is committed
@@ -34,6 +34,9 @@ pub record ServerWithin {E : Type 0} (s : Server E) : Type 0 where
   pub count : s.promised / 3 ≤ limit
   pub items : length s.items ≤ room
   pub saved : (v : Saved E) → s.saved ≡ Some v → length v.items ≤ room
+  pub longest : IsDelta (longest_of s.longest)
+  -- needed for the promises of an Ack: none is longer than its sender's mark says
+  pub delta : s.up ≡ true → IsDelta s.delta × (s.delta ≤ longest_of s.longest)
 
 -- needed for the count of a view that is joined by an Invite
 abbrev pub BodyWithin : {E : Type 0} → Message E → Type 0
@@ -53,8 +56,9 @@ pub record IsTidy {E : Type 0} (s : Server E) : Type 0 where
 pub record Tidy {E : Type 0} (g : Group E) : Type 0 where
   pub each : (q : Place) → IsTidy (g.server q)
 
--- Counts and indices have at most 62 bits, and a log has at most 16,384 records
+-- Counts and indices have at most 62 bits, a log has at most 32,768 records, and promises last 500 to 100,000
 pub record Within {E : Type 0} (g : Group E) : Type 0 where
   pub server : (q : Place) → ServerWithin (g.server q)
+  pub delta : IsDelta g.delta
   pub list : (w : ℕ) → (g.page w).formed ≡ true → length (g.page w).list ≤ limit
   pub packet : Each (λ (p : Packet E). BodyWithin p.body) g.packets

@@ -1,5 +1,5 @@
 -- A group in whose view 1.0 server 0 leads and server 1 follows, with no update yet, and in which nothing was sent.
-use Rattle.std.specs.Prelude.{ℕ, zero, suc, true, false, List, [], ◌∷◌, None}
+use Rattle.std.specs.Prelude.{ℕ, zero, suc, true, false, List, [], ◌∷◌, None, Some}
 use Rattle.file_tree.specs.Book.{Entry}
 use Rattle.group_model.specs.Places.{Zero, One, Two, Place, nobody}
 use Rattle.group_model.specs.State.{Empty, Follows, Group, Held, JoinMade, Leads, Live, Log, Mode, NoDuty, Open, Outside, Page, Rests, Role, Server, no_plan, no_report}
@@ -17,6 +17,7 @@ server_at_start role held mode = record {
   role = role;
   lb = 0;
   saved = None;
+  longest = Some 2000;
   held = held;
   base = 0;
   ap = 0;
@@ -33,6 +34,7 @@ server_at_start role held mode = record {
   grant = 0;
   served = 0;
   duty = NoDuty;
+  delta = 2000;
   horizon = 0;
 }
 
@@ -101,4 +103,5 @@ fixed_start = record {
   book = [];
   answered = [];
   clock = λ q. 0;
+  delta = 2000;
 }

@@ -1,16 +1,16 @@
 -- The laws of the group: what every schedule keeps.
-use Rattle.std.specs.Prelude.{◌≡◌, ℕ, zero, suc, ◌+◌, ◌-◌, ◌/◌, ◌<◌, ◌≤◌, ◌⊎◌, true, false, List, [], ◌∷◌, ◌++◌, length, take, drop, Some, slice_get, ⊤}
+use Rattle.std.specs.Prelude.{◌≡◌, ℕ, zero, suc, ◌+◌, ◌-◌, ◌/◌, ◌<◌, ◌≤◌, ◌⊎◌, true, false, List, [], ◌∷◌, ◌++◌, length, take, drop, None, Some, slice_get, ⊤}
 use Rattle.file_tree.specs.Calls.{outcome}
 use Rattle.harp_base.specs.Update.{is_update}
 use Rattle.file_tree.specs.Book.{Entry, updates, tree_after, IsBook}
 use Rattle.group_model.specs.Bases.{Bases}
 use Rattle.group_model.specs.Entered.{AnswersOk, Books, Tidy, Within}
 use Rattle.group_model.specs.Facts.{Ok}
-use Rattle.group_model.specs.Limits.{limit, room}
+use Rattle.group_model.specs.Limits.{IsDelta, limit, room}
 use Rattle.group_model.specs.Moves.{Choosing, Move, Reading, Saying, act, moved}
 use Rattle.group_model.specs.Places.{Place, number}
 use Rattle.group_model.specs.Settled.{Settled}
-use Rattle.group_model.specs.State.{Ack, Answered, Answers, Beat, Event, Give, Group, JoinMade, Log, Message, Open, Outside, Packet, Page, Pulls, Saved, Server, top}
+use Rattle.group_model.specs.State.{Ack, Answered, Answers, Beat, Event, Give, Group, JoinMade, Log, Message, Open, Outside, Packet, Page, Pulls, Saved, Server, longest_of, top}
 use Rattle.group_model.specs.Step.{Ask, At, Comes, Crash, Deed, Happening, happens, run, step_of}
 use Rattle.group_model.specs.Words.{Agree, Each, In, Under}
 
@@ -28,6 +28,10 @@ pub record Whole (g : Group Entry) : Type 0 where
   pub within : Within g
   pub tidy : Tidy g
   pub near : Near g.clock
+
+-- the same group with marks from before marks told of lengths
+abbrev pub with_old_marks : Group Entry → Group Entry
+with_old_marks g = record g { server = λ q. record (g.server q) { longest = None } }
 
 -- A law holds after each list of happenings, from each group that meets the facts, whatever the sizes of records
 abbrev pub Always : (Group Entry → Type 0) → Type 0
@@ -108,13 +112,18 @@ pub record StandsFor (g : Group Entry) (q : Place) : Type 0 where
   pub staged_within : (g.server q).mode ≡ Pulls
       → (g.server q).wanted_from + length (g.server q).staged ≤ (g.page (g.server q).promised).plan.start
 
--- LIMITS: counts and indices have at most 62 bits, and a log has at most 16,384 records
+-- LIMITS: counts and indices have at most 62 bits, a log has at most 32,768 records, and promises last 500 to 100,000;
+-- a server that is up gives none that is longer than its mark says
 pub record WithinLimits (g : Group Entry) : Type 0 where
   pub count : (q : Place) → (g.server q).promised / 3 ≤ limit
   pub indices : (q : Place) → (g.server q).held ≡ Log → top (g.server q) ≤ limit
   pub log : (q : Place) → length (g.server q).items ≤ room
   pub saved : (q : Place) (v : Saved Entry) → (g.server q).saved ≡ Some v → length v.items ≤ room
   pub list : (w : ℕ) → (g.page w).formed ≡ true → length (g.page w).list ≤ limit
+  pub delta : IsDelta g.delta
+  pub longest : (q : Place) → IsDelta (longest_of (g.server q).longest)
+  pub promises : (q : Place) → (g.server q).up ≡ true
+      → IsDelta (g.server q).delta × ((g.server q).delta ≤ longest_of (g.server q).longest)
 
 -- what a formed page becomes
 pub record PageGrows {E : Type 0} (p p' : Page E) : Type 0 where

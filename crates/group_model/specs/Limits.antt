@@ -1,5 +1,5 @@
 -- The limits of the profile, and tests of modes and logs.
-use Rattle.std.specs.Prelude.{ℕ, ◌-◌, ◌^◌, ◌||◌, Bool, true, false}
+use Rattle.std.specs.Prelude.{ℕ, ◌-◌, ◌^◌, ◌≤◌, ◌||◌, nat_le, Bool, true, false, List, [], ◌∷◌}
 use Rattle.group_model.specs.Places.{Zero, One, Two, Place}
 use Rattle.group_model.specs.State.{Empty, Follows, Held, Joins, Leads, Live, Log, Lost, Mode, Open, Outside, Pulls, Rests, Role, Waits}
 
@@ -9,11 +9,18 @@ limit = 2 ^ 62 - 1
 
 -- the records that a log has room for
 unfoldable pub room : ℕ
-room = 16384
+room = 32768
 
 -- the most bytes of records in a Give
 unfoldable pub give_bytes : ℕ
 give_bytes = 48000
+
+-- how long promises may last
+abbrev pub IsDelta : ℕ → Type 0
+IsDelta d = (500 ≤ d) × (d ≤ 100000)
+
+abbrev pub delta_tests : ℕ → List Bool
+delta_tests d = nat_le 500 d ∷ nat_le d 100000 ∷ []
 
 abbrev pub is_log : Held → Bool
 is_log Log = true

@@ -103,11 +103,13 @@ abbrev pub PromiseKnown : {E : Type 0} → (ℕ → Page E) → Message E → Ty
 PromiseKnown page (Ack v t lb until) = until ≤ (page v).until
 PromiseKnown page m = ⊤
 
--- The promises that were given in a view are within the partner's clock + 2000, its horizon while it is up, the
--- horizon that each join of it to a later view reports, and the horizon of each later view with it as a storer
+-- The promises that were given in a view are within the partner's clock + the longest of its mark, its horizon while
+-- it is up, the horizon that each join of it to a later view reports, and the horizon of each later view with it as a
+-- storer
 pub record HorizonsCoverPromises {E : Type 0} (g : Group E) : Type 0 where
   pub packet : Each (λ (p : Packet E). PromiseKnown g.page p.body) g.packets
-  pub server : (v : ℕ) (q : Place) → Promised q (g.server q).up (g.server q).horizon (g.clock q) v (g.page v)
+  pub server : (v : ℕ) (q : Place) → Promised q (g.server q).up (g.server q).horizon (g.clock q) (g.server q).longest v
+      (g.page v)
   pub join : (v : ℕ) → (g.page v).formed ≡ true → (j : JoinMade) → In g.joins j → v < j.view
       → j.from ≡ partner (g.page v).plan.storers → (g.page v).until ≤ j.report.horizon
   pub page : (v w : ℕ) → v < w → (g.page v).formed ≡ true → (g.page w).formed ≡ true

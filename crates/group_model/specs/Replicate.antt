@@ -13,11 +13,11 @@ abbrev pub is_in_view : {E : Type 0} → Server E → ℕ → Bool
 is_in_view s v = all_of (in_view_tests s v)
 
 -- Event and Beat: heeded by the active partner of that view. It takes the next record, drops to the base, raises its
--- CP, and acknowledges with its top, LB and a promise of 2000 from now on
+-- CP, and acknowledges with its top, LB and a promise that lasts for the delta of its boot
 abbrev pub on_event : {E : Type 0} → Place → ℕ → Server E → Place → ℕ → ℕ → ℕ → List E → List (Move E)
 on_event q clock s from v cp base items =
     if all_of (is_in_view s v ∷ same q (partner s.plan.storers) ∷ [])
-    then Heeding items cp base ∷ Sending from (Ack v (s.base + length items) s.lb (clock + 2000)) ∷ []
+    then Heeding items cp base ∷ Sending from (Ack v (s.base + length items) s.lb (clock + s.delta)) ∷ []
     else []
 
 -- the answers of these entries, the first with n entries before it

@@ -8,7 +8,7 @@ use Rattle.group_model.specs.Limits.{by_held}
 use Rattle.group_model.specs.Moves.{Move, Reading, Saying}
 use Rattle.group_model.specs.Places.{Place, coordinator, leader, number, partner}
 use Rattle.group_model.specs.State.{Ack, Answers, Beat, Cause, Chose, Collects, Demote, Duty, Empty, Event, Fetch, Follows, Form, Formed, Give, Group, Held, Invite, Join, Joins, Leads, Lists, Live, Log, Lost, Message, Mode, NoDuty, Open, Outside, Packet, Pulls, Refuses, Rests, Role, Say, Server, Waits, top}
-use Rattle.group_model.specs.Step.{Advance, At, Boot, Clock, Comes, CutAt, CutDeliver, Deliver, Does, Happening, first_group, happens, numbered, step_of}
+use Rattle.group_model.specs.Step.{Advance, At, Boot, Clock, Comes, CutAt, CutDeliver, Deliver, Delta, Does, Happening, first_group, happens, numbered, step_of}
 
 pub data Line : Type 0 where
   Entered : (index client number stamp : ℕ) → Call → Reply → Line
@@ -188,6 +188,7 @@ shows size g g' (CutDeliver n) = cut_lines g g' (numbered g.packets n)
 shows size g g' (Boot q) = lines_of g g' q []
 shows size g g' (Clock q t) = []
 shows size g g' (Advance d) = []
+shows size g g' (Delta d) = []
 
 abbrev pub play_from : (List Entry → Entry → ℕ) → Group Entry → List Happening → List Line
 play_from size g [] = []

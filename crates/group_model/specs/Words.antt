@@ -1,7 +1,7 @@
 -- The words in which the facts speak of lists, pages and modes.
-use Rattle.std.specs.Prelude.{◌≡◌, ℕ, ◌+◌, ◌<◌, ◌≤◌, ◌⊎◌, Bool, true, List, [], ◌∷◌, length, slice_get, ⊤}
+use Rattle.std.specs.Prelude.{◌≡◌, ℕ, ◌+◌, ◌<◌, ◌≤◌, ◌⊎◌, Bool, true, List, [], ◌∷◌, length, Option, slice_get, ⊤}
 use Rattle.group_model.specs.Places.{IsIn, Zero, One, Place, leader, partner}
-use Rattle.group_model.specs.State.{JoinMade, Joins, Live, Log, Mode, Open, Page, Pulls, Rests, Server, Waits}
+use Rattle.group_model.specs.State.{JoinMade, Joins, Live, Log, Mode, Open, Page, Pulls, Rests, Server, Waits, longest_of}
 
 -- the lists have the same first n entries
 abbrev pub Agree : {E : Type 0} → ℕ → List E → List E → Type 0
@@ -84,7 +84,7 @@ Tells joins q s = IsJoining s.mode → (j : JoinMade) → In joins j → j.from 
     → (j.report.accepted ≡ s.accepted) × (j.report.top ≡ s.base + length s.items)
     × (j.report.base ≡ s.base) × (j.report.lb ≡ s.lb) × (j.report.cp ≡ s.cp)
 
--- the promises that q gave for v are within its horizon, while it is up, and its clock plus 2000
-abbrev pub Promised : {E : Type 0} → Place → Bool → ℕ → ℕ → ℕ → Page E → Type 0
-Promised q up horizon clock v p =
-    p.formed ≡ true → q ≡ partner p.plan.storers → (up ≡ true → p.until ≤ horizon) × (p.until ≤ clock + 2000)
+-- the promises that q gave for v are within its horizon, while it is up, and its clock plus the longest of its mark
+abbrev pub Promised : {E : Type 0} → Place → Bool → (horizon clock : ℕ) → (longest : Option ℕ) → ℕ → Page E → Type 0
+Promised q up horizon clock longest v p =
+    p.formed ≡ true → q ≡ partner p.plan.storers → (up ≡ true → p.until ≤ horizon) × (p.until ≤ clock + longest_of longest)

@@ -79,8 +79,8 @@ kind_list g h q i _ (appends e index z is u) = inr (record {
       ∙ ap (λ (p : Page Entry). p.list) (put_same g.page view_one (record (g.page view_one) { list = (g.page view_one).list ++ e ∷ [] }));
 })
 kind_list g h q i _ (heeds items cp t until z m is) = inl (
-    ap (λ n. (put g.page n (heeded_page (g.page n) ((g.server q).base + length items) (g.clock q + 2000)) view_one).list) (its_view g h q).1
-    ∙ ap (λ (p : Page Entry). p.list) (put_same g.page view_one (heeded_page (g.page view_one) ((g.server q).base + length items) (g.clock q + 2000)))
+    ap (λ n. (put g.page n (heeded_page (g.page n) ((g.server q).base + length items) (g.clock q + (g.server q).delta)) view_one).list) (its_view g h q).1
+    ∙ ap (λ (p : Page Entry). p.list) (put_same g.page view_one (heeded_page (g.page view_one) ((g.server q).base + length items) (g.clock q + (g.server q).delta)))
     )
 kind_list g h q i _ (notes t until z is) = inl refl
 kind_list g h q i _ (commits t until es z is) = inl (kept_list g q (Noting t 0 until ∷ Committing t ∷ answers (g.server q).cp es) (tt, (tt, answers_pages (g.server q).cp es)))

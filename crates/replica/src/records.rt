@@ -24,7 +24,7 @@ use volatile_log::ActiveLog;
 use wire::Message;
 
 /// How many records a log has room for.
-pub(crate) const ROOM: u64 = 16384;
+pub(crate) const ROOM: u64 = 32768;
 
 /// The record before which n stand in a log that dropped none.
 pub(crate) fn record_after(log: &ActiveLog, n: u64) -> &Record

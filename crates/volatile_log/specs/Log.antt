@@ -17,7 +17,7 @@ top log = log.base + length log.records
 
 -- how many records a log has room for
 abbrev pub room : ℕ
-room = 16384
+room = 32768
 
 -- the records have the indices n + 1, n + 2 and so on
 abbrev pub AreNumberedAfter : ℕ → List Record → Type 0

@@ -9,15 +9,15 @@ use std::alloc::{AllocError, Global};
 use std::collections::VecDeque;
 use std::marker::Model;
 
-/// The log has no room for another record: 16,384 stand in it.
+/// The log has no room for another record: 32,768 stand in it.
 #[derive(Clone, Copy, Debug, PartialEq, Eq)]
 pub struct LogFull;
 
 /// How many records a log has room for.
-const ROOM: usize = 16384;
+const ROOM: usize = 32768;
 
 /// A log that records are added to and committed in. It has the records base + 1 to top, at most
-/// 16,384 and each with the index of its place; base <= LB <= AP <= CP <= top, all below 2^62. Those
+/// 32,768 and each with the index of its place; base <= LB <= AP <= CP <= top, all below 2^62. Those
 /// up to LB are on this server's disk, those up to AP are applied to its tree, and those up to CP are
 /// committed (Harp paper). The room is taken when the log is made.
 #[derive(Drop)]
@@ -43,7 +43,7 @@ impl Model for ActiveLog {
 }
 
 impl ActiveLog {
-    /// An empty log, all numbers 0. It takes the memory for 16,384 records at once.
+    /// An empty log, all numbers 0. It takes the memory for 32,768 records at once.
     pub fn start(alloc: Global) -> Result<ActiveLog, AllocError>
         ensures { IfOk result (λ log. log ≡ empty_log) }
     {
@@ -56,7 +56,7 @@ impl ActiveLog {
         })
     }
 
-    /// Adds the next record. LogFull comes exactly where 16,384 records stand; the record comes back
+    /// Adds the next record. LogFull comes exactly where 32,768 records stand; the record comes back
     /// with it, and the log is as before. It takes no memory.
     pub fn append(&mut self, item: Record) -> Result<(), (LogFull, Record)>
         requires next { item.index ≡ top self.old + 1 }

@@ -178,7 +178,7 @@ impl Leader {
         now: u64,
         outs: &mut Outputs,
     ) -> Result<(), AllocError>
-        requires room { length self.old.server.items < 16384 }
+        requires room { length self.old.server.items < 32768 }
         requires update { is_update call.now ≡ true }
         requires now { now < 2 ^ 62 }
         ensures { let s = self.old.server in let e = new_entry now s.items asker.client asker.number asker.cred call.now in
