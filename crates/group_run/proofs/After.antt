@@ -1,28 +1,28 @@
 -- What a step of the first view leaves: the same kind of group, which meets the facts.
-use Rattle.std.proofs.Common.{◌≡◌, ℕ, ◌+◌, ◌-◌, ◌<◌, ◌≤◌, ◌⊎◌, true, false, List, [], ◌∷◌, ◌++◌, length, Option, Some, None, refl, sym, ap, ◌∙◌, subst, inl, inr, arith, le_trans, max, min, drop}
-use Rattle.std.specs.Prelude.{⊤, option_map}
+use Rattle.std.proofs.Common.{◌≡◌, ℕ, ◌+◌, ◌-◌, ◌<◌, ◌≤◌, true, false, List, [], ◌∷◌, ◌++◌, length, Option, Some, None, refl, sym, ap, ◌∙◌, subst, arith, max, min, drop}
+use Rattle.std.specs.Prelude.{option_map}
 use Rattle.trace_lines.specs.declared.step.Step.{Step}
 use Rattle.trace_lines.specs.declared.step.Step.TheVariants as step
 use Rattle.harp_base.specs.declared.call.Call.{Call}
 use Rattle.harp_base.specs.declared.cred.Cred.{Cred}
 use Rattle.file_tree.specs.Book.{Entry}
-use Rattle.group_model.specs.FixedStart.{starting, view_one}
-use Rattle.group_model.specs.Laws.{Whole}
-use Rattle.group_model.specs.Moves.{Appending, Committing, Heeding, Move, Noting, Reading, Saying, Sending, act, acts, moved, moved_by, packets_after, page_after}
-use Rattle.group_model.specs.Names.{place_of}
-use Rattle.group_model.specs.Open.{rebase}
-use Rattle.group_model.specs.Places.{IsIn, Zero, One, Two, Place, Pair, S01, S02, S12, at}
-use Rattle.group_model.specs.Replicate.{answers}
-use Rattle.group_model.specs.State.{Ack, Answers, Event, Group, Message, Packet, Refuses, Server}
-use Rattle.group_model.specs.Step.{Ask, Comes, Does, Input, Tick, list_of, numbered}
-use Rattle.group_model.specs.Words.{Each}
-use Rattle.group_model.proofs.AskRule.{asked_freely}
-use Rattle.group_model.proofs.Moving.{Goes, Good, at_self, goes_good}
-use Rattle.group_model.proofs.OpenRule.{rebases}
-use Rattle.group_model.proofs.Safe.{good_of, input_goes, sent_known, whole_of}
-use Rattle.group_model.proofs.Sends.{goes_next}
+use Rattle.group_rules.specs.FixedStart.{view_one}
+use Rattle.group_safety.specs.Laws.{Whole}
+use Rattle.group_rules.specs.Moves.{Appending, Committing, Heeding, Move, Noting, Reading, Saying, Sending, act, acts, moved, moved_by, packets_after}
+use Rattle.group_rules.specs.Names.{place_of}
+use Rattle.group_rules.specs.Open.{rebase}
+use Rattle.group_rules.specs.Places.{IsIn, Zero, One, Two, Place, Pair, S01, S02, S12, at}
+use Rattle.group_rules.specs.Replicate.{answers}
+use Rattle.group_rules.specs.State.{Ack, Answers, Event, Group, Packet, Refuses, Server}
+use Rattle.group_rules.specs.Step.{Ask, Comes, Does, Input, Tick, list_of, numbered}
+use Rattle.group_safety.specs.Words.{Each}
+use Rattle.group_safety.proofs.AskRule.{asked_freely}
+use Rattle.group_safety.proofs.Moving.{Goes, at_self, goes_good}
+use Rattle.group_safety.proofs.OpenRule.{rebases}
+use Rattle.group_safety.proofs.Safe.{good_of, input_goes, sent_known, whole_of}
+use Rattle.group_safety.proofs.Sends.{goes_next}
 use Rattle.group_run.specs.Run.{begins, moves_of, no_size, stepped}
-use Rattle.group_run.proofs.Early.{AreLeaderSends, Early, IsEarly, IsFollowing, IsLeading, Kind, ack, answers_keep, appends, commits, event, following, heeds, kind_of, leading, notes, quiet, reads, refuses, repeats, sends, sends_keep}
+use Rattle.group_run.proofs.Early.{AreLeaderSends, Early, IsEarly, IsFollowing, IsLeading, Kind, ack, answers_keep, appends, commits, event, heeds, kind_of, leading, notes, quiet, reads, refuses, repeats, sends, sends_keep}
 
 -- ---- parts of a group after moves
 

@@ -1,11 +1,9 @@
 -- What a step answers: the read that it asks for, or updates of the book that the partner acknowledged.
-use Rattle.std.proofs.Common.{◌≡◌, ℕ, zero, suc, ◌+◌, ◌-◌, ◌<◌, ◌≤◌, ◌⊎◌, Bool, true, false, not, List, [], ◌∷◌, ◌++◌, append_assoc, append-nil, length, drop, Option, Some, None, refl, sym, ap, ◌∙◌, subst, inl, inr, arith, fold, ⊎_elim, le_trans, le_refl, true≢false}
+use Rattle.std.proofs.Common.{◌≡◌, ℕ, ◌+◌, ◌<◌, ◌≤◌, true, false, List, [], ◌∷◌, ◌++◌, append_assoc, append-nil, Some, refl, sym, ap, ◌∙◌, subst, inl, inr}
 use Rattle.std.specs.Prelude.{Contains, ⊤}
 use Rattle.std.specs.List.{AllByRecursion}
-use Rattle.std.proofs.lemmas.List.Sums.{fold-append}
 use Rattle.harp_base.specs.declared.call.Call.{Call}
 use Rattle.harp_base.specs.declared.cred.Cred.{Cred}
-use Rattle.harp_base.specs.declared.server.ServerId.{ServerId}
 use Rattle.harp_base.specs.declared.server.ServerId.TheVariants as server
 use Rattle.harp_base.specs.declared.reply.Reply.{Reply}
 use Rattle.harp_base.specs.declared.state.StateLine.{StateLine}
@@ -14,32 +12,31 @@ use Rattle.trace_lines.specs.declared.step.Step.{Step}
 use Rattle.trace_lines.specs.declared.step.Step.TheVariants as step
 use Rattle.trace_lines.specs.declared.line.Line.{Line}
 use Rattle.trace_lines.specs.declared.line.Line.TheVariants as line
-use Rattle.harp_trace.specs.Acknowledged.{HasAcknowledged, IsAcknowledged, answers_read}
+use Rattle.harp_trace.specs.Acknowledged.{HasAcknowledged}
 use Rattle.harp_trace.specs.Faithful.{IsBookReply, IsReplyIn, IsUpdateReply}
-use Rattle.harp_trace.specs.Servers.{AckDelivered, HasShown, first_view, last_state, later_state}
+use Rattle.harp_trace.specs.Servers.{AckDelivered, HasShown, first_view, last_state}
 use Rattle.harp_trace.specs.Trace.{AtPlacesAfter, Trace, entries, step_under_way}
-use Rattle.harp_trace.proofs.Places.{all-append, entries-append, places-append, step_under_way-append}
 use Rattle.file_tree.specs.Book.{Entry}
-use Rattle.group_model.specs.FixedStart.{view_one}
-use Rattle.group_model.specs.Laws.{Whole}
-use Rattle.group_model.specs.Limits.{by_held}
-use Rattle.group_model.specs.Moves.{Appending, Committing, Heeding, Move, Noting, Reading, Saying, Sending, act, moved, moved_by}
-use Rattle.group_model.specs.Names.{id_of, place_of}
-use Rattle.group_model.specs.Places.{Zero, One, Place}
-use Rattle.group_model.specs.Replicate.{answers}
-use Rattle.group_model.specs.State.{Answered, Answers, Event, Group, Lists, Log, Open, Refuses, Server, top}
-use Rattle.group_model.specs.Step.{Ask, Comes, Does, Input, Tick}
-use Rattle.group_model.specs.Words.{In, Sure}
-use Rattle.group_model.proofs.Common.{sure_up}
-use Rattle.group_model.proofs.Lawful.{answers_grow, sure_held}
-use Rattle.group_run.specs.Lines.{answered_by, answered_lines}
-use Rattle.group_run.specs.Run.{begins, moves_of, stepped}
+use Rattle.group_rules.specs.FixedStart.{view_one}
+use Rattle.group_safety.specs.Laws.{Whole}
+use Rattle.group_rules.specs.Limits.{by_held}
+use Rattle.group_rules.specs.Moves.{Appending, Committing, Move, Noting, Reading, Saying, Sending, act, moved, moved_by}
+use Rattle.group_rules.specs.Names.{id_of, place_of}
+use Rattle.group_rules.specs.Places.{Zero, One, Place}
+use Rattle.group_rules.specs.Replicate.{answers}
+use Rattle.group_rules.specs.State.{Answered, Answers, Event, Group, Lists, Refuses, Server, top}
+use Rattle.group_rules.specs.Step.{Ask, Comes, Does, Input}
+use Rattle.group_safety.specs.Words.{In, Sure}
+use Rattle.group_safety.proofs.Common.{sure_up}
+use Rattle.group_safety.proofs.Lawful.{answers_grow}
+use Rattle.group_run.specs.Lines.{answered_lines}
+use Rattle.group_run.specs.Run.{begins}
 use Rattle.group_run.specs.Shown.{state_of}
-use Rattle.group_run.proofs.After.{its_view, moved_other, no_later, none_above}
+use Rattle.group_run.proofs.After.{its_view, no_later}
 use Rattle.group_run.proofs.Early.{AreLeaderSends, Early, IsAsked, IsFollowing, IsLeading, Kind, appends, commits, heeds, notes, quiet, reads, refuses, repeats, sends}
 use Rattle.group_run.proofs.Entering.{IsInBook, answered_in_book}
-use Rattle.group_run.proofs.LineParts.{AreSaid, AreStateless, said-append, said_enter, stateless-append, stateless_keep, way_said}
-use Rattle.group_run.proofs.Standing.{AckedIn, Stands, acked_more}
+use Rattle.group_run.proofs.LineParts.{AreSaid, AreStateless}
+use Rattle.group_run.proofs.Standing.{AckedIn}
 use Rattle.group_run.proofs.StateLines.{has_shown}
 
 -- ---- which moves answer

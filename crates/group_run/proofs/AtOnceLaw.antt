@@ -1,38 +1,36 @@
 -- The step that delivers an Ack to the open leader of its view answers each update up to its top.
-use Rattle.std.proofs.Common.{◌≡◌, ℕ, zero, suc, ◌+◌, ◌-◌, ◌<◌, ◌≤◌, Bool, true, false, List, [], ◌∷◌, ◌++◌, append_assoc, append-nil, length, drop, Option, Some, None, refl, sym, ap, ◌∙◌, subst, inl, inr, arith, map, if◌then◌else◌}
+use Rattle.std.proofs.Common.{◌≡◌, ℕ, zero, suc, ◌+◌, ◌-◌, ◌<◌, Bool, true, false, List, [], ◌∷◌, ◌++◌, append_assoc, append-nil, length, drop, Some, refl, sym, ap, ◌∙◌, subst, map, if◌then◌else◌}
 use Rattle.std.specs.Prelude.{⊤, option_map}
 use Rattle.std.specs.List.{AllByRecursion}
 use Rattle.harp_base.specs.View.{View}
 use Rattle.harp_base.specs.declared.server.ServerId.{ServerId}
 use Rattle.harp_base.specs.declared.server.ServerId.TheVariants as server
-use Rattle.harp_base.specs.declared.state.Mode.TheVariants as mode
 use Rattle.harp_base.specs.declared.state.StateLine.{StateLine}
-use Rattle.trace_lines.specs.declared.step.Step.{Step}
 use Rattle.trace_lines.specs.declared.step.Step.TheVariants as step
 use Rattle.trace_lines.specs.declared.line.Line.{Line}
 use Rattle.trace_lines.specs.declared.line.Line.TheVariants as line
 use Rattle.trace_lines.specs.declared.line.ShownMessage.TheVariants as shown
-use Rattle.harp_trace.specs.Acknowledged.{AnswersAtOnce, AnswersUpToTop, answers_after, answers_in_step}
-use Rattle.harp_trace.specs.Servers.{Packet as PacketShown, ack_packet, first_view, last_state, packet_in}
-use Rattle.harp_trace.specs.Trace.{AtPlacesAmid, Trace}
+use Rattle.harp_trace.specs.Acknowledged.{AnswersUpToTop, answers_after, answers_in_step}
+use Rattle.harp_trace.specs.Servers.{Packet as PacketShown, ack_packet, first_view, last_state}
+use Rattle.harp_trace.specs.Trace.{Trace}
 use Rattle.harp_trace.proofs.Places.{all-append}
 use Rattle.file_tree.specs.Book.{Entry}
-use Rattle.group_model.specs.FixedStart.{view_one}
-use Rattle.group_model.specs.Laws.{Whole, answered_in, numbers_after}
-use Rattle.group_model.specs.Moves.{Move, Reading, Saying, Sending}
-use Rattle.group_model.specs.Names.{id_of}
-use Rattle.group_model.specs.Places.{Zero, One, Place}
-use Rattle.group_model.specs.State.{Ack, Answers, Beat, Event, Group, Lists, Message, Packet, Refuses, Server}
-use Rattle.group_model.specs.Step.{Comes, Input, numbered}
-use Rattle.group_model.proofs.AtOnce.{answers_at_once}
+use Rattle.group_rules.specs.FixedStart.{view_one}
+use Rattle.group_safety.specs.Laws.{answered_in, numbers_after}
+use Rattle.group_rules.specs.Moves.{Move, Reading, Saying, Sending}
+use Rattle.group_rules.specs.Names.{id_of}
+use Rattle.group_rules.specs.Places.{Zero, One, Place}
+use Rattle.group_rules.specs.State.{Ack, Answers, Beat, Event, Group, Lists, Message, Packet, Refuses, Server}
+use Rattle.group_rules.specs.Step.{Comes, Input}
+use Rattle.group_safety.proofs.AtOnce.{answers_at_once}
 use Rattle.group_run.specs.Lines.{answered_lines, entered_lines, lines_of_moves, refused_lines, sent_line, sent_lines, state_lines}
 use Rattle.group_run.specs.Run.{begins, lines_where, moves_of, no_size, stepped}
 use Rattle.group_run.specs.Shown.{same_state, state_of}
 use Rattle.group_run.proofs.Answering.{Answering, AreReadless, kind_answers, reading, updating}
-use Rattle.group_run.proofs.Early.{Early, IsEarly, IsLeading, Kind, ack, beat, event, kind_of, numbered_early}
+use Rattle.group_run.proofs.Early.{Early, IsEarly, Kind, ack, beat, event, kind_of, numbered_early}
 use Rattle.group_run.proofs.Lists.{was_sent}
-use Rattle.group_run.proofs.LineParts.{AreSaid, packet_shown, said-append, said-refused, said-sent, said-state}
-use Rattle.group_run.proofs.Standing.{Stands, behind_book}
+use Rattle.group_run.proofs.LineParts.{packet_shown}
+use Rattle.group_run.proofs.Standing.{Stands}
 
 -- ---- the answers among lines
 

@@ -1,25 +1,25 @@
 -- A group in its first view: what its servers are, and what each of their steps consists of.
-use Rattle.std.proofs.Common.{◌≡◌, ℕ, zero, suc, ◌+◌, ◌-◌, ◌<◌, ◌||◌, ◌==◌, slice_get, Bool, true, false, List, [], ◌∷◌, ◌++◌, append_assoc, append-nil, length, take, drop, Option, Some, None, refl, sym, ap, ◌∙◌, subst, inl, inr, nat_lt, nat_le, if◌then◌else◌, max}
+use Rattle.std.proofs.Common.{◌≡◌, ℕ, zero, suc, ◌+◌, ◌-◌, ◌||◌, ◌==◌, slice_get, true, false, List, [], ◌∷◌, ◌++◌, append-nil, length, take, drop, Option, Some, None, refl, sym, ap, ◌∙◌, subst, nat_lt, nat_le, max}
 use Rattle.std.specs.Prelude.{⊤, option_map}
 use Rattle.harp_base.specs.declared.call.Call.{Call}
 use Rattle.harp_base.specs.declared.cred.Cred.{Cred}
 use Rattle.harp_base.specs.Update.{is_update}
 use Rattle.file_tree.specs.Book.{Entry, last_of}
-use Rattle.group_model.specs.Ask.{append, hint_of, new_entry, on_ask, read_entry, refuse, update_moves}
-use Rattle.group_model.specs.FixedStart.{server_at_start, starting, view_one}
-use Rattle.group_model.specs.FreeReads.{on_free_ask, on_read}
-use Rattle.group_model.specs.Limits.{limit, room}
-use Rattle.group_model.specs.Misfits.{misfits}
-use Rattle.group_model.specs.Moves.{Appending, Committing, Heeding, Move, Noting, Reading, Saying, Sending, act, acts}
-use Rattle.group_model.specs.Names.{place_of}
-use Rattle.group_model.specs.Open.{and_then, rebase, try_open}
-use Rattle.group_model.specs.Places.{Zero, One, Two, Place, all_of}
-use Rattle.group_model.specs.Replicate.{answers, on_ack, on_event}
-use Rattle.group_model.specs.State.{Ack, Answers, Beat, Cause, Empty, Event, Follows, Group, Leads, Live, Log, Message, NotLeader, Open, Outside, Packet, Refuses, Rests, Server, top}
-use Rattle.group_model.specs.Step.{Ask, Comes, Does, Input, Tick, list_of, numbered, on_message, step as step_moves}
-use Rattle.group_model.specs.Tick.{again, beats, duties, events, tick}
-use Rattle.group_model.specs.Words.{Each}
-use Rattle.group_model.proofs.Common.{by_if}
+use Rattle.group_rules.specs.Ask.{append, new_entry, on_ask, read_entry, update_moves}
+use Rattle.group_rules.specs.FixedStart.{server_at_start, starting, view_one}
+use Rattle.group_rules.specs.FreeReads.{on_free_ask, on_read}
+use Rattle.group_rules.specs.Limits.{limit, room}
+use Rattle.group_rules.specs.Misfits.{misfits}
+use Rattle.group_rules.specs.Moves.{Appending, Committing, Heeding, Move, Noting, Reading, Saying, Sending, acts}
+use Rattle.group_rules.specs.Names.{place_of}
+use Rattle.group_rules.specs.Open.{and_then, rebase, try_open}
+use Rattle.group_rules.specs.Places.{Zero, One, Two, Place, all_of}
+use Rattle.group_rules.specs.Replicate.{answers}
+use Rattle.group_rules.specs.State.{Ack, Answers, Beat, Cause, Event, Follows, Group, Leads, Live, Log, Message, Open, Packet, Refuses, Server, top}
+use Rattle.group_rules.specs.Step.{Ask, Comes, Does, Input, Tick, list_of, numbered, on_message, step as step_moves}
+use Rattle.group_rules.specs.Tick.{again, beats, duties, events, tick}
+use Rattle.group_safety.specs.Words.{Each}
+use Rattle.group_rules.proofs.Tests.{by_if}
 use Rattle.trace_lines.specs.declared.step.Step.{Step}
 use Rattle.trace_lines.specs.declared.step.Step.TheVariants as step
 use Rattle.group_run.specs.Run.{begins, moves_of, no_size}

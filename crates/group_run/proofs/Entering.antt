@@ -1,36 +1,31 @@
 -- What a step enters: nothing, the read that it asks for, or committed updates; each was asked for.
-use Rattle.std.proofs.Common.{◌≡◌, ℕ, zero, suc, ◌+◌, ◌-◌, ◌<◌, ◌≤◌, ◌⊎◌, Bool, true, false, List, [], ◌∷◌, ◌++◌, append_assoc, append-nil, length, drop, Option, Some, None, refl, sym, ap, ◌∙◌, subst, inl, inr, arith, slice_get, ⊎_elim, le_trans, le_refl}
+use Rattle.std.proofs.Common.{◌≡◌, ℕ, zero, suc, ◌+◌, ◌-◌, ◌<◌, true, false, List, [], ◌∷◌, ◌++◌, length, Some, refl, sym, ap, ◌∙◌, subst, inl, inr, arith, slice_get}
 use Rattle.std.specs.Prelude.{Contains, ⊤}
 use Rattle.std.proofs.lemmas.Bool.{cases_Bool}
-use Rattle.std.proofs.lemmas.List.Elements.{Contains-append_left, Contains-append_right, Contains-push}
+use Rattle.std.proofs.lemmas.List.Elements.{Contains-append_right}
 use Rattle.harp_base.specs.Update.{is_update}
-use Rattle.trace_lines.specs.declared.step.Step.{Step}
 use Rattle.trace_lines.specs.declared.line.Line.{Line}
 use Rattle.trace_lines.specs.declared.line.Line.TheVariants as line
 use Rattle.harp_trace.specs.Faithful.{IsNumbered, WasAsked}
-use Rattle.harp_trace.specs.Trace.{AtPlacesAfter, Trace, entries, steps}
-use Rattle.harp_trace.proofs.Places.{entries-append, places-append, steps-append}
+use Rattle.harp_trace.specs.Trace.{AtPlacesAfter, Trace, entries}
+use Rattle.harp_trace.proofs.Places.{entries-append}
 use Rattle.file_tree.specs.Book.{Entry, updates}
-use Rattle.group_model.specs.Entered.{AnswerOk, UpdatesFrom}
-use Rattle.group_model.specs.FixedStart.{view_one}
-use Rattle.group_model.specs.Laws.{Whole}
-use Rattle.group_model.specs.Moves.{Appending, Committing, Heeding, Move, Noting, Reading, Saying, Sending, act, moved, moved_by, new_entries}
-use Rattle.group_model.specs.Places.{Place, Zero}
-use Rattle.group_model.specs.Replicate.{answers}
-use Rattle.group_model.specs.State.{Answered, Group, Server}
-use Rattle.group_model.specs.Step.{Input}
-use Rattle.group_model.specs.Words.{In, Sure}
-use Rattle.group_model.proofs.BookLists.{from_at}
-use Rattle.group_model.proofs.Common.{sure_up}
-use Rattle.group_model.proofs.Repeats.{index_is}
+use Rattle.group_rules.specs.FixedStart.{view_one}
+use Rattle.group_safety.specs.Laws.{Whole}
+use Rattle.group_rules.specs.Moves.{Committing, Move, Noting, Saying, Sending, act, moved, moved_by, new_entries}
+use Rattle.group_rules.specs.Places.{Place, Zero}
+use Rattle.group_rules.specs.Replicate.{answers}
+use Rattle.group_rules.specs.State.{Answered, Group, Server}
+use Rattle.group_rules.specs.Step.{Input}
+use Rattle.group_safety.specs.Words.{In, Sure}
+use Rattle.group_safety.proofs.Common.{sure_up}
+use Rattle.group_safety.proofs.Repeats.{index_is}
 use Rattle.group_run.specs.Lines.{entered_line, entered_lines}
-use Rattle.group_run.specs.Run.{begins, moves_of, stepped}
-use Rattle.group_run.proofs.After.{its_view, no_later, stepped_early, stepped_whole}
-use Rattle.group_run.proofs.Early.{AreLeaderSends, Early, IsAsked, Kind, appends, commits, heeds, kind_of, notes, quiet, reads, refuses, repeats, sends}
-use Rattle.group_run.proofs.Keeping.{asked_now}
+use Rattle.group_run.proofs.After.{its_view, no_later}
+use Rattle.group_run.proofs.Early.{AreLeaderSends, Early, IsAsked, Kind, appends, commits, heeds, notes, quiet, reads, refuses, repeats, sends}
 use Rattle.group_run.proofs.LineParts.{AreSaid, IsSaid}
 use Rattle.group_run.proofs.Lists.{one_list}
-use Rattle.group_run.proofs.Standing.{AskedIn, Stands, asked_more}
+use Rattle.group_run.proofs.Standing.{AskedIn, asked_more}
 
 -- ---- what the book and the committed updates become
 

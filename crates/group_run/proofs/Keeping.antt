@@ -1,42 +1,35 @@
 -- Each step keeps what its trace says of the group.
-use Rattle.std.proofs.Common.{◌≡◌, ℕ, ◌+◌, ◌-◌, ◌<◌, ◌≤◌, ◌⊎◌, Bool, true, false, List, [], ◌∷◌, ◌++◌, append_assoc, append-nil, length, Option, Some, None, refl, sym, ap, ◌∙◌, subst, inl, inr, arith, fold, ⊎_elim, le_trans, le_refl, nat_lt, if◌then◌else◌}
+use Rattle.std.proofs.Common.{◌≡◌, ℕ, ◌<◌, ◌≤◌, ◌⊎◌, List, [], ◌∷◌, ◌++◌, append_assoc, append-nil, Option, Some, None, refl, sym, ap, ◌∙◌, subst, inl, inr, fold, ⊎_elim}
 use Rattle.std.specs.Prelude.{Contains, option_map}
 use Rattle.std.proofs.lemmas.List.Sums.{fold-append}
 use Rattle.std.proofs.lemmas.List.Elements.{Contains-push}
-use Rattle.harp_base.specs.declared.call.Call.{Call}
 use Rattle.harp_base.specs.declared.server.ServerId.{ServerId}
-use Rattle.harp_base.specs.declared.server.ServerId.TheVariants as server
 use Rattle.trace_lines.specs.declared.step.Step.{Step}
 use Rattle.trace_lines.specs.declared.step.Step.TheVariants as step
-use Rattle.trace_lines.specs.declared.line.LineFault.{LineFault}
-use Rattle.trace_lines.specs.declared.line.LineFault.TheVariants as fault
 use Rattle.trace_lines.specs.declared.line.Line.{Line}
 use Rattle.trace_lines.specs.declared.line.Line.TheVariants as line
-use Rattle.harp_trace.specs.Servers.{AckDelivered, ack_packet, first_view, last_state, later_state}
+use Rattle.harp_trace.specs.Servers.{later_state}
 use Rattle.harp_trace.specs.Trace.{Trace, entries, steps}
 use Rattle.harp_trace.proofs.Places.{entries-append, steps-append}
 use Rattle.file_tree.specs.Book.{Entry}
-use Rattle.group_model.specs.FixedStart.{view_one}
-use Rattle.group_model.specs.Laws.{Near, Whole}
-use Rattle.group_model.specs.Moves.{Appending, Committing, Heeding, Move, Noting, Reading, Saying, Sending, act, acts, moved_by}
-use Rattle.group_model.specs.Names.{id_of, place_of}
-use Rattle.group_model.specs.Places.{Zero, One, Two, Place, all_of, at}
-use Rattle.group_model.specs.Replicate.{answers}
-use Rattle.group_model.specs.State.{Ack, Answers, Event, Group, Message, Packet, Page, Refuses, Server}
-use Rattle.group_model.specs.Step.{Ask, Comes, Deed, Does, Input, Tick, near, numbered}
-use Rattle.group_model.specs.Words.{Each, In}
-use Rattle.group_model.proofs.Common.{by_if, each_at}
-use Rattle.group_model.proofs.Safe.{later_whole, near_at, near_of}
-use Rattle.group_model.proofs.Tests.{not_lt}
+use Rattle.group_rules.specs.FixedStart.{view_one}
+use Rattle.group_safety.specs.Laws.{Whole}
+use Rattle.group_rules.specs.Moves.{Appending, Committing, Move, Noting, Reading, Saying, Sending, act, acts, moved_by}
+use Rattle.group_rules.specs.Names.{id_of, place_of}
+use Rattle.group_rules.specs.Places.{Zero, One, Two, Place}
+use Rattle.group_rules.specs.Replicate.{answers}
+use Rattle.group_rules.specs.State.{Ack, Answers, Event, Group, Packet, Page, Refuses, Server}
+use Rattle.group_rules.specs.Step.{Ask, Comes, Does, Input, Tick, numbered}
+use Rattle.group_safety.specs.Words.{Each, In}
 use Rattle.group_run.specs.Lines.{lines_of_moves}
-use Rattle.group_run.specs.Run.{Scene, begins, clock_refusal, group_after, is_elementary, lines_where, moves_of, next, refusal, step_lines, stepped, stepped_where}
+use Rattle.group_run.specs.Run.{begins, moves_of, stepped}
 use Rattle.group_run.specs.Shown.{state_of}
-use Rattle.group_run.proofs.After.{moved_other, moved_server, step_goes, stepped_early, stepped_whole}
-use Rattle.group_run.proofs.Early.{Early, IsAsked, IsEarly, IsFollowing, IsLeading, Kind, answers_keep, appends, commits, heeds, kind_of, leading, notes, quiet, reads, refuses, repeats, sends, sends_keep}
-use Rattle.group_run.proofs.LineParts.{AreSendless, ShowsPackets, packet_shown, shown_at, sendless_same}
+use Rattle.group_run.proofs.After.{moved_other, moved_server, stepped_early, stepped_whole}
+use Rattle.group_run.proofs.Early.{IsAsked, IsEarly, IsFollowing, IsLeading, Kind, answers_keep, appends, commits, heeds, kind_of, notes, quiet, reads, refuses, repeats, sends, sends_keep}
+use Rattle.group_run.proofs.LineParts.{ShowsPackets, shown_at, sendless_same}
 use Rattle.group_run.proofs.Lists.{Lengthens, kind_list, one_list, shown_where}
 use Rattle.group_run.proofs.StateLines.{which}
-use Rattle.group_run.proofs.Standing.{AckedIn, AskedIn, Stands, acked_more, asked_more, moves_begin, moves_enter, packets_after_moves, states_after}
+use Rattle.group_run.proofs.Standing.{AckedIn, AskedIn, Stands, acked_more, asked_more, moves_enter, packets_after_moves, states_after}
 
 -- ---- a step that changes no server
 

@@ -1,24 +1,22 @@
 -- What the parts of a step's lines add to a trace.
-use Rattle.std.proofs.Common.{◌≡◌, ℕ, zero, suc, ◌+◌, ◌<◌, ◌≤◌, ◌⊎◌, ◌==◌, Bool, true, false, List, [], ◌∷◌, ◌++◌, append_assoc, append-nil, length, drop, Option, Some, None, refl, sym, ap, ◌∙◌, subst, inl, inr, arith, fold, if◌then◌else◌}
-use Rattle.std.specs.List.{flat_map, AllByRecursion}
-use Rattle.std.proofs.lemmas.List.Sums.{fold-append}
+use Rattle.std.proofs.Common.{◌≡◌, ℕ, ◌+◌, ◌≤◌, ◌==◌, Bool, true, false, List, [], ◌∷◌, ◌++◌, append_assoc, append-nil, length, Option, Some, None, refl, sym, ap, ◌∙◌, subst, inl, inr, arith, fold, if◌then◌else◌}
+use Rattle.std.specs.List.{AllByRecursion}
 use Rattle.std.proofs.lemmas.Bool.{cases_Bool, eqb-true, ne_eqb}
 use Rattle.harp_base.specs.declared.server.ServerId.{ServerId}
 use Rattle.harp_base.specs.declared.state.StateLine.{StateLine}
 use Rattle.trace_lines.specs.declared.step.Step.{Step}
-use Rattle.trace_lines.specs.declared.step.Step.TheVariants as step
 use Rattle.trace_lines.specs.declared.line.Line.{Line}
 use Rattle.trace_lines.specs.declared.line.Line.TheVariants as line
 use Rattle.trace_lines.specs.declared.line.ShownMessage.TheVariants as shown
-use Rattle.harp_trace.specs.Servers.{Packet as PacketShown, first_state, last_state, later_state, packet_in, same_server}
-use Rattle.harp_trace.specs.Trace.{Trace, entered_by, entries, is_last, later_step, step_of_line, step_under_way, steps}
-use Rattle.harp_trace.proofs.Places.{all-append, entries-append, step_under_way-append, steps-append}
+use Rattle.harp_trace.specs.Servers.{Packet as PacketShown, later_state, packet_in}
+use Rattle.harp_trace.specs.Trace.{Trace, entered_by, entries, is_last, later_step, step_of_line, steps}
+use Rattle.harp_trace.proofs.Places.{all-append}
 use Rattle.file_tree.specs.Book.{Entry}
-use Rattle.group_model.specs.Moves.{Move, Reading, Saying, Sending, packets_after}
-use Rattle.group_model.specs.Names.{id_of, view_of}
-use Rattle.group_model.specs.Places.{Zero, One, Two, Place}
-use Rattle.group_model.specs.State.{Ack, Answers, Beat, Event, Group, Lists, Message, Packet, Refuses}
-use Rattle.group_run.specs.Lines.{answered_by, answered_lines, entered_line, entered_lines, refused_by, refused_lines, sent_line, sent_lines, state_lines}
+use Rattle.group_rules.specs.Moves.{Move, Reading, Saying, Sending}
+use Rattle.group_rules.specs.Names.{id_of, view_of}
+use Rattle.group_rules.specs.Places.{Place}
+use Rattle.group_rules.specs.State.{Ack, Answers, Beat, Event, Lists, Message, Packet, Refuses}
+use Rattle.group_run.specs.Lines.{answered_by, answered_lines, entered_lines, refused_by, refused_lines, sent_line, sent_lines, state_lines}
 use Rattle.group_run.specs.Shown.{same_state}
 use Rattle.group_run.proofs.After.{packets_by}
 

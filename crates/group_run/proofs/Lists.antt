@@ -1,19 +1,18 @@
 -- What a step does to the list of the first view, and which packets stand for their numbers.
-use Rattle.std.proofs.Common.{◌≡◌, ℕ, zero, suc, ◌+◌, ◌-◌, ◌<◌, ◌≤◌, ◌⊎◌, ◌==◌, Bool, true, false, List, [], ◌∷◌, ◌++◌, length, Option, Some, None, refl, sym, ap, ◌∙◌, subst, inl, inr, arith, if◌then◌else◌, nat_lt, slice_get}
+use Rattle.std.proofs.Common.{◌≡◌, ℕ, suc, ◌+◌, ◌-◌, ◌<◌, ◌⊎◌, ◌==◌, true, List, [], ◌∷◌, ◌++◌, length, Option, Some, None, refl, sym, ap, ◌∙◌, inl, inr, arith, nat_lt, slice_get}
 use Rattle.std.specs.Prelude.{⊤}
-use Rattle.std.proofs.lemmas.Bool.{cases_Bool, cases_eq, eq-eqb, eqb-true, ne_eqb}
+use Rattle.std.proofs.lemmas.Bool.{cases_eq, eq-eqb, ne_eqb}
 use Rattle.std.proofs.lemmas.Bool.Decides.{nat_tests}
 use Rattle.harp_trace.specs.Servers.{Packet as PacketShown}
 use Rattle.file_tree.specs.Book.{Entry}
-use Rattle.group_model.specs.FixedStart.{view_one}
-use Rattle.group_model.specs.Moves.{Appending, Committing, Heeding, Move, Noting, Reading, Saying, Sending, act, heeded_page, moved, moved_by}
-use Rattle.group_model.specs.Places.{Zero, One, Place, put}
-use Rattle.group_model.specs.Replicate.{answers}
-use Rattle.group_model.specs.State.{Ack, Event, Group, Packet, Page, Server}
-use Rattle.group_model.specs.Step.{Input, numbered}
-use Rattle.group_model.proofs.Common.{by_if, put_same}
-use Rattle.group_model.proofs.AtOnce.{if_is, if_not}
-use Rattle.group_model.proofs.Tests.{is_lt}
+use Rattle.group_rules.specs.FixedStart.{view_one}
+use Rattle.group_rules.specs.Moves.{Committing, Move, Noting, Reading, Saying, Sending, act, heeded_page, moved, moved_by}
+use Rattle.group_rules.specs.Places.{Place, put}
+use Rattle.group_rules.specs.Replicate.{answers}
+use Rattle.group_rules.specs.State.{Group, Packet, Page, Server}
+use Rattle.group_rules.specs.Step.{Input, numbered}
+use Rattle.group_rules.proofs.Tests.{by_if, if_is, if_not, is_lt}
+use Rattle.group_safety.proofs.Common.{put_same}
 use Rattle.group_run.proofs.After.{its_view}
 use Rattle.group_run.proofs.Early.{AreLeaderSends, Early, IsAsked, Kind, appends, commits, heeds, notes, quiet, reads, refuses, repeats, sends}
 use Rattle.group_run.proofs.LineParts.{packet_shown, shown_at}

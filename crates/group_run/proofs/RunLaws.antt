@@ -1,34 +1,32 @@
 -- What holds of the lines of every run.
-use Rattle.std.proofs.Common.{◌≡◌, ℕ, ◌+◌, ◌<◌, ◌≤◌, Bool, true, false, List, [], ◌∷◌, ◌++◌, append_assoc, append-nil, length, Option, Some, None, refl, sym, ap, ◌∙◌, subst, arith, zero-le}
+use Rattle.std.proofs.Common.{◌≡◌, ℕ, true, false, List, [], ◌∷◌, ◌++◌, append_assoc, append-nil, length, Option, Some, None, refl, sym, ap, ◌∙◌, subst, arith}
 use Rattle.std.specs.List.{AllByRecursion}
-use Rattle.harp_base.specs.declared.server.ServerId.TheVariants as server
 use Rattle.trace_lines.specs.declared.step.Step.{Step}
 use Rattle.trace_lines.specs.declared.step.Step.TheVariants as step
 use Rattle.trace_lines.specs.declared.line.Line.{Line}
 use Rattle.trace_lines.specs.declared.line.Line.TheVariants as line
 use Rattle.trace_lines.specs.declared.line.LineFault.{LineFault}
 use Rattle.harp_trace.specs.Acknowledged.{AnswersAtOnce, IsAcknowledged, answers_in_step}
-use Rattle.harp_trace.specs.Faithful.{IsBookReply, IsFaithful, IsNumbered, WasAsked}
+use Rattle.harp_trace.specs.Faithful.{IsBookReply, IsNumbered, WasAsked}
 use Rattle.harp_trace.specs.Servers.{first_state}
-use Rattle.harp_trace.specs.Trace.{AtPlacesAfter, AtPlacesAmid, BeginsWithEvent, Ends, IsClosed, Trace, entries, is_last, steps}
+use Rattle.harp_trace.specs.Trace.{AtPlacesAfter, AtPlacesAmid, BeginsWithEvent, Ends, Trace, entries, is_last, steps}
 use Rattle.harp_trace.proofs.Places.{all-append, entries-append, places-append, steps-append}
 use Rattle.file_tree.specs.Book.{Entry, IsBook}
-use Rattle.group_model.specs.FixedStart.{fixed_start, starting}
-use Rattle.group_model.specs.Laws.{Whole}
-use Rattle.group_model.specs.Moves.{Move}
-use Rattle.group_model.specs.Names.{id_of}
-use Rattle.group_model.specs.Places.{Zero, One, Two, Place}
-use Rattle.group_model.specs.State.{Group}
-use Rattle.group_model.specs.Step.{Input}
-use Rattle.group_model.proofs.Starting.{start_whole}
-use Rattle.group_run.specs.Laws.{IsRight, RunIsRight}
+use Rattle.group_rules.specs.FixedStart.{fixed_start, starting}
+use Rattle.group_rules.specs.Moves.{Move}
+use Rattle.group_rules.specs.Names.{id_of}
+use Rattle.group_rules.specs.Places.{Zero, One, Two, Place}
+use Rattle.group_rules.specs.State.{Group}
+use Rattle.group_rules.specs.Step.{Input}
+use Rattle.group_safety.proofs.Starting.{start_whole}
+use Rattle.group_run.specs.Laws.{RunIsRight}
 use Rattle.group_run.specs.Lines.{entered_lines, lines_of_moves}
 use Rattle.group_run.specs.Run.{AreTaken, Scene, begins, first_scene, group_after, is_elementary, lines_where, moves_of, next, refusal, run, run_lines, step_lines, stepped}
 use Rattle.group_run.specs.Shown.{state_of}
 use Rattle.group_run.proofs.AtOnceLaw.{delivered_at_once}
 use Rattle.group_run.proofs.Early.{Early}
 use Rattle.group_run.proofs.Keeping.{moved_lines, moved_stands, quiet_stands}
-use Rattle.group_run.proofs.LineParts.{AreSaid, shown_at, entered_begin, entered_open, said_begin, said_open}
+use Rattle.group_run.proofs.LineParts.{shown_at, entered_open, said_open}
 use Rattle.group_run.proofs.Standing.{Stands, behind_book, behind_said, moves_begin}
 use Rattle.group_run.proofs.StepLaws.{acknowledged_step, asked_step, numbered_step, replied_step}
 use Rattle.group_run.proofs.Taking.{take_step}

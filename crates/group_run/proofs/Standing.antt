@@ -1,8 +1,8 @@
 -- What a trace says of the group that wrote it, kept by each step.
-use Rattle.std.proofs.Common.{◌≡◌, ℕ, ◌+◌, ◌-◌, ◌<◌, ◌≤◌, ◌⊎◌, true, false, List, [], ◌∷◌, ◌++◌, append_assoc, append-nil, length, drop, Option, Some, None, refl, sym, ap, ◌∙◌, subst, inl, inr, arith, fold, ⊎_elim, le_trans}
+use Rattle.std.proofs.Common.{◌≡◌, ℕ, ◌<◌, ◌≤◌, List, [], ◌∷◌, ◌++◌, append_assoc, append-nil, length, drop, refl, sym, ap, ◌∙◌, subst, inl, inr, fold}
 use Rattle.std.specs.Prelude.{Contains}
 use Rattle.std.proofs.lemmas.List.Sums.{fold-append}
-use Rattle.std.proofs.lemmas.List.Elements.{Contains-append_left, Contains-push}
+use Rattle.std.proofs.lemmas.List.Elements.{Contains-append_left}
 use Rattle.harp_base.specs.declared.server.ServerId.{ServerId}
 use Rattle.harp_base.specs.declared.server.ServerId.TheVariants as server
 use Rattle.harp_base.specs.declared.state.StateLine.{StateLine}
@@ -10,21 +10,18 @@ use Rattle.trace_lines.specs.declared.step.Step.{Step}
 use Rattle.trace_lines.specs.declared.step.Step.TheVariants as step
 use Rattle.trace_lines.specs.declared.line.Line.{Line}
 use Rattle.trace_lines.specs.declared.line.Line.TheVariants as line
-use Rattle.harp_trace.specs.Servers.{AckDelivered, ack_packet, first_state, first_view, last_state, later_state, packet_in}
+use Rattle.harp_trace.specs.Servers.{AckDelivered, first_view, last_state, later_state}
 use Rattle.harp_trace.specs.Trace.{Trace, entries, steps}
 use Rattle.harp_trace.proofs.Places.{entries-append, steps-append}
 use Rattle.file_tree.specs.Book.{Entry}
-use Rattle.group_model.specs.FixedStart.{view_one}
-use Rattle.group_model.specs.Laws.{Whole}
-use Rattle.group_model.specs.Moves.{Move, moved_by}
-use Rattle.group_model.specs.Names.{id_of}
-use Rattle.group_model.specs.Places.{Zero, One, Place}
-use Rattle.group_model.specs.State.{Group, Packet}
-use Rattle.group_model.specs.Step.{Input}
-use Rattle.group_model.specs.Words.{In}
-use Rattle.group_model.proofs.Lawful.{book_grows}
+use Rattle.group_safety.specs.Laws.{Whole}
+use Rattle.group_rules.specs.Moves.{Move, moved_by}
+use Rattle.group_rules.specs.Names.{id_of}
+use Rattle.group_rules.specs.Places.{Zero, Place}
+use Rattle.group_rules.specs.State.{Group}
+use Rattle.group_safety.specs.Words.{In}
+use Rattle.group_safety.proofs.Lawful.{book_grows}
 use Rattle.group_run.specs.Lines.{answered_lines, entered_lines, lines_of_moves, refused_lines, sent_lines, state_lines}
-use Rattle.group_run.specs.Run.{Scene, begins, moves_of, stepped}
 use Rattle.group_run.specs.Shown.{state_of}
 use Rattle.group_run.proofs.After.{moved_other, moved_packets, packets_by}
 use Rattle.group_run.proofs.Early.{Early}

@@ -1,10 +1,8 @@
 -- State lines: when two states are one, and what the last state line says.
-use Rattle.std.proofs.Common.{◌≡◌, ℕ, zero, suc, ◌+◌, ◌<◌, ◌≤◌, ◌⊎◌, ◌==◌, Bool, true, false, List, [], ◌∷◌, ◌++◌, length, Option, Some, None, refl, sym, ap, ◌∙◌, subst, inl, inr, arith, fold, if◌then◌else◌, ⊎_elim}
-use Rattle.std.specs.Str.{bytes_eq}
+use Rattle.std.proofs.Common.{◌≡◌, ℕ, zero, suc, ◌<◌, ◌≤◌, ◌⊎◌, Bool, true, false, List, [], ◌∷◌, ◌++◌, refl, sym, ap, ◌∙◌, inl, inr, arith, fold, if◌then◌else◌}
 use Rattle.std.proofs.lemmas.Slice.Eq.{bytes_eq-Decides}
 use Rattle.std.proofs.lemmas.Bool.{cases_Bool, eqb-true}
 use Rattle.harp_base.specs.Server.{number_of}
-use Rattle.harp_base.specs.View.{View}
 use Rattle.harp_base.specs.declared.server.ServerId.{ServerId}
 use Rattle.harp_base.specs.declared.server.ServerId.TheVariants as server
 use Rattle.harp_base.specs.declared.state.StateLine.{StateLine}
@@ -18,8 +16,8 @@ use Rattle.trace_lines.specs.declared.line.Line.{Line}
 use Rattle.trace_lines.specs.declared.line.Line.TheVariants as line
 use Rattle.harp_trace.specs.Servers.{HasShown, first_state, last_state, later_state, same_server}
 use Rattle.harp_trace.specs.Trace.{Trace}
-use Rattle.group_model.specs.Names.{id_of}
-use Rattle.group_model.specs.Places.{Zero, One, Two, Place}
+use Rattle.group_rules.specs.Names.{id_of}
+use Rattle.group_rules.specs.Places.{Zero, One, Two, Place}
 use Rattle.group_run.specs.Lines.{state_lines}
 use Rattle.group_run.specs.Shown.{held_number, mode_number, role_number, same_state, state_numbers}
 

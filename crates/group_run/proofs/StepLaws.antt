@@ -1,13 +1,11 @@
 -- What holds at each place of a step's lines.
-use Rattle.std.proofs.Common.{◌≡◌, ℕ, ◌+◌, ◌<◌, ◌≤◌, ◌⊎◌, Bool, true, false, not, List, [], ◌∷◌, ◌++◌, append_assoc, append-nil, length, drop, Option, Some, None, refl, sym, ap, ◌∙◌, subst, inl, inr, arith, fold, true≢false, le_trans, if◌then◌else◌}
+use Rattle.std.proofs.Common.{◌≡◌, ℕ, ◌+◌, ◌≤◌, Bool, true, false, not, List, [], ◌∷◌, ◌++◌, append-nil, length, drop, Some, refl, sym, ap, ◌∙◌, subst, inl, inr, fold, true≢false, if◌then◌else◌}
 use Rattle.std.specs.List.{AllByRecursion}
 use Rattle.std.proofs.lemmas.List.Sums.{fold-append}
-use Rattle.harp_base.specs.declared.call.Call.{Call}
 use Rattle.harp_base.specs.declared.server.ServerId.TheVariants as server
 use Rattle.harp_base.specs.declared.state.StateLine.{StateLine}
 use Rattle.harp_base.specs.Update.{is_update}
 use Rattle.trace_lines.specs.declared.step.Step.{Step}
-use Rattle.trace_lines.specs.declared.step.Step.TheVariants as step
 use Rattle.trace_lines.specs.declared.line.Line.{Line}
 use Rattle.trace_lines.specs.declared.line.Line.TheVariants as line
 use Rattle.harp_trace.specs.Acknowledged.{HasAcknowledged, IsAcknowledged, answers_read}
@@ -16,25 +14,25 @@ use Rattle.harp_trace.specs.Servers.{last_state, later_state}
 use Rattle.harp_trace.specs.Trace.{AtPlacesAfter, Trace, entries, later_step, step_under_way}
 use Rattle.harp_trace.proofs.Places.{all-append, entries-append, places-append, step_under_way-append}
 use Rattle.file_tree.specs.Book.{Entry}
-use Rattle.group_model.specs.Laws.{Whole}
-use Rattle.group_model.specs.Moves.{Move, Reading, Saying, Sending, moved_by}
-use Rattle.group_model.specs.Names.{id_of, place_of}
-use Rattle.group_model.specs.Places.{Zero, One, Place}
-use Rattle.group_model.specs.State.{Ack, Answers, Beat, Event, Group, Lists, Message, Refuses, Server, top}
-use Rattle.group_model.specs.Step.{Ask, Does, Input}
-use Rattle.group_model.specs.Words.{In, Sure}
-use Rattle.group_model.proofs.Lawful.{book_grows, sure_held}
+use Rattle.group_safety.specs.Laws.{Whole}
+use Rattle.group_rules.specs.Moves.{Move, Reading, Saying, Sending, moved_by}
+use Rattle.group_rules.specs.Names.{id_of}
+use Rattle.group_rules.specs.Places.{Zero, One, Place}
+use Rattle.group_rules.specs.State.{Ack, Answers, Beat, Event, Group, Lists, Message, Refuses, Server, top}
+use Rattle.group_rules.specs.Step.{Input}
+use Rattle.group_safety.specs.Words.{In, Sure}
+use Rattle.group_safety.proofs.Lawful.{sure_held}
 use Rattle.group_run.specs.Lines.{answered_lines, entered_line, entered_lines, lines_of_moves, refused_lines, sent_line, sent_lines, state_lines}
 use Rattle.group_run.specs.Run.{begins, moves_of, stepped}
 use Rattle.group_run.specs.Shown.{same_state, state_of}
 use Rattle.group_run.proofs.After.{its_view, moved_other, none_above, stepped_early, stepped_whole}
-use Rattle.group_run.proofs.Answering.{Answering, AnswersUpdates, IsAnswered, acknowledged, answered_places, answered_well, kind_answers, reading, replies_to_updates, update_replied, updating}
+use Rattle.group_run.proofs.Answering.{Answering, acknowledged, answered_places, answered_well, kind_answers, reading, replies_to_updates, update_replied, updating}
 use Rattle.group_run.proofs.Early.{Early, IsAsked, Kind, kind_of}
 use Rattle.group_run.proofs.Entering.{Enters, committed, committed_asked, entered_asked, entered_numbered, in_back, kind_enters, nothing, read, said_asked, said_numbered, said_places}
 use Rattle.group_run.proofs.Keeping.{asked_now, asks_for, kind_acked, list_asked, moved_lines}
-use Rattle.group_run.proofs.LineParts.{AreSaid, AreStateless, IsSaid, entered_enter, entered_way, said-refused, said-append, said-sent, said-state, said_enter, stateless-append, stateless-entered, stateless_keep, way_said}
+use Rattle.group_run.proofs.LineParts.{AreSaid, AreStateless, entered_enter, entered_way, said_enter, stateless-entered, stateless_keep, way_said}
 use Rattle.group_run.proofs.Lists.{kind_list, one_list}
-use Rattle.group_run.proofs.Standing.{AckedIn, AskedIn, Stands, acked_more, asked_more, behind_book, behind_said, book_is}
+use Rattle.group_run.proofs.Standing.{AskedIn, Stands, acked_more, behind_book, behind_said, book_is}
 
 -- ---- numbers, and asks
 

@@ -1,21 +1,19 @@
 -- A step that is taken changes the clocks alone, or is made of a server's moves.
-use Rattle.std.proofs.Common.{◌≡◌, ℕ, ◌+◌, ◌<◌, ◌≤◌, Bool, true, false, List, [], ◌∷◌, ◌++◌, Option, Some, None, refl, sym, ap, ◌∙◌, subst, arith, le_refl, nat_lt, true≢false, if◌then◌else◌}
+use Rattle.std.proofs.Common.{◌≡◌, ℕ, ◌+◌, ◌≤◌, Bool, true, false, List, [], Option, Some, None, refl, sym, ap, arith, le_refl, nat_lt, true≢false, if◌then◌else◌}
 use Rattle.std.specs.Prelude.{option_map}
-use Rattle.std.proofs.lemmas.Bool.{cases_Bool}
 use Rattle.trace_lines.specs.declared.step.Step.{Step}
 use Rattle.trace_lines.specs.declared.step.Step.TheVariants as step
-use Rattle.trace_lines.specs.declared.line.LineFault.{LineFault}
 use Rattle.trace_lines.specs.declared.line.LineFault.TheVariants as fault
 use Rattle.trace_lines.specs.declared.line.Line.{Line}
 use Rattle.file_tree.specs.Book.{Entry}
-use Rattle.group_model.specs.Laws.{Whole}
-use Rattle.group_model.specs.Names.{place_of}
-use Rattle.group_model.specs.Places.{Place, at}
-use Rattle.group_model.specs.State.{Group, Packet}
-use Rattle.group_model.specs.Step.{Ask, Comes, Does, Input, Tick, near, numbered}
-use Rattle.group_model.proofs.Common.{each_at}
-use Rattle.group_model.proofs.Safe.{later_whole, near_at, near_of}
-use Rattle.group_model.proofs.Tests.{not_lt}
+use Rattle.group_safety.specs.Laws.{Whole}
+use Rattle.group_rules.specs.Names.{place_of}
+use Rattle.group_rules.specs.Places.{Place, at}
+use Rattle.group_rules.specs.State.{Group, Packet}
+use Rattle.group_rules.specs.Step.{Ask, Comes, Does, Input, Tick, near, numbered}
+use Rattle.group_safety.proofs.Common.{each_at}
+use Rattle.group_safety.proofs.Safe.{later_whole, near_at, near_of}
+use Rattle.group_rules.proofs.Tests.{not_lt}
 use Rattle.group_run.specs.Lines.{lines_of_moves}
 use Rattle.group_run.specs.Run.{begins, clock_refusal, group_after, is_elementary, lines_where, moves_of, refusal, stepped, stepped_where}
 use Rattle.group_run.proofs.Keeping.{SameBut}

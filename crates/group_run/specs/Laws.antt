@@ -5,8 +5,8 @@ use Rattle.trace_lines.specs.declared.line.Line.{Line}
 use Rattle.harp_trace.specs.Acknowledged.{AreAcknowledged, AreAnsweredAtOnce}
 use Rattle.harp_trace.specs.Faithful.{IsFaithful}
 use Rattle.harp_trace.specs.Trace.{Ends, IsClosed, Trace, entries, steps}
-use Rattle.group_model.specs.Laws.{Whole}
-use Rattle.group_run.specs.Run.{AreTaken, first_scene, run, run_lines}
+use Rattle.group_safety.specs.Laws.{Whole}
+use Rattle.group_run.specs.Run.{first_scene, run, run_lines}
 
 -- of a run's lines and a last line
 pub record IsRight (trace : Trace) : Type 0 where

@@ -6,10 +6,10 @@ use Rattle.trace_lines.specs.declared.line.ShownMessage.TheVariants as shown
 use Rattle.trace_lines.specs.declared.line.Line.{Line}
 use Rattle.trace_lines.specs.declared.line.Line.TheVariants as line
 use Rattle.file_tree.specs.Book.{Entry}
-use Rattle.group_model.specs.Moves.{Move, Reading, Saying, Sending}
-use Rattle.group_model.specs.Names.{id_of, view_of}
-use Rattle.group_model.specs.Places.{Place}
-use Rattle.group_model.specs.State.{Ack, Answers, Beat, Event, Group, Message, Refuses}
+use Rattle.group_rules.specs.Moves.{Move, Reading, Saying, Sending}
+use Rattle.group_rules.specs.Names.{id_of, view_of}
+use Rattle.group_rules.specs.Places.{Place}
+use Rattle.group_rules.specs.State.{Ack, Answers, Beat, Event, Group, Message, Refuses}
 use Rattle.group_run.specs.Shown.{cause_of, same_state, state_of}
 
 -- ---- the book

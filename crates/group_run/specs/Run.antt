@@ -9,14 +9,14 @@ use Rattle.trace_lines.specs.declared.line.LineFault.TheVariants as fault
 use Rattle.trace_lines.specs.declared.line.Line.{Line}
 use Rattle.trace_lines.specs.declared.line.Line.TheVariants as line
 use Rattle.file_tree.specs.Book.{Entry}
-use Rattle.group_model.specs.FixedStart.{fixed_start}
-use Rattle.group_model.specs.FreeReads.{on_free_ask}
-use Rattle.group_model.specs.Moves.{Move, moved_by}
-use Rattle.group_model.specs.Names.{place_of}
-use Rattle.group_model.specs.Open.{and_then, rebase}
-use Rattle.group_model.specs.Places.{Place, at, same}
-use Rattle.group_model.specs.State.{Group, Packet}
-use Rattle.group_model.specs.Step.{Ask, Comes, Deed, Does, Input, Tick, list_of, near, numbered, step_of}
+use Rattle.group_rules.specs.FixedStart.{fixed_start}
+use Rattle.group_rules.specs.FreeReads.{on_free_ask}
+use Rattle.group_rules.specs.Moves.{Move, moved_by}
+use Rattle.group_rules.specs.Names.{place_of}
+use Rattle.group_rules.specs.Open.{and_then, rebase}
+use Rattle.group_rules.specs.Places.{Place, at, same}
+use Rattle.group_rules.specs.State.{Group, Packet}
+use Rattle.group_rules.specs.Step.{Ask, Comes, Does, Input, Tick, list_of, near, numbered, step_of}
 use Rattle.group_run.specs.Lines.{lines_of_moves}
 
 -- a group, and the numbers of the packets that were delivered

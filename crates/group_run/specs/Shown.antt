@@ -1,5 +1,5 @@
 -- How a trace shows a server of the machine, and why it refuses an ask.
-use Rattle.std.specs.Prelude.{ℕ, ◌+◌, Bool, ◌&&◌, ◌==◌, List, [], ◌∷◌, length, Option, Some, None, option_map}
+use Rattle.std.specs.Prelude.{ℕ, ◌+◌, Bool, List, [], ◌∷◌, option_map}
 use Rattle.std.specs.Str.{bytes_eq}
 use Rattle.harp_base.specs.Server.{number_of}
 use Rattle.harp_base.specs.declared.state.StateLine.{StateLine}
@@ -12,9 +12,9 @@ use Rattle.harp_base.specs.declared.state.Held.TheVariants as held
 use Rattle.trace_lines.specs.declared.line.Cause.{Cause as CauseShown}
 use Rattle.trace_lines.specs.declared.line.Cause.TheVariants as cause
 use Rattle.file_tree.specs.Book.{Entry}
-use Rattle.group_model.specs.Limits.{by_held}
-use Rattle.group_model.specs.Names.{id_of, view_of}
-use Rattle.group_model.specs.State.{BadClient, Cause, Chose, Collects, Duty, Empty, Follows, Held, Joins, Leads, Live, Log, LogFull, Lost, Mode, NoDuty, NoPromise, NotLeader, NotYetOpen, Old, Open, Outside, Pulls, Rests, Role, Server, Waits, top}
+use Rattle.group_rules.specs.Limits.{by_held}
+use Rattle.group_rules.specs.Names.{id_of, view_of}
+use Rattle.group_rules.specs.State.{BadClient, Cause, Chose, Collects, Duty, Empty, Follows, Held, Joins, Leads, Live, Log, LogFull, Lost, Mode, NoDuty, NoPromise, NotLeader, NotYetOpen, Old, Open, Outside, Pulls, Rests, Role, Server, Waits, top}
 
 abbrev pub role_shown : Role → RoleShown
 role_shown (Leads q) = role.Leads (id_of q)

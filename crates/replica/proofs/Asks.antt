@@ -13,12 +13,12 @@ use Rattle.dedup.specs.declared.repeat.Seen.TheVariants as seen
 use Rattle.dedup.specs.declared.repeat.Seen.TheVariants.{Kept, New, Pending}
 use Rattle.dedup.specs.Repeats.{seen_after}
 use Rattle.file_tree.specs.Book.{Entry, last_next, last_of}
-use Rattle.group_model.specs.Ask.{new_entry, read_entry, update_moves}
-use Rattle.group_model.specs.FixedStart.{view_one}
-use Rattle.group_model.specs.FreeReads.{on_free_ask}
-use Rattle.group_model.specs.Moves.{Appending, Reading, Saying, Sending}
-use Rattle.group_model.specs.Places.{Zero, One, all_of}
-use Rattle.group_model.specs.State.{Answers, Event, Server, top}
+use Rattle.group_rules.specs.Ask.{new_entry, read_entry, update_moves}
+use Rattle.group_rules.specs.FixedStart.{view_one}
+use Rattle.group_rules.specs.FreeReads.{on_free_ask}
+use Rattle.group_rules.specs.Moves.{Appending, Reading, Saying, Sending}
+use Rattle.group_rules.specs.Places.{Zero, One, all_of}
+use Rattle.group_rules.specs.State.{Answers, Event, Server, top}
 use Rattle.replica.specs.Leader.{Asked}
 use Rattle.replica.specs.Said.{answered, entered, sent}
 use Rattle.replica.specs.Servers.{Leading, leading}

@@ -6,11 +6,11 @@ use Rattle.std.proofs.lemmas.Bool.{cases_lt, le-ltb, lt-ltb}
 use Rattle.std.proofs.lemmas.List.{append-nil}
 use Rattle.harp_base.specs.declared.peer.Peer.{Peer}
 use Rattle.file_tree.specs.Book.{Entry}
-use Rattle.group_model.specs.FixedStart.{view_one}
-use Rattle.group_model.specs.Moves.{Committing, Noting, acts}
-use Rattle.group_model.specs.Places.{Zero, Place, all_of}
-use Rattle.group_model.specs.Replicate.{answers, on_ack}
-use Rattle.group_model.specs.State.{Server}
+use Rattle.group_rules.specs.FixedStart.{view_one}
+use Rattle.group_rules.specs.Moves.{Committing, Noting, acts}
+use Rattle.group_rules.specs.Places.{Zero, Place, all_of}
+use Rattle.group_rules.specs.Replicate.{answers, on_ack}
+use Rattle.group_rules.specs.State.{Server}
 use Rattle.replica.specs.Leader.{CommitsNext, IsUnderWay, left, left_answers}
 use Rattle.replica.specs.Said.{Makes, answered, answers_of, committed_of, entered, in_turn, refused, refused_by, sent, sent_by}
 use Rattle.replica.specs.Servers.{Leading, leading}

@@ -7,19 +7,19 @@ use Rattle.harp_base.specs.declared.call.Call.{Call}
 use Rattle.harp_base.specs.declared.cred.Cred.{Cred}
 use Rattle.harp_base.specs.Update.{is_update}
 use Rattle.file_tree.specs.Book.{Entry, last_of}
-use Rattle.group_model.specs.Ask.{append, new_entry, on_ask, update_moves}
-use Rattle.group_model.specs.Effects.{taken}
-use Rattle.group_model.specs.FixedStart.{view_one}
-use Rattle.group_model.specs.FreeReads.{on_free_ask}
-use Rattle.group_model.specs.Limits.{is_active, is_open, limit, room}
-use Rattle.group_model.specs.Misfits.{misfits}
-use Rattle.group_model.specs.Moves.{Appending, Committing, Heeding, Move, Noting, Reading, Saying, Sending, act, acts}
-use Rattle.group_model.specs.Open.{base_tests, rebase, try_open}
-use Rattle.group_model.specs.Places.{Zero, One, Place, all_of, is_s01, same, leader}
-use Rattle.group_model.specs.Replicate.{ack_tests, answers, is_in_view, on_ack, on_event}
-use Rattle.group_model.specs.State.{Ack, Beat, Event, Open, Server}
-use Rattle.group_model.specs.Step.{Ask, Comes, Does, Tick, step}
-use Rattle.group_model.specs.Tick.{events, tick}
+use Rattle.group_rules.specs.Ask.{append, new_entry, on_ask, update_moves}
+use Rattle.group_rules.specs.Effects.{taken}
+use Rattle.group_rules.specs.FixedStart.{view_one}
+use Rattle.group_rules.specs.FreeReads.{on_free_ask}
+use Rattle.group_rules.specs.Limits.{is_active, is_open, limit, room}
+use Rattle.group_rules.specs.Misfits.{misfits}
+use Rattle.group_rules.specs.Moves.{Appending, Committing, Heeding, Move, Noting, Reading, Saying, Sending, act, acts}
+use Rattle.group_rules.specs.Open.{base_tests, rebase, try_open}
+use Rattle.group_rules.specs.Places.{Zero, One, Place, all_of, is_s01, same, leader}
+use Rattle.group_rules.specs.Replicate.{ack_tests, answers, is_in_view, on_ack, on_event}
+use Rattle.group_rules.specs.State.{Ack, Beat, Event, Open, Server}
+use Rattle.group_rules.specs.Step.{Ask, Comes, Does, Tick, step}
+use Rattle.group_rules.specs.Tick.{events, tick}
 use Rattle.replica.specs.Heeding.{heeds_ack, heeds_beat, heeds_event, is_partner}
 use Rattle.replica.specs.Servers.{IsLeading, following, leading}
 use Rattle.replica.specs.Steps.{LeaderHearsAck, LeaderIgnores, LeaderIsAsked, LeaderTicks, PartnerHearsBeat, PartnerHearsEvent, PartnerIgnores, PartnerIsAsked, PartnerTicks}

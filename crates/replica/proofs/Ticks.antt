@@ -9,11 +9,11 @@ use Rattle.std.proofs.Math.Seq.{take-nil}
 use Rattle.event_record.specs.Record.{entry_of}
 use Rattle.event_record.specs.declared.record.Record.{Record}
 use Rattle.file_tree.specs.Book.{Entry}
-use Rattle.group_model.specs.FixedStart.{view_one}
-use Rattle.group_model.specs.Moves.{Move, Sending, acts}
-use Rattle.group_model.specs.Places.{Zero, One, Place, all_of}
-use Rattle.group_model.specs.State.{Beat, Server}
-use Rattle.group_model.specs.Tick.{again, beats, duties, events, tick}
+use Rattle.group_rules.specs.FixedStart.{view_one}
+use Rattle.group_rules.specs.Moves.{Move, Sending, acts}
+use Rattle.group_rules.specs.Places.{Zero, One, Place, all_of}
+use Rattle.group_rules.specs.State.{Beat, Server}
+use Rattle.group_rules.specs.Tick.{again, beats, duties, events, tick}
 use Rattle.replica.specs.Said.{Makes, answered_by, committed_of, entered, refused_by, sends_of, sent}
 use Rattle.replica.specs.Servers.{leading}
 use Rattle.replica.specs.declared.outputs.Outputs.{Outputs}

@@ -1,10 +1,10 @@
 -- Which messages a server heeds: those that are no misfits, and that the rules don't ignore.
 use Rattle.std.specs.Prelude.{ℕ, ◌&&◌, not, Bool, ◌∷◌, []}
 use Rattle.file_tree.specs.Book.{Entry}
-use Rattle.group_model.specs.Misfits.{misfits}
-use Rattle.group_model.specs.Places.{Place, all_of, partner, same}
-use Rattle.group_model.specs.Replicate.{ack_tests, is_in_view}
-use Rattle.group_model.specs.State.{Ack, Beat, Event, Server}
+use Rattle.group_rules.specs.Misfits.{misfits}
+use Rattle.group_rules.specs.Places.{Place, all_of, partner, same}
+use Rattle.group_rules.specs.Replicate.{ack_tests, is_in_view}
+use Rattle.group_rules.specs.State.{Ack, Beat, Event, Server}
 
 -- it is the active partner of this view
 abbrev pub is_partner : Place → Server Entry → ℕ → Bool

@@ -4,10 +4,10 @@ use Rattle.harp_base.specs.declared.peer.Peer.{Peer}
 use Rattle.event_record.specs.declared.record.Record.{Record}
 use Rattle.event_record.specs.Record.{AllStandFor, entry_of}
 use Rattle.file_tree.specs.Book.{Entry, last_stamp}
-use Rattle.group_model.specs.Replicate.{answers}
+use Rattle.group_rules.specs.Replicate.{answers}
 use Rattle.harp_cells.specs.Effect.{Cells}
-use Rattle.group_model.specs.Moves.{Move}
-use Rattle.group_model.specs.Places.{Zero}
+use Rattle.group_rules.specs.Moves.{Move}
+use Rattle.group_rules.specs.Places.{Zero}
 use Rattle.replica.specs.Cells.{AreMadeBy, no_values}
 use Rattle.replica.specs.Said.{Makes, answered, answers_of, entered, waits_of}
 use Rattle.replica.specs.Servers.{Leading}

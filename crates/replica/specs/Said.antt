@@ -4,10 +4,10 @@ use Rattle.std.specs.List.{flat_map}
 use Rattle.harp_base.specs.declared.peer.Peer.{Peer}
 use Rattle.event_record.specs.Record.{entry_of}
 use Rattle.file_tree.specs.Book.{Entry}
-use Rattle.group_model.specs.Moves.{Appending, Committing, Move, Reading, Saying, Sending, act, acts}
-use Rattle.group_model.specs.Names.{id_of, number_of_view, place_of}
-use Rattle.group_model.specs.Places.{Place}
-use Rattle.group_model.specs.State.{Ack, Answers, BadClient, Beat, Cause, Event, Lists, LogFull, Message, NoPromise, NotLeader, NotYetOpen, Old, Refuses, Say, Server}
+use Rattle.group_rules.specs.Moves.{Appending, Committing, Move, Reading, Saying, Sending, act, acts}
+use Rattle.group_rules.specs.Names.{id_of, number_of_view, place_of}
+use Rattle.group_rules.specs.Places.{Place}
+use Rattle.group_rules.specs.State.{Ack, Answers, BadClient, Beat, Cause, Event, Lists, LogFull, Message, NoPromise, NotLeader, NotYetOpen, Old, Refuses, Say, Server}
 use Rattle.trace_lines.specs.declared.line.BookEntry.{BookEntry}
 use Rattle.trace_lines.specs.declared.line.Cause.{Cause as Shown}
 use Rattle.trace_lines.specs.declared.line.Cause.TheVariants as cause

@@ -2,9 +2,9 @@
 use Rattle.std.specs.Prelude.{◌≡◌, ℕ, List}
 use Rattle.harp_base.specs.declared.peer.Peer.{Peer}
 use Rattle.file_tree.specs.Book.{Entry}
-use Rattle.group_model.specs.FixedStart.{starting}
-use Rattle.group_model.specs.Places.{Zero, One}
-use Rattle.group_model.specs.State.{Server}
+use Rattle.group_rules.specs.FixedStart.{starting}
+use Rattle.group_rules.specs.Places.{Zero, One}
+use Rattle.group_rules.specs.State.{Server}
 
 -- the leader with these entries in its log, and with what its partner's Acks told
 abbrev pub leading : List Entry → ℕ → ℕ → ℕ → ℕ → Server Entry

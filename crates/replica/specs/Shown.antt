@@ -1,7 +1,7 @@
 -- What a server that is up shows of its state.
-use Rattle.group_model.specs.Limits.{by_held}
-use Rattle.group_model.specs.Names.{id_of, view_of}
-use Rattle.group_model.specs.State.{Chose, Collects, Duty, Empty, Follows, Held, Joins, Leads, Live, Log, Lost, Mode, NoDuty, Open, Outside, Pulls, Rests, Role, Server, Waits, top}
+use Rattle.group_rules.specs.Limits.{by_held}
+use Rattle.group_rules.specs.Names.{id_of, view_of}
+use Rattle.group_rules.specs.State.{Chose, Collects, Duty, Empty, Follows, Held, Joins, Leads, Live, Log, Lost, Mode, NoDuty, Open, Outside, Pulls, Rests, Role, Server, Waits, top}
 use Rattle.file_tree.specs.Book.{Entry}
 use Rattle.harp_base.specs.declared.state.Held.{Held as ShownHeld}
 use Rattle.harp_base.specs.declared.state.Held.TheVariants as held

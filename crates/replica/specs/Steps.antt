@@ -4,14 +4,14 @@ use Rattle.harp_base.specs.declared.call.Call.{Call}
 use Rattle.harp_base.specs.declared.cred.Cred.{Cred}
 use Rattle.harp_base.specs.Update.{is_update}
 use Rattle.file_tree.specs.Book.{Entry}
-use Rattle.group_model.specs.Effects.{taken}
-use Rattle.group_model.specs.FreeReads.{on_free_ask}
-use Rattle.group_model.specs.Moves.{Move}
-use Rattle.group_model.specs.Places.{Zero, One, Place}
-use Rattle.group_model.specs.Replicate.{on_ack, on_event}
-use Rattle.group_model.specs.State.{Ack, Beat, Event, Message, Server}
-use Rattle.group_model.specs.Step.{Ask, Comes, Deed, Does, Tick, step}
-use Rattle.group_model.specs.Tick.{tick}
+use Rattle.group_rules.specs.Effects.{taken}
+use Rattle.group_rules.specs.FreeReads.{on_free_ask}
+use Rattle.group_rules.specs.Moves.{Move}
+use Rattle.group_rules.specs.Places.{Zero, One, Place}
+use Rattle.group_rules.specs.Replicate.{on_ack, on_event}
+use Rattle.group_rules.specs.State.{Ack, Beat, Event, Message, Server}
+use Rattle.group_rules.specs.Step.{Ask, Comes, Deed, Does, Tick, step}
+use Rattle.group_rules.specs.Tick.{tick}
 use Rattle.replica.specs.Heeding.{heeds_ack, heeds_beat, heeds_event}
 use Rattle.replica.specs.Servers.{IsFollowing, IsLeading}
 

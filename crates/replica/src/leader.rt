@@ -2,10 +2,10 @@
 
 ghost use Rattle.std.specs.Prelude.{◌≡◌, ℕ, ◌<◌, ◌≤◌, ◌++◌, [], length, take, drop, map, IfOk, OnOk, IsTrue};
 ghost use Rattle.event_record.specs.Record.{AllStandFor, entry_of};
-ghost use Rattle.group_model.specs.FixedStart.{starting, view_one};
-ghost use Rattle.group_model.specs.Names.{number_of_view, place_of};
-ghost use Rattle.group_model.specs.Places.{Zero, One};
-ghost use Rattle.group_model.specs.Tick.{events, tick};
+ghost use Rattle.group_rules.specs.FixedStart.{starting, view_one};
+ghost use Rattle.group_rules.specs.Names.{number_of_view, place_of};
+ghost use Rattle.group_rules.specs.Places.{Zero, One};
+ghost use Rattle.group_rules.specs.Tick.{events, tick};
 ghost use Rattle.replica.specs.Cells.{no_values};
 ghost use Rattle.replica.specs.Heeding.{heeds_ack};
 ghost use Rattle.replica.specs.Said.{Makes, sends_of, sent};
@@ -116,7 +116,7 @@ impl Leader {
 
     /// Whether an Ack is heeded: it comes from the partner, in view 1.0, its top is at most the log's, and its LB at
     /// most its top.
-    #[tactic(auto, unfolding(group_model::specs::Places::all_of))]
+    #[tactic(auto, unfolding(group_rules::specs::Places::all_of))]
     pub fn heeds_ack(&self, from: ServerId, view: ViewNo, top: u64, lb: u64) -> bool
         ensures tests { (until : ℕ) → result
             ≡ heeds_ack Zero self.now.server (place_of from) (number_of_view view) top lb until }

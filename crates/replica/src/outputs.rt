@@ -1,7 +1,7 @@
 //! What a call of a server gives to others.
 
 ghost use Rattle.std.specs.Prelude.{◌≡◌, ◌++◌, ◌∷◌, [], map, OnOk};
-ghost use Rattle.group_model.specs.Names.{place_of};
+ghost use Rattle.group_rules.specs.Names.{place_of};
 ghost use Rattle.replica.specs.Said.{entered, heard, sent};
 
 use harp_base::{Call, Cred, Peer, Reply, ServerId};

@@ -3,14 +3,14 @@
 ghost use Rattle.std.specs.Prelude.{◌≡◌, ℕ, ◌+◌, ◌<◌, ◌≤◌, ◌^◌, ◌∷◌, [], length, IfOk, OnOk, IsTrue};
 ghost use Rattle.event_record.specs.Record.{entry_of};
 ghost use Rattle.file_tree.specs.Book.{Entry};
-ghost use Rattle.group_model.specs.Effects.{taken};
-ghost use Rattle.group_model.specs.FixedStart.{starting, view_one};
-ghost use Rattle.group_model.specs.FreeReads.{on_free_ask};
-ghost use Rattle.group_model.specs.Limits.{room};
-ghost use Rattle.group_model.specs.Names.{number_of_view, place_of};
-ghost use Rattle.group_model.specs.Misfits.{room_tests};
-ghost use Rattle.group_model.specs.Places.{Zero, One, all_of};
-ghost use Rattle.group_model.specs.Replicate.{on_event};
+ghost use Rattle.group_rules.specs.Effects.{taken};
+ghost use Rattle.group_rules.specs.FixedStart.{starting, view_one};
+ghost use Rattle.group_rules.specs.FreeReads.{on_free_ask};
+ghost use Rattle.group_rules.specs.Limits.{room};
+ghost use Rattle.group_rules.specs.Names.{number_of_view, place_of};
+ghost use Rattle.group_rules.specs.Misfits.{room_tests};
+ghost use Rattle.group_rules.specs.Places.{Zero, One, all_of};
+ghost use Rattle.group_rules.specs.Replicate.{on_event};
 ghost use Rattle.replica.specs.Heeding.{heeds_beat, heeds_event};
 ghost use Rattle.replica.specs.Said.{Makes};
 ghost use Rattle.replica.specs.Servers.{IsFollowing};
@@ -43,7 +43,7 @@ impl Model for Partner {
     ghost use Rattle.std.specs.Prelude.{◌≡◌, ℕ, map};
     ghost use Rattle.event_record.specs.Record.{entry_of};
     ghost use Rattle.file_tree.specs.Book.{Entry};
-    ghost use Rattle.group_model.specs.State.{Server};
+    ghost use Rattle.group_rules.specs.State.{Server};
     ghost use Rattle.replica.specs.Servers.{following};
 
     ghost Value = { Server Entry };
@@ -83,7 +83,7 @@ impl Partner {
     }
 
     /// Refuses a client's call: its client's number is above 4095, or else this server doesn't lead its view.
-    #[tactic(auto, unfolding(group_model::specs::Places::all_of))]
+    #[tactic(auto, unfolding(group_rules::specs::Places::all_of))]
     pub fn ask(
         &self,
         peer: Peer,
@@ -117,7 +117,7 @@ impl Partner {
     }
 
     /// Whether a Beat is heeded: it comes from the leader, in view 1.0, and its base isn't above LB.
-    #[tactic(auto, unfolding(group_model::specs::Places::all_of))]
+    #[tactic(auto, unfolding(group_rules::specs::Places::all_of))]
     pub fn heeds_beat(&self, from: ServerId, view: ViewNo, base: u64) -> bool
         ensures tests { (cp : ℕ) → result ≡ heeds_beat One self.now (place_of from) (number_of_view view) cp base }
         ensures from { IsTrue result → place_of from ≡ Zero }
@@ -134,7 +134,7 @@ impl Partner {
 
     /// Deals with a Beat that is heeded: CP rises, and the leader gets an Ack with a promise until
     /// 2000 milliseconds from now on.
-    #[tactic(auto, unfolding(group_model::specs::Places::all_of))]
+    #[tactic(auto, unfolding(group_rules::specs::Places::all_of))]
     pub fn beat(
         &mut self,
         cp: u64,
@@ -164,7 +164,7 @@ impl Partner {
 
     /// Whether an Event of the record with this index is heeded: it comes from the leader, in view 1.0, its base isn't
     /// above LB, and where it is the next one the log has room for it.
-    #[tactic(auto, unfolding(group_model::specs::Places::all_of, group_model::specs::Limits::room))]
+    #[tactic(auto, unfolding(group_rules::specs::Places::all_of, group_rules::specs::Limits::room))]
     pub fn heeds_event(&self, from: ServerId, view: ViewNo, index: u64, base: u64) -> bool
         ensures tests { (cp : ℕ) (e : Entry) → result
             ≡ heeds_event One self.now (place_of from) (number_of_view view) index cp base e }
@@ -184,7 +184,7 @@ impl Partner {
     }
 
     /// Whether the log has room for the record of this index, or doesn't take it.
-    #[tactic(auto, unfolding(group_model::specs::Places::all_of, group_model::specs::Limits::room))]
+    #[tactic(auto, unfolding(group_rules::specs::Places::all_of, group_rules::specs::Limits::room))]
     fn has_room(&self, index: u64, base: u64) -> bool
         requires { base ≡ 0 }
         ensures { (e : Entry) → result ≡ all_of (room_tests self.now base (taken self.now index e)) }
@@ -194,7 +194,7 @@ impl Partner {
     }
 
     /// Takes a record to the log where its index is the next one.
-    #[tactic(auto, unfolding(group_model::specs::Limits::room))]
+    #[tactic(auto, unfolding(group_rules::specs::Limits::room))]
     fn take(&mut self, item: Record)
         requires { length (taken self.old item.index (entry_of item)) ≤ room }
         ensures { self.new ≡ record self.old { items = taken self.old item.index (entry_of item) } }
@@ -209,7 +209,7 @@ impl Partner {
 
     /// Deals with an Event that is heeded: the record goes to the log where its index is the next one, CP rises, and
     /// the leader gets an Ack with a promise until 2000 milliseconds from now on.
-    #[tactic(auto, unfolding(group_model::specs::Places::all_of))]
+    #[tactic(auto, unfolding(group_rules::specs::Places::all_of))]
     pub fn event(
         &mut self,
         cp: u64,

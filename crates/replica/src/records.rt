@@ -4,8 +4,8 @@ ghost use Rattle.std.specs.Prelude.{◌≡◌, ◌+◌, ◌<◌, ◌∷◌, List
 ghost use Rattle.event_record.specs.Record.{StandsFor, entry_of};
 ghost use Rattle.file_tree.specs.Book.{Entry, tree_after};
 ghost use Rattle.file_tree.specs.Calls.{outcome};
-ghost use Rattle.group_model.specs.FixedStart.{view_one};
-ghost use Rattle.group_model.specs.State.{Event};
+ghost use Rattle.group_rules.specs.FixedStart.{view_one};
+ghost use Rattle.group_rules.specs.State.{Event};
 ghost use Rattle.harp_base.specs.Update.{is_update};
 ghost use Rattle.replica.specs.Cells.{HoldBook, held_in};
 ghost use Rattle.replica.specs.Said.{entered, heard};

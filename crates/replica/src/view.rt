@@ -1,8 +1,8 @@
 //! The view that the group is in.
 
 ghost use Rattle.std.specs.Prelude.{◌≡◌, ◌==◌};
-ghost use Rattle.group_model.specs.FixedStart.{view_one};
-ghost use Rattle.group_model.specs.Names.{number_of_view};
+ghost use Rattle.group_rules.specs.FixedStart.{view_one};
+ghost use Rattle.group_rules.specs.Names.{number_of_view};
 ghost use Rattle.harp_base.specs.declared.server.ServerId.TheVariants as server;
 
 use harp_base::{ServerId, ViewNo};

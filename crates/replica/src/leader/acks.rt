@@ -1,9 +1,9 @@
 //! The leader's commits.
 
 ghost use Rattle.std.specs.Prelude.{◌≡◌, ℕ, ◌+◌, ◌-◌, ◌<◌, ◌≤◌, ◌∷◌, length, drop, max, OnOk};
-ghost use Rattle.group_model.specs.FixedStart.{view_one};
-ghost use Rattle.group_model.specs.Places.{Zero};
-ghost use Rattle.group_model.specs.Replicate.{on_ack};
+ghost use Rattle.group_rules.specs.FixedStart.{view_one};
+ghost use Rattle.group_rules.specs.Places.{Zero};
+ghost use Rattle.group_rules.specs.Replicate.{on_ack};
 ghost use Rattle.replica.specs.Leader.{CommitsNext, IsUnderWay};
 ghost use Rattle.replica.specs.Said.{Makes};
 

@@ -4,12 +4,12 @@ ghost use Rattle.std.specs.Prelude.{◌≡◌, ◌+◌, ◌<◌, ◌^◌, ◌∷
 ghost use Rattle.dedup.specs.Repeats.{seen_after};
 ghost use Rattle.file_tree.specs.Book.{last_of, tree_after};
 ghost use Rattle.file_tree.specs.Calls.{outcome};
-ghost use Rattle.group_model.specs.Ask.{append, new_entry, read_entry, update_moves};
-ghost use Rattle.group_model.specs.FixedStart.{view_one};
-ghost use Rattle.group_model.specs.FreeReads.{on_free_ask};
-ghost use Rattle.group_model.specs.Moves.{Appending, Reading, Sending};
-ghost use Rattle.group_model.specs.Places.{Zero, One};
-ghost use Rattle.group_model.specs.State.{Event, top};
+ghost use Rattle.group_rules.specs.Ask.{append, new_entry, read_entry, update_moves};
+ghost use Rattle.group_rules.specs.FixedStart.{view_one};
+ghost use Rattle.group_rules.specs.FreeReads.{on_free_ask};
+ghost use Rattle.group_rules.specs.Moves.{Appending, Reading, Sending};
+ghost use Rattle.group_rules.specs.Places.{Zero, One};
+ghost use Rattle.group_rules.specs.State.{Event, top};
 ghost use Rattle.harp_base.specs.Update.{is_update};
 ghost use Rattle.replica.specs.Leader.{Asked};
 ghost use Rattle.replica.specs.Servers.{IsLeading};
@@ -148,7 +148,7 @@ impl Leader {
     }
 
     /// A new update is refused where the log is full. Else its record goes to the log and, in an Event, to the partner.
-    #[tactic(auto, unfolding(group_model::specs::Limits::room, group_model::specs::Limits::limit))]
+    #[tactic(auto, unfolding(group_rules::specs::Limits::room, group_rules::specs::Limits::limit))]
     fn append(
         &mut self,
         alloc: Global,

@@ -5,11 +5,11 @@ use Rattle.std.proofs.lemmas.List.{length-append, length-map, map-append}
 use Rattle.event_record.specs.declared.record.Record.{Record}
 use Rattle.event_record.specs.Record.{entry_of}
 use Rattle.file_tree.specs.Book.{Entry}
-use Rattle.group_model.specs.Ask.{new_entry}
-use Rattle.group_model.specs.FixedStart.{view_one}
-use Rattle.group_model.specs.Moves.{Appending, Sending}
-use Rattle.group_model.specs.Places.{One}
-use Rattle.group_model.specs.State.{Event, top}
+use Rattle.group_rules.specs.Ask.{new_entry}
+use Rattle.group_rules.specs.FixedStart.{view_one}
+use Rattle.group_rules.specs.Moves.{Appending, Sending}
+use Rattle.group_rules.specs.Places.{One}
+use Rattle.group_rules.specs.State.{Event, top}
 use Rattle.harp_base.specs.Update.{is_update}
 use Rattle.harp_cells.specs.Effect.{after}
 use Rattle.replica.specs.Cells.{held_in}

@@ -1,8 +1,8 @@
 use Rattle.std.proofs.Common.{arith, ◌≡◌, ◌+◌, ◌-◌, ◌<◌, ◌++◌, ◌∙◌, ap, sym, append_assoc, length, take, drop}
 use Rattle.std.specs.Prelude.{map}
-use Rattle.group_model.specs.FixedStart.{view_one}
-use Rattle.group_model.specs.Places.{One}
-use Rattle.group_model.specs.Tick.{events}
+use Rattle.group_rules.specs.FixedStart.{view_one}
+use Rattle.group_rules.specs.Places.{One}
+use Rattle.group_rules.specs.Tick.{events}
 use Rattle.replica.specs.Said.{sends_of, sent}
 use Rattle.std.proofs.lemmas.List.{length-map}
 use Rattle.event_record.specs.Record.{entry_of}

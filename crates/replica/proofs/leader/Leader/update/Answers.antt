@@ -1,7 +1,7 @@
 use Rattle.std.proofs.Common.{◌∙◌, subst, sym}
 use Rattle.std.proofs.lemmas.Result.{on_ok_weaker}
 use Rattle.file_tree.specs.Book.{last_of}
-use Rattle.group_model.specs.Ask.{new_entry, update_moves}
+use Rattle.group_rules.specs.Ask.{new_entry, update_moves}
 use Rattle.replica.specs.Leader.{Asked}
 use Rattle.replica.specs.Servers.{Leading}
 use Rattle.replica.proofs.Asks.{last_of_client, repeated}

@@ -1,5 +1,0 @@
-use Rattle.group_model.proofs.AtOnce.{answers_at_once}
-use Rattle.group_model.proofs.answered_at_once.Goals as goal
-
-pub returns : goal.returns
-returns c = record { answers = answers_at_once }

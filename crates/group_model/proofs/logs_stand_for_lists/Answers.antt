@@ -1,6 +1,0 @@
-use Rattle.group_model.proofs.Safe.{run_whole}
-use Rattle.group_model.proofs.Lawful.{stands_for}
-use Rattle.group_model.proofs.logs_stand_for_lists.Goals as goal
-
-pub returns : goal.returns
-returns c = record { logs = λ q size g w hs. stands_for _ (run_whole size hs g w) q }

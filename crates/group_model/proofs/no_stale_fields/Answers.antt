@@ -1,5 +1,0 @@
-use Rattle.group_model.proofs.Safe.{run_whole}
-use Rattle.group_model.proofs.no_stale_fields.Goals as goal
-
-pub returns : goal.returns
-returns c = record { tidy = λ size g w hs. (run_whole size hs g w).tidy }
