@@ -4,6 +4,7 @@ pub mod LineParts
 pub mod StateLines
 pub mod Lists
 pub mod Standing
+pub mod Logs
 pub mod Keeping
 pub mod Taking
 pub mod Entering

@@ -27,6 +27,7 @@ use Rattle.group_run.proofs.AtOnceLaw.{delivered_at_once}
 use Rattle.group_run.proofs.Early.{Early}
 use Rattle.group_run.proofs.Keeping.{moved_lines, moved_stands, quiet_stands}
 use Rattle.group_run.proofs.LineParts.{shown_at, entered_open, said_open}
+use Rattle.group_run.proofs.Logs.{logs_whole}
 use Rattle.group_run.proofs.Standing.{Stands, behind_book, behind_said, moves_begin}
 use Rattle.group_run.proofs.StepLaws.{acknowledged_step, asked_step, numbered_step, replied_step}
 use Rattle.group_run.proofs.Taking.{take_step}
@@ -189,6 +190,7 @@ run_right ss t =
       events = run_begins ss first_scene;
       book = h.entered;
       whole = h.whole;
+      logs = logs_whole (run first_scene ss).group h.whole h.early;
       right = λ end ends.
           let once = last_at_once lines (length (entries lines)) end ends in
           record {

@@ -25,13 +25,14 @@ use Rattle.group_safety.proofs.Lawful.{sure_held}
 use Rattle.group_run.specs.Lines.{answered_lines, entered_line, entered_lines, lines_of_moves, refused_lines, sent_line, sent_lines, state_lines}
 use Rattle.group_run.specs.Run.{begins, moves_of, stepped}
 use Rattle.group_run.specs.Shown.{same_state, state_of}
-use Rattle.group_run.proofs.After.{its_view, moved_other, none_above, stepped_early, stepped_whole}
+use Rattle.group_run.proofs.After.{its_view, moved_other, stepped_early, stepped_whole}
 use Rattle.group_run.proofs.Answering.{Answering, acknowledged, answered_places, answered_well, kind_answers, reading, replies_to_updates, update_replied, updating}
 use Rattle.group_run.proofs.Early.{Early, IsAsked, Kind, kind_of}
 use Rattle.group_run.proofs.Entering.{Enters, committed, committed_asked, entered_asked, entered_numbered, in_back, kind_enters, nothing, read, said_asked, said_numbered, said_places}
 use Rattle.group_run.proofs.Keeping.{asked_now, asks_for, kind_acked, list_asked, moved_lines}
 use Rattle.group_run.proofs.LineParts.{AreSaid, AreStateless, entered_enter, entered_way, said_enter, stateless-entered, stateless_keep, way_said}
 use Rattle.group_run.proofs.Lists.{kind_list, one_list}
+use Rattle.group_run.proofs.Logs.{logs_whole}
 use Rattle.group_run.proofs.Standing.{AskedIn, Stands, acked_more, behind_book, behind_said, book_is}
 
 -- ---- numbers, and asks
@@ -251,8 +252,7 @@ acknowledged_step before g h s q i b = answered_step IsAcknowledged no_acknowled
     answer ms kind w k n e x z more quiet =
         let g' = moved_by g q (g.server q) ms in
         let a = answered_well g q ms w k n e x in
-        let leads = k.leads in
-        let count : (g'.server Zero).cp ≡ length g'.committed = (w.settled.server Zero).count (ap (λ (s : Server Entry). s.mode) leads.is) (none_above g' w k Zero) in
+        let count : (g'.server Zero).cp ≡ length g'.committed = (logs_whole g' w k).committed in
         let held : n ≤ top (g'.server One) = sure_held g' w.ok One n (ap (λ (s : Server Entry). s.held) k.follows.is) (subst (λ v. Sure g'.page g'.committed v n) (sym (its_view g' k One).1) a.sure) in
         let reach : n ≤ top (g.server One) = subst (λ s. n ≤ top s) (moved_other ms g q One (g.server q) (λ e. let clash : One ≡ Zero = e ∙ z in cc)) held in
         let acked = kind_acked before g h s q i b ms kind n a.positive (subst (λ c. n ≤ c) (sym count) a.sure.in_book) in
