@@ -17,3 +17,5 @@ pub mod Step
 pub mod FixedStart
 pub mod FreeReads
 pub mod Names
+pub mod Shown
+pub mod Said

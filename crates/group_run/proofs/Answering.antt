@@ -31,7 +31,7 @@ use Rattle.group_safety.proofs.Common.{sure_up}
 use Rattle.group_safety.proofs.Lawful.{answers_grow}
 use Rattle.group_run.specs.Lines.{answered_lines}
 use Rattle.group_run.specs.Run.{begins}
-use Rattle.group_run.specs.Shown.{state_of}
+use Rattle.group_rules.specs.Shown.{state_of}
 use Rattle.group_run.proofs.After.{its_view, no_later}
 use Rattle.group_run.proofs.Early.{AreLeaderSends, Early, IsAsked, IsFollowing, IsLeading, Kind, appends, commits, heeds, notes, quiet, reads, refuses, repeats, sends}
 use Rattle.group_run.proofs.Entering.{IsInBook, answered_in_book}

@@ -23,9 +23,9 @@ use Rattle.group_rules.specs.Places.{Zero, One, Place}
 use Rattle.group_rules.specs.State.{Ack, Answers, Beat, Event, Group, Lists, Message, Packet, Refuses, Server}
 use Rattle.group_rules.specs.Step.{Comes, Input}
 use Rattle.group_safety.proofs.AtOnce.{answers_at_once}
-use Rattle.group_run.specs.Lines.{answered_lines, entered_lines, lines_of_moves, refused_lines, sent_line, sent_lines, state_lines}
+use Rattle.group_run.specs.Lines.{answered_lines, entered_lines, lines_of_moves, packet_lines, refused_lines, sent_line, sent_lines, state_lines}
 use Rattle.group_run.specs.Run.{begins, lines_where, moves_of, no_size, stepped}
-use Rattle.group_run.specs.Shown.{same_state, state_of}
+use Rattle.group_rules.specs.Shown.{same_state, state_of}
 use Rattle.group_run.proofs.Answering.{Answering, AreReadless, kind_answers, reading, updating}
 use Rattle.group_run.proofs.Early.{Early, IsEarly, Kind, ack, beat, event, kind_of, numbered_early}
 use Rattle.group_run.proofs.Lists.{was_sent}
@@ -62,7 +62,7 @@ refused_idle q (Saying (Lists n) ∷ ms) = refused_idle q ms
 refused_idle q (m ∷ ms) = refused_idle q ms
 
 sent_idle : (n : ℕ) (q : Place) (ms : List (Move Entry)) → AllByRecursion IsIdle (sent_lines n q ms)
-unfolding sent_lines
+unfolding packet_lines
 sent_idle n q [] = tt
 sent_idle n q (Sending to m ∷ ms) = idle_append (sent_line n q to m) (sent_lines (n + 1) q ms) (one m) (sent_idle (n + 1) q ms)
   where

@@ -23,7 +23,7 @@ use Rattle.group_rules.specs.Step.{Ask, Comes, Does, Input, Tick, numbered}
 use Rattle.group_safety.specs.Words.{Each, In}
 use Rattle.group_run.specs.Lines.{lines_of_moves}
 use Rattle.group_run.specs.Run.{begins, moves_of, stepped}
-use Rattle.group_run.specs.Shown.{state_of}
+use Rattle.group_rules.specs.Shown.{state_of}
 use Rattle.group_run.proofs.After.{moved_other, moved_server, stepped_early, stepped_whole}
 use Rattle.group_run.proofs.Early.{IsAsked, IsEarly, IsFollowing, IsLeading, Kind, answers_keep, appends, commits, heeds, kind_of, notes, quiet, reads, refuses, repeats, sends, sends_keep}
 use Rattle.group_run.proofs.LineParts.{ShowsPackets, shown_at, sendless_same}

@@ -22,7 +22,7 @@ use Rattle.group_safety.proofs.Starting.{start_whole}
 use Rattle.group_run.specs.Laws.{RunIsRight}
 use Rattle.group_run.specs.Lines.{entered_lines, lines_of_moves}
 use Rattle.group_run.specs.Run.{AreTaken, Scene, begins, first_scene, group_after, is_elementary, lines_where, moves_of, next, refusal, run, run_lines, step_lines, stepped}
-use Rattle.group_run.specs.Shown.{state_of}
+use Rattle.group_rules.specs.Shown.{state_of}
 use Rattle.group_run.proofs.AtOnceLaw.{delivered_at_once}
 use Rattle.group_run.proofs.Early.{Early}
 use Rattle.group_run.proofs.Keeping.{moved_lines, moved_stands, quiet_stands}

@@ -22,7 +22,7 @@ use Rattle.group_rules.specs.State.{Group}
 use Rattle.group_safety.specs.Words.{In}
 use Rattle.group_safety.proofs.Lawful.{book_grows}
 use Rattle.group_run.specs.Lines.{answered_lines, entered_lines, lines_of_moves, refused_lines, sent_lines, state_lines}
-use Rattle.group_run.specs.Shown.{state_of}
+use Rattle.group_rules.specs.Shown.{state_of}
 use Rattle.group_run.proofs.After.{moved_other, moved_packets, packets_by}
 use Rattle.group_run.proofs.Early.{Early}
 use Rattle.group_run.proofs.LineParts.{AreSaid, AreSendless, ShowsPackets, entered_begin, entered_enter, packets_shown, said-answered, said-append, said-refused, said-sent, said-state, said_begin, said_enter, sendless-answered, sendless-append, sendless-entered, sendless-refused, sendless-state, sendless_same, stateless-answered, stateless-entered, stateless-refused, stateless-sent, stateless_keep}

@@ -22,9 +22,9 @@ use Rattle.group_rules.specs.State.{Ack, Answers, Beat, Event, Group, Lists, Mes
 use Rattle.group_rules.specs.Step.{Input}
 use Rattle.group_safety.specs.Words.{In, Sure}
 use Rattle.group_safety.proofs.Lawful.{sure_held}
-use Rattle.group_run.specs.Lines.{answered_lines, entered_line, entered_lines, lines_of_moves, refused_lines, sent_line, sent_lines, state_lines}
+use Rattle.group_run.specs.Lines.{answered_lines, entered_line, entered_lines, lines_of_moves, packet_lines, refused_lines, sent_line, sent_lines, state_lines}
 use Rattle.group_run.specs.Run.{begins, moves_of, stepped}
-use Rattle.group_run.specs.Shown.{same_state, state_of}
+use Rattle.group_rules.specs.Shown.{same_state, state_of}
 use Rattle.group_run.proofs.After.{its_view, moved_other, stepped_early, stepped_whole}
 use Rattle.group_run.proofs.Answering.{Answering, acknowledged, answered_places, answered_well, kind_answers, reading, replies_to_updates, update_replied, updating}
 use Rattle.group_run.proofs.Early.{Early, IsAsked, Kind, kind_of}
@@ -156,7 +156,7 @@ one_sent_no n q to (Ack v top lb until) = (tt, tt)
 one_sent_no n q to m = tt
 
 sent_no : (n : ℕ) (q : Place) (ms : List (Move Entry)) → AllByRecursion IsNoAnswer (sent_lines n q ms)
-unfolding sent_lines
+unfolding packet_lines
 sent_no n q [] = tt
 sent_no n q (Sending to m ∷ ms) = all-append IsNoAnswer (sent_line n q to m) (sent_lines (n + 1) q ms) (one_sent_no n q to m) (sent_no (n + 1) q ms)
 sent_no n q (m ∷ ms) = sent_no n q ms

@@ -1,4 +1,3 @@
-pub mod Shown
 pub mod Lines
 pub mod Run
 pub mod Laws

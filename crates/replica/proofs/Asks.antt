@@ -79,7 +79,7 @@ last_of_client client items = folded_of client None items (none_of client)
 
 -- an answer leaves the leader
 answers_entry : (now : ℕ) (peer : Peer) (e : Entry) (l : Leading) (before after : Outputs)
-    → after.answers.items ≡ before.answers.items ++ answered peer (record { index = e.index; entry = e; asked = None })
+    → after.answers.items ≡ before.answers.items ++ answered peer (record { index = e.index; entry = e; reads = false })
     ∷ []
     → after.committed ≡ before.committed → after.refusals ≡ before.refusals → after.sends ≡ before.sends
     → Asked now (Saying (Answers e.index e) ∷ []) peer l l before after
@@ -134,8 +134,7 @@ repeated now client ne peer index reply l (Some x) before after of kept answers 
     let said : after.answers.items ≡ before.answers.items ++ answered peer (record {
       index = x.index;
       entry = x;
-      asked
-          = None;
+      reads = false;
     }) ∷ [] =
     answers ∙ rw (h.index_is, h.reply_is, number, of) refl in
     subst (λ ms. Asked now ms peer l l before after) (sym moves) (answers_entry now peer x l before after said

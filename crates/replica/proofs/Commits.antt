@@ -1,5 +1,5 @@
 -- Commits, one after the other.
-use Rattle.std.proofs.Common.{◌≡◌, ℕ, suc, ◌+◌, ◌-◌, ◌<◌, ◌≤◌, List, [], ◌∷◌, ◌++◌, take, drop, refl, sym, ap, ◌∙◌, arith, subst, append_assoc, inl, inr, None}
+use Rattle.std.proofs.Common.{false, ◌≡◌, ℕ, suc, ◌+◌, ◌-◌, ◌<◌, ◌≤◌, List, [], ◌∷◌, ◌++◌, take, drop, refl, sym, ap, ◌∙◌, arith, subst, append_assoc, inl, inr, None}
 use Rattle.std.specs.Prelude.{map, max}
 use Rattle.std.specs.List.{flat_map}
 use Rattle.std.proofs.lemmas.Bool.{cases_lt, le-ltb, lt-ltb}
@@ -12,7 +12,8 @@ use Rattle.group_rules.specs.Places.{Zero, Place, all_of}
 use Rattle.group_rules.specs.Replicate.{answers, on_ack}
 use Rattle.group_rules.specs.State.{Server}
 use Rattle.replica.specs.Leader.{CommitsNext, IsUnderWay, left, left_answers}
-use Rattle.replica.specs.Said.{Makes, answered, answers_of, committed_of, entered, in_turn, refused, refused_by, sent, sent_by}
+use Rattle.replica.specs.Said.{Makes, answered, answers_of, entered, in_turn, refused, sent}
+use Rattle.group_rules.specs.Said.{committed_of, refused_by, sent_by}
 use Rattle.replica.specs.Servers.{Leading, leading}
 use Rattle.replica.specs.declared.outputs.Outputs.{Outputs}
 
@@ -42,9 +43,9 @@ left_split top mid new before after below h =
 answers_split : (top : ℕ) (mid new : Leading) (before after : Outputs) → mid.server.cp < top
     → (h : CommitsNext mid new before after)
     → left_answers top mid
-    ≡ answered h.peer (record { index = mid.server.cp + 1; entry = h.entry; asked = None }) ∷ left_answers top new
+    ≡ answered h.peer (record { index = mid.server.cp + 1; entry = h.entry; reads = false }) ∷ left_answers top new
 answers_split top mid new before after below h =
-    let first = answered h.peer (record { index = mid.server.cp + 1; entry = h.entry; asked = None }) in
+    let first = answered h.peer (record { index = mid.server.cp + 1; entry = h.entry; reads = false }) in
     ap (λ es. answers_of (answers mid.server.cp es) mid.peers) (left_split top mid new before after below h)
     ∙ ap (λ ps. answers_of (answers mid.server.cp (h.entry ∷ left top new)) ps) h.peers
     ∙ ap (λ n. first ∷ answers_of (answers n (left top new)) new.peers) (sym (ap (λ (s : Server Entry). s.cp) h.state))
@@ -72,9 +73,8 @@ goes_on top old mid new first before after below way h = record {
   answers = ap (λ said. said ++ left_answers top new) h.answers
       ∙ append_assoc before.answers.items (answered h.peer (record {
         index = mid.server.cp + 1;
-        entry =
-            h.entry;
-        asked = None;
+        entry = h.entry;
+        reads = false;
       }) ∷ []) (left_answers top new)
       ∙ ap (λ said. before.answers.items ++ said) (sym (answers_split top mid new before after below h)) ∙ way.answers;
   refusals = h.refusals ∙ way.refusals;

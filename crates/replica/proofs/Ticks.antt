@@ -14,7 +14,8 @@ use Rattle.group_rules.specs.Moves.{Move, Sending, acts}
 use Rattle.group_rules.specs.Places.{Zero, One, Place, all_of}
 use Rattle.group_rules.specs.State.{Beat, Server}
 use Rattle.group_rules.specs.Tick.{again, beats, duties, events, tick}
-use Rattle.replica.specs.Said.{Makes, answered_by, committed_of, entered, refused_by, sends_of, sent}
+use Rattle.replica.specs.Said.{Makes, entered, sent}
+use Rattle.group_rules.specs.Said.{answered_by, committed_of, refused_by, sends_said}
 use Rattle.replica.specs.Servers.{leading}
 use Rattle.replica.specs.declared.outputs.Outputs.{Outputs}
 use Rattle.volatile_log.specs.Log.{LogValue, record_at}
@@ -83,9 +84,9 @@ none_left items t n end = elim (cases_lt (t + 64) (length items)) [
 
 -- what is sent of the first entry, and of those after it
 pub events-split : (to : Place) (v cp base n k m : ℕ) (items : List Entry) → n < length items → m ≡ k + 1
-    → sends_of (events to v cp base n (take 1 (drop n items))) ++ sends_of (events to v cp base (n + 1) (take k
+    → sends_said (events to v cp base n (take 1 (drop n items))) ++ sends_said (events to v cp base (n + 1) (take k
     (drop (n + 1) items)))
-    ≡ sends_of (events to v cp base n (take m (drop n items)))
+    ≡ sends_said (events to v cp base n (take m (drop n items)))
 events-split to v cp base n k m items h is =
     let r = drop-split items n h in
     let more : m ≡ suc k = omega (arith, is) in
@@ -110,7 +111,7 @@ tick_is clock cp t lb grant items =
 made : (clock cp t lb grant : ℕ) (items : List Entry) (es : List Entry) (before after : Outputs)
     → after.committed ≡ before.committed → after.answers ≡ before.answers → after.refusals ≡ before.refusals
     → map sent after.sends.items
-    ≡ map sent before.sends.items ++ (One, Beat view_one cp 0) ∷ sends_of (events One view_one cp 0 t es)
+    ≡ map sent before.sends.items ++ (One, Beat view_one cp 0) ∷ sends_said (events One view_one cp 0 t es)
     → Makes Zero clock (Sending One (Beat view_one cp 0) ∷ events One view_one cp 0 t es) [] (leading items cp
     t lb grant) (leading items cp t lb grant)
     before after
@@ -133,7 +134,7 @@ made clock cp t lb grant items es before after committed answers refusals sends 
 ticked-plain : (clock cp t lb grant : ℕ) (items : List Entry) (before after : Outputs)
     → after.committed ≡ before.committed → after.answers ≡ before.answers → after.refusals ≡ before.refusals
     → map sent after.sends.items ≡ map sent before.sends.items
-    ++ (One, Beat view_one cp 0) ∷ sends_of (events One view_one cp 0 t (take 64 (drop t items)))
+    ++ (One, Beat view_one cp 0) ∷ sends_said (events One view_one cp 0 t (take 64 (drop t items)))
     → Makes Zero clock (tick Zero clock (leading items cp t lb grant)) [] (leading items cp t lb grant)
     (leading items cp t lb grant) before after
 ticked-plain clock cp t lb grant items before after committed answers refusals sends =
@@ -147,13 +148,13 @@ pub ticked : (clock cp t lb grant : ℕ) (items : List Entry) (s : Server Entry)
     → after.committed ≡ before.committed → after.answers ≡ before.answers → after.refusals ≡ before.refusals
     → map sent mid.sends.items ≡ map sent before.sends.items ++ (One, Beat view_one cp 0) ∷ []
     → map sent after.sends.items ≡ map sent mid.sends.items
-    ++ sends_of (events One view_one s.cp 0 s.told_top (take 64 (drop s.told_top s.items)))
+    ++ sends_said (events One view_one s.cp 0 s.told_top (take 64 (drop s.told_top s.items)))
     → Makes Zero clock (tick Zero clock s) [] s s before after
 ticked clock cp t lb grant items s before mid after is committed answers refusals beat again =
     let P : Server Entry → Type 0 = λ s. map sent after.sends.items ≡ map sent mid.sends.items
-    ++ sends_of (events One view_one s.cp 0 s.told_top (take 64 (drop s.told_top s.items)))
+    ++ sends_said (events One view_one s.cp 0 s.told_top (take 64 (drop s.told_top s.items)))
     → Makes Zero clock (tick Zero clock s) [] s s before after in
-    let rest = sends_of (events One view_one cp 0 t (take 64 (drop t items))) in
+    let rest = sends_said (events One view_one cp 0 t (take 64 (drop t items))) in
     subst P (sym is) (λ again. ticked-plain clock cp t lb grant items before after committed answers refusals
     (again ∙ ap (λ xs. xs ++ rest) beat
     ∙ append_assoc (map sent before.sends.items) ((One, Beat view_one cp 0) ∷ []) rest)) again

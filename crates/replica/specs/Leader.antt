@@ -1,5 +1,5 @@
 -- What the leader keeps beside its log.
-use Rattle.std.specs.Prelude.{◌≡◌, ℕ, ◌+◌, ◌-◌, ◌<◌, ◌^◌, List, [], ◌∷◌, ◌++◌, length, take, drop, map, Option, None}
+use Rattle.std.specs.Prelude.{◌≡◌, ℕ, ◌+◌, ◌-◌, ◌<◌, ◌^◌, List, [], ◌∷◌, ◌++◌, length, take, drop, map, Option, false}
 use Rattle.harp_base.specs.declared.peer.Peer.{Peer}
 use Rattle.event_record.specs.declared.record.Record.{Record}
 use Rattle.event_record.specs.Record.{AllStandFor, entry_of}
@@ -35,7 +35,7 @@ pub record CommitsNext (old new : Leading) (before after : Outputs) : Type 0 whe
   pub state : new.server ≡ record (old.server) { cp = old.server.cp + 1 }
   pub committed : map entered after.committed.items ≡ map entered before.committed.items ++ entry ∷ []
   pub answers : after.answers.items ≡ before.answers.items
-      ++ answered peer (record { index = old.server.cp + 1; entry = entry; asked = None }) ∷ []
+      ++ answered peer (record { index = old.server.cp + 1; entry = entry; reads = false }) ∷ []
   pub refusals : after.refusals.items ≡ before.refusals.items
   pub sends : after.sends.items ≡ before.sends.items
 

@@ -3,5 +3,4 @@ pub mod Heeding
 pub mod Leader
 pub mod Said
 pub mod Servers
-pub mod Shown
 pub mod Steps

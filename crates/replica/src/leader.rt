@@ -8,9 +8,10 @@ ghost use Rattle.group_rules.specs.Places.{Zero, One};
 ghost use Rattle.group_rules.specs.Tick.{events, tick};
 ghost use Rattle.replica.specs.Cells.{no_values};
 ghost use Rattle.replica.specs.Heeding.{heeds_ack};
-ghost use Rattle.replica.specs.Said.{Makes, sends_of, sent};
+ghost use Rattle.replica.specs.Said.{Makes, sent};
+ghost use Rattle.group_rules.specs.Said.{sends_said};
 ghost use Rattle.replica.specs.Servers.{IsLeading};
-ghost use Rattle.replica.specs.Shown.{state_of};
+ghost use Rattle.group_rules.specs.Shown.{state_of};
 
 mod acks;
 mod asks;
@@ -152,7 +153,7 @@ impl Leader {
     /// Sends the records above the told top, at most 64.
     fn send_again(&self, alloc: Global, outs: &mut Outputs) -> Result<(), AllocError>
         ensures sends { OnOk result (map sent outs.new.sends.items ≡ map sent outs.old.sends.items
-            ++ sends_of (events One view_one self.now.server.cp 0 self.now.server.told_top
+            ++ sends_said (events One view_one self.now.server.cp 0 self.now.server.told_top
             (take 64 (drop self.now.server.told_top self.now.server.items)))) }
         ensures committed { outs.new.committed ≡ outs.old.committed }
         ensures answers { outs.new.answers ≡ outs.old.answers }
@@ -169,7 +170,7 @@ impl Leader {
     fn send_record(&self, alloc: Global, n: u64, outs: &mut Outputs) -> Result<(), AllocError>
         requires { n < length self.now.server.items }
         ensures sends { OnOk result (map sent outs.new.sends.items ≡ map sent outs.old.sends.items
-            ++ sends_of (events One view_one self.now.server.cp 0 n (take 1 (drop n self.now.server.items)))) }
+            ++ sends_said (events One view_one self.now.server.cp 0 n (take 1 (drop n self.now.server.items)))) }
         ensures committed { outs.new.committed ≡ outs.old.committed }
         ensures answers { outs.new.answers ≡ outs.old.answers }
         ensures refusals { outs.new.refusals ≡ outs.old.refusals }

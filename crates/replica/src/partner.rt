@@ -14,7 +14,7 @@ ghost use Rattle.group_rules.specs.Replicate.{on_event};
 ghost use Rattle.replica.specs.Heeding.{heeds_beat, heeds_event};
 ghost use Rattle.replica.specs.Said.{Makes};
 ghost use Rattle.replica.specs.Servers.{IsFollowing};
-ghost use Rattle.replica.specs.Shown.{state_of};
+ghost use Rattle.group_rules.specs.Shown.{state_of};
 
 use crate::outputs::{Asker, Outputs};
 use crate::records::ROOM;

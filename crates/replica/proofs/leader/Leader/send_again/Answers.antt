@@ -3,7 +3,8 @@ use Rattle.std.specs.Prelude.{map}
 use Rattle.group_rules.specs.FixedStart.{view_one}
 use Rattle.group_rules.specs.Places.{One}
 use Rattle.group_rules.specs.Tick.{events}
-use Rattle.replica.specs.Said.{sends_of, sent}
+use Rattle.replica.specs.Said.{sent}
+use Rattle.group_rules.specs.Said.{sends_said}
 use Rattle.std.proofs.lemmas.List.{length-map}
 use Rattle.event_record.specs.Record.{entry_of}
 use Rattle.replica.specs.Servers.{Leading}
@@ -20,7 +21,7 @@ loop-n-preserved c =
     let within : n < length s.items = omega (arith, many, c.top.ensures.value, c.self.invariant.0) in
     let split = events-split One view_one s.cp 0 n (s.told_top + 64 - (n + 1)) (s.told_top + 64 - n) s.items
     within (omega (arith, told, c.min-end.ensures)) in
-    let rest = sends_of (events One view_one s.cp 0 (n + 1) (take (s.told_top + 64 - (n + 1)) (drop (n + 1)
+    let rest = sends_said (events One view_one s.cp 0 (n + 1) (take (s.told_top + 64 - (n + 1)) (drop (n + 1)
     s.items))) in
     record {
       sends = ap (λ xs. xs ++ rest) c.in_ok-send_record.ensures.sends

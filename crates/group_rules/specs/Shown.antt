@@ -1,7 +1,6 @@
--- How a trace shows a server of the machine, and why it refuses an ask.
-use Rattle.std.specs.Prelude.{ℕ, ◌+◌, Bool, List, [], ◌∷◌, option_map}
-use Rattle.std.specs.Str.{bytes_eq}
-use Rattle.harp_base.specs.Server.{number_of}
+-- How a trace shows a server, and why it refuses an ask.
+use Rattle.std.specs.Prelude.{Bool, option_map}
+use Rattle.harp_base.specs.contracts.state.StateLinePartialEq.TheImpl as state_equality
 use Rattle.harp_base.specs.declared.state.StateLine.{StateLine}
 use Rattle.harp_base.specs.declared.state.Mode.{Mode as ModeShown}
 use Rattle.harp_base.specs.declared.state.Mode.TheVariants as mode
@@ -63,32 +62,6 @@ cause_of NoPromise = cause.NoPromise
 cause_of Old = cause.Old
 cause_of LogFull = cause.LogFull
 
--- ---- whether two states are the same
-
-abbrev pub mode_number : ModeShown → ℕ
-mode_number mode.Rests = 0
-mode_number mode.Calls = 1
-mode_number mode.Joined = 2
-mode_number mode.Pulls = 3
-mode_number mode.Waits = 4
-mode_number mode.Open = 5
-mode_number mode.Live = 6
-
-abbrev pub role_number : RoleShown → ℕ
-role_number role.Outside = 0
-role_number (role.Leads s) = 1 + number_of s
-role_number (role.Follows s) = 4 + number_of s
-
-abbrev pub held_number : HeldShown → ℕ
-held_number held.Empty = 0
-held_number held.Held = 1
-held_number held.Lost = 2
-
--- the fields of a state line as numbers
-abbrev pub state_numbers : StateLine → List ℕ
-state_numbers s = mode_number s.mode ∷ s.promised.count ∷ number_of s.promised.coordinator
-    ∷ s.accepted.count ∷ number_of s.accepted.coordinator ∷ role_number s.role ∷ held_number s.held
-    ∷ s.base ∷ s.lb ∷ s.ap ∷ s.cp ∷ s.top ∷ []
-
+-- whether two states are one
 unfoldable pub same_state : StateLine → StateLine → Bool
-same_state s t = bytes_eq (state_numbers s) (state_numbers t)
+same_state s t = (state_equality.ghosts).eq s t
