@@ -11,12 +11,13 @@ use Rattle.harp_base.specs.declared.reply.Status.{Status}
 use Rattle.harp_base.specs.declared.reply.Status.TheVariants.{Perm, NoEnt, NotDir, Exist, IsDir, FBig, NameTooLong, NotEmpty}
 use Rattle.harp_base.specs.Time.{time_of}
 use Rattle.file_tree.specs.Tree.{Tree, Slots, place, slots_of, entry, is_directory, is_directory_at}
-use Rattle.file_tree.specs.Steps.{some_or, live, slots_in, bytes_in, text_in, directory, is_dots, check_name, entry_name, room}
+use Rattle.file_tree.specs.Tries.{some_or, live, slots_in, bytes_in, text_in, directory, is_dots, check_name, entry_name, room}
 use Rattle.file_tree.specs.Permissions.{reading, writing, searching, allowed, searched, may_make, heeded}
-use Rattle.file_tree.specs.Outcome.{Outcome, LARGEST, given, get_attr, set_fields, set_attr, lookup, resolve, read_link, read, write, has_entry, free_name, room_for, is_regular_at, create_again, create_new, create_at, create, make_dir, make_link, doomed, remove, remove_dir, has_no_entry, add_entry, link, read_dir, stat_fs}
+use Rattle.file_tree.specs.Outcome.{Outcome, given, get_attr, set_fields, set_attr, lookup, resolve, read_link, read, write, has_entry, free_name, room_for, is_regular_at, create_again, create_new, create_at, create, make_dir, make_link, doomed, remove, remove_dir, has_no_entry, add_entry, link, read_dir, stat_fs}
+use Rattle.harp_base.specs.Limits.{largest_file}
 use Rattle.file_tree.specs.Rename.{is_above, check_target, moved_to, rename}
 use Rattle.file_tree.specs.Calls.{answered, settled, outcome}
-use Rattle.file_tree.proofs.StepLaws.{Given, done, step, unless, either}
+use Rattle.file_tree.proofs.TryLaws.{Given, done, step, unless, either}
 
 abbrev IsAnswer : Reply × Tree → Type 0
 IsAnswer x = (status : Status) → x.0 ≡ Refused status → ⊥
@@ -48,7 +49,7 @@ read_answers tree cred handle offset count = step (live tree handle) _ IsAnswer 
 write_answers : (tree : Tree) (cred : Cred) (handle offset : ℕ) (bytes : List ℕ) (now : Time) → Answers (write tree cred handle offset bytes now)
 unfolding write
 write_answers tree cred handle offset bytes now =
-    step (live tree handle) _ IsAnswer (λ o e. step (bytes_in o.body) _ IsAnswer (λ old f. step (allowed tree cred handle writing) _ IsAnswer (λ v h. unless FBig (ltb LARGEST (offset + length bytes)) _ IsAnswer (λ small.
+    step (live tree handle) _ IsAnswer (λ o e. step (bytes_in o.body) _ IsAnswer (λ old f. step (allowed tree cred handle writing) _ IsAnswer (λ v h. unless FBig (ltb largest_file (offset + length bytes)) _ IsAnswer (λ small.
     either (length bytes == 0) _ _ IsAnswer (λ t. done _ IsAnswer (λ s r. absurd cc)) (λ t. step (room tree handle _) _ IsAnswer (λ u g. done _ IsAnswer (λ s r. absurd cc)))))))
 
 create_again_answers : (tree : Tree) (cred : Cred) (number : ℕ) (a : SetAttr) (now : Time) → Answers (create_again tree cred number a now)
@@ -60,7 +61,7 @@ create_again_answers tree cred number a now =
 create_new_answers : (tree : Tree) (cred : Cred) (dir : ℕ) (slots : Slots) (name : List ℕ) (a : SetAttr) (now : Time) → Answers (create_new tree cred dir slots name a now)
 unfolding create_new
 create_new_answers tree cred dir slots name a now =
-    step (may_make tree cred dir a) _ IsAnswer (λ u f. unless FBig (ltb LARGEST (given a.size 0)) _ IsAnswer (λ t. step (room_for tree dir slots name (given a.size 0)) _ IsAnswer (λ full e. done _ IsAnswer (λ s r. absurd cc))))
+    step (may_make tree cred dir a) _ IsAnswer (λ u f. unless FBig (ltb largest_file (given a.size 0)) _ IsAnswer (λ t. step (room_for tree dir slots name (given a.size 0)) _ IsAnswer (λ full e. done _ IsAnswer (λ s r. absurd cc))))
 
 create_at_answers : (tree : Tree) (cred : Cred) (dir : ℕ) (slots : Slots) (name : List ℕ) (x : Option (ℕ × ℕ)) (a : SetAttr) (now : Time) → Answers (create_at tree cred dir slots name x a now)
 create_at_answers tree cred dir slots name (Some x) a now = create_again_answers tree cred x.1 a now

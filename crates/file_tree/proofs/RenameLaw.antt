@@ -5,7 +5,7 @@ use Rattle.harp_base.specs.declared.attr.Time.{Time}
 use Rattle.harp_base.specs.declared.cred.Cred.{Cred}
 use Rattle.harp_base.specs.declared.reply.Status.TheVariants.{Perm, NoEnt, NotDir, IsDir, NotEmpty}
 use Rattle.file_tree.specs.Tree.{Tree, Slots, place, slots_of, entry, is_directory_at}
-use Rattle.file_tree.specs.Steps.{some_or, live, slots_in, is_dots, check_name, entry_name, room}
+use Rattle.file_tree.specs.Tries.{some_or, live, slots_in, is_dots, check_name, entry_name, room}
 use Rattle.file_tree.specs.Permissions.{searching, writing, allowed}
 use Rattle.file_tree.specs.Outcome.{has_no_entry}
 use Rattle.file_tree.specs.Rename.{is_above, check_target, moved_in, moved_to, rename}
@@ -14,7 +14,7 @@ use Rattle.file_tree.proofs.Kept.{live_place}
 use Rattle.file_tree.proofs.SlotLaws.{IsFound, found, none_named}
 use Rattle.file_tree.proofs.WaysUp.{IsBare, file_is_bare}
 use Rattle.file_tree.proofs.SoundRename.{sound_moved_in, sound_moved_over}
-use Rattle.file_tree.proofs.StepLaws.{Given, done, step, unless, refused_unless, either, given_at, slots_are, IsDirectoryOf, some_is, entry_name_from, room_is}
+use Rattle.file_tree.proofs.TryLaws.{Given, done, step, unless, refused_unless, either, given_at, slots_are, IsDirectoryOf, some_is, entry_name_from, room_is}
 use Rattle.file_tree.proofs.SoundCalls.{LeavesSound, empty_is_bare}
 
 -- a target that a rename accepts is the moved object, or nothing is in it

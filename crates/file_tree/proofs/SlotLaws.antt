@@ -9,7 +9,7 @@ use Rattle.std.proofs.lemmas.List.Elements.{All-cons, All-head, All-tail, All-ni
 use Rattle.std.proofs.lemmas.List.Sums.{sum_by-cons, sum_by-set}
 use Rattle.file_tree.specs.declared.object.Slot.{Slot}
 use Rattle.file_tree.specs.Tree.{Slots, names_it, names_in, entry_from, entry, with_entry}
-use Rattle.file_tree.specs.Steps.{entry_name, is_some}
+use Rattle.file_tree.specs.Tries.{entry_name, is_some}
 use Rattle.file_tree.specs.Outcome.{has_entry}
 use Rattle.file_tree.specs.Sound.{IsRightlyNamed, has_name, AreSound}
 

@@ -11,9 +11,10 @@ use Rattle.file_tree.specs.declared.object.Body.{Body}
 use Rattle.file_tree.specs.declared.object.Body.TheVariants.{Regular, Directory, Link}
 use Rattle.file_tree.specs.declared.object.Object.{Object}
 use Rattle.file_tree.specs.Tree.{Tree, Slots, place, slots_of, slots_within, names_in, blocks_of, blocks_at, used_blocks, is_directory, is_directory_at, entry}
-use Rattle.file_tree.specs.Steps.{live, bytes_in, directory, entry_name, room}
-use Rattle.file_tree.specs.Permissions.{LEAVE, writing, allowed, searched, may_set, may_make, heeded}
-use Rattle.file_tree.specs.Outcome.{Outcome, LARGEST, given, given_mode, change, resized, written, rewritten, with_fields, with_size, set_fields, set_attr, write, has_entry, free_name, doomed, room_for, made, is_regular_at, create_again, create_new, create_at, create, make_dir, make_link, remove, remove_dir, has_no_entry, add_entry, link}
+use Rattle.file_tree.specs.Tries.{live, bytes_in, entry_name, room}
+use Rattle.file_tree.specs.Permissions.{writing, allowed, searched, may_set, may_make, heeded}
+use Rattle.harp_base.specs.Limits.{field_left, largest_file}
+use Rattle.file_tree.specs.Outcome.{Outcome, given, given_mode, change, resized, written, rewritten, with_fields, with_size, set_fields, set_attr, write, has_entry, free_name, doomed, room_for, made, is_regular_at, create_again, create_new, create_at, create, make_dir, make_link, remove, remove_dir, has_no_entry, add_entry, link}
 use Rattle.file_tree.specs.Sound.{IsSoundObject, IsSoundBody, IsSound}
 use Rattle.file_tree.proofs.Kept.{live_place, place_within, IsWithinLimits-set, IsWithinLimits-same}
 use Rattle.file_tree.proofs.FileBytes.{length-written}
@@ -23,7 +24,7 @@ use Rattle.file_tree.proofs.WaysUp.{IsBare, file_is_bare}
 use Rattle.file_tree.proofs.SoundChanges.{sound_set, sound_ctime}
 use Rattle.file_tree.proofs.SoundMoves.{sound_removed}
 use Rattle.file_tree.proofs.SoundMakes.{sound_made, sound_linked, IsSoundWith}
-use Rattle.file_tree.proofs.StepLaws.{Given, done, step, unless, either, given_at, bytes_are, IsDirectoryOf, searched_is, IsFree, free_name_is, doomed_is, room_is, room_for_is}
+use Rattle.file_tree.proofs.TryLaws.{Given, done, step, unless, either, given_at, bytes_are, IsDirectoryOf, searched_is, IsFree, free_name_is, doomed_is, room_is, room_for_is}
 
 -- a call that succeeds leaves a sound tree
 abbrev pub LeavesSound : Outcome → Type 0
@@ -33,7 +34,7 @@ object_of : (tree : Tree) (number : ℕ) (o : Object) → IsSound tree → place
 object_of tree number o is at = subst IsSoundObject at (is.objects number)
 
 mode-lt : (new old : ℕ) → old < 4096 → given_mode new old < 4096
-mode-lt new old lt = cond_both (new == LEAVE) old (new % 4096) (λ (x : ℕ). x < 4096) (λ e. lt) (λ e. omega arith)
+mode-lt new old lt = cond_both (new == field_left) old (new % 4096) (λ (x : ℕ). x < 4096) (λ e. lt) (λ e. omega arith)
 
 -- ---- attributes
 
@@ -41,7 +42,7 @@ mode-lt new old lt = cond_both (new == LEAVE) old (new % 4096) (λ (x : ℕ). x 
 abbrev IsSized : Tree → ℕ → Body → Option (List ℕ) → Type 0
 IsSized tree number body None = Unit {0}
 IsSized tree number body (Some bytes) =
-    (old : List ℕ) × (body ≡ Regular old) × (length bytes ≤ LARGEST) × (used_blocks tree + blocks_of (length bytes) ≤ 65536 + blocks_at (place tree number))
+    (old : List ℕ) × (body ≡ Regular old) × (length bytes ≤ largest_file) × (used_blocks tree + blocks_of (length bytes) ≤ 65536 + blocks_at (place tree number))
 
 length-resized : (bytes : List ℕ) (size : ℕ) → length (resized bytes size) ≡ size
 length-resized bytes size = simp (length-append, length-take, length-replicate) (omega arith)
@@ -49,7 +50,7 @@ length-resized bytes size = simp (length-append, length-take, length-replicate) 
 sized : (tree : Tree) (cred : Cred) (number : ℕ) (body : Body) (size : ℕ) → Given (with_size tree cred number body size) (IsSized tree number body)
 unfolding with_size
 sized tree cred number body size =
-    either (size == LEAVE) _ _ (IsSized tree number body)
+    either (size == field_left) _ _ (IsSized tree number body)
     (λ e. done None (IsSized tree number body) tt)
     (λ e. step (bytes_in body) _ (IsSized tree number body) (λ old is.
     step (allowed tree cred number writing) _ (IsSized tree number body) (λ v may.
@@ -91,13 +92,13 @@ set_attr_sound tree cred number a now is =
 
 -- ---- bytes
 
-write_done : (tree : Tree) (number offset : ℕ) (bytes old : List ℕ) (o : Object) (now : Time) → IsSound tree → place tree number ≡ Some o → o.body ≡ Regular old → offset + length bytes ≤ LARGEST
+write_done : (tree : Tree) (number offset : ℕ) (bytes old : List ℕ) (o : Object) (now : Time) → IsSound tree → place tree number ≡ Some o → o.body ≡ Regular old → offset + length bytes ≤ largest_file
     → used_blocks tree + blocks_of (max (length old) (offset + length bytes)) ≤ 65536 + blocks_at (place tree number)
     → IsSound (change tree number (rewritten now (written old offset bytes)))
 write_done tree number offset bytes old o now is at body small enough =
     let new = rewritten now (written old offset bytes) o in
     let was = object_of tree number o is at in
-    let old_size : length old ≤ LARGEST = subst IsSoundBody body was.1 in
+    let old_size : length old ≤ largest_file = subst IsSoundBody body was.1 in
     let long = length-written old offset bytes in
     rw (change_is tree number (rewritten now (written old offset bytes)) o at)
     (sound_set tree number o new is at (sym (ap is_directory body)) (λ k. sym (ap (λ (b : Body). names_in k (slots_within b)) body)) (was.0, rw long (omega (arith, small, old_size)))
@@ -123,7 +124,7 @@ create_new_sound : (tree : Tree) (cred : Cred) (dir : ℕ) (slots : Slots) (name
 unfolding create_new
 create_new_sound tree cred dir slots name a now is d free =
     step (may_make tree cred dir a) _ (λ x. IsSound x.1) (λ v may.
-    unless FBig (ltb LARGEST (given a.size 0)) _ (λ x. IsSound x.1) (λ small.
+    unless FBig (ltb largest_file (given a.size 0)) _ (λ x. IsSound x.1) (λ small.
     step (room_for tree dir slots name (given a.size 0)) _ (λ x. IsSound x.1) (λ full e.
     let r = room_for_is tree dir slots name (given a.size 0) full e in
     let body = Regular (replicate (given a.size 0) 0) in

@@ -8,7 +8,7 @@ use Rattle.file_tree.specs.declared.object.Body.{Body}
 use Rattle.file_tree.specs.declared.object.Body.TheVariants.{Regular, Directory, Link}
 use Rattle.file_tree.specs.declared.object.Object.{Object}
 use Rattle.file_tree.specs.Tree.{Tree, place, slots_within, size_of, blocks_of, blocks_at, used_blocks, names_in, names_at, names_of, is_directory, is_directory_at}
-use Rattle.file_tree.specs.Plain.{IsWithinLimits}
+use Rattle.file_tree.specs.Within.{IsWithinLimits}
 use Rattle.file_tree.specs.Outcome.{change, set_ctime, lost_entry}
 use Rattle.file_tree.specs.Sound.{IsSoundObject, HasEntries, IsNamed, IsSound}
 use Rattle.file_tree.proofs.Kept.{place_within, IsWithinLimits-same}

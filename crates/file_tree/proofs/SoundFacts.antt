@@ -2,13 +2,13 @@
 use Rattle.std.proofs.Common.{◌≡◌, ℕ, true, List, Some, Ok, refl, arith, inl, inr}
 use Rattle.std.proofs.lemmas.Bool.{cases_eq}
 use Rattle.file_tree.specs.Tree.{Tree, Slots, place, names_of, entry, is_directory_at, parent_of}
-use Rattle.file_tree.specs.Steps.{directory, is_some}
+use Rattle.file_tree.specs.Tries.{directory, is_some}
 use Rattle.file_tree.specs.Sound.{IsSound}
 use Rattle.file_tree.proofs.Holders.{holder_is_directory, parent_holds, parent_of_root}
 use Rattle.file_tree.proofs.SlotLaws.{found}
 use Rattle.file_tree.proofs.SoundChanges.{live_from}
 use Rattle.file_tree.proofs.SoundMoves.{found_held, names_at-le}
-use Rattle.file_tree.proofs.StepLaws.{directory_is}
+use Rattle.file_tree.proofs.TryLaws.{directory_is}
 
 -- an entry names a live object
 pub entry_lives : (tree : Tree) (dir : ℕ) (slots : Slots) (name : List ℕ) (x : ℕ × ℕ) → IsSound tree → directory tree dir ≡ Ok slots → entry slots name ≡ Some x

@@ -13,7 +13,7 @@ use Rattle.file_tree.specs.Sound.{IsSoundObject, IsNamed, IsSound}
 use Rattle.file_tree.proofs.Kept.{IsWithinLimits-first}
 use Rattle.file_tree.proofs.ReadLaw.{read_keeps}
 use Rattle.file_tree.proofs.SlotLaws.{no_slots_sound}
-use Rattle.file_tree.proofs.StepLaws.{Given}
+use Rattle.file_tree.proofs.TryLaws.{Given}
 use Rattle.file_tree.proofs.SoundCalls.{LeavesSound, set_attr_sound, write_sound, create_sound, remove_sound, link_sound, make_link_sound, make_dir_sound, remove_dir_sound}
 use Rattle.file_tree.proofs.RenameLaw.{rename_sound}
 

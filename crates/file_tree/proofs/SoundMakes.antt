@@ -9,7 +9,7 @@ use Rattle.file_tree.specs.declared.object.Body.{Body}
 use Rattle.file_tree.specs.declared.object.Body.TheVariants.{Regular, Directory, Link}
 use Rattle.file_tree.specs.declared.object.Object.{Object}
 use Rattle.file_tree.specs.Tree.{Tree, Slots, place, slots_within, size_of, blocks_of, blocks_at, used_blocks, names_in, names_at, names_of, is_directory, is_directory_at, with_entry}
-use Rattle.file_tree.specs.Steps.{entry_name}
+use Rattle.file_tree.specs.Tries.{entry_name}
 use Rattle.file_tree.specs.Outcome.{change, reslotted, with_object}
 use Rattle.file_tree.specs.Sound.{IsSoundObject, HasEntries, IsNamed, has_name, IsSound}
 use Rattle.file_tree.proofs.Kept.{place_push, used_push}

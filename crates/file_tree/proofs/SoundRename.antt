@@ -8,7 +8,7 @@ use Rattle.file_tree.specs.declared.object.Body.{Body}
 use Rattle.file_tree.specs.declared.object.Body.TheVariants.{Directory}
 use Rattle.file_tree.specs.declared.object.Object.{Object}
 use Rattle.file_tree.specs.Tree.{Tree, Slots, place, size_of, blocks_of, blocks_at, used_blocks, names_in, names_at, names_of, is_directory, is_directory_at, with_entry}
-use Rattle.file_tree.specs.Steps.{entry_name}
+use Rattle.file_tree.specs.Tries.{entry_name}
 use Rattle.file_tree.specs.Outcome.{change, set_ctime, slot_changed, reslotted, lost_entry}
 use Rattle.file_tree.specs.Rename.{is_above, freed, moved_over}
 use Rattle.file_tree.specs.Sound.{has_name, IsSound}

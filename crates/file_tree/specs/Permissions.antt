@@ -1,11 +1,12 @@
 -- What a caller may do: Unix permissions by owner, group and others. User 0 may do all.
 use Rattle.std.specs.Prelude.{ℕ, ◌/◌, ◌%◌, Bool, false, not, ◌==◌, ◌&&◌, ◌||◌, bit_and, Option, Some, None, Ok, if◌then◌else◌}
+use Rattle.harp_base.specs.Limits.{field_left}
 use Rattle.harp_base.specs.declared.attr.SetAttr.{SetAttr}
 use Rattle.harp_base.specs.declared.cred.Cred.{Cred}
 use Rattle.harp_base.specs.declared.reply.Status.TheVariants.{Perm, Acces}
 use Rattle.file_tree.specs.declared.object.Object.{Object}
 use Rattle.file_tree.specs.Tree.{Tree, Slots, place}
-use Rattle.file_tree.specs.Steps.{Step, ◌>>=◌, refuse, directory}
+use Rattle.file_tree.specs.Tries.{Tried, ◌>>=◌, refuse, directory}
 
 -- what is wanted of an object, as a bit of a class
 abbrev pub reading : ℕ
@@ -30,11 +31,11 @@ may_at cred None want = false
 may_at cred (Some o) want = may cred o.mode o.uid o.gid want
 
 -- a refusal, unless the caller may do what is wanted with the object that a number names
-abbrev pub allowed : Tree → Cred → ℕ → ℕ → Step (Unit {0})
+abbrev pub allowed : Tree → Cred → ℕ → ℕ → Tried (Unit {0})
 allowed tree cred number want = refuse Acces (not (may_at cred (place tree number) want))
 
 -- the slots of the directory that a number names, where the caller may search it
-abbrev pub searched : Tree → Cred → ℕ → Step Slots
+abbrev pub searched : Tree → Cred → ℕ → Tried Slots
 searched tree cred dir = do
   slots ← directory tree dir
   _ ← allowed tree cred dir searching
@@ -42,12 +43,8 @@ searched tree cred dir = do
 
 -- ---- fields that are set
 
--- the value of a field that is left as it is
-abbrev pub LEAVE : ℕ
-LEAVE = 4294967295
-
 abbrev pub is_given : ℕ → Bool
-is_given field = not (field == LEAVE)
+is_given field = not (field == field_left)
 
 -- whether a SETATTR gives another field than the size
 abbrev pub sets_more : SetAttr → Bool
@@ -71,19 +68,19 @@ abbrev pub may_give : Cred → SetAttr → Bool
 may_give cred a = (cred.uid == 0) || not (differs a.uid cred.uid || differs a.gid cred.gid)
 
 -- a refusal, unless the caller may write the directory and make an object with these fields
-abbrev pub may_make : Tree → Cred → ℕ → SetAttr → Step (Unit {0})
+abbrev pub may_make : Tree → Cred → ℕ → SetAttr → Tried (Unit {0})
 may_make tree cred dir a = do
   _ ← allowed tree cred dir writing
   refuse Perm (not (may_give cred a))
 
 abbrev pub size_alone : SetAttr → SetAttr
 size_alone a = record {
-  mode = LEAVE;
-  uid = LEAVE;
-  gid = LEAVE;
+  mode = field_left;
+  uid = field_left;
+  gid = field_left;
   size = a.size;
-  atime = record { seconds = LEAVE; micros = LEAVE };
-  mtime = record { seconds = LEAVE; micros = LEAVE };
+  atime = record { seconds = field_left; micros = field_left };
+  mtime = record { seconds = field_left; micros = field_left };
 }
 
 -- the fields of a CREATE that count for a file of this user that is there: of others than its owner the size alone

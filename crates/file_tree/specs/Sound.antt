@@ -2,15 +2,15 @@
 use Rattle.std.specs.Prelude.{◌≡◌, ℕ, ◌<◌, ◌≤◌, ◌==◌, Bool, true, false, length, List, count_by, Option, Some, None, Ok, if◌then◌else◌}
 use Rattle.std.specs.List.{All}
 use Rattle.std.specs.Str.{bytes_eq}
+use Rattle.harp_base.specs.Limits.{largest_file, longest_path}
 use Rattle.file_tree.specs.declared.object.Slot.{Slot}
 use Rattle.file_tree.specs.declared.object.Body.{Body}
 use Rattle.file_tree.specs.declared.object.Body.TheVariants as body
 use Rattle.file_tree.specs.declared.object.Object.{Object}
 use Rattle.file_tree.specs.Tree.{Tree, Slots, place, names_of, is_directory_at}
-use Rattle.file_tree.specs.Steps.{entry_name}
-use Rattle.file_tree.specs.Outcome.{LARGEST}
+use Rattle.file_tree.specs.Tries.{entry_name}
 use Rattle.file_tree.specs.Rename.{is_above}
-use Rattle.file_tree.specs.Plain.{IsWithinLimits}
+use Rattle.file_tree.specs.Within.{IsWithinLimits}
 
 -- a free slot, or one with a name of 1 to 255 bytes, without a slash or a zero, and neither `.` nor `..`
 abbrev pub IsRightlyNamed : Option Slot → Type 0
@@ -27,9 +27,9 @@ pub record AreSound (slots : Slots) : Type 0 where
   pub once : (name : List ℕ) → count_by (has_name name) slots ≤ 1
 
 abbrev pub IsSoundBody : Body → Type 0
-IsSoundBody (body.Regular bytes) = length bytes ≤ LARGEST
+IsSoundBody (body.Regular bytes) = length bytes ≤ largest_file
 IsSoundBody (body.Directory slots) = AreSound slots
-IsSoundBody (body.Link text) = length text ≤ 1024
+IsSoundBody (body.Link text) = length text ≤ longest_path
 
 abbrev pub IsSoundObject : Option Object → Type 0
 IsSoundObject None = Unit {0}

@@ -7,9 +7,10 @@ ghost use Rattle.harp_base.specs.declared.reply.Reply.TheVariants.{Refused};
 ghost use Rattle.harp_base.specs.declared.reply.Status.{Status};
 ghost use Rattle.harp_base.specs.Update.{is_update};
 ghost use Rattle.file_tree.specs.Tree.{Tree, Slots, first_tree, place, entry, is_directory_at, parent_of};
-ghost use Rattle.file_tree.specs.Steps.{directory, is_some};
+ghost use Rattle.file_tree.specs.Tries.{directory, is_some};
 ghost use Rattle.file_tree.specs.Calls.{outcome};
 ghost use Rattle.file_tree.specs.Sound.{IsSound};
+ghost use Rattle.file_tree.specs.Rows.{EndsOfAFile, Renames, DirectoryPages, NamesAndHandles, SessionOverAFailOver, Permissions, OrderOfPermissions};
 ghost use Rattle.file_tree.specs.Book.{Entry, tree_next, tree_after, updates, MayFollow, IsBook, IsRead, IsBefore, ComesNext, last_next, last_of, stamp_next, last_stamp};
 
 /// Trees: the first one is sound, and every call leaves a sound tree sound; a read and a refused call leave it as it
@@ -46,4 +47,15 @@ pub fn book_laws()
         → IsBefore (slice_index_or (updates entries) i d) (slice_index_or (updates entries) j d) }
     ensures numbered { (entries : List Entry) → IsBook entries → (k : ℕ) (d : Entry) → k < length (updates entries)
         → (slice_index_or (updates entries) k d).index ≡ k + 1 }
+{}
+
+/// Worked sessions, with the reply to each call.
+pub fn worked_rows()
+    ensures ends_of_a_file { EndsOfAFile }
+    ensures rename { Renames }
+    ensures directory_pages { DirectoryPages }
+    ensures names_and_handles { NamesAndHandles }
+    ensures session_over_a_fail_over { SessionOverAFailOver }
+    ensures permissions { Permissions }
+    ensures order_of_permissions { OrderOfPermissions }
 {}

@@ -1,16 +1,9 @@
 //! What a caller may do: Unix permissions by owner, group and others. User 0 may do all.
 
-ghost use Rattle.std.specs.Prelude.{◌≡◌, ◌<◌, ◌≤◌, ◌*◌, ◌==◌, bit_and, length, IfOk};
-ghost use Rattle.file_tree.specs.Plain.{Gives};
-ghost use Rattle.file_tree.specs.Tree.{place, used_blocks, blocks_of};
-ghost use Rattle.file_tree.specs.Permissions.{class_bits, may, may_at, allowed, searched, is_given, sets_more, differs, gives_away, may_set, may_give, may_make, heeded};
+ghost use Rattle.std.specs.Prelude.{◌≡◌, ◌==◌, bit_and};
+ghost use Rattle.file_tree.specs.Permissions.{class_bits, may, is_given, sets_more, differs, gives_away, may_set, may_give, heeded};
 
-use crate::computed::place;
-use crate::fields::LEAVE;
-use crate::object::{Object, Slot};
-use crate::refusal::Refusal;
-use crate::steps::{directory, refuse};
-use harp_base::{Cred, SetAttr, Status, Time};
+use harp_base::{Cred, FIELD_LEFT, SetAttr, Time};
 
 /// The bit that is wanted to read an object.
 pub const TO_READ: u8 = 4;
@@ -48,38 +41,10 @@ pub fn may(cred: Cred, mode: u16, uid: u32, gid: u32, want: u8) -> bool
     cred.uid == 0 || has_bits(class_bits(cred, mode, uid, gid), u16::from(want))
 }
 
-fn may_at(tree: &[Option<Object>], cred: Cred, number: u32, want: u8) -> bool
-    ensures { result ≡ may_at cred (place tree.now number) want }
-{
-    match place(tree, number) {
-        None => false,
-        Some(object) => may(cred, object.mode, object.uid, object.gid, want),
-    }
-}
-
-/// A refusal, unless the caller may do what is wanted with the object that a number names.
-pub fn allowed(tree: &[Option<Object>], cred: Cred, number: u32, want: u8) -> Result<(), Refusal>
-    ensures { Gives (λ x. x) result (allowed tree.now cred number want) }
-{
-    refuse(Status::Acces, !may_at(tree, cred, number, want))
-}
-
-/// The slots of a directory that the caller may search.
-pub fn searched(tree: &[Option<Object>], cred: Cred, dir: u32) -> Result<&[Option<Slot>], Refusal>
-    requires { used_blocks tree.now ≤ 65536 }
-    ensures step { Gives (λ s. s.now) result (searched tree.now cred dir) }
-    ensures fits { IfOk result (λ s. blocks_of (264 * length s.now) ≤ 65536) }
-    ensures within { IfOk result (λ _. dir < length tree.now) }
-{
-    let slots = directory(tree, dir)?;
-    allowed(tree, cred, dir, TO_SEARCH)?;
-    Ok(slots)
-}
-
 fn is_given(field: u32) -> bool
     ensures { result ≡ is_given field }
 {
-    field != LEAVE
+    field != FIELD_LEFT
 }
 
 fn sets_more(a: &SetAttr) -> bool
@@ -124,14 +89,6 @@ pub fn may_give(cred: Cred, a: &SetAttr) -> bool
     cred.uid == 0 || !(differs(a.uid, cred.uid) || differs(a.gid, cred.gid))
 }
 
-/// A refusal, unless the caller may write the directory and make an object with these fields.
-pub fn may_make(tree: &[Option<Object>], cred: Cred, dir: u32, a: &SetAttr) -> Result<(), Refusal>
-    ensures { Gives (λ x. x) result (may_make tree.now cred dir a.now) }
-{
-    allowed(tree, cred, dir, TO_WRITE)?;
-    refuse(Status::Perm, !may_give(cred, a))
-}
-
 /// The fields of a CREATE that count for a file of this user that is there.
 pub fn heeded(cred: Cred, uid: u32, a: &SetAttr) -> SetAttr
     ensures value { result ≡ heeded cred uid a.now }
@@ -141,13 +98,13 @@ pub fn heeded(cred: Cred, uid: u32, a: &SetAttr) -> SetAttr
         return *a;
     }
     let left = Time {
-        seconds: LEAVE,
-        micros: LEAVE,
+        seconds: FIELD_LEFT,
+        micros: FIELD_LEFT,
     };
     SetAttr {
-        mode: LEAVE,
-        uid: LEAVE,
-        gid: LEAVE,
+        mode: FIELD_LEFT,
+        uid: FIELD_LEFT,
+        gid: FIELD_LEFT,
         size: a.size,
         atime: left,
         mtime: left,

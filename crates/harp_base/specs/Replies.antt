@@ -7,6 +7,7 @@ use Rattle.harp_base.specs.declared.reply.Reply.{Reply}
 use Rattle.harp_base.specs.declared.reply.Reply.TheVariants as reply
 use Rattle.harp_base.specs.declared.reply_form.ReplyForm.{ReplyForm}
 use Rattle.harp_base.specs.declared.reply_form.ReplyForm.TheVariants as form
+use Rattle.harp_base.specs.Limits.{longest_name, longest_path, longest_transfer}
 use Rattle.harp_base.specs.Fields.{Reader, ◌>>=◌, ◌⊗◌, field_as, fields_by_tag, tag_at, u16_at, u32_at, bytes_at, u16_bytes, u32_bytes, counted_bytes}
 use Rattle.harp_base.specs.Attributes.{AttrFits, attr_at, attr_bytes}
 
@@ -36,13 +37,13 @@ statuses =
 -- ---- pages
 
 abbrev pub EntryFits : DirEntry → Type 0
-EntryFits e = (e.fileid < 2 ^ 32) × (length e.name ≤ 255) × (e.cookie < 2 ^ 32)
+EntryFits e = (e.fileid < 2 ^ 32) × (length e.name ≤ longest_name) × (e.cookie < 2 ^ 32)
 
 unfoldable pub entry_bytes : DirEntry → List ℕ
 entry_bytes e = u32_bytes e.fileid ++ counted_bytes e.name ++ u32_bytes e.cookie
 
 unfoldable pub entry_at : Reader DirEntry
-entry_at = field_as (λ x. record { fileid = x.0.0; name = x.0.1; cookie = x.1 }) (u32_at ⊗ bytes_at 255 ⊗ u32_at)
+entry_at = field_as (λ x. record { fileid = x.0.0; name = x.0.1; cookie = x.1 }) (u32_at ⊗ bytes_at longest_name ⊗ u32_at)
 
 abbrev pub EachFits : List DirEntry → Type 0
 EachFits [] = Unit {0}
@@ -122,8 +123,8 @@ ReplyFits (reply.Refused status) = Unit {0}
 ReplyFits reply.Done = Unit {0}
 ReplyFits (reply.Attr attr) = AttrFits attr
 ReplyFits (reply.Node handle attr) = (handle < 2 ^ 32) × AttrFits attr
-ReplyFits (reply.Path text) = length text ≤ 1024
-ReplyFits (reply.Bytes attr bytes) = AttrFits attr × (length bytes ≤ 8192)
+ReplyFits (reply.Path text) = length text ≤ longest_path
+ReplyFits (reply.Bytes attr bytes) = AttrFits attr × (length bytes ≤ longest_transfer)
 ReplyFits (reply.Page entries eof) = EntriesFit entries
 ReplyFits (reply.Space transfer block blocks free available) = (transfer < 2 ^ 32) × (block < 2 ^ 32) × (blocks < 2 ^ 32) × (free < 2 ^ 32) × (available < 2 ^ 32)
 
@@ -132,8 +133,8 @@ reply_fields_at form.Refused bytes at = field_as reply.Refused (tag_at status_nu
 reply_fields_at form.Done bytes at = Ok (reply.Done, at)
 reply_fields_at form.Attr bytes at = field_as reply.Attr attr_at bytes at
 reply_fields_at form.Node bytes at = field_as (λ x. reply.Node x.0 x.1) (u32_at ⊗ attr_at) bytes at
-reply_fields_at form.Path bytes at = field_as reply.Path (bytes_at 1024) bytes at
-reply_fields_at form.Bytes bytes at = field_as (λ x. reply.Bytes x.0 x.1) (attr_at ⊗ bytes_at 8192) bytes at
+reply_fields_at form.Path bytes at = field_as reply.Path (bytes_at longest_path) bytes at
+reply_fields_at form.Bytes bytes at = field_as (λ x. reply.Bytes x.0 x.1) (attr_at ⊗ bytes_at longest_transfer) bytes at
 reply_fields_at form.Page bytes at = field_as (λ x. reply.Page x.0 x.1) (entries_at ⊗ tag_at flag_number flags) bytes at
 reply_fields_at form.Space bytes at = field_as (λ x. reply.Space x.0.0.0.0 x.0.0.0.1 x.0.0.1 x.0.1 x.1) (u32_at ⊗ u32_at ⊗ u32_at ⊗ u32_at ⊗ u32_at) bytes at
 

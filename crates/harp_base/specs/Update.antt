@@ -21,3 +21,22 @@ is_update (call.ReadLink handle) = false
 is_update (call.Read handle offset count) = false
 is_update (call.ReadDir dir cookie count) = false
 is_update (call.StatFs handle) = false
+
+-- an update of entries of directories alone, which sets neither attributes nor bytes
+abbrev pub changes_entries : Call → Bool
+changes_entries (call.Remove dir name) = true
+changes_entries (call.RmDir dir name) = true
+changes_entries (call.Link handle dir name) = true
+changes_entries (call.Rename dir name to_dir to_name) = true
+changes_entries (call.SetAttr handle attr) = false
+changes_entries (call.Write handle offset bytes) = false
+changes_entries (call.Create dir name attr) = false
+changes_entries (call.SymLink dir name text attr) = false
+changes_entries (call.MkDir dir name attr) = false
+changes_entries call.Null = false
+changes_entries (call.GetAttr handle) = false
+changes_entries (call.Lookup dir name) = false
+changes_entries (call.ReadLink handle) = false
+changes_entries (call.Read handle offset count) = false
+changes_entries (call.ReadDir dir cookie count) = false
+changes_entries (call.StatFs handle) = false

@@ -1,7 +1,7 @@
 //! Times and attributes, read from a place on and written.
 
 ghost use Rattle.std.specs.Prelude.{◌≡◌, ◌≤◌, ◌++◌, length, IfOk, OnOk};
-ghost use Rattle.harp_base.specs.Fields.{Gives, tag_at};
+ghost use Rattle.harp_base.specs.Fields.{tag_at};
 ghost use Rattle.harp_base.specs.Attributes.{TimeFits, SetAttrFits, AttrFits, kind_number, kinds, time_at, time_bytes, set_attr_at, set_attr_bytes, attr_at, attr_bytes};
 
 use crate::attr::{Attr, Kind, SetAttr, Time};
@@ -11,7 +11,7 @@ use std::alloc::AllocError;
 #[tactic(auto, unfolding(crate::specs::Attributes::time_at))]
 fn time_at(bytes: &[u8], at: usize) -> Result<(Time, usize), FieldFault>
     requires { at ≤ length bytes.now }
-    ensures step { Gives result (time_at bytes.now at) }
+    ensures step { result ≡ time_at bytes.now at }
     ensures within { IfOk result (λ x. x.1 ≤ length bytes.now) }
 {
     let (seconds, at) = u32_at(bytes, at)?;
@@ -22,7 +22,7 @@ fn time_at(bytes: &[u8], at: usize) -> Result<(Time, usize), FieldFault>
 #[tactic(auto, unfolding(crate::specs::Attributes::set_attr_at))]
 pub(crate) fn set_attr_at(bytes: &[u8], at: usize) -> Result<(SetAttr, usize), FieldFault>
     requires { at ≤ length bytes.now }
-    ensures step { Gives result (set_attr_at bytes.now at) }
+    ensures step { result ≡ set_attr_at bytes.now at }
     ensures within { IfOk result (λ x. x.1 ≤ length bytes.now) }
 {
     let (mode, at) = u32_at(bytes, at)?;
@@ -43,7 +43,7 @@ pub(crate) fn set_attr_at(bytes: &[u8], at: usize) -> Result<(SetAttr, usize), F
 }
 
 fn kind_at(bytes: &[u8], at: usize) -> Result<(Kind, usize), FieldFault>
-    ensures step { Gives result (tag_at kind_number kinds bytes.now at) }
+    ensures step { result ≡ tag_at kind_number kinds bytes.now at }
     ensures within { IfOk result (λ x. x.1 ≤ length bytes.now) }
 {
     let (number, next) = byte_at(bytes, at)?;
@@ -55,7 +55,7 @@ fn kind_at(bytes: &[u8], at: usize) -> Result<(Kind, usize), FieldFault>
 
 #[tactic(auto, unfolding(crate::specs::Attributes::attr_at))]
 pub(crate) fn attr_at(bytes: &[u8], at: usize) -> Result<(Attr, usize), FieldFault>
-    ensures step { Gives result (attr_at bytes.now at) }
+    ensures step { result ≡ attr_at bytes.now at }
     ensures within { IfOk result (λ x. x.1 ≤ length bytes.now) }
 {
     let (kind, at) = kind_at(bytes, at)?;

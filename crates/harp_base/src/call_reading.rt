@@ -15,7 +15,7 @@ use std::alloc::Global;
 #[tactic(auto, unfolding(crate::specs::Calls::fields_at))]
 fn get_attr_call(bytes: &[u8], at: usize) -> Result<(Call, usize), FieldFault>
     requires { at ≤ length bytes.now }
-    ensures { Gives result (fields_at procedure.GetAttr bytes.now at) }
+    ensures { result ≡ fields_at procedure.GetAttr bytes.now at }
 {
     let (handle, at) = u32_at(bytes, at)?;
     Ok((Call::GetAttr { handle }, at))
@@ -24,7 +24,7 @@ fn get_attr_call(bytes: &[u8], at: usize) -> Result<(Call, usize), FieldFault>
 #[tactic(auto, unfolding(crate::specs::Calls::fields_at))]
 fn set_attr_call(bytes: &[u8], at: usize) -> Result<(Call, usize), FieldFault>
     requires { at ≤ length bytes.now }
-    ensures { Gives result (fields_at procedure.SetAttr bytes.now at) }
+    ensures { result ≡ fields_at procedure.SetAttr bytes.now at }
 {
     let (handle, at) = u32_at(bytes, at)?;
     let (attr, at) = set_attr_at(bytes, at)?;
@@ -44,7 +44,7 @@ fn lookup_call(alloc: Global, bytes: &[u8], at: usize) -> Result<(Call, usize), 
 #[tactic(auto, unfolding(crate::specs::Calls::fields_at))]
 fn read_link_call(bytes: &[u8], at: usize) -> Result<(Call, usize), FieldFault>
     requires { at ≤ length bytes.now }
-    ensures { Gives result (fields_at procedure.ReadLink bytes.now at) }
+    ensures { result ≡ fields_at procedure.ReadLink bytes.now at }
 {
     let (handle, at) = u32_at(bytes, at)?;
     Ok((Call::ReadLink { handle }, at))
@@ -53,7 +53,7 @@ fn read_link_call(bytes: &[u8], at: usize) -> Result<(Call, usize), FieldFault>
 #[tactic(auto, unfolding(crate::specs::Calls::fields_at))]
 fn read_file_call(bytes: &[u8], at: usize) -> Result<(Call, usize), FieldFault>
     requires { at ≤ length bytes.now }
-    ensures { Gives result (fields_at procedure.Read bytes.now at) }
+    ensures { result ≡ fields_at procedure.Read bytes.now at }
 {
     let (handle, at) = u32_at(bytes, at)?;
     let (offset, at) = u32_at(bytes, at)?;
@@ -182,7 +182,7 @@ fn rmdir_call(alloc: Global, bytes: &[u8], at: usize) -> Result<(Call, usize), F
 #[tactic(auto, unfolding(crate::specs::Calls::fields_at))]
 fn read_dir_call(bytes: &[u8], at: usize) -> Result<(Call, usize), FieldFault>
     requires { at ≤ length bytes.now }
-    ensures { Gives result (fields_at procedure.ReadDir bytes.now at) }
+    ensures { result ≡ fields_at procedure.ReadDir bytes.now at }
 {
     let (dir, at) = u32_at(bytes, at)?;
     let (cookie, at) = u32_at(bytes, at)?;
@@ -193,7 +193,7 @@ fn read_dir_call(bytes: &[u8], at: usize) -> Result<(Call, usize), FieldFault>
 #[tactic(auto, unfolding(crate::specs::Calls::fields_at))]
 fn stat_fs_call(bytes: &[u8], at: usize) -> Result<(Call, usize), FieldFault>
     requires { at ≤ length bytes.now }
-    ensures { Gives result (fields_at procedure.StatFs bytes.now at) }
+    ensures { result ≡ fields_at procedure.StatFs bytes.now at }
 {
     let (handle, at) = u32_at(bytes, at)?;
     Ok((Call::StatFs { handle }, at))

@@ -1,7 +1,7 @@
 //! The forms of a reply, by their numbers.
 
 ghost use Rattle.std.specs.Prelude.{◌≡◌, ◌≤◌, length, IfOk};
-ghost use Rattle.harp_base.specs.Fields.{Gives, value_with_number, tag_at};
+ghost use Rattle.harp_base.specs.Fields.{value_with_number, tag_at};
 ghost use Rattle.harp_base.specs.Replies.{form_of, form_number, forms};
 
 use crate::field::{FieldFault, byte_at};
@@ -38,7 +38,7 @@ impl ReplyForm {
 }
 
 pub(crate) fn form_at(bytes: &[u8], at: usize) -> Result<(ReplyForm, usize), FieldFault>
-    ensures step { Gives result (tag_at form_number forms bytes.now at) }
+    ensures step { result ≡ tag_at form_number forms bytes.now at }
     ensures within { IfOk result (λ x. x.1 ≤ length bytes.now) }
 {
     let (number, next) = byte_at(bytes, at)?;

@@ -13,7 +13,7 @@ use crate::reply_form::{ReplyForm, form_at};
 use std::alloc::Global;
 
 fn status_at(bytes: &[u8], at: usize) -> Result<(Status, usize), FieldFault>
-    ensures { Gives result (tag_at status_number statuses bytes.now at) }
+    ensures { result ≡ tag_at status_number statuses bytes.now at }
 {
     let (number, next) = byte_at(bytes, at)?;
     match Status::of(number) {
@@ -23,7 +23,7 @@ fn status_at(bytes: &[u8], at: usize) -> Result<(Status, usize), FieldFault>
 }
 
 fn flag_at(bytes: &[u8], at: usize) -> Result<(bool, usize), FieldFault>
-    ensures { Gives result (tag_at flag_number flags bytes.now at) }
+    ensures { result ≡ tag_at flag_number flags bytes.now at }
 {
     let (number, next) = byte_at(bytes, at)?;
     match number {
@@ -95,7 +95,7 @@ fn page_reply(alloc: Global, bytes: &[u8], at: usize) -> Result<(Reply, usize), 
 
 #[tactic(auto, unfolding(crate::specs::Replies::reply_fields_at))]
 fn refused_reply(bytes: &[u8], at: usize) -> Result<(Reply, usize), FieldFault>
-    ensures { Gives result (reply_fields_at form.Refused bytes.now at) }
+    ensures { result ≡ reply_fields_at form.Refused bytes.now at }
 {
     let (status, at) = status_at(bytes, at)?;
     Ok((Reply::Refused { status }, at))
@@ -103,7 +103,7 @@ fn refused_reply(bytes: &[u8], at: usize) -> Result<(Reply, usize), FieldFault>
 
 #[tactic(auto, unfolding(crate::specs::Replies::reply_fields_at))]
 fn attr_reply(bytes: &[u8], at: usize) -> Result<(Reply, usize), FieldFault>
-    ensures { Gives result (reply_fields_at form.Attr bytes.now at) }
+    ensures { result ≡ reply_fields_at form.Attr bytes.now at }
 {
     let (attr, at) = attr_at(bytes, at)?;
     Ok((Reply::Attr { attr }, at))
@@ -112,7 +112,7 @@ fn attr_reply(bytes: &[u8], at: usize) -> Result<(Reply, usize), FieldFault>
 #[tactic(auto, unfolding(crate::specs::Replies::reply_fields_at))]
 fn node_reply(bytes: &[u8], at: usize) -> Result<(Reply, usize), FieldFault>
     requires { at ≤ length bytes.now }
-    ensures { Gives result (reply_fields_at form.Node bytes.now at) }
+    ensures { result ≡ reply_fields_at form.Node bytes.now at }
 {
     let (handle, at) = u32_at(bytes, at)?;
     let (attr, at) = attr_at(bytes, at)?;
@@ -140,7 +140,7 @@ fn bytes_reply(alloc: Global, bytes: &[u8], at: usize) -> Result<(Reply, usize),
 #[tactic(auto, unfolding(crate::specs::Replies::reply_fields_at))]
 fn space_reply(bytes: &[u8], at: usize) -> Result<(Reply, usize), FieldFault>
     requires { at ≤ length bytes.now }
-    ensures { Gives result (reply_fields_at form.Space bytes.now at) }
+    ensures { result ≡ reply_fields_at form.Space bytes.now at }
 {
     let (transfer, at) = u32_at(bytes, at)?;
     let (block, at) = u32_at(bytes, at)?;

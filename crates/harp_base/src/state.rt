@@ -1,5 +1,7 @@
 //! What a server shows of its state.
 
+ghost use Rattle.std.specs.Prelude.{◌≡◌, ◌↔◌, IsTrue};
+
 use crate::server::{ServerId, ViewNo};
 
 /// A server's part in the view that it accepted.
@@ -57,4 +59,22 @@ pub struct StateLine {
     pub ap: u64,
     pub cp: u64,
     pub top: u64,
+}
+
+impl StateLine {
+    /// Whether the two are one state.
+    pub fn is_same(&self, other: &StateLine) -> bool
+        ensures { IsTrue result ↔ (self.now ≡ other.now) }
+    {
+        self.mode == other.mode
+            && self.promised.is_same(other.promised)
+            && self.accepted.is_same(other.accepted)
+            && self.role == other.role
+            && self.held == other.held
+            && self.base == other.base
+            && self.lb == other.lb
+            && self.ap == other.ap
+            && self.cp == other.cp
+            && self.top == other.top
+    }
 }

@@ -1,5 +1,6 @@
 -- The cells that stand for a tree and its updates.
 use Rattle.std.specs.Prelude.{◌≡◌, ℕ, ◌-◌, ◌*◌, ◌≤◌, Bool, true, false, ◌==◌, List, [], ◌∷◌, ◌++◌, length, take, drop, replicate, slice_index_or, Option, Some, None, if◌then◌else◌}
+use Rattle.harp_base.specs.Limits.{block_size}
 use Rattle.harp_base.specs.declared.attr.Kind.TheVariants as kind
 use Rattle.file_tree.specs.declared.object.Slot.{Slot}
 use Rattle.file_tree.specs.declared.object.Body.TheVariants as body
@@ -40,9 +41,9 @@ abbrev pub content_of : Option Object → List ℕ
 content_of None = []
 content_of (Some o) = elim o.body [ body.Regular bytes ↦ bytes | body.Directory slots ↦ [] | body.Link text ↦ text ]
 
--- the bytes of a block, fewer than 4096 in the last one
+-- the bytes of a block, fewer than its size in the last one
 abbrev pub block_of : List ℕ → ℕ → List ℕ
-block_of bytes block = take 4096 (drop (4096 * block) bytes)
+block_of bytes block = take block_size (drop (block_size * block) bytes)
 
 -- a block at or past the end is absent
 abbrev pub block_value : List ℕ → Option Value
@@ -91,9 +92,9 @@ absent_value (cell.Slot object slot) = None
 absent_value (cell.Client client) = None
 absent_value (cell.Saved at) = None
 
--- the 4096 bytes of a block of a file, those missing at its end being zeros
+-- the bytes of a whole block of a file, those missing at its end being zeros
 abbrev pub full_value : Value → Value
-full_value (value.Block bytes) = value.Block (bytes ++ replicate (4096 - length bytes) 0)
+full_value (value.Block bytes) = value.Block (bytes ++ replicate (block_size - length bytes) 0)
 full_value (value.Meta next used stamp) = value.Meta next used stamp
 full_value (value.Object inode) = value.Object inode
 full_value (value.Slot object name) = value.Slot object name
@@ -112,9 +113,9 @@ is_in_file tree (cell.Slot object slot) = false
 is_in_file tree (cell.Client client) = false
 is_in_file tree (cell.Saved at) = false
 
--- 4096 zeros
+-- a block of zeros
 abbrev pub zero_block : Value
-zero_block = value.Block (replicate 4096 0)
+zero_block = value.Block (replicate block_size 0)
 
 -- what a cell stands for that is absent or holds a value: an absent block of a file stands for zeros
 abbrev pub stands_for : Tree → Cell → Option Value → Option Value
@@ -131,7 +132,7 @@ pub record StandForTree (cells : Cells) (tree : Tree) (stamp : ℕ) : Type 0 whe
   pub meta : StandForSame tree cell.Meta (cells cell.Meta) (Some (value.Meta (length tree) (used_blocks tree) stamp))
   pub object : (object : ℕ) → StandForSame tree (cell.Object object) (cells (cell.Object object)) (object_value tree object (place tree object))
   pub block : (object block : ℕ) → StandForSame tree (cell.Block object block) (cells (cell.Block object block)) (block_value (block_of (content_of (place tree object)) block))
-  pub ends : (object block : ℕ) → length (content_of (place tree object)) ≤ 4096 * block → cells (cell.Block object block) ≡ None
+  pub ends : (object block : ℕ) → length (content_of (place tree object)) ≤ block_size * block → cells (cell.Block object block) ≡ None
   pub slot : (object slot : ℕ) → StandForSame tree (cell.Slot object slot) (cells (cell.Slot object slot)) (slot_value (slice_index_or (slots_of (place tree object)) slot None))
 
 -- these cells stand for the tree and the updates after the entries of a book

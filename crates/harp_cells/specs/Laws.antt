@@ -1,5 +1,6 @@
 -- What the cells of a tree are at their ends.
 use Rattle.std.specs.Prelude.{◌≡◌, ℕ, ◌*◌, ◌≤◌, List, [], ◌++◌, length, Option, None}
+use Rattle.harp_base.specs.Limits.{block_size}
 use Rattle.file_tree.specs.Book.{Entry}
 use Rattle.file_tree.specs.Tree.{Tree, place, slots_of}
 use Rattle.harp_cells.specs.declared.cell.Cell.{Cell}
@@ -18,7 +19,7 @@ CellsStand = (entries : List Entry) → StandForBook (cells_after entries) entri
 
 -- a block that begins at or past the end of its file is absent
 abbrev pub BlocksEnd : Type 0
-BlocksEnd = (tree : Tree) (stamp : ℕ) (last : ℕ → Option Entry) (object block : ℕ) → length (content_of (place tree object)) ≤ 4096 * block
+BlocksEnd = (tree : Tree) (stamp : ℕ) (last : ℕ → Option Entry) (object block : ℕ) → length (content_of (place tree object)) ≤ block_size * block
     → cell_of_tree tree stamp last (cell.Block object block) ≡ None
 
 -- a slot at or past the number of slots is absent

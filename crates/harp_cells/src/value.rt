@@ -3,8 +3,11 @@
 ghost use Rattle.std.specs.Prelude.{◌≡◌, IfOk};
 
 use crate::bounds::{Moment, NonEmpty};
-use harp_base::{Bounded, Kind, Reply, Time};
+use harp_base::{BLOCK_SIZE, Bounded, Kind, LONGEST_NAME, Reply, Time};
 use std::alloc::{AllocError, Global};
+
+// The most bytes of a block.
+const BLOCK_BYTES: usize = BLOCK_SIZE as usize;
 
 /// The attributes of an object. The mode has 12 bits, the parent is 0 of what is no directory, the size is in bytes,
 /// and the slots are those of a directory, free ones too.
@@ -38,12 +41,12 @@ pub enum Value {
     },
     /// Bytes of a block. Those missing at its end are zeros.
     Block {
-        bytes: NonEmpty<4096>,
+        bytes: NonEmpty<BLOCK_BYTES>,
     },
     /// An entry of a directory: the object that it names, and its name.
     Slot {
         object: u32,
-        name: NonEmpty<255>,
+        name: NonEmpty<LONGEST_NAME>,
     },
     /// A client's last update: the number that the client gave it, its place among the updates, and its reply.
     Client {

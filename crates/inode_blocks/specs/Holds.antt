@@ -1,13 +1,14 @@
 -- The bytes of an object in the cells of its blocks.
 use Rattle.std.specs.Prelude.{◌≡◌, ℕ, ◌+◌, ◌*◌, ◌<◌, ◌≤◌, List, [], length, take, slice_index_or, Option, Some, None}
+use Rattle.harp_base.specs.Limits.{block_size}
 use Rattle.harp_cells.specs.declared.cell.Cell.TheVariants as cell
 use Rattle.harp_cells.specs.declared.value.Value.{Value}
 use Rattle.harp_cells.specs.declared.value.Value.TheVariants as value
 use Rattle.harp_cells.specs.Effect.{Cells}
 
--- the bytes that stand in a block, of which there are at most 4096
+-- the bytes that stand in a block, of which there are at most those of a block
 abbrev pub bytes_within : Value → List ℕ
-bytes_within (value.Block bytes) = take 4096 bytes
+bytes_within (value.Block bytes) = take block_size bytes
 bytes_within (value.Meta next used stamp) = []
 bytes_within (value.Object inode) = []
 bytes_within (value.Slot object name) = []
@@ -20,7 +21,7 @@ stored None = []
 stored (Some v) = bytes_within v
 
 abbrev pub IsBlockValue : Value → Type 0
-IsBlockValue (value.Block bytes) = length bytes ≤ 4096
+IsBlockValue (value.Block bytes) = length bytes ≤ block_size
 IsBlockValue (value.Meta next used stamp) = ⊥
 IsBlockValue (value.Object inode) = ⊥
 IsBlockValue (value.Slot object name) = ⊥
@@ -36,9 +37,9 @@ IsBlock (Some v) = IsBlockValue v
 -- end of a block or in an absent one, and those past the end of the bytes, are zeros
 pub record HoldsBytes (cells : Cells) (object : ℕ) (bytes : List ℕ) : Type 0 where
   pub blocks : (block : ℕ) → IsBlock (cells (cell.Block object block))
-  pub byte : (block at : ℕ) → at < 4096
-      → slice_index_or (stored (cells (cell.Block object block))) at 0 ≡ slice_index_or bytes (4096 * block + at) 0
+  pub byte : (block at : ℕ) → at < block_size
+      → slice_index_or (stored (cells (cell.Block object block))) at 0 ≡ slice_index_or bytes (block_size * block + at) 0
 
 -- each block at or past this size is absent
 abbrev pub EndsAt : Cells → ℕ → ℕ → Type 0
-EndsAt cells object size = (block : ℕ) → size ≤ 4096 * block → cells (cell.Block object block) ≡ None
+EndsAt cells object size = (block : ℕ) → size ≤ block_size * block → cells (cell.Block object block) ≡ None

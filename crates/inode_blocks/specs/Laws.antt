@@ -1,5 +1,6 @@
 -- What holds of the bytes in the cells of a tree.
 use Rattle.std.specs.Prelude.{◌≡◌, ℕ, ◌≤◌, true, false, List, [], ◌∷◌, length, replicate}
+use Rattle.harp_base.specs.Limits.{block_size}
 use Rattle.file_tree.specs.Tree.{Tree, place}
 use Rattle.harp_cells.specs.declared.cell.Cell.{Cell}
 use Rattle.harp_cells.specs.declared.cell.Cell.TheVariants as cell
@@ -41,6 +42,6 @@ ErasuresLead = (cells : Cells) (object : ℕ)
 
 -- a new link's text is put where no block is, and every other cell is as before
 abbrev pub TextsLead : Type 0
-TextsLead = (cells : Cells) (object : ℕ) (text : List ℕ) → EndsAt cells object 0 → length text ≤ 4096
+TextsLead = (cells : Cells) (object : ℕ) (text : List ℕ) → EndsAt cells object 0 → length text ≤ block_size
     → ((block : ℕ) → after (text_put object text) cells (cell.Block object block) ≡ block_value (block_of text block))
     × ((c : Cell) → is_block_of object c ≡ false → after (text_put object text) cells c ≡ cells c)

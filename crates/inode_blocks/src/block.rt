@@ -2,28 +2,27 @@
 
 ghost use Rattle.std.specs.Prelude.{◌≡◌, ◌≤◌, ◌+◌, ◌-◌, ◌<◌, ◌^◌, ◌++◌, length, take, drop, max, IfOk, OnOk};
 ghost use Rattle.std.specs.Option.{option_copied};
+ghost use Rattle.harp_base.specs.Limits.{block_size};
 ghost use Rattle.file_tree.specs.Tree.{blocks_of};
 ghost use Rattle.file_tree.specs.Outcome.{resized, written};
 ghost use Rattle.inode_blocks.specs.Holds.{stored};
 
+use harp_base::BLOCK_SIZE;
 use harp_cells::Value;
 use std::alloc::{AllocError, Global};
-
-/// How many bytes a block has.
-pub const BLOCK: u32 = 4096;
 
 /// How many blocks a file of a size has, holes counted.
 pub fn blocks_of(size: u32) -> u32
     requires { size < 2 ^ 31 }
     ensures { result ≡ blocks_of size }
 {
-    (size + (BLOCK - 1)) / BLOCK
+    (size + (BLOCK_SIZE - 1)) / BLOCK_SIZE
 }
 
 /// The bytes that stand in a block, none where it is absent.
 pub fn stored(value: Option<&Value>) -> &[u8]
     ensures value { result.now ≡ stored (option_copied value.entry) }
-    ensures most { length result.now ≤ 4096 }
+    ensures most { length result.now ≤ block_size }
 {
     match value {
         Some(Value::Block { bytes }) => bytes.as_slice(),
@@ -58,7 +57,7 @@ pub fn written(
     within: usize,
     bytes: &[u8],
 ) -> Result<Vec<u8>, AllocError>
-    requires { within + length bytes.now ≤ 4096 }
+    requires { within + length bytes.now ≤ block_size }
     ensures value { IfOk result (λ v. v.items ≡ written old.now within bytes.now) }
     ensures size { IfOk result (λ v. length v.items ≡ max (length old.now) (within + length bytes.now)) }
 {
@@ -76,7 +75,7 @@ pub fn append_part(
     within: usize,
     count: usize,
 ) -> Result<(), AllocError>
-    requires { count ≤ 4096 }
+    requires { count ≤ block_size }
     ensures value { OnOk result (bytes.new.items ≡ bytes.old.items ++ resized (drop within stored.now) count) }
     ensures size { OnOk result (length bytes.new.items ≡ length bytes.old.items + count) }
 {

@@ -1,6 +1,7 @@
 //! Changes that are appended to a list.
 
 ghost use Rattle.std.specs.Prelude.{◌≡◌, ◌≤◌, ◌++◌, ◌∷◌, [], length, OnOk, OnErr, Err, MatchResult};
+ghost use Rattle.harp_base.specs.Limits.{block_size};
 ghost use Rattle.inode_blocks.specs.Changes.{put};
 
 use harp_cells::{Cell, CellFault, Change, NonEmpty, Value};
@@ -25,7 +26,7 @@ pub fn append_put(
     bytes: Vec<u8>,
 ) -> Result<(), CellFault>
     requires least { 1 ≤ length bytes.items }
-    requires most { length bytes.items ≤ 4096 }
+    requires most { length bytes.items ≤ block_size }
     ensures ok { OnOk result (changes.new.items ≡ changes.old.items ++ put object block bytes.items ∷ []) }
     ensures err { OnErr result (changes.new.items ≡ changes.old.items) }
     ensures cause { OnErr result (result ≡ Err CellFault.NoMemory) }

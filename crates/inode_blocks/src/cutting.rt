@@ -2,14 +2,16 @@
 
 ghost use Rattle.std.specs.Prelude.{◌≡◌, ◌≤◌, ◌<◌, ◌^◌, ◌-◌, ◌++◌, ◌∷◌, [], ℕ, List, Option, length, Some, Err, IfOk, IfSome, OnOk, OnErr};
 ghost use Rattle.std.specs.Option.{option_map};
+ghost use Rattle.harp_base.specs.Limits.{block_size};
 ghost use Rattle.harp_base.specs.Streams.{Rose};
 ghost use Rattle.file_tree.specs.Outcome.{resized};
 ghost use Rattle.harp_cells.specs.Effect.{Cells};
 ghost use Rattle.inode_blocks.specs.Holds.{HoldsBytes};
 ghost use Rattle.inode_blocks.specs.Changes.{BeginsWith, LeadTo, added, cuts, erasure, kept_in, put_kept};
 
-use crate::block::{BLOCK, blocks_of, stored};
+use crate::block::{blocks_of, stored};
 use crate::changes::{append, append_put};
+use harp_base::BLOCK_SIZE;
 use harp_cells::{Cell, CellFault, CellRead, Change};
 use std::alloc::Global;
 
@@ -23,16 +25,16 @@ fn kept_part<R: CellRead>(
     ensures value { (held : Cells) → R.cells cells.old ≡ Some held
         → IfOk result (λ kept. option_map (λ v. v.items) kept ≡ kept_in held object wanted) }
     ensures least { IfOk result (λ kept. IfSome kept (λ v. 1 ≤ length v.items)) }
-    ensures most { IfOk result (λ kept. IfSome kept (λ v. length v.items ≤ 4096)) }
+    ensures most { IfOk result (λ kept. IfSome kept (λ v. length v.items ≤ block_size)) }
     ensures kept { R.cells cells.new ≡ R.cells cells.old }
     ensures rose { result ≡ Err CellFault.StoreFailed → Rose (R.faults cells.old) (R.faults cells.new) }
     ensures count { R.faults cells.old ≤ R.faults cells.new }
 {
-    let within = (wanted % BLOCK) as usize;
+    let within = (wanted % BLOCK_SIZE) as usize;
     if within == 0 {
         return Ok(None);
     }
-    let block = wanted / BLOCK;
+    let block = wanted / BLOCK_SIZE;
     cells.fetch(Cell::Block { object, block })?;
     let bytes = stored(cells.value());
     if bytes.len() <= within {
@@ -49,7 +51,7 @@ fn append_kept(
     kept: Option<Vec<u8>>,
 ) -> Result<(), CellFault>
     requires least { IfSome kept (λ v. 1 ≤ length v.items) }
-    requires most { IfSome kept (λ v. length v.items ≤ 4096) }
+    requires most { IfSome kept (λ v. length v.items ≤ block_size) }
     ensures ok { OnOk result (changes.new.items ≡ changes.old.items
         ++ put_kept object block (option_map (λ v. v.items) kept)) }
     ensures err { OnErr result (changes.new.items ≡ changes.old.items) }
@@ -74,7 +76,7 @@ fn append_erasure(
     ensures cause { OnErr result (result ≡ Err CellFault.NoMemory) }
 {
     let first = blocks_of(wanted);
-    if first * BLOCK < size {
+    if first * BLOCK_SIZE < size {
         append(changes, Change::EraseFrom { object, first })
     } else {
         Ok(())
@@ -110,7 +112,7 @@ pub fn cut_to<R: CellRead>(
         return Ok(());
     }
     let kept = kept_part(alloc, cells, object, wanted)?;
-    append_kept(changes, object, wanted / BLOCK, kept)?;
+    append_kept(changes, object, wanted / BLOCK_SIZE, kept)?;
     append_erasure(changes, object, size, wanted)?;
     Ok(())
 }

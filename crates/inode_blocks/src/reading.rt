@@ -1,13 +1,14 @@
 //! Reading a file's bytes.
 
 ghost use Rattle.std.specs.Prelude.{◌≡◌, ◌≤◌, ◌+◌, ◌-◌, ◌++◌, ℕ, List, length, take, drop, min, Some, Err, IfOk, OnOk};
+ghost use Rattle.harp_base.specs.Limits.{block_size};
 ghost use Rattle.harp_base.specs.Streams.{Rose};
 ghost use Rattle.file_tree.specs.Outcome.{resized};
 ghost use Rattle.harp_cells.specs.Effect.{Cells};
 ghost use Rattle.inode_blocks.specs.Holds.{stored, HoldsBytes};
 
-use crate::block::{BLOCK, append_part, stored};
-use harp_base::Bytes;
+use crate::block::{append_part, stored};
+use harp_base::{BLOCK_SIZE, Bytes};
 use harp_cells::{Cell, CellFault, CellRead};
 use std::alloc::Global;
 
@@ -19,7 +20,7 @@ fn read_part<R: CellRead>(
     count: u32,
     bytes: &mut Vec<u8>,
 ) -> Result<(), CellFault>
-    requires { count ≤ 4096 }
+    requires { count ≤ block_size }
     ensures part { (held : Cells) → R.cells cells.old ≡ Some held
         → OnOk result (bytes.new.items ≡ bytes.old.items ++ resized (drop within (stored (held cell))) count) }
     ensures size { OnOk result (length bytes.new.items ≡ length bytes.old.items + count) }
@@ -58,9 +59,9 @@ pub fn read_bytes<R: CellRead>(
     let mut bytes = Vec::new(alloc);
     let mut at = offset;
     while at < end {
-        let within = at % BLOCK;
-        let count = (BLOCK - within).min(end - at);
-        let block = at / BLOCK;
+        let within = at % BLOCK_SIZE;
+        let count = (BLOCK_SIZE - within).min(end - at);
+        let block = at / BLOCK_SIZE;
         read_part(
             cells,
             Cell::Block { object, block },

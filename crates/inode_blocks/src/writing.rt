@@ -1,6 +1,7 @@
 //! Writing a file's bytes.
 
 ghost use Rattle.std.specs.Prelude.{◌≡◌, ◌≤◌, ◌<◌, ◌+◌, ◌-◌, ◌*◌, ◌/◌, ◌==◌, ◌^◌, ◌++◌, if◌then◌else◌, ℕ, List, length, map, Some, Err, IfOk, OnOk};
+ghost use Rattle.harp_base.specs.Limits.{block_size};
 ghost use Rattle.harp_base.specs.Streams.{Rose};
 ghost use Rattle.file_tree.specs.Tree.{blocks_of};
 ghost use Rattle.file_tree.specs.Outcome.{written};
@@ -8,8 +9,9 @@ ghost use Rattle.harp_cells.specs.Effect.{Cells};
 ghost use Rattle.inode_blocks.specs.Holds.{stored, HoldsBytes};
 ghost use Rattle.inode_blocks.specs.Changes.{BeginsWith, LeadTo, added, block_put, blocks_met, part_in, puts, stored_in};
 
-use crate::block::{BLOCK, blocks_of, part, stored, written};
+use crate::block::{blocks_of, part, stored, written};
 use crate::changes::append_put;
+use harp_base::BLOCK_SIZE;
 use harp_cells::{Cell, CellFault, CellRead, Change};
 use std::alloc::Global;
 
@@ -17,21 +19,21 @@ use std::alloc::Global;
 fn part_in(offset: u32, bytes: &[u8], block: u32) -> &[u8]
     requires { block < 2 ^ 20 }
     ensures value { result.now ≡ part_in offset bytes.now block }
-    ensures most { length result.now ≤ 4096 - (offset - 4096 * block) }
+    ensures most { length result.now ≤ block_size - (offset - block_size * block) }
 {
-    let start = block * BLOCK;
+    let start = block * BLOCK_SIZE;
     let within = offset.saturating_sub(start);
-    let room = BLOCK.saturating_sub(within);
+    let room = BLOCK_SIZE.saturating_sub(within);
     part(bytes, start.saturating_sub(offset) as usize, room as usize)
 }
 
 /// The number behind the last block that a range meets, and that of the first one where it meets none.
 fn past_block(offset: u32, count: usize) -> u32
     requires { offset + count < 2 ^ 31 }
-    ensures { result ≡ (if count == 0 then offset / 4096 else blocks_of (offset + count)) }
+    ensures { result ≡ (if count == 0 then offset / block_size else blocks_of (offset + count)) }
 {
     if count == 0 {
-        offset / BLOCK
+        offset / BLOCK_SIZE
     } else {
         blocks_of(offset + count as u32)
     }
@@ -47,16 +49,16 @@ fn block_bytes<R: CellRead>(
     within: usize,
     bytes: &[u8],
 ) -> Result<Vec<u8>, CellFault>
-    requires fits { within + length bytes.now ≤ 4096 }
+    requires fits { within + length bytes.now ≤ block_size }
     requires small { block < 2 ^ 20 }
     ensures bytes { (held : Cells) → R.cells cells.old ≡ Some held
         → IfOk result (λ v. v.items ≡ written (stored_in held object size block) within bytes.now) }
-    ensures size { IfOk result (λ v. (within + length bytes.now ≤ length v.items) × (length v.items ≤ 4096)) }
+    ensures size { IfOk result (λ v. (within + length bytes.now ≤ length v.items) × (length v.items ≤ block_size)) }
     ensures kept { R.cells cells.new ≡ R.cells cells.old }
     ensures rose { result ≡ Err CellFault.StoreFailed → Rose (R.faults cells.old) (R.faults cells.new) }
     ensures count { R.faults cells.old ≤ R.faults cells.new }
 {
-    if size <= block * BLOCK || bytes.len() == BLOCK as usize {
+    if size <= block * BLOCK_SIZE || bytes.len() == BLOCK_SIZE as usize {
         return Ok(written(alloc, &[], within, bytes)?);
     }
     cells.fetch(Cell::Block { object, block })?;
@@ -90,8 +92,8 @@ pub fn write_bytes<R: CellRead>(
     ensures rose { result ≡ Err CellFault.StoreFailed → Rose (R.faults cells.old) (R.faults cells.new) }
     ensures count { R.faults cells.old ≤ R.faults cells.new }
 {
-    for block in offset / BLOCK..past_block(offset, bytes.len()) {
-        let within = offset.saturating_sub(block * BLOCK) as usize;
+    for block in offset / BLOCK_SIZE..past_block(offset, bytes.len()) {
+        let within = offset.saturating_sub(block * BLOCK_SIZE) as usize;
         let part = part_in(offset, bytes, block);
         let new = block_bytes(alloc, cells, object, size, block, within, part)?;
         append_put(changes, object, block, new)?;

@@ -5,7 +5,7 @@ use Rattle.std.proofs.lemmas.Bool.{cases_eq, cases_Bool, ne_eqb}
 use Rattle.file_tree.specs.declared.object.Object.{Object}
 use Rattle.file_tree.specs.Tree.{Tree, place, slots_of, slots_within, blocks_at, is_directory_at, parent_of}
 use Rattle.file_tree.proofs.Bounds.{blocks_placed, slots_fit}
-use Rattle.file_tree.proofs.StepLaws.{directory_is}
+use Rattle.file_tree.proofs.TryLaws.{directory_is}
 use Rattle.harp_cells.specs.declared.value.Inode.{Inode}
 use Rattle.harp_cells.specs.declared.value.Value.{Value}
 use Rattle.harp_cells.specs.declared.value.Value.TheVariants as value

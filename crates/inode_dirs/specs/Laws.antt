@@ -1,12 +1,11 @@
 -- Between the cells of a tree and the slots and parents that they hold.
-use Rattle.std.specs.Prelude.{◌≡◌, ◌↔◌, ℕ, ◌+◌, ◌<◌, ◌^◌, min, max, true, false, List, [], ◌∷◌, length, slice_index_or}
-use Rattle.std.specs.Prelude.{slice_set, Option, Some, None, Ok}
+use Rattle.std.specs.Prelude.{◌≡◌, ◌↔◌, ℕ, ◌+◌, ◌<◌, ◌^◌, min, max, true, false, List, [], ◌∷◌, length, slice_index_or, slice_set, Option, Some, None, Ok}
 use Rattle.file_tree.specs.declared.object.Slot.{Slot}
 use Rattle.file_tree.specs.Tree.{Tree, Slots, place, slots_of, entry, free_from, with_entry, is_directory_at, parent_of}
-use Rattle.file_tree.specs.Steps.{directory}
+use Rattle.file_tree.specs.Tries.{directory}
 use Rattle.file_tree.specs.Outcome.{entries_of, page_of, has_no_entry}
 use Rattle.file_tree.specs.Rename.{is_above}
-use Rattle.file_tree.specs.Plain.{IsWithinLimits}
+use Rattle.file_tree.specs.Within.{IsWithinLimits}
 use Rattle.file_tree.specs.Sound.{has_name, IsSound}
 use Rattle.harp_cells.specs.declared.value.Inode.{Inode}
 use Rattle.harp_cells.specs.declared.cell.Cell.TheVariants as cell

@@ -2,6 +2,7 @@
 
 ghost use Rattle.std.specs.Prelude.{◌≡◌, ◌≤◌, ◌<◌, ◌+◌, ◌*◌, ◌∷◌, ◌++◌, ◌^◌, List, length, replicate, min, false};
 ghost use Rattle.std.specs.Prelude.{IfOk, Err, if◌then◌else◌};
+ghost use Rattle.harp_base.specs.Limits.{longest_transfer};
 ghost use Rattle.harp_base.specs.Streams.{Rose};
 ghost use Rattle.harp_base.specs.declared.reply.DirEntry.{DirEntry as Listed};
 ghost use Rattle.file_tree.specs.Tree.{Slots};
@@ -10,7 +11,7 @@ ghost use Rattle.inode_dirs.specs.Slots.{TellsSlots};
 ghost use Rattle.inode_dirs.specs.Pages.{entries_under, entry_list, page_after};
 
 use crate::slot::entry_of_slot;
-use harp_base::{Bounded, DirEntry};
+use harp_base::{Bounded, DirEntry, LONGEST_TRANSFER};
 use harp_cells::{CellFault, CellRead};
 use std::alloc::{AllocError, Global};
 
@@ -27,7 +28,7 @@ struct Filling {
     entries: Vec<DirEntry>,
     above: u32,
     room: u32,
-    ghost within: { 16 * length entries.items + room ≤ 8192 },
+    ghost within: { 16 * length entries.items + room ≤ longest_transfer },
 }
 
 fn size_of(entry: &DirEntry) -> u32
@@ -139,7 +140,7 @@ pub fn list_from<R: CellRead>(
 ) -> Result<DirPage, CellFault>
     ensures page { (held : Slots) → TellsSlots (R.cells cells.old) dir slots held → slots + 2 < 2 ^ 32
         → IfOk result (λ page. (page.entries.items, page.eof)
-        ≡ page_of cookie (min count 8192) (entries_under dir parent held)) }
+        ≡ page_of cookie (min count longest_transfer) (entries_under dir parent held)) }
     ensures few { IfOk result (λ page. length page.entries.items ≤ 512) }
     ensures kept { R.cells cells.new ≡ R.cells cells.old }
     ensures rose { result ≡ Err CellFault.StoreFailed → Rose (R.faults cells.old) (R.faults cells.new) }
@@ -148,7 +149,7 @@ pub fn list_from<R: CellRead>(
     let mut page = Filling {
         entries: Vec::new(alloc),
         above: cookie,
-        room: count.min(8192),
+        room: count.min(LONGEST_TRANSFER as u32),
     };
     let eof = if page.offer_dots(alloc, dir, parent)? {
         list_slots(alloc, cells, dir, slots, &mut page)?

@@ -13,8 +13,8 @@ use Rattle.harp_cells.specs.declared.change.Change.TheVariants as change
 use Rattle.harp_cells.specs.declared.value.Inode.{Inode}
 use Rattle.harp_cells.specs.declared.value.Value.TheVariants as value
 use Rattle.harp_cells.specs.CellsOfTree.{inode_of, object_value}
-use Rattle.update_changes.specs.Table.{set_by, change_to}
-use Rattle.update_changes.proofs.Links.{NameSameKinds, links_kept, parent_kept}
+use Rattle.cell_changes.specs.Table.{set_by, change_to}
+use Rattle.cell_changes.proofs.Links.{NameSameKinds, links_kept, parent_kept}
 use Rattle.nfs_calls.specs.declared.totals.Totals.{Totals}
 use Rattle.nfs_calls.specs.Plans.{replaced_blocks, totals_of}
 use Rattle.nfs_calls.specs.TreeCells.{IsInode, object_at}

@@ -7,15 +7,15 @@ use Rattle.file_tree.specs.declared.object.Object.{Object}
 use Rattle.file_tree.specs.Tree.{Tree, place, slots_of, free_from, with_entry, blocks_of, links_of, kind_of, parent_of}
 use Rattle.file_tree.specs.Outcome.{reslotted}
 use Rattle.file_tree.proofs.Bounds.{subdirectories-le}
-use Rattle.file_tree.proofs.StepLaws.{directory_is}
+use Rattle.file_tree.proofs.TryLaws.{directory_is}
 use Rattle.harp_cells.specs.declared.value.Inode.{Inode}
 use Rattle.harp_cells.specs.CellsOfTree.{inode_of}
 use Rattle.harp_cells.specs.Effect.{Cells}
 use Rattle.inode_dirs.specs.Slots.{TellsSlots}
 use Rattle.inode_dirs.proofs.SlotCounts.{entry_grows}
 use Rattle.inode_dirs.proofs.TreeCells.{trees_hold_slots}
-use Rattle.update_changes.specs.TreeCells.{TreeCells}
-use Rattle.update_changes.proofs.Links.{NameSameKinds, directory_share, links_entered}
+use Rattle.cell_changes.specs.TreeCells.{TreeCells}
+use Rattle.cell_changes.proofs.Links.{NameSameKinds, directory_share, links_entered}
 use Rattle.nfs_calls.specs.Plans.{entered}
 use Rattle.nfs_calls.specs.TreeCells.{IsDirectory, object_at}
 

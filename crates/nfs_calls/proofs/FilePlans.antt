@@ -12,11 +12,10 @@ use Rattle.harp_base.specs.declared.cred.Cred.{Cred}
 use Rattle.harp_base.specs.declared.reply.Reply.TheVariants.{Attr as AttrReply}
 use Rattle.file_tree.specs.declared.object.Body.{Body}
 use Rattle.file_tree.specs.declared.object.Body.TheVariants as body
-use Rattle.file_tree.specs.declared.object.Object.{Object}
 use Rattle.file_tree.specs.Tree.{Tree, slots_within, kind_of, size_of, attr_at}
-use Rattle.file_tree.specs.Steps.{Step, ◌>>=◌}
-use Rattle.file_tree.specs.Permissions.{LEAVE}
-use Rattle.file_tree.specs.Outcome.{given, given_mode, given_time, mtime_for_size, body_with, resized, with_fields, with_size, set_fields, set_attr, change}
+use Rattle.file_tree.specs.Tries.{◌>>=◌, Tried}
+use Rattle.harp_base.specs.Limits.{field_left}
+use Rattle.file_tree.specs.Outcome.{given, given_mode, given_time, mtime_for_size, body_with, resized, with_fields, set_fields, set_attr, change}
 use Rattle.file_tree.proofs.Kept.{place_changed}
 use Rattle.harp_cells.specs.Effect.{Cells}
 use Rattle.harp_cells.specs.declared.cell.Cell.TheVariants as cell
@@ -25,13 +24,13 @@ use Rattle.harp_cells.specs.declared.change.Change.TheVariants as changing
 use Rattle.harp_cells.specs.declared.value.Inode.{Inode}
 use Rattle.harp_cells.specs.declared.value.Value.TheVariants as value
 use Rattle.inode_blocks.specs.Changes.{cuts, put_kept, kept_in}
-use Rattle.update_changes.specs.Short.{AreShort}
-use Rattle.update_changes.specs.Table.{resizes, tree_changes}
+use Rattle.cell_changes.specs.Short.{AreShort}
+use Rattle.cell_changes.specs.Table.{resizes, tree_changes}
 use Rattle.nfs_calls.specs.declared.setting.Set.{Set}
 use Rattle.nfs_calls.specs.declared.totals.Totals.{Totals}
 use Rattle.nfs_calls.specs.Plans.{IsSet, bytes_given, planned, replaced_blocks, resizes_by, set_inode, set_tree, totals_of, used_with}
 use Rattle.nfs_calls.specs.TreeCells.{IsInode, attr_by, object_at}
-use Rattle.nfs_calls.proofs.Inodes.{content_size, live_is}
+use Rattle.nfs_calls.proofs.Inodes.{content_size}
 use Rattle.nfs_calls.proofs.Entered.{same_inode}
 use Rattle.nfs_calls.proofs.Makes.{attr_placed}
 use Rattle.nfs_calls.proofs.Changed.{KeepsKind, inode_with, changed_inode, changed_put, changed_totals, unchanged_totals}
@@ -60,22 +59,22 @@ record IsResized (b : Body) (size : ℕ) : Type 0 where
   slots : slots_within (body_with b (bytes_given b size)) ≡ slots_within b
   long : size_of (body_with b (bytes_given b size)) ≡ given size (size_of b)
 
-regular_resized : (b : Body) (size : ℕ) → kind_of b ≡ kind.Regular → (size == LEAVE) ≡ false → IsResized b size
+regular_resized : (b : Body) (size : ℕ) → kind_of b ≡ kind.Regular → (size == field_left) ≡ false → IsResized b size
 regular_resized (body.Regular bytes) size e t = record { kind = rw t refl; slots = rw t refl; long = rw t (length-resized bytes size) }
 regular_resized (body.Directory slots) size e t = absurd cc
 regular_resized (body.Link text) size e t = absurd cc
 
-body_resized : (b : Body) (size : ℕ) → ((size ≡ LEAVE → ⊥) → kind_of b ≡ kind.Regular) → IsResized b size
-body_resized b size file = elim (cases_Bool (size == LEAVE)) [
+body_resized : (b : Body) (size : ℕ) → ((size ≡ field_left → ⊥) → kind_of b ≡ kind.Regular) → IsResized b size
+body_resized b size file = elim (cases_Bool (size == field_left)) [
   | inl t ↦ record { kind = rw t refl; slots = rw t refl; long = rw t refl }
-  | inr t ↦ regular_resized b size (file (eqb-false size LEAVE t)) t
+  | inr t ↦ regular_resized b size (file (eqb-false size field_left t)) t
 ]
 
 -- what the steps of given attributes told
 pub record IsGiven (tree : Tree) (number : ℕ) (i : Inode) (a : SetAttr) (totals : Totals) (used : ℕ) : Type 0 where
   pub own : IsInode tree number i
   pub totals_are : totals ≡ totals_of tree
-  pub file : (a.size ≡ LEAVE → ⊥) → i.kind ≡ kind.Regular
+  pub file : (a.size ≡ field_left → ⊥) → i.kind ≡ kind.Regular
   pub room : used_with totals.used i.size a.size ≡ Ok used
 
 file_is : (tree : Tree) (number : ℕ) (i : Inode) (a : SetAttr) (totals : Totals) (used : ℕ) → IsGiven tree number i a totals used
@@ -107,7 +106,7 @@ set_totals tree number i a now totals used is =
     let o = object_at tree number in
     let f = with_fields a (bytes_given o.body a.size) now in
     let long = (file_is tree number i a totals used is).long in
-    elim (cases_Bool (a.size == LEAVE)) [
+    elim (cases_Bool (a.size == field_left)) [
       | inl t ↦
           let same : size_of (f o).body ≡ size_of o.body = long ∙ rw t refl in
           let left : used_with totals.used i.size a.size ≡ Ok totals.used = rw t refl in
@@ -125,10 +124,10 @@ not_directory k e f = absurd cc
 
 set_resizes : (cells : Cells) (tree : Tree) (number : ℕ) (i : Inode) (a : SetAttr) (totals : Totals) (used : ℕ) → IsGiven tree number i a totals used
     → resizes cells tree number a.size ≡ resizes_by cells number i.size a.size
-set_resizes cells tree number i a totals used is = elim (cases_Bool (a.size == LEAVE)) [
+set_resizes cells tree number i a totals used is = elim (cases_Bool (a.size == field_left)) [
   | inl t ↦ rw t refl
   | inr t ↦
-      let file = is.file (eqb-false a.size LEAVE t) in
+      let file = is.file (eqb-false a.size field_left t) in
       rw t (ap (λ (n : ℕ). cuts number n a.size (kept_in cells number a.size)) (content_size tree number i is.own (not_directory i.kind file)))
 ]
 
@@ -159,5 +158,5 @@ pub set_attr_plan : (cells : Cells) (tree : Tree) (cred : Cred) (number : ℕ) (
     → planned cells tree (call.SetAttr number a) (set_attr tree cred number a now) ≡ Ok (AttrReply attr, s.changes.items, s.totals)
 unfolding set_attr tree_changes
 set_attr_plan cells tree cred number a now s attr done is e =
-    ap (λ (r : Step Tree). planned cells tree (call.SetAttr number a) (r >>= λ (new : Tree). Ok (AttrReply (attr_at new number), new))) done
+    ap (λ (r : Tried Tree). planned cells tree (call.SetAttr number a) (r >>= λ (new : Tree). Ok (AttrReply (attr_at new number), new))) done
     ∙ (let one = sym (e ∙ is.attr) in let two = sym is.changes in let three = sym is.totals in λ k. Ok (AttrReply (one k), two k, three k))

@@ -8,7 +8,7 @@ use Rattle.file_tree.specs.declared.object.Object.{Object}
 use Rattle.harp_base.specs.declared.cred.Cred.{Cred}
 use Rattle.harp_base.specs.declared.reply.Status.TheVariants.{Stale}
 use Rattle.file_tree.specs.Tree.{Tree, place, is_directory_at, attr_at, attr_zero, attr_of_place, used_blocks, size_of, kind_of}
-use Rattle.file_tree.specs.Steps.{live, some_or, bytes_in, text_in}
+use Rattle.file_tree.specs.Tries.{live, some_or, bytes_in, text_in}
 use Rattle.file_tree.specs.Permissions.{reading, may, may_at, allowed}
 use Rattle.file_tree.specs.Outcome.{read, read_link}
 use Rattle.file_tree.specs.Sound.{IsSound, IsSoundBody, IsSoundObject}
@@ -18,7 +18,7 @@ use Rattle.harp_cells.specs.declared.value.Inode.{Inode}
 use Rattle.harp_cells.specs.declared.value.Value.{Value}
 use Rattle.harp_cells.specs.declared.cell.Cell.TheVariants as cell
 use Rattle.harp_cells.specs.CellsOfTree.{object_value, stands_for, inode_of, content_of}
-use Rattle.update_changes.specs.TreeCells.{TreeCells}
+use Rattle.cell_changes.specs.TreeCells.{TreeCells}
 use Rattle.nfs_calls.specs.TreeCells.{IsInode, inode_found, inode_of_some, inode_placed, totals_found, object_at, object_or_zero, attr_by, root_inode, bytes_within}
 
 found_itself : (tree : Tree) (number : ℕ) (v : Option Value)

@@ -10,7 +10,7 @@ use Rattle.harp_base.specs.declared.reply.Status.TheVariants.{NoSpc}
 use Rattle.file_tree.specs.declared.object.Object.{Object}
 use Rattle.file_tree.specs.declared.object.Slot.{Slot}
 use Rattle.file_tree.specs.Tree.{Tree, Slots, place, slots_of, with_entry, blocks_of, used_blocks, names_at, names_of, size_of, is_directory, is_directory_at, parent_of}
-use Rattle.file_tree.specs.Steps.{◌>>=◌, live, refuse}
+use Rattle.file_tree.specs.Tries.{◌>>=◌, live, refuse}
 use Rattle.file_tree.specs.Permissions.{writing, allowed, searched}
 use Rattle.file_tree.specs.Outcome.{add_entry, change, free_name, link, reslotted, set_ctime}
 use Rattle.file_tree.specs.Sound.{IsSound}
@@ -26,9 +26,9 @@ use Rattle.harp_cells.specs.declared.value.Inode.{Inode}
 use Rattle.harp_cells.specs.declared.value.Value.TheVariants as value
 use Rattle.harp_cells.specs.CellsOfTree.{inode_of, object_value, slot_value}
 use Rattle.inode_dirs.proofs.SlotCounts.{entry_grows}
-use Rattle.update_changes.specs.Table.{change_to, free_slot, set_by, tree_changes}
-use Rattle.update_changes.specs.TreeCells.{TreeCells}
-use Rattle.update_changes.proofs.Links.{IsNamedAlike, directory_share, parent_kept}
+use Rattle.cell_changes.specs.Table.{change_to, free_slot, set_by, tree_changes}
+use Rattle.cell_changes.specs.TreeCells.{TreeCells}
+use Rattle.cell_changes.proofs.Links.{IsNamedAlike, directory_share, parent_kept}
 use Rattle.nfs_calls.specs.declared.entering.Room.{Room}
 use Rattle.nfs_calls.specs.declared.totals.Totals.{Totals}
 use Rattle.nfs_calls.specs.Plans.{entered, linked, links_by, planned, replaced_blocks, totals_of}

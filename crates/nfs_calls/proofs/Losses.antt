@@ -14,7 +14,7 @@ use Rattle.file_tree.specs.Outcome.{change, slot_changed, slot_replaced, reslott
 use Rattle.file_tree.specs.Sound.{IsSound}
 use Rattle.file_tree.proofs.Holders.{Holds}
 use Rattle.file_tree.proofs.SlotLaws.{IsFound, found}
-use Rattle.file_tree.proofs.StepLaws.{directory_is}
+use Rattle.file_tree.proofs.TryLaws.{directory_is}
 use Rattle.file_tree.proofs.WaysUp.{IsBare}
 use Rattle.file_tree.proofs.SoundChanges.{few_at, one_itself, one_other}
 use Rattle.file_tree.proofs.SoundMoves.{sound_removed, cleared_names, names_at-le, found_held}
@@ -24,7 +24,7 @@ use Rattle.harp_cells.specs.declared.cell.Cell.TheVariants as cell
 use Rattle.harp_cells.specs.declared.change.Change.{Change}
 use Rattle.harp_cells.specs.declared.change.Change.TheVariants as change
 use Rattle.harp_cells.specs.CellsOfTree.{content_of, object_value, slot_value}
-use Rattle.update_changes.specs.Table.{change_to, set_by, content_size, erases, loses, takes}
+use Rattle.cell_changes.specs.Table.{change_to, set_by, content_size, erases, loses, takes}
 use Rattle.nfs_calls.specs.declared.totals.Totals.{Totals}
 use Rattle.nfs_calls.specs.TreeCells.{IsInode, IsDirectory, object_at, bytes_within}
 use Rattle.nfs_calls.specs.Plans.{totals_of}

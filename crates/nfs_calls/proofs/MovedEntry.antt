@@ -22,7 +22,7 @@ use Rattle.harp_cells.specs.declared.value.Value.TheVariants as value
 use Rattle.harp_cells.specs.declared.cell.Cell.TheVariants as cell
 use Rattle.harp_cells.specs.declared.change.Change.{Change}
 use Rattle.harp_cells.specs.declared.change.Change.TheVariants as change
-use Rattle.update_changes.specs.Table.{set_by, slot_pair, dir_pair}
+use Rattle.cell_changes.specs.Table.{set_by, slot_pair, dir_pair}
 use Rattle.nfs_calls.specs.declared.moving.Move.{Move}
 use Rattle.nfs_calls.specs.TreeCells.{IsInode, IsDirectory, object_at}
 use Rattle.nfs_calls.specs.Entries.{is_directory_kind, link_of, relinked}

@@ -9,21 +9,21 @@ use Rattle.harp_base.specs.declared.reply.Status.{Status}
 use Rattle.harp_base.specs.declared.reply.Status.TheVariants.{NoSpc}
 use Rattle.file_tree.specs.declared.object.Body.{Body}
 use Rattle.file_tree.specs.Tree.{Tree, Slots, place, slots_of, size_of, blocks_of, blocks_at, used_blocks, entry, free_from, with_entry}
-use Rattle.file_tree.specs.Steps.{◌>>=◌, refuse, room}
+use Rattle.file_tree.specs.Tries.{◌>>=◌, refuse, room}
 use Rattle.file_tree.specs.Outcome.{slot_changed, reslotted}
 use Rattle.file_tree.specs.Rename.{freed, check_target, moved_in}
 use Rattle.file_tree.specs.Sound.{IsSound}
 use Rattle.file_tree.proofs.Bounds.{subdirectories-le, blocks_placed}
 use Rattle.file_tree.proofs.SlotLaws.{IsFound, found, none_named}
 use Rattle.file_tree.proofs.SoundRename.{sound_moved_in}
-use Rattle.file_tree.proofs.StepLaws.{done, unless, given_at}
+use Rattle.file_tree.proofs.TryLaws.{done, unless, given_at}
 use Rattle.inode_dirs.proofs.SlotCounts.{entry_grows}
 use Rattle.harp_cells.specs.declared.value.Inode.{Inode}
 use Rattle.harp_cells.specs.declared.value.Value.TheVariants as value
 use Rattle.harp_cells.specs.declared.cell.Cell.TheVariants as cell
 use Rattle.harp_cells.specs.declared.change.Change.TheVariants as change
 use Rattle.harp_cells.specs.Effect.{Cells}
-use Rattle.update_changes.specs.Table.{set_by, slot_pair}
+use Rattle.cell_changes.specs.Table.{set_by, slot_pair}
 use Rattle.nfs_calls.specs.declared.moving.Move.{Move}
 use Rattle.nfs_calls.specs.TreeCells.{object_at}
 use Rattle.nfs_calls.specs.Plans.{planned, replaced_blocks, entered}

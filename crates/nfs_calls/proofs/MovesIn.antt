@@ -10,7 +10,7 @@ use Rattle.file_tree.specs.declared.object.Body.{Body}
 use Rattle.file_tree.specs.declared.object.Body.TheVariants.{Directory}
 use Rattle.file_tree.specs.declared.object.Object.{Object}
 use Rattle.file_tree.specs.Tree.{Tree, Slots, place, slots_of, slots_within, size_of, blocks_of, blocks_at, used_blocks, names_in, names_at, is_directory, is_directory_at, entry, free_from, with_entry}
-use Rattle.file_tree.specs.Steps.{room}
+use Rattle.file_tree.specs.Tries.{room}
 use Rattle.file_tree.specs.Outcome.{change, slot_changed, slot_replaced, reslotted, set_ctime}
 use Rattle.file_tree.specs.Rename.{freed, check_target, moved_in}
 use Rattle.file_tree.specs.Sound.{IsSound}
@@ -24,7 +24,7 @@ use Rattle.harp_cells.specs.declared.change.Change.{Change}
 use Rattle.harp_cells.specs.declared.change.Change.TheVariants as change
 use Rattle.harp_cells.specs.declared.value.Value.TheVariants as value
 use Rattle.harp_cells.specs.Effect.{Cells}
-use Rattle.update_changes.specs.Table.{set_by, slot_pair, dir_pair, moves, tree_changes}
+use Rattle.cell_changes.specs.Table.{set_by, slot_pair, dir_pair, moves, tree_changes}
 use Rattle.nfs_calls.specs.declared.moving.Move.{Move}
 use Rattle.nfs_calls.specs.declared.totals.Totals.{Totals}
 use Rattle.nfs_calls.specs.TreeCells.{object_at}

@@ -10,7 +10,7 @@ use Rattle.file_tree.specs.declared.object.Body.{Body}
 use Rattle.file_tree.specs.declared.object.Body.TheVariants.{Directory}
 use Rattle.file_tree.specs.declared.object.Object.{Object}
 use Rattle.file_tree.specs.Tree.{Tree, Slots, place, slots_of, slots_within, size_of, blocks_of, blocks_at, used_blocks, names_in, names_at, names_of, is_directory, is_directory_at, entry}
-use Rattle.file_tree.specs.Steps.{Step}
+use Rattle.file_tree.specs.Tries.{Tried}
 use Rattle.file_tree.specs.Outcome.{change, slot_changed, slot_replaced, reslotted, set_ctime, lost_entry}
 use Rattle.file_tree.specs.Rename.{check_target, moved_over, moved_to}
 use Rattle.file_tree.specs.Sound.{IsSound}
@@ -24,7 +24,7 @@ use Rattle.harp_cells.specs.declared.value.Inode.{Inode}
 use Rattle.harp_cells.specs.declared.cell.Cell.TheVariants as cell
 use Rattle.harp_cells.specs.declared.change.Change.{Change}
 use Rattle.harp_cells.specs.Effect.{Cells}
-use Rattle.update_changes.specs.Table.{set_by, slot_pair, dir_pair, loses, moves, tree_changes}
+use Rattle.cell_changes.specs.Table.{set_by, slot_pair, dir_pair, loses, moves, tree_changes}
 use Rattle.nfs_calls.specs.declared.moving.Move.{Move}
 use Rattle.nfs_calls.specs.declared.totals.Totals.{Totals}
 use Rattle.nfs_calls.specs.TreeCells.{IsInode, object_at}
@@ -183,7 +183,7 @@ replaces tree m name to_name y j now left after q sound is target q_at q_body f 
       totals = ap (λ (t : Totals). after_loss t j) totals_two ∙ totals_lost tree two_tree three_tree y.1 j now target.object l ∙ totals_new;
     }
 
-either_step : Tree → Tree → Bool → Step Tree
+either_step : Tree → Tree → Bool → Tried Tree
 either_step tree new b = elim b [ true ↦ Ok tree | false ↦ Ok new ]
 
 to_other : (tree : Tree) (m : Move) (to_name : List ℕ) (y : ℕ × ℕ) (now : Time) → (y.1 ≡ m.number → ⊥)

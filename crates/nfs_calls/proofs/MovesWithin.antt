@@ -8,7 +8,7 @@ use Rattle.harp_base.specs.declared.reply.Reply.TheVariants.{Done}
 use Rattle.file_tree.specs.declared.object.Body.{Body}
 use Rattle.file_tree.specs.declared.object.Body.TheVariants.{Directory}
 use Rattle.file_tree.specs.Tree.{Tree, Slots, place, slots_of, size_of, blocks_of, blocks_at, used_blocks, entry, free_from, with_entry}
-use Rattle.file_tree.specs.Steps.{room}
+use Rattle.file_tree.specs.Tries.{room}
 use Rattle.file_tree.specs.Outcome.{slot_changed, slot_replaced, reslotted}
 use Rattle.file_tree.specs.Rename.{freed}
 use Rattle.file_tree.specs.Sound.{IsSound}
@@ -19,7 +19,7 @@ use Rattle.harp_cells.specs.declared.value.Value.TheVariants as value
 use Rattle.harp_cells.specs.declared.cell.Cell.TheVariants as cell
 use Rattle.harp_cells.specs.declared.change.Change.TheVariants as change
 use Rattle.harp_cells.specs.Effect.{Cells}
-use Rattle.update_changes.specs.Table.{set_by, slot_pair}
+use Rattle.cell_changes.specs.Table.{set_by, slot_pair}
 use Rattle.nfs_calls.specs.declared.moving.Move.{Move}
 use Rattle.nfs_calls.specs.TreeCells.{object_at}
 use Rattle.nfs_calls.specs.Plans.{planned, totals_of}

@@ -12,15 +12,16 @@ use Rattle.harp_base.specs.declared.reply.Reply.TheVariants.{Done, Node}
 use Rattle.harp_base.specs.declared.reply.Status.{Status}
 use Rattle.file_tree.specs.declared.object.Body.TheVariants as body
 use Rattle.file_tree.specs.Tree.{Tree, place, slots_of, entry, blocks_of, used_blocks}
-use Rattle.file_tree.specs.Steps.{refuse, entry_name}
+use Rattle.file_tree.specs.Tries.{refuse, entry_name}
 use Rattle.file_tree.specs.Permissions.{searched, may_make}
-use Rattle.file_tree.specs.Outcome.{LARGEST, given, has_entry, room_for, made, make_link, create, create_again, create_new, is_regular, is_regular_at}
+use Rattle.file_tree.specs.Outcome.{given, has_entry, room_for, made, make_link, create, create_again, create_new, is_regular, is_regular_at}
+use Rattle.harp_base.specs.Limits.{largest_file}
 use Rattle.file_tree.proofs.SlotLaws.{no_entry, none_named}
 use Rattle.harp_cells.specs.Effect.{Cells}
 use Rattle.harp_cells.specs.declared.change.Change.{Change}
 use Rattle.harp_cells.specs.declared.value.Inode.{Inode}
-use Rattle.update_changes.specs.Table.{tree_changes}
-use Rattle.update_changes.specs.TreeCells.{TreeCells}
+use Rattle.cell_changes.specs.Table.{tree_changes}
+use Rattle.cell_changes.specs.TreeCells.{TreeCells}
 use Rattle.nfs_calls.specs.declared.entering.Room.{Room}
 use Rattle.nfs_calls.specs.declared.totals.Totals.{Totals}
 use Rattle.nfs_calls.specs.Plans.{planned, sets_planned, totals_of, made_inode, replaced_blocks}
@@ -60,7 +61,7 @@ make_link_plan t totals cred dir i name text a room now made_as changes are is r
 -- ---- files
 
 pub create_new_plan : (t : TreeCells) (totals : Totals) (cred : Cred) (dir : ℕ) (i : Inode) (name : List ℕ) (a : SetAttr) (room : Room) (now : Time) (made_as : Inode) (attr : Attr) (changes : List Change)
-    → totals ≡ totals_of t.tree → IsOpen t.tree dir i name (given a.size 0) room → entry_name name ≡ Ok tt → ltb LARGEST (given a.size 0) ≡ false
+    → totals ≡ totals_of t.tree → IsOpen t.tree dir i name (given a.size 0) room → entry_name name ≡ Ok tt → ltb largest_file (given a.size 0) ≡ false
     → entry (slots_of (place t.tree dir)) name ≡ None → may_make t.tree cred dir a ≡ Ok tt
     → IsComputed dir i name [] room 0 (made_inode cred a kind.Regular 1 0 (given a.size 0) now) now totals made_as changes → attr ≡ attr_by totals.next made_as
     → planned t.cells t.tree (call.Create dir name a) (create_new t.tree cred dir (slots_of (place t.tree dir)) name a now)

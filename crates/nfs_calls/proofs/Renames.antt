@@ -6,7 +6,7 @@ use Rattle.harp_base.specs.declared.call.Call.TheVariants as call
 use Rattle.harp_base.specs.declared.cred.Cred.{Cred}
 use Rattle.harp_base.specs.declared.reply.Status.TheVariants.{Perm}
 use Rattle.file_tree.specs.Tree.{Tree, place, slots_of, slots_within, entry, is_directory_at}
-use Rattle.file_tree.specs.Steps.{slots_in, is_dots, check_name}
+use Rattle.file_tree.specs.Tries.{slots_in, is_dots, check_name}
 use Rattle.file_tree.specs.Permissions.{searching, allowed}
 use Rattle.file_tree.specs.Outcome.{Outcome}
 use Rattle.file_tree.specs.Rename.{is_above, rename}

@@ -10,25 +10,25 @@ use Rattle.harp_base.specs.declared.reply.Status.{Status}
 use Rattle.harp_base.specs.declared.reply.Status.TheVariants.{Perm, NoEnt, NotDir, IsDir, NotEmpty}
 use Rattle.file_tree.specs.declared.object.Object.{Object}
 use Rattle.file_tree.specs.Tree.{Tree, Slots, place, slots_of, entry, is_directory_at}
-use Rattle.file_tree.specs.Steps.{refuse, check_name, is_dots, some_or}
+use Rattle.file_tree.specs.Tries.{refuse, check_name, is_dots, some_or}
 use Rattle.file_tree.specs.Permissions.{writing, allowed, searched}
 use Rattle.file_tree.specs.Outcome.{page_of, find, doomed, has_no_entry, removed, remove, remove_dir}
 use Rattle.file_tree.specs.Sound.{IsSound}
-use Rattle.file_tree.proofs.StepLaws.{Given, step, unless, given_at, some_is}
+use Rattle.file_tree.proofs.TryLaws.{Given, step, unless, given_at, some_is}
 use Rattle.file_tree.proofs.SlotLaws.{found}
 use Rattle.file_tree.proofs.SoundChanges.{live_from, one_itself}
 use Rattle.file_tree.proofs.SoundMoves.{cleared_names, names_at-le}
 use Rattle.harp_cells.specs.declared.change.Change.{Change}
 use Rattle.harp_cells.specs.declared.value.Inode.{Inode}
 use Rattle.harp_cells.specs.Effect.{Cells}
-use Rattle.update_changes.specs.Table.{takes, tree_changes}
-use Rattle.update_changes.specs.TreeCells.{TreeCells}
+use Rattle.cell_changes.specs.Table.{takes, tree_changes}
+use Rattle.cell_changes.specs.TreeCells.{TreeCells}
 use Rattle.inode_dirs.specs.Slots.{TellsSlots}
 use Rattle.inode_dirs.specs.Pages.{entries_under}
 use Rattle.inode_dirs.proofs.TreeCells.{cookies_fit, trees_hold_slots}
 use Rattle.inode_dirs.proofs.SlotCounts.{empty_is_last}
 use Rattle.nfs_calls.specs.declared.totals.Totals.{Totals}
-use Rattle.nfs_calls.specs.TreeCells.{IsInode, IsDirectory}
+use Rattle.nfs_calls.specs.TreeCells.{IsInode}
 use Rattle.nfs_calls.specs.Plans.{planned, totals_of}
 
 found_entry : (slots : Slots) (name : List ℕ) (r : _) → some_or NoEnt (entry slots name) ≡ r → Given r (λ x. entry slots name ≡ Some x)

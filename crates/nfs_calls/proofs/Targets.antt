@@ -12,9 +12,9 @@ use Rattle.file_tree.specs.declared.object.Object.{Object}
 use Rattle.file_tree.specs.Tree.{Tree, place, slots_of, slots_within, entry, is_directory, is_directory_at}
 use Rattle.file_tree.specs.Outcome.{has_no_entry}
 use Rattle.file_tree.specs.Rename.{check_target}
-use Rattle.file_tree.specs.Steps.{Step}
+use Rattle.file_tree.specs.Tries.{Tried}
 use Rattle.file_tree.proofs.RenameLaw.{target_bare}
-use Rattle.file_tree.proofs.StepLaws.{unless, refused_unless, given_at}
+use Rattle.file_tree.proofs.TryLaws.{unless, refused_unless, given_at}
 use Rattle.harp_cells.specs.declared.value.Inode.{Inode}
 use Rattle.harp_cells.specs.Effect.{Cells}
 use Rattle.nfs_calls.specs.declared.moving.Move.{Move}
@@ -118,7 +118,7 @@ target_is tree m to_name y j e is ne checked = record {
 }
 
 -- a refusal that one step gives, and then another one
-pub fails_then : {A B : Type 0} (r : Refusal) (a : Step A) (b : Step B) → ((status : Status) → a ≡ Err status → b ≡ Err status) → Fails r a → Fails r b
+pub fails_then : {A B : Type 0} (r : Refusal) (a : Tried A) (b : Tried B) → ((status : Status) → a ≡ Err status → b ≡ Err status) → Fails r a → Fails r b
 fails_then (refusal.Fault fault) a b h e = tt
 fails_then (refusal.Status status) a b h e = h status e
 

@@ -18,23 +18,23 @@ use Rattle.harp_cells.specs.declared.change.Change.TheVariants as changing
 use Rattle.harp_cells.specs.declared.value.Value.{Value}
 use Rattle.harp_cells.specs.declared.value.Value.TheVariants as value
 use Rattle.file_tree.specs.Tree.{Tree, place, blocks_at, blocks_of, used_blocks, kind_of, size_of, slots_within, attr_at}
-use Rattle.file_tree.specs.Steps.{◌>>=◌, refuse, bytes_in}
+use Rattle.file_tree.specs.Tries.{◌>>=◌, refuse, bytes_in}
 use Rattle.file_tree.specs.Permissions.{writing, allowed}
-use Rattle.file_tree.specs.Outcome.{LARGEST, change, rewritten, write, written}
+use Rattle.file_tree.specs.Outcome.{change, rewritten, write, written}
+use Rattle.harp_base.specs.Limits.{largest_file}
 use Rattle.file_tree.proofs.FileBytes.{length-written}
 use Rattle.file_tree.proofs.Kept.{place_changed}
-use Rattle.file_tree.proofs.StepLaws.{bytes_are}
+use Rattle.file_tree.proofs.TryLaws.{bytes_are}
 use Rattle.harp_cells.specs.declared.value.Inode.{Inode}
 use Rattle.harp_cells.specs.Effect.{Cells}
 use Rattle.inode_blocks.specs.Changes.{block_put, block_put_at, blocks_met, puts}
-use Rattle.update_changes.specs.Short.{AreShort, changes_tree, puts_block}
-use Rattle.update_changes.specs.Table.{content_size, set_by, tree_changes}
-use Rattle.update_changes.specs.TreeCells.{TreeCells}
+use Rattle.cell_changes.specs.Short.{AreShort, changes_tree, puts_block}
+use Rattle.cell_changes.specs.Table.{content_size, set_by, tree_changes}
+use Rattle.cell_changes.specs.TreeCells.{TreeCells}
 use Rattle.nfs_calls.specs.declared.totals.Totals.{Totals}
 use Rattle.nfs_calls.specs.Plans.{planned, replaced_blocks, totals_of}
 use Rattle.nfs_calls.specs.TreeCells.{IsInode, attr_by, bytes_within, object_at}
-use Rattle.nfs_calls.proofs.Inodes.{attr_is, live_is}
-use Rattle.nfs_calls.proofs.Inodes.{content_size as stored_size}
+use Rattle.nfs_calls.proofs.Inodes.{attr_is, live_is, content_size as stored_size}
 use Rattle.nfs_calls.proofs.Entered.{same_inode}
 use Rattle.nfs_calls.proofs.Makes.{attr_placed, blocks_stored}
 use Rattle.nfs_calls.proofs.FilePlans.{not_directory}
@@ -97,7 +97,7 @@ file_size tree cred number i is =
     sym (ap size_of body) ∙ sym (ap (λ (j : Inode). j.size) is.own.is)
 
 pub write_nothing : (t : TreeCells) (cred : Cred) (number offset : ℕ) (bytes : List ℕ) (now : Time) (i : Inode) (totals : Totals) (attr : Attr) (changes : List Change)
-    → IsWritten t.tree cred number i → totals ≡ totals_of t.tree → ltb LARGEST (offset + length bytes) ≡ false → (length bytes == 0) ≡ true
+    → IsWritten t.tree cred number i → totals ≡ totals_of t.tree → ltb largest_file (offset + length bytes) ≡ false → (length bytes == 0) ≡ true
     → attr ≡ attr_by number i → changes ≡ []
     → planned t.cells t.tree (call.Write number offset bytes) (write t.tree cred number offset bytes now) ≡ Ok (AttrReply attr, changes, totals)
 unfolding write tree_changes
@@ -124,7 +124,7 @@ pub record IsPlaced (cells : Cells) (number offset : ℕ) (bytes : List ℕ) (no
   pub are : changes ≡ puts cells number i.size offset bytes ++ changing.Put (cell.Object number) (value.Object j) ∷ []
 
 pub write_plan : (t : TreeCells) (cred : Cred) (number offset : ℕ) (bytes : List ℕ) (now : Time) (i j : Inode) (totals : Totals) (size used : ℕ) (attr : Attr) (changes : List Change)
-    → IsWritten t.tree cred number i → totals ≡ totals_of t.tree → ltb LARGEST (offset + length bytes) ≡ false → (length bytes == 0) ≡ false
+    → IsWritten t.tree cred number i → totals ≡ totals_of t.tree → ltb largest_file (offset + length bytes) ≡ false → (length bytes == 0) ≡ false
     → replaced_blocks totals.used i.size size ≡ Ok used → IsPlaced t.cells number offset bytes now i j size changes → attr ≡ attr_by number j
     → planned t.cells t.tree (call.Write number offset bytes) (write t.tree cred number offset bytes now)
     ≡ Ok (AttrReply attr, changes, record { next = totals.next; used = used })

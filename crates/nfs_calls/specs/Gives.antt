@@ -1,20 +1,20 @@
 -- What a function over cells gives.
 use Rattle.std.specs.Prelude.{◌≡◌, Result, Ok, Err}
 use Rattle.harp_base.specs.declared.reply.Status.{Status}
-use Rattle.file_tree.specs.Steps.{Step}
+use Rattle.file_tree.specs.Tries.{Tried}
 use Rattle.nfs_calls.specs.declared.refusal.Refusal.{Refusal}
 use Rattle.nfs_calls.specs.declared.refusal.Refusal.TheVariants as refusal
 
-abbrev pub Fails : {Y : Type 0} → Refusal → Step Y → Type 0
+abbrev pub Fails : {Y : Type 0} → Refusal → Tried Y → Type 0
 Fails (refusal.Fault fault) step = Unit {0}
 Fails (refusal.Status status) step = step ≡ Err status
 
 -- what a function returned, seen by view, is the step's value or refusal, unless the cells couldn't be read
-abbrev pub Gives : {X Y : Type 0} → (X → Y) → Result X Refusal → Step Y → Type 0
+abbrev pub Gives : {X Y : Type 0} → (X → Y) → Result X Refusal → Tried Y → Type 0
 Gives view (Ok x) step = step ≡ Ok (view x)
 Gives view (Err e) step = Fails e step
 
 -- the same of a function that reads no cells
-abbrev pub Tells : {X Y : Type 0} → (X → Y) → Result X Status → Step Y → Type 0
+abbrev pub Tells : {X Y : Type 0} → (X → Y) → Result X Status → Tried Y → Type 0
 Tells view (Ok x) step = step ≡ Ok (view x)
 Tells view (Err status) step = step ≡ Err status

@@ -6,7 +6,7 @@ use Rattle.harp_base.specs.declared.reply.Reply.TheVariants.{Done}
 use Rattle.harp_base.specs.declared.reply.Status.{Status}
 use Rattle.harp_base.specs.declared.reply.Status.TheVariants.{Perm, NoEnt, NotDir, IsDir}
 use Rattle.file_tree.specs.Tree.{Tree, place, slots_of, entry, is_directory_at}
-use Rattle.file_tree.specs.Steps.{◌>>=◌, refuse, some_or, entry_name}
+use Rattle.file_tree.specs.Tries.{◌>>=◌, refuse, some_or, entry_name}
 use Rattle.file_tree.specs.Permissions.{writing, allowed}
 use Rattle.file_tree.specs.Outcome.{Outcome}
 use Rattle.file_tree.specs.Rename.{is_above, check_target, moved_to}

@@ -1,18 +1,17 @@
 -- What an update plans.
-use Rattle.std.specs.Prelude.{Bool, true, false, ◌≡◌, ℕ, ◌+◌, ◌-◌, ◌*◌, ◌≤◌, ◌==◌, nat_lt, min, List, [], ◌∷◌, ◌++◌, length, Option, Some, None, Ok, if◌then◌else◌}
+use Rattle.std.specs.Prelude.{◌≡◌, ℕ, ◌+◌, ◌-◌, ◌*◌, ◌≤◌, ◌==◌, nat_lt, min, List, [], ◌∷◌, ◌++◌, length, Option, Some, None, Ok, if◌then◌else◌}
 use Rattle.harp_base.specs.declared.attr.Kind.{Kind}
 use Rattle.harp_base.specs.declared.attr.SetAttr.{SetAttr}
 use Rattle.harp_base.specs.declared.attr.Time.{Time}
 use Rattle.harp_base.specs.declared.call.Call.{Call}
-use Rattle.harp_base.specs.declared.call.Call.TheVariants as call
 use Rattle.harp_base.specs.declared.cred.Cred.{Cred}
 use Rattle.harp_base.specs.declared.reply.Reply.{Reply}
 use Rattle.harp_base.specs.declared.reply.Status.TheVariants.{NoSpc}
 use Rattle.file_tree.specs.declared.object.Body.{Body}
 use Rattle.file_tree.specs.Tree.{Tree, attr_at, blocks_of, used_blocks}
-use Rattle.file_tree.specs.Steps.{Step, ◌>>=◌, refuse}
+use Rattle.file_tree.specs.Tries.{◌>>=◌, refuse, Tried}
 use Rattle.file_tree.specs.Calls.{settled}
-use Rattle.file_tree.specs.Permissions.{LEAVE}
+use Rattle.harp_base.specs.Limits.{field_left}
 use Rattle.file_tree.specs.Outcome.{Outcome, given, given_mode, given_time, mtime_for_size, resized, change, with_fields}
 use Rattle.harp_cells.specs.declared.cell.Cell.TheVariants as cell
 use Rattle.harp_cells.specs.declared.change.Change.{Change}
@@ -21,7 +20,7 @@ use Rattle.harp_cells.specs.declared.value.Inode.{Inode}
 use Rattle.harp_cells.specs.declared.value.Value.TheVariants as value
 use Rattle.harp_cells.specs.Effect.{Cells}
 use Rattle.inode_blocks.specs.Changes.{text_put, cuts, kept_in}
-use Rattle.update_changes.specs.Table.{changes_by, tree_changes, sets}
+use Rattle.cell_changes.specs.Table.{changes_by, tree_changes, sets}
 use Rattle.nfs_calls.specs.declared.plan.Plan.{Plan}
 use Rattle.nfs_calls.specs.declared.setting.Set.{Set}
 use Rattle.nfs_calls.specs.declared.totals.Totals.{Totals}
@@ -35,7 +34,7 @@ abbrev pub plan_view : Plan → Reply × List Change × Totals
 plan_view p = (p.reply, p.changes.items, p.totals)
 
 -- the reply of an outcome, the changes that lead to its tree, and the totals of that tree
-abbrev pub planned : Cells → Tree → Call → Outcome → Step (Reply × List Change × Totals)
+abbrev pub planned : Cells → Tree → Call → Outcome → Tried (Reply × List Change × Totals)
 planned cells tree c outcome = do
   x ← outcome
   Ok (x.0, tree_changes cells tree x.1 c, totals_of x.1)
@@ -51,7 +50,7 @@ abbrev pub capped : ℕ → ℕ
 capped n = min n 4294967295
 
 -- the used blocks where those of one size are replaced by those of another, as far as there is room
-abbrev pub replaced_blocks : ℕ → ℕ → ℕ → Step ℕ
+abbrev pub replaced_blocks : ℕ → ℕ → ℕ → Tried ℕ
 replaced_blocks used old new = do
   _ ← refuse NoSpc (nat_lt (65536 + blocks_of old) (used + blocks_of new))
   Ok (used + blocks_of new - blocks_of old)
@@ -114,20 +113,20 @@ set_inode i a now = record i {
 
 -- the bytes of a body where a size is given
 abbrev pub bytes_given : Body → ℕ → Option (List ℕ)
-bytes_given body size = if size == LEAVE then None else Some (resized (bytes_within body) size)
+bytes_given body size = if size == field_left then None else Some (resized (bytes_within body) size)
 
 -- the tree with an object's attributes set
 abbrev pub set_tree : Tree → ℕ → SetAttr → Time → Tree
 set_tree tree number a now = change tree number (with_fields a (bytes_given (object_at tree number).body a.size) now)
 
 -- the used blocks where a size is given
-abbrev pub used_with : ℕ → ℕ → ℕ → Step ℕ
-used_with used old size = if size == LEAVE then Ok used else replaced_blocks used old size
+abbrev pub used_with : ℕ → ℕ → ℕ → Tried ℕ
+used_with used old size = if size == field_left then Ok used else replaced_blocks used old size
 
 -- the changes that give a file of a size another one, where one is given
 abbrev pub resizes_by : Cells → ℕ → ℕ → ℕ → List Change
 resizes_by cells number size wanted =
-    if wanted == LEAVE then [] else cuts number size wanted (kept_in cells number wanted)
+    if wanted == field_left then [] else cuts number size wanted (kept_in cells number wanted)
 
 -- what was computed where an object's attributes were set
 pub record IsSet (cells : Cells) (old new : Tree) (number size : ℕ) (s : Set) : Type 0 where
@@ -136,31 +135,12 @@ pub record IsSet (cells : Cells) (old new : Tree) (number size : ℕ) (s : Set) 
   pub totals : s.totals ≡ totals_of new
 
 -- the changes of an outcome that sets an object's attributes
-abbrev pub sets_planned : Cells → Tree → ℕ → ℕ → Outcome → Step (Reply × List Change × Totals)
+abbrev pub sets_planned : Cells → Tree → ℕ → ℕ → Outcome → Tried (Reply × List Change × Totals)
 sets_planned cells tree number size outcome = do
   x ← outcome
   Ok (x.0, sets cells tree x.1 number size, totals_of x.1)
 
 -- ---- every update
-
--- the updates that move, take away or add entries of objects that are there
-abbrev pub changes_entries : Call → Bool
-changes_entries (call.Remove dir name) = true
-changes_entries (call.RmDir dir name) = true
-changes_entries (call.Link handle dir name) = true
-changes_entries (call.Rename dir name to_dir to_name) = true
-changes_entries (call.SetAttr handle attr) = false
-changes_entries (call.Write handle offset bytes) = false
-changes_entries (call.Create dir name attr) = false
-changes_entries (call.SymLink dir name text attr) = false
-changes_entries (call.MkDir dir name attr) = false
-changes_entries call.Null = false
-changes_entries (call.GetAttr handle) = false
-changes_entries (call.Lookup dir name) = false
-changes_entries (call.ReadLink handle) = false
-changes_entries (call.Read handle offset count) = false
-changes_entries (call.ReadDir dir cookie count) = false
-changes_entries (call.StatFs handle) = false
 
 -- the plan of an outcome, a refusal among them
 abbrev pub settled_plan : Cells → Tree → Call → Outcome → Reply × List Change × Totals

@@ -5,7 +5,7 @@ ghost use Rattle.harp_base.specs.Streams.{Rose};
 ghost use Rattle.harp_base.specs.Update.{is_update};
 ghost use Rattle.harp_base.specs.declared.attr.Time.{Time};
 ghost use Rattle.file_tree.specs.Calls.{answered, outcome};
-ghost use Rattle.update_changes.specs.TreeCells.{TreeCells};
+ghost use Rattle.cell_changes.specs.TreeCells.{TreeCells};
 ghost use Rattle.nfs_calls.specs.Gives.{Gives};
 
 use crate::reads::{get_attr, lookup, read, read_dir, read_link, stat_fs};

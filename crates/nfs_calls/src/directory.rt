@@ -4,9 +4,9 @@ ghost use Rattle.std.specs.Prelude.{◌≡◌, ◌≤◌, ◌<◌, Some, Err, If
 ghost use Rattle.harp_base.specs.Streams.{Rose};
 ghost use Rattle.file_tree.specs.declared.object.Body.{Body};
 ghost use Rattle.file_tree.specs.Tree.{place, slots_of, slots_within, kind_of, entry};
-ghost use Rattle.file_tree.specs.Steps.{slots_in, directory};
+ghost use Rattle.file_tree.specs.Tries.{slots_in, directory};
 ghost use Rattle.file_tree.specs.Outcome.{find, resolve, doomed};
-ghost use Rattle.update_changes.specs.TreeCells.{TreeCells};
+ghost use Rattle.cell_changes.specs.TreeCells.{TreeCells};
 ghost use Rattle.nfs_calls.specs.TreeCells.{IsInode, IsDirectory};
 ghost use Rattle.nfs_calls.specs.Gives.{Gives, Tells};
 

@@ -6,7 +6,7 @@ ghost use Rattle.file_tree.specs.declared.object.Slot.{Slot};
 ghost use Rattle.file_tree.specs.Tree.{place, slots_of, with_entry};
 ghost use Rattle.file_tree.specs.Outcome.{has_entry, free_name};
 ghost use Rattle.harp_cells.specs.Effect.{Cells};
-ghost use Rattle.update_changes.specs.TreeCells.{TreeCells};
+ghost use Rattle.cell_changes.specs.TreeCells.{TreeCells};
 ghost use Rattle.nfs_calls.specs.TreeCells.{IsDirectory, IsRoom};
 ghost use Rattle.nfs_calls.specs.Plans.{FitsName, entered, replaced_blocks};
 ghost use Rattle.nfs_calls.specs.Gives.{Gives};

@@ -5,9 +5,9 @@ ghost use Rattle.harp_base.specs.Streams.{Rose};
 ghost use Rattle.harp_base.specs.declared.attr.Kind.TheVariants as kinds;
 ghost use Rattle.file_tree.specs.declared.object.Body.{Body};
 ghost use Rattle.file_tree.specs.Tree.{place, kind_of};
-ghost use Rattle.file_tree.specs.Steps.{bytes_in, text_in};
+ghost use Rattle.file_tree.specs.Tries.{bytes_in, text_in};
 ghost use Rattle.harp_cells.specs.CellsOfTree.{content_of};
-ghost use Rattle.update_changes.specs.TreeCells.{TreeCells};
+ghost use Rattle.cell_changes.specs.TreeCells.{TreeCells};
 ghost use Rattle.nfs_calls.specs.TreeCells.{IsInode, bytes_within};
 ghost use Rattle.nfs_calls.specs.Gives.{Gives, Tells};
 

@@ -4,8 +4,8 @@ ghost use Rattle.std.specs.Prelude.{◌≡◌, ◌≤◌, Some, Err, IfOk};
 ghost use Rattle.harp_base.specs.Streams.{Rose};
 ghost use Rattle.harp_cells.specs.Effect.{Cells};
 ghost use Rattle.file_tree.specs.Tree.{attr_at, attr_zero};
-ghost use Rattle.file_tree.specs.Steps.{live};
-ghost use Rattle.update_changes.specs.TreeCells.{TreeCells};
+ghost use Rattle.file_tree.specs.Tries.{live};
+ghost use Rattle.cell_changes.specs.TreeCells.{TreeCells};
 ghost use Rattle.nfs_calls.specs.TreeCells.{IsInode, inode_found, inode_placed, object_at, root_inode, attr_by};
 ghost use Rattle.nfs_calls.specs.Gives.{Gives};
 

@@ -3,8 +3,8 @@
 ghost use Rattle.std.specs.Prelude.{◌≡◌, ◌≤◌, ◌++◌, ◌-◌, ℕ, List, Some, Err, IfOk};
 ghost use Rattle.harp_base.specs.Streams.{Rose};
 ghost use Rattle.file_tree.specs.Tree.{place, slots_of, blocks_of, entry};
-ghost use Rattle.update_changes.specs.Short.{AreShort};
-ghost use Rattle.update_changes.specs.TreeCells.{TreeCells};
+ghost use Rattle.cell_changes.specs.Short.{AreShort};
+ghost use Rattle.cell_changes.specs.TreeCells.{TreeCells};
 ghost use Rattle.nfs_calls.specs.TreeCells.{IsInode};
 ghost use Rattle.nfs_calls.specs.Entries.{is_directory_kind, link_of, relinked, unlinked, is_last, has_blocks, loss, after_loss, inode_zero};
 

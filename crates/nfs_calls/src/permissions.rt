@@ -4,9 +4,9 @@ ghost use Rattle.std.specs.Prelude.{◌≡◌, ◌≤◌, ℕ, not, Some, Err, I
 ghost use Rattle.harp_base.specs.Streams.{Rose};
 ghost use Rattle.harp_base.specs.declared.reply.Status.TheVariants.{Perm};
 ghost use Rattle.file_tree.specs.Tree.{Tree, place, slots_of};
-ghost use Rattle.file_tree.specs.Steps.{refuse};
+ghost use Rattle.file_tree.specs.Tries.{refuse};
 ghost use Rattle.file_tree.specs.Permissions.{allowed, searched, may_set, may_make};
-ghost use Rattle.update_changes.specs.TreeCells.{TreeCells};
+ghost use Rattle.cell_changes.specs.TreeCells.{TreeCells};
 ghost use Rattle.nfs_calls.specs.TreeCells.{IsInode, IsDirectory, object_at};
 ghost use Rattle.nfs_calls.specs.Gives.{Gives};
 

@@ -2,17 +2,17 @@
 
 ghost use Rattle.std.specs.Prelude.{◌≡◌, ◌≤◌, ◌∷◌, ◌++◌, [], Some, Err, IfOk, OnOk, true};
 ghost use Rattle.harp_base.specs.Streams.{Rose};
-ghost use Rattle.harp_base.specs.Update.{is_update};
+ghost use Rattle.harp_base.specs.Update.{is_update, changes_entries};
 ghost use Rattle.file_tree.specs.Calls.{answered, outcome};
 ghost use Rattle.harp_cells.specs.declared.cell.Cell.TheVariants as cell;
 ghost use Rattle.harp_cells.specs.declared.change.Change.TheVariants as change;
 ghost use Rattle.harp_cells.specs.declared.value.Value.TheVariants as value;
 ghost use Rattle.harp_cells.specs.CellsOfTree.{StandForTree};
 ghost use Rattle.harp_cells.specs.Effect.{Cells, after};
-ghost use Rattle.update_changes.specs.Short.{AreShort};
-ghost use Rattle.update_changes.specs.Table.{update_changes};
-ghost use Rattle.update_changes.specs.TreeCells.{TreeCells};
-ghost use Rattle.nfs_calls.specs.Plans.{changes_entries, plan_view, planned, settled_plan, totals_of};
+ghost use Rattle.cell_changes.specs.Short.{AreShort};
+ghost use Rattle.cell_changes.specs.Table.{update_changes};
+ghost use Rattle.cell_changes.specs.TreeCells.{TreeCells};
+ghost use Rattle.nfs_calls.specs.Plans.{plan_view, planned, settled_plan, totals_of};
 ghost use Rattle.nfs_calls.specs.Gives.{Gives};
 
 use crate::creating::create;

@@ -4,7 +4,7 @@ ghost use Rattle.std.specs.Prelude.{◌≡◌, ◌≤◌, Some, Err, IfOk};
 ghost use Rattle.harp_base.specs.Streams.{Rose};
 ghost use Rattle.file_tree.specs.Tree.{attr_at};
 ghost use Rattle.file_tree.specs.Outcome.{get_attr, lookup, read_link, read, read_dir, stat_fs};
-ghost use Rattle.update_changes.specs.TreeCells.{TreeCells};
+ghost use Rattle.cell_changes.specs.TreeCells.{TreeCells};
 ghost use Rattle.nfs_calls.specs.TreeCells.{attr_by};
 ghost use Rattle.nfs_calls.specs.Gives.{Gives};
 

@@ -4,10 +4,10 @@ ghost use Rattle.std.specs.Prelude.{◌≡◌, ◌≤◌, ◌&&◌, ℕ, List, S
 ghost use Rattle.harp_base.specs.Streams.{Rose};
 ghost use Rattle.harp_base.specs.declared.call.Call.TheVariants as call;
 ghost use Rattle.file_tree.specs.Tree.{place, slots_of, entry, is_directory_at};
-ghost use Rattle.file_tree.specs.Steps.{entry_name};
+ghost use Rattle.file_tree.specs.Tries.{entry_name};
 ghost use Rattle.file_tree.specs.Rename.{is_above, rename};
-ghost use Rattle.update_changes.specs.Short.{AreShort};
-ghost use Rattle.update_changes.specs.TreeCells.{TreeCells};
+ghost use Rattle.cell_changes.specs.Short.{AreShort};
+ghost use Rattle.cell_changes.specs.TreeCells.{TreeCells};
 ghost use Rattle.nfs_calls.specs.TreeCells.{IsInode, IsDirectory};
 ghost use Rattle.nfs_calls.specs.Gives.{Gives};
 ghost use Rattle.nfs_calls.specs.Plans.{FitsName, plan_view, planned, totals_of};

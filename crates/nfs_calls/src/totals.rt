@@ -4,7 +4,7 @@ ghost use Rattle.std.specs.Prelude.{◌≡◌, ◌≤◌, Some, Err, IfOk, lengt
 ghost use Rattle.harp_base.specs.Streams.{Rose};
 ghost use Rattle.harp_cells.specs.Effect.{Cells};
 ghost use Rattle.file_tree.specs.Tree.{used_blocks};
-ghost use Rattle.update_changes.specs.TreeCells.{TreeCells};
+ghost use Rattle.cell_changes.specs.TreeCells.{TreeCells};
 ghost use Rattle.nfs_calls.specs.TreeCells.{totals_found};
 
 use harp_cells::{Cell, CellFault, CellRead, Value};

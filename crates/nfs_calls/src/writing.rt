@@ -6,8 +6,8 @@ ghost use Rattle.harp_base.specs.declared.call.Call.TheVariants as call;
 ghost use Rattle.file_tree.specs.Outcome.{write};
 ghost use Rattle.harp_cells.specs.Effect.{Cells};
 ghost use Rattle.inode_blocks.specs.Changes.{puts};
-ghost use Rattle.update_changes.specs.Short.{AreShort};
-ghost use Rattle.update_changes.specs.TreeCells.{TreeCells};
+ghost use Rattle.cell_changes.specs.Short.{AreShort};
+ghost use Rattle.cell_changes.specs.TreeCells.{TreeCells};
 ghost use Rattle.nfs_calls.specs.Plans.{plan_view, planned, totals_of};
 ghost use Rattle.nfs_calls.specs.Gives.{Gives};
 

@@ -1,6 +1,7 @@
 -- A log in memory: its numbers, and the records after its base.
 use Rattle.std.specs.Prelude.{◌≡◌, ℕ, ◌+◌, ◌-◌, ◌<◌, ◌≤◌, ◌^◌, List, [], ◌∷◌, ◌++◌, length, Option, None, nat_lt, if◌then◌else◌}
 use Rattle.std.specs.List.{slice_get}
+use Rattle.harp_base.specs.Limits.{log_room}
 use Rattle.event_record.specs.declared.record.Record.{Record}
 
 -- the records base + 1 to base + length records; those up to LB are on the disk, up to AP applied, up to CP committed
@@ -17,7 +18,7 @@ top log = log.base + length log.records
 
 -- how many records a log has room for
 abbrev pub room : ℕ
-room = 32768
+room = log_room
 
 -- the records have the indices n + 1, n + 2 and so on
 abbrev pub AreNumberedAfter : ℕ → List Record → Type 0

@@ -5,6 +5,7 @@ ghost use Rattle.std.specs.Option.{option_copied};
 ghost use Rattle.volatile_log.specs.Log.{IsLog, LogValue, committed_to, empty_log, record_at, room, top, with_record};
 
 use event_record::Record;
+use harp_base::LOG_ROOM;
 use std::alloc::{AllocError, Global};
 use std::collections::VecDeque;
 use std::marker::Model;
@@ -12,9 +13,6 @@ use std::marker::Model;
 /// The log has no room for another record: 32,768 stand in it.
 #[derive(Clone, Copy, Debug, PartialEq, Eq)]
 pub struct LogFull;
-
-/// How many records a log has room for.
-const ROOM: usize = 32768;
 
 /// A log that records are added to and committed in. It has the records base + 1 to top, at most
 /// 32,768 and each with the index of its place; base <= LB <= AP <= CP <= top, all below 2^62. Those
@@ -52,7 +50,7 @@ impl ActiveLog {
             lb: 0,
             ap: 0,
             cp: 0,
-            records: VecDeque::with_capacity(alloc, ROOM)?,
+            records: VecDeque::with_capacity(alloc, LOG_ROOM)?,
         })
     }
 
@@ -65,7 +63,7 @@ impl ActiveLog {
         ensures full { IsErr result ↔ (length self.old.records ≡ room) }
         ensures back { IfErr result (λ both. (both.1 ≡ item) × (self.new ≡ self.old)) }
     {
-        if self.records.len() == ROOM {
+        if self.records.len() == LOG_ROOM {
             return Err((LogFull, item));
         }
         self.records.push_back_reserved(item);

@@ -4,17 +4,16 @@ use Rattle.std.proofs.lemmas.Bool.{cases_Bool}
 use Rattle.harp_base.specs.declared.call.Call.{Call}
 use Rattle.harp_base.specs.Update.{is_update}
 use Rattle.file_tree.specs.Book.{Entry}
-use Rattle.group_model.specs.Ask.{on_ask}
-use Rattle.group_model.specs.FixedStart.{starting, view_one}
-use Rattle.group_model.specs.FreeReads.{on_free_ask, on_read}
-use Rattle.group_model.specs.Laws.{Whole}
-use Rattle.group_model.specs.Moves.{Move}
-use Rattle.group_model.specs.Open.{and_then, rebase}
-use Rattle.group_model.specs.Places.{Zero, One, Two, Place, all_of, get}
-use Rattle.group_model.specs.State.{Group, Log, Packet, Server}
-use Rattle.group_model.specs.Step.{Ask, Comes, Does, Tick, list_of, step}
-use Rattle.group_model.proofs.Common.{by_if}
-use Rattle.group_model.proofs.Lawful.{stands_for}
+use Rattle.group_rules.specs.Ask.{on_ask}
+use Rattle.group_rules.specs.FixedStart.{starting, view_one}
+use Rattle.group_rules.specs.FreeReads.{on_free_ask, on_read}
+use Rattle.group_run.specs.Laws.{LogsAreWhole}
+use Rattle.group_rules.specs.Moves.{Move}
+use Rattle.group_rules.specs.Open.{and_then, rebase}
+use Rattle.group_rules.specs.Places.{Zero, One, Two, Place, all_of, get}
+use Rattle.group_rules.specs.State.{Group, Log, Packet, Server}
+use Rattle.group_rules.specs.Step.{Ask, Comes, Does, Tick, list_of, step}
+use Rattle.group_rules.proofs.Tests.{by_if}
 use Rattle.group_run.specs.Run.{Scene, moves_of, no_size}
 use Rattle.group_run.proofs.Early.{Early, IsEarly, ack, beat, event, following, leading}
 use Rattle.replica.specs.Servers.{IsFollowing, IsLeading}
@@ -36,17 +35,6 @@ leads_so g h = subst IsLeading (sym h.leads.is) refl
 
 pub follows_so : (g : Group Entry) → Early g → IsFollowing (g.server One)
 follows_so g h = subst IsFollowing (sym h.follows.is) refl
-
--- the leader's log is its whole list
-pub list_is : (g : Group Entry) → Whole g → Early g → list_of g Zero ≡ (g.server Zero).items
-list_is g k h =
-    let held : (g.server Zero).held ≡ Log = ap (λ (s : Server Entry). s.held) h.leads.is in
-    let base : (g.server Zero).base ≡ 0 = ap (λ (s : Server Entry). s.base) h.leads.is in
-    let list = (g.page (g.server Zero).accepted).list in
-    let n = length (g.server Zero).items in
-    let records = ((stands_for g k Zero).log held).1 in
-    let whole : (g.server Zero).base + n ≡ n = omega (arith, base) in
-    ap (λ m. take m list) whole ∙ sym (records ∙ ap (λ b. take n (drop b list)) base)
 
 -- ---- asks
 
@@ -102,11 +90,11 @@ witness_refuses clock list client number call =
     ]
 
 -- the moves of an ask, by the group's own clock and server
-ask_of : (g : Group Entry) → Whole g → Early g → (q : Place) (client number : ℕ) (call : Call)
+ask_of : (g : Group Entry) → LogsAreWhole g → Early g → (q : Place) (client number : ℕ) (call : Call)
     → moves_of g q (Does (Ask client number call)) ≡ ask_moves q (g.clock q) (g.server q) client number call
 ask_of g k h Zero client number call =
     leader_free g h (list_of g Zero) client number call
-    ∙ ap (λ list. on_free_ask Zero (g.clock Zero) list (g.server Zero) client number call) (list_is g k h)
+    ∙ ap (λ list. on_free_ask Zero (g.clock Zero) list (g.server Zero) client number call) (k.lists Zero)
 ask_of g k h One client number call =
     let f = h.follows in
     subst (λ s. and_then One (g.clock One) s (on_free_ask One (g.clock One) (list_of g One) s client number call) rebase ≡ ask_moves One (g.clock One) s client number call) (sym f.is)
@@ -116,7 +104,7 @@ ask_of g k h Two client number call =
     (witness_refuses (g.clock Two) (list_of g Two) client number call)
 
 -- the moves of an ask are those that the world's server makes
-pub ask_is : (x : Scene) (w : WorldValue) → LooksAs x w → Whole x.group → Early x.group → (q : Place) (client number : ℕ) (call : Call)
+pub ask_is : (x : Scene) (w : WorldValue) → LooksAs x w → LogsAreWhole x.group → Early x.group → (q : Place) (client number : ℕ) (call : Call)
     → moves_of x.group q (Does (Ask client number call)) ≡ ask_moves q (get w.clocks q) (server_in w q) client number call
 ask_is x w looks k h q client number call =
     ask_of x.group k h q client number call

@@ -4,7 +4,6 @@
 mod given;
 mod packet;
 mod refusal;
-mod states;
 mod world;
 
 pub use refusal::Refusal;

@@ -2,7 +2,8 @@ use Rattle.std.proofs.Common.{◌≡◌, ℕ, ◌+◌, ◌*◌, ltb, [], length,
 use Rattle.harp_base.specs.declared.attr.Kind.TheVariants as kind
 use Rattle.harp_base.specs.declared.reply.Status.TheVariants.{FBig}
 use Rattle.file_tree.specs.Tree.{place, slots_of, blocks_of, with_entry}
-use Rattle.file_tree.specs.Outcome.{LARGEST, given, room_for}
+use Rattle.file_tree.specs.Outcome.{given, room_for}
+use Rattle.harp_base.specs.Limits.{largest_file}
 use Rattle.nfs_calls.specs.Plans.{made_inode, replaced_blocks}
 use Rattle.nfs_calls.proofs.Makes.{IsComputed, is_open}
 use Rattle.nfs_calls.proofs.NewPlans.{create_new_plan, passed}
@@ -28,4 +29,4 @@ returns-clause-plan g c t told totals is right none =
     (is_open t.tree a.totals a.dir i a.name.now size room totals is (c.in_ok-room.ensures.room t told is)
     (ap (room_for t.tree a.dir slots a.name.now) sized ∙ c.in_ok-room.ensures.step t a.name.now told totals is)
     (λ s. ap (λ (n : ℕ). replaced_blocks (a.totals.used + blocks_of n) i.size (264 * length (with_entry slots s))) sized ∙ c.in_ok-room.ensures.used t s told is))
-    right (ap (ltb LARGEST) sized ∙ passed FBig _ c.in_ok-refuse.ensures) none (sym (c.in_ok-may_make.ensures t.tree a.dir is.own)) computed c.attr_by.ensures
+    right (ap (ltb largest_file) sized ∙ passed FBig _ c.in_ok-refuse.ensures) none (sym (c.in_ok-may_make.ensures t.tree a.dir is.own)) computed c.attr_by.ensures

@@ -1,6 +1,6 @@
 use Rattle.std.proofs.Common.{Bool, not, sym, ap, ◌∙◌}
 use Rattle.harp_base.specs.declared.reply.Status.TheVariants.{Acces}
-use Rattle.file_tree.specs.Steps.{refuse}
+use Rattle.file_tree.specs.Tries.{refuse}
 use Rattle.nfs_calls.proofs.Inodes.{may_stored}
 use Rattle.nfs_calls.proofs.permissions.allowed.Goals as goal
 

@@ -3,8 +3,8 @@ use Rattle.file_tree.specs.Calls.{outcome}
 use Rattle.harp_cells.specs.declared.change.Change.{Change}
 use Rattle.harp_cells.specs.CellsOfTree.{StandForTree}
 use Rattle.harp_cells.specs.Effect.{after}
-use Rattle.update_changes.specs.Table.{update_changes}
-use Rattle.update_changes.proofs.Leads.{updates_lead}
+use Rattle.cell_changes.specs.Table.{update_changes}
+use Rattle.cell_changes.proofs.Leads.{updates_lead}
 use Rattle.nfs_calls.proofs.preparing.prepare.Goals as goal
 
 pub returns-clause-leads : goal.returns-clause-leads

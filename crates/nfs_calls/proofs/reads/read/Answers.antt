@@ -1,5 +1,5 @@
 use Rattle.std.proofs.Common.{◌≡◌, Ok, sym, ◌∙◌}
-use Rattle.file_tree.specs.Steps.{bytes_in}
+use Rattle.file_tree.specs.Tries.{bytes_in}
 use Rattle.nfs_calls.specs.TreeCells.{IsInode, object_at, bytes_within}
 use Rattle.nfs_calls.proofs.Inodes.{read_is, kind_is}
 use Rattle.nfs_calls.proofs.reads.read.Goals as goal

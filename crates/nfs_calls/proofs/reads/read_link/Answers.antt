@@ -1,5 +1,5 @@
 use Rattle.std.proofs.Common.{◌≡◌, Ok, ◌∙◌}
-use Rattle.file_tree.specs.Steps.{text_in}
+use Rattle.file_tree.specs.Tries.{text_in}
 use Rattle.nfs_calls.specs.TreeCells.{IsInode, object_at, bytes_within}
 use Rattle.nfs_calls.proofs.Inodes.{read_link_is, kind_is}
 use Rattle.nfs_calls.proofs.reads.read_link.Goals as goal

@@ -1,8 +1,8 @@
 use Rattle.std.proofs.Common.{◌≡◌, false, ◌∙◌, sym, subst}
 use Rattle.harp_base.specs.declared.call.Call.TheVariants as call
-use Rattle.file_tree.specs.Steps.{is_dots}
+use Rattle.file_tree.specs.Tries.{is_dots}
 use Rattle.file_tree.specs.Outcome.{Outcome}
-use Rattle.file_tree.proofs.StepLaws.{entry_name_from}
+use Rattle.file_tree.proofs.TryLaws.{entry_name_from}
 use Rattle.nfs_calls.specs.TreeCells.{IsInode, IsDirectory, object_at}
 use Rattle.nfs_calls.specs.Gives.{Gives}
 use Rattle.nfs_calls.specs.Plans.{plan_view, planned}

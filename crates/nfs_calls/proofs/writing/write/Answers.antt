@@ -1,6 +1,6 @@
 use Rattle.std.proofs.Common.{◌≡◌, ℕ, ◌+◌, max, length, ltb, false, Ok, refl, sym, ap, ◌∙◌}
 use Rattle.harp_base.specs.declared.reply.Status.TheVariants.{FBig}
-use Rattle.file_tree.specs.Outcome.{LARGEST}
+use Rattle.harp_base.specs.Limits.{largest_file}
 use Rattle.nfs_calls.specs.Plans.{replaced_blocks}
 use Rattle.nfs_calls.specs.TreeCells.{object_at}
 use Rattle.nfs_calls.proofs.Inodes.{kind_is}
@@ -20,8 +20,8 @@ returns-then-is_empty-clause-plan g c t told totals =
       file = c.in_ok-bytes_in.ensures.kind;
       may = sym (c.in_ok-allowed.ensures t.tree a.handle own);
     } in
-    let small : ltb LARGEST (a.offset + length a.bytes.now) ≡ false =
-    ap (λ (n : ℕ). ltb LARGEST (n + length a.bytes.now)) (sym c.from.ensures) ∙ passed FBig _ c.in_ok-refuse.ensures in
+    let small : ltb largest_file (a.offset + length a.bytes.now) ≡ false =
+    ap (λ (n : ℕ). ltb largest_file (n + length a.bytes.now)) (sym c.from.ensures) ∙ passed FBig _ c.in_ok-refuse.ensures in
     write_nothing t a.cred a.handle a.offset a.bytes.now a.now i a.totals c.attr_by.result _ is totals small (sym c.if-is_empty.ensures) c.attr_by.ensures
     c.new.ensures.items
 
@@ -36,8 +36,8 @@ returns-clause-plan g c t told totals =
       file = c.in_ok-bytes_in.ensures.kind;
       may = sym (c.in_ok-allowed.ensures t.tree a.handle own);
     } in
-    let small : ltb LARGEST (a.offset + length a.bytes.now) ≡ false =
-    ap (λ (n : ℕ). ltb LARGEST (n + length a.bytes.now)) (sym c.from.ensures) ∙ passed FBig _ c.in_ok-refuse.ensures in
+    let small : ltb largest_file (a.offset + length a.bytes.now) ≡ false =
+    ap (λ (n : ℕ). ltb largest_file (n + length a.bytes.now)) (sym c.from.ensures) ∙ passed FBig _ c.in_ok-refuse.ensures in
     let used = sym c.from-2.ensures in
     let size = sym c.from-3.ensures in
     let room : replaced_blocks a.totals.used i.size c.max-size.result ≡ Ok c.in_ok-used.used =

@@ -1,5 +1,0 @@
-use Rattle.update_changes.proofs.Leads.{updates_lead, others_stay}
-use Rattle.update_changes.proofs.laws.update_laws.Goals as goal
-
-pub returns : goal.returns
-returns c = record { lead = updates_lead; others = others_stay }
