@@ -108,9 +108,9 @@ clock_leads x old new l s clock lines clocks after quiet h = record {
 }
 
 takes_leads : (x : Scene) (old new : WorldValue) → LooksAs x old → Whole x.group → Early x.group → (s : Step) (lines : List Line) → Takes old new s lines → Leads x new s lines
-takes_leads x old new l k e (step.Ask server client number call) lines h =
-    serves_leads x old new l k e (step.Ask server client number call) (place_of server) (Does (Ask client number call)) _ refl refl
-    (ask_is x old l k e (place_of server) client number call) old.delivered lines refl l.delivered h
+takes_leads x old new l k e (step.Ask server client number cred call) lines h =
+    serves_leads x old new l k e (step.Ask server client number cred call) (place_of server) (Does (Ask client number cred call)) _ refl refl
+    (ask_is x old l k e (place_of server) client number cred call) old.delivered lines refl l.delivered h
 takes_leads x old new l k e (step.Tick server) lines h =
     serves_leads x old new l k e (step.Tick server) (place_of server) (Does Tick) _ refl refl (tick_is x old l e (place_of server)) old.delivered lines refl l.delivered h
 takes_leads x old new l k e (step.Deliver n) lines h = delivers_leads x old new l k e n lines h
@@ -127,7 +127,7 @@ takes_leads x old new l k e (step.Pump among) lines h = absurd h
 -- ---- what a step that is taken keeps
 
 takes_elementary : (old new : WorldValue) (s : Step) (lines : List Line) → Takes old new s lines → is_elementary s ≡ true
-takes_elementary old new (step.Ask server client number call) lines h = refl
+takes_elementary old new (step.Ask server client number cred call) lines h = refl
 takes_elementary old new (step.Tick server) lines h = refl
 takes_elementary old new (step.Deliver n) lines h = refl
 takes_elementary old new (step.Clock server reading) lines h = refl
@@ -135,7 +135,7 @@ takes_elementary old new (step.Advance millis) lines h = refl
 takes_elementary old new (step.Pump among) lines h = absurd h
 
 takes_clocks : (old new : WorldValue) (s : Step) (lines : List Line) → Takes old new s lines → new.clocks ≡ clocks_after old.clocks s
-takes_clocks old new (step.Ask server client number call) lines h = ap (λ (w : WorldValue). w.clocks) h.world
+takes_clocks old new (step.Ask server client number cred call) lines h = ap (λ (w : WorldValue). w.clocks) h.world
 takes_clocks old new (step.Tick server) lines h = ap (λ (w : WorldValue). w.clocks) h.world
 takes_clocks old new (step.Deliver n) lines h = ap (λ (w : WorldValue). w.clocks) h.serves.world
 takes_clocks old new (step.Clock server reading) lines h = ap (λ (w : WorldValue). w.clocks) h.world
@@ -143,7 +143,7 @@ takes_clocks old new (step.Advance millis) lines h = ap (λ (w : WorldValue). w.
 takes_clocks old new (step.Pump among) lines h = absurd h
 
 takes_halted : (old new : WorldValue) (s : Step) (lines : List Line) → Takes old new s lines → new.halted ≡ old.halted
-takes_halted old new (step.Ask server client number call) lines h = ap (λ (w : WorldValue). w.halted) h.world
+takes_halted old new (step.Ask server client number cred call) lines h = ap (λ (w : WorldValue). w.halted) h.world
 takes_halted old new (step.Tick server) lines h = ap (λ (w : WorldValue). w.halted) h.world
 takes_halted old new (step.Deliver n) lines h = ap (λ (w : WorldValue). w.halted) h.serves.world
 takes_halted old new (step.Clock server reading) lines h = ap (λ (w : WorldValue). w.halted) h.world

@@ -20,7 +20,7 @@ not_memory : (w : WorldValue) (s : Step) → IsOther (refusal_in w s)
 not_memory w (step.Deliver n) = by_if IsOther (nat_lt n (length w.packets)) None (Some refusals.NoPacket) (λ _ e. cc) (λ _ e. cc)
 not_memory w (step.Clock server reading) = by_if IsOther (nat_lt reading (get w.clocks (place_of server))) (Some refusals.ClockBack) _ (λ _ e. cc)
     (λ _. by_if IsOther (near reading (λ q. get (with_at w.clocks (place_of server) reading) q)) None (Some refusals.ClockApart) (λ _ e. cc) (λ _ e. cc))
-not_memory w (step.Ask server client number call) = λ e. cc
+not_memory w (step.Ask server client number cred call) = λ e. cc
 not_memory w (step.Tick server) = λ e. cc
 not_memory w (step.Pump among) = λ e. cc
 not_memory w (step.Advance millis) = λ e. cc

@@ -2,6 +2,7 @@
 use Rattle.std.proofs.Common.{◌≡◌, ℕ, ◌≤◌, ◌||◌, ◌==◌, Bool, true, false, List, [], ◌∷◌, ◌++◌, length, map, Option, None, Some, option_map, refl, ap, ◌∙◌, arith, nat_lt, nat_le, if◌then◌else◌}
 use Rattle.std.specs.List.{flat_map}
 use Rattle.harp_base.specs.declared.call.Call.{Call}
+use Rattle.harp_base.specs.declared.cred.Cred.{Cred}
 use Rattle.harp_base.specs.declared.peer.Peer.{Peer}
 use Rattle.harp_base.specs.Update.{is_update}
 use Rattle.trace_lines.specs.declared.line.Line.{Line}
@@ -43,7 +44,7 @@ line_of q a = line.Answered (id_of q) a.entry.client a.entry.number a.index a.en
 abbrev read_of : Answer → List Entry
 read_of a = elim a.asked [
   | None ↦ []
-  | Some call ↦ record { index = 0; client = a.entry.client; number = a.entry.number; call = call; stamp = 0; reply = a.entry.reply } ∷ []
+  | Some asked ↦ record { index = 0; client = a.entry.client; number = a.entry.number; cred = asked.cred; call = asked.call; stamp = 0; reply = a.entry.reply } ∷ []
 ]
 
 abbrev refusal_line : Place → Refusal → Line
@@ -101,8 +102,8 @@ makes_says q clock ms peers old new before after none has m =
 
 -- ---- an ask is answered once
 
-pub ask_brief : (q : Place) (clock : ℕ) (list : List Entry) (s : Server Entry) (client number : ℕ) (call : Call) (peer : Peer) → HasPeers (on_free_ask q clock list s client number call) (peer ∷ [])
-ask_brief q clock list s client number call peer =
+pub ask_brief : (q : Place) (clock : ℕ) (list : List Entry) (s : Server Entry) (client number : ℕ) (cred : Cred) (call : Call) (peer : Peer) → HasPeers (on_free_ask q clock list s client number cred call) (peer ∷ [])
+ask_brief q clock list s client number cred call peer =
     by_if P (is_update call) _ _
     (λ _. by_if P (nat_lt 4095 client) _ _ (λ _. refused) (λ _. by_if P (all_of (is_active s.mode ∷ same q (leader s.plan.storers) ∷ [])) _ _
     (λ _. by_if P (is_open s.mode) _ _ (λ _. by_if P (is_update call) (update_moves s e (last_of client list)) _ (λ _. updated (last_of client list)) (λ _. read_moved)) (λ _. refused)) (λ _. refused)))
@@ -113,7 +114,7 @@ ask_brief q clock list s client number call peer =
     P ms = HasPeers ms (peer ∷ [])
 
     e : Entry
-    e = new_entry clock list client number call
+    e = new_entry clock list client number cred call
 
     refused : {c n : ℕ} {cause : Cause} → P (refuse c n cause)
     refused = record { answers = omega arith; refusals = omega arith }
@@ -121,7 +122,7 @@ ask_brief q clock list s client number call peer =
     appended : P (append s e)
     appended = by_if P (nat_le room (length s.items) || nat_le limit (top s)) _ _ (λ _. refused) (λ _. record { answers = omega arith; refusals = omega arith })
 
-    read_moved : P (read_moves clock s (read_entry s.cp list client number call))
+    read_moved : P (read_moves clock s (read_entry s.cp list client number cred call))
     read_moved = by_if P (nat_le s.grant clock) _ _ (λ _. refused) (λ _. record { answers = omega arith; refusals = omega arith })
 
     updated : (o : Option Entry) → P (update_moves s e o)

@@ -89,7 +89,7 @@ refusal_shown x w l (step.Clock server reading) =
     ∙ ap (λ b. if nat_lt reading (get w.clocks q) then Some fault.ClockBack else (if b then None else Some fault.ClockApart))
     (near_same reading (at x.group.clock q reading) (λ y. get (with_at w.clocks q reading) y) (at_with x.group.clock w.clocks l.clocks q reading))
     ∙ no_clock (nat_lt reading (get w.clocks q)) (near reading (λ y. get (with_at w.clocks q reading) y))
-refusal_shown x w l (step.Ask server client number call) = refl
+refusal_shown x w l (step.Ask server client number cred call) = refl
 refusal_shown x w l (step.Tick server) = refl
 refusal_shown x w l (step.Advance millis) = refl
 refusal_shown x w l (step.Pump among) = refl

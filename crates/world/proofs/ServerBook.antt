@@ -53,9 +53,9 @@ answers_none n (e ∷ es) = (tt, answers_none (n + 1) es)
 
 -- a read's entry has no index and no stamp
 read_entry_is : (e : Entry) → e.index ≡ 0 → e.stamp ≡ 0
-    → record { index = 0; client = e.client; number = e.number; call = e.call; stamp = 0; reply = e.reply } ≡ e
+    → record { index = 0; client = e.client; number = e.number; cred = e.cred; call = e.call; stamp = 0; reply = e.reply } ≡ e
 read_entry_is e index stamp =
-    let Made : ℕ → ℕ → Entry = λ i t. record { index = i; client = e.client; number = e.number; call = e.call; stamp = t; reply = e.reply } in
+    let Made : ℕ → ℕ → Entry = λ i t. record { index = i; client = e.client; number = e.number; cred = e.cred; call = e.call; stamp = t; reply = e.reply } in
     ap (λ i. Made i 0) (sym index) ∙ ap (λ t. Made e.index t) (sym stamp)
 
 less_none : (n : ℕ) → n ≡ n - 0
@@ -77,7 +77,7 @@ kind_book : (g : Group Entry) → (g.server Zero).cp ≡ length g.committed → 
     → (moved_by g q (g.server q) ms).book ≡ g.book ++ gives g q ms
 kind_book g count base q i _ quiet = sym (append-nil g.book)
 kind_book g count base q i _ (refuses client number cause) = sym (append-nil g.book)
-kind_book g count base q i _ (repeats index e client number call z is u) = sym (append-nil g.book)
+kind_book g count base q i _ (repeats index e client number cred call z is u) = sym (append-nil g.book)
 kind_book g count base q i _ (reads e z is u r) = ap (λ x. g.book ++ x ∷ []) (sym (read_entry_is e r.0 r.1))
 kind_book g count base q i _ (appends e index z is u) = sym (append-nil g.book)
 kind_book g count base q i ms (sends _ z is a) =

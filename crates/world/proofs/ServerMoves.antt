@@ -2,6 +2,7 @@
 use Rattle.std.proofs.Common.{◌≡◌, ℕ, ◌+◌, List, [], length, take, drop, refl, sym, ap, ◌∙◌, subst, arith, inl, inr, nat_lt}
 use Rattle.std.proofs.lemmas.Bool.{cases_Bool}
 use Rattle.harp_base.specs.declared.call.Call.{Call}
+use Rattle.harp_base.specs.declared.cred.Cred.{Cred}
 use Rattle.harp_base.specs.Update.{is_update}
 use Rattle.file_tree.specs.Book.{Entry}
 use Rattle.group_model.specs.Ask.{on_ask}
@@ -51,28 +52,28 @@ list_is g k h =
 -- ---- asks
 
 -- a read that the leader is asked leads to nothing further
-read_alone : (clock : ℕ) (list items : List Entry) (cp told grant client number : ℕ) (call : Call)
-    → and_then Zero clock (leading items cp told grant) (on_read Zero list (leading items cp told grant) client number call) rebase
-    ≡ on_read Zero list (leading items cp told grant) client number call
+read_alone : (clock : ℕ) (list items : List Entry) (cp told grant client number : ℕ) (cred : Cred) (call : Call)
+    → and_then Zero clock (leading items cp told grant) (on_read Zero list (leading items cp told grant) client number cred call) rebase
+    ≡ on_read Zero list (leading items cp told grant) client number cred call
 unfolding all_of
-read_alone clock list items cp told grant client number call = by_if P (nat_lt 4095 client) _ _ (λ _. refl) (λ _. refl)
+read_alone clock list items cp told grant client number cred call = by_if P (nat_lt 4095 client) _ _ (λ _. refl) (λ _. refl)
   where
     P : List (Move Entry) → Type 0
     P ms = and_then Zero clock (leading items cp told grant) ms rebase ≡ ms
 
 -- whatever the leader is asked, its answer is the whole step
-leader_free : (g : Group Entry) → Early g → (list : List Entry) (client number : ℕ) (call : Call)
-    → and_then Zero (g.clock Zero) (g.server Zero) (on_free_ask Zero (g.clock Zero) list (g.server Zero) client number call) rebase
-    ≡ on_free_ask Zero (g.clock Zero) list (g.server Zero) client number call
-leader_free g h list client number call =
-    by_if P (is_update call) (on_ask Zero (g.clock Zero) list s client number call) (on_read Zero list s client number call)
+leader_free : (g : Group Entry) → Early g → (list : List Entry) (client number : ℕ) (cred : Cred) (call : Call)
+    → and_then Zero (g.clock Zero) (g.server Zero) (on_free_ask Zero (g.clock Zero) list (g.server Zero) client number cred call) rebase
+    ≡ on_free_ask Zero (g.clock Zero) list (g.server Zero) client number cred call
+leader_free g h list client number cred call =
+    by_if P (is_update call) (on_ask Zero (g.clock Zero) list s client number cred call) (on_read Zero list s client number cred call)
     (λ u.
-    let free : on_free_ask Zero (g.clock Zero) list s client number call ≡ on_ask Zero (g.clock Zero) list s client number call = rw u refl in
-    leader_is_asked s client number call (leads_so g h) u no_size (g.clock Zero) list ∙ free)
+    let free : on_free_ask Zero (g.clock Zero) list s client number cred call ≡ on_ask Zero (g.clock Zero) list s client number cred call = rw u refl in
+    leader_is_asked s client number cred call (leads_so g h) u no_size (g.clock Zero) list ∙ free)
     (λ _.
     let l = h.leads in
-    subst (λ s. and_then Zero (g.clock Zero) s (on_read Zero list s client number call) rebase ≡ on_read Zero list s client number call) (sym l.is)
-    (read_alone (g.clock Zero) list l.items l.cp l.told l.grant client number call))
+    subst (λ s. and_then Zero (g.clock Zero) s (on_read Zero list s client number cred call) rebase ≡ on_read Zero list s client number cred call) (sym l.is)
+    (read_alone (g.clock Zero) list l.items l.cp l.told l.grant client number cred call))
   where
     s : Server Entry
     s = g.server Zero
@@ -81,47 +82,47 @@ leader_free g h list client number call =
     P ms = and_then Zero (g.clock Zero) s ms rebase ≡ ms
 
 -- the partner refuses, with the leader as hint, and so does the witness without one
-partner_refuses : (clock : ℕ) (list items : List Entry) (cp horizon client number : ℕ) (call : Call)
-    → and_then One clock (following items cp horizon) (on_free_ask One clock list (following items cp horizon) client number call) rebase
-    ≡ ask_moves One clock (following items cp horizon) client number call
+partner_refuses : (clock : ℕ) (list items : List Entry) (cp horizon client number : ℕ) (cred : Cred) (call : Call)
+    → and_then One clock (following items cp horizon) (on_free_ask One clock list (following items cp horizon) client number cred call) rebase
+    ≡ ask_moves One clock (following items cp horizon) client number cred call
 unfolding all_of
-partner_refuses clock list items cp horizon client number call =
+partner_refuses clock list items cp horizon client number cred call =
     elim (cases_Bool (nat_lt 4095 client)) [
       | inl u ↦ elim (cases_Bool (is_update call)) [ inl w ↦ rw (u, w) refl | inr w ↦ rw (u, w) refl ]
       | inr u ↦ elim (cases_Bool (is_update call)) [ inl w ↦ rw (u, w) refl | inr w ↦ rw (u, w) refl ]
     ]
 
-witness_refuses : (clock : ℕ) (list : List Entry) (client number : ℕ) (call : Call)
-    → and_then Two clock (starting Two) (on_free_ask Two clock list (starting Two) client number call) rebase
-    ≡ ask_moves Two clock (starting Two) client number call
+witness_refuses : (clock : ℕ) (list : List Entry) (client number : ℕ) (cred : Cred) (call : Call)
+    → and_then Two clock (starting Two) (on_free_ask Two clock list (starting Two) client number cred call) rebase
+    ≡ ask_moves Two clock (starting Two) client number cred call
 unfolding all_of
-witness_refuses clock list client number call =
+witness_refuses clock list client number cred call =
     elim (cases_Bool (nat_lt 4095 client)) [
       | inl u ↦ elim (cases_Bool (is_update call)) [ inl w ↦ rw (u, w) refl | inr w ↦ rw (u, w) refl ]
       | inr u ↦ elim (cases_Bool (is_update call)) [ inl w ↦ rw (u, w) refl | inr w ↦ rw (u, w) refl ]
     ]
 
 -- the moves of an ask, by the group's own clock and server
-ask_of : (g : Group Entry) → Whole g → Early g → (q : Place) (client number : ℕ) (call : Call)
-    → moves_of g q (Does (Ask client number call)) ≡ ask_moves q (g.clock q) (g.server q) client number call
-ask_of g k h Zero client number call =
-    leader_free g h (list_of g Zero) client number call
-    ∙ ap (λ list. on_free_ask Zero (g.clock Zero) list (g.server Zero) client number call) (list_is g k h)
-ask_of g k h One client number call =
+ask_of : (g : Group Entry) → Whole g → Early g → (q : Place) (client number : ℕ) (cred : Cred) (call : Call)
+    → moves_of g q (Does (Ask client number cred call)) ≡ ask_moves q (g.clock q) (g.server q) client number cred call
+ask_of g k h Zero client number cred call =
+    leader_free g h (list_of g Zero) client number cred call
+    ∙ ap (λ list. on_free_ask Zero (g.clock Zero) list (g.server Zero) client number cred call) (list_is g k h)
+ask_of g k h One client number cred call =
     let f = h.follows in
-    subst (λ s. and_then One (g.clock One) s (on_free_ask One (g.clock One) (list_of g One) s client number call) rebase ≡ ask_moves One (g.clock One) s client number call) (sym f.is)
-    (partner_refuses (g.clock One) (list_of g One) f.items f.cp f.horizon client number call)
-ask_of g k h Two client number call =
-    subst (λ s. and_then Two (g.clock Two) s (on_free_ask Two (g.clock Two) (list_of g Two) s client number call) rebase ≡ ask_moves Two (g.clock Two) s client number call) (sym h.outside)
-    (witness_refuses (g.clock Two) (list_of g Two) client number call)
+    subst (λ s. and_then One (g.clock One) s (on_free_ask One (g.clock One) (list_of g One) s client number cred call) rebase ≡ ask_moves One (g.clock One) s client number cred call) (sym f.is)
+    (partner_refuses (g.clock One) (list_of g One) f.items f.cp f.horizon client number cred call)
+ask_of g k h Two client number cred call =
+    subst (λ s. and_then Two (g.clock Two) s (on_free_ask Two (g.clock Two) (list_of g Two) s client number cred call) rebase ≡ ask_moves Two (g.clock Two) s client number cred call) (sym h.outside)
+    (witness_refuses (g.clock Two) (list_of g Two) client number cred call)
 
 -- the moves of an ask are those that the world's server makes
-pub ask_is : (x : Scene) (w : WorldValue) → LooksAs x w → Whole x.group → Early x.group → (q : Place) (client number : ℕ) (call : Call)
-    → moves_of x.group q (Does (Ask client number call)) ≡ ask_moves q (get w.clocks q) (server_in w q) client number call
-ask_is x w looks k h q client number call =
-    ask_of x.group k h q client number call
-    ∙ ap (λ clock. ask_moves q clock (x.group.server q) client number call) (looks.clocks q)
-    ∙ ap (λ s. ask_moves q (get w.clocks q) s client number call) (server_is x w looks q)
+pub ask_is : (x : Scene) (w : WorldValue) → LooksAs x w → Whole x.group → Early x.group → (q : Place) (client number : ℕ) (cred : Cred) (call : Call)
+    → moves_of x.group q (Does (Ask client number cred call)) ≡ ask_moves q (get w.clocks q) (server_in w q) client number cred call
+ask_is x w looks k h q client number cred call =
+    ask_of x.group k h q client number cred call
+    ∙ ap (λ clock. ask_moves q clock (x.group.server q) client number cred call) (looks.clocks q)
+    ∙ ap (λ s. ask_moves q (get w.clocks q) s client number cred call) (server_is x w looks q)
 
 -- ---- ticks
 

@@ -3,6 +3,7 @@ use Rattle.std.specs.Prelude.{◌≡◌, ℕ, Bool, true, false, nat_lt, slice_g
 use Rattle.std.specs.List.{flat_map}
 use Rattle.harp_base.specs.declared.server.ServerId.{ServerId}
 use Rattle.harp_base.specs.declared.call.Call.{Call}
+use Rattle.harp_base.specs.declared.cred.Cred.{Cred}
 use Rattle.harp_base.specs.declared.state.StateLine.{StateLine}
 use Rattle.trace_lines.specs.declared.step.Step.{Step}
 use Rattle.trace_lines.specs.declared.step.Step.TheVariants as step
@@ -46,10 +47,10 @@ refuse_moves client number hint =
     Saying (Refuses client number (if nat_lt 4095 client then BadClient else NotLeader hint)) ∷ []
 
 -- the moves of an ask, and those of a tick; only the leader has something due
-abbrev pub ask_moves : Place → ℕ → Server Entry → ℕ → ℕ → Call → List (Move Entry)
-ask_moves Zero clock s client number call = on_free_ask Zero clock s.items s client number call
-ask_moves One clock s client number call = refuse_moves client number (Some Zero)
-ask_moves Two clock s client number call = refuse_moves client number None
+abbrev pub ask_moves : Place → ℕ → Server Entry → ℕ → ℕ → Cred → Call → List (Move Entry)
+ask_moves Zero clock s client number cred call = on_free_ask Zero clock s.items s client number cred call
+ask_moves One clock s client number cred call = refuse_moves client number (Some Zero)
+ask_moves Two clock s client number cred call = refuse_moves client number None
 
 abbrev pub tick_moves : Place → ℕ → Server Entry → List (Move Entry)
 tick_moves Zero clock s = tick Zero clock s
@@ -71,7 +72,7 @@ message_moves q clock s from m = []
 -- the entry of a read; it has no index and no stamp
 abbrev pub read_by : Move Entry → List Entry
 read_by (Reading n e) =
-    record { index = 0; client = e.client; number = e.number; call = e.call; stamp = 0; reply = e.reply } ∷ []
+    record { index = 0; client = e.client; number = e.number; cred = e.cred; call = e.call; stamp = 0; reply = e.reply } ∷ []
 read_by m = []
 
 abbrev pub reads_of : List (Move Entry) → List Entry
@@ -194,9 +195,9 @@ pub record Sets (old new : WorldValue) (s : Step) (lines : List Line) : Type 0 w
 
 -- what a step does that isn't refused
 abbrev pub Takes : WorldValue → WorldValue → Step → List Line → Type 0
-Takes old new (step.Ask server client number call) lines =
-    Serves old new (step.Ask server client number call) (place_of server)
-    (ask_moves (place_of server) (get old.clocks (place_of server)) (server_in old (place_of server)) client number call)
+Takes old new (step.Ask server client number cred call) lines =
+    Serves old new (step.Ask server client number cred call) (place_of server)
+    (ask_moves (place_of server) (get old.clocks (place_of server)) (server_in old (place_of server)) client number cred call)
     old.delivered lines
 Takes old new (step.Tick server) lines =
     Serves old new (step.Tick server) (place_of server)

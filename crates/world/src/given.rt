@@ -67,13 +67,14 @@ fn enter_read(
 {
     match &answer.asked {
         None => Ok(()),
-        Some(call) => {
+        Some(asked) => {
             let read = BookEntry {
                 index: 0,
                 client: answer.client,
                 number: answer.number,
+                cred: asked.cred,
                 stamp: 0,
-                call: call.copy(alloc)?,
+                call: asked.call.copy(alloc)?,
                 reply: answer.reply.copy(alloc)?,
             };
             enter(alloc, &read, book, lines)

@@ -11,7 +11,7 @@ ghost use Rattle.world.specs.State.{AreReadings};
 
 use crate::world::World;
 use event_record::{Moment, Record};
-use harp_base::{Call, Peer, ServerId, ViewNo};
+use harp_base::{Call, Cred, Peer, ServerId, ViewNo};
 use replica::{Outputs, Refused};
 use std::alloc::{AllocError, Global};
 use trace_lines::Cause;
@@ -31,16 +31,17 @@ impl World {
         server: ServerId,
         client: u32,
         number: u64,
+        cred: Cred,
         call: &Call,
     ) -> Result<Outputs, AllocError>
         requires { AreReadings self.old.clocks }
         ensures { let q = place_of server in
             IfOk result (λ outs. Made self.old self.new q
-            (ask_moves q (get self.old.clocks q) (server_in self.old q) client number call.now) outs) }
+            (ask_moves q (get self.old.clocks q) (server_in self.old q) client number cred call.now) outs) }
     {
         let _ = &self.packets;
         match server {
-            ServerId::Zero => self.serve_leader(alloc, client, number, call),
+            ServerId::Zero => self.serve_leader(alloc, client, number, cred, call),
             ServerId::One => refuse(alloc, client, number, Some(ServerId::Zero)),
             ServerId::Two => refuse(alloc, client, number, None),
         }
@@ -52,16 +53,17 @@ impl World {
         alloc: Global,
         client: u32,
         number: u64,
+        cred: Cred,
         call: &Call,
     ) -> Result<Outputs, AllocError>
         requires { AreReadings self.old.clocks }
         ensures { IfOk result (λ outs. Made self.old self.new Zero
-            (ask_moves Zero (get self.old.clocks Zero) (server_in self.old Zero) client number call.now) outs) }
+            (ask_moves Zero (get self.old.clocks Zero) (server_in self.old Zero) client number cred call.now) outs) }
     {
         let now = self.clocks.zero;
         let mut outs = Outputs::new(alloc);
         self.leader
-            .ask(alloc, CLIENT, client, number, call, now, &mut outs)?;
+            .ask(alloc, CLIENT, client, number, cred, call, now, &mut outs)?;
         Ok(outs)
     }
 
