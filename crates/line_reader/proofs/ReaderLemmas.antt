@@ -5,9 +5,9 @@ use Rattle.std.specs.Prelude.{◌==◌, vec_len}
 use Rattle.std.proofs.lemmas.Bool.{eqb-false}
 use Rattle.std.specs.Io.KnownBytes.{Keeps, prepend_known}
 use Rattle.line_reader.specs.declared.reader.Next.TheVariants as next
-use Rattle.line_reader.specs.Lines.{lines_of, Peeked}
+use Rattle.line_reader.specs.Lines.{Feedless, lines_of, Peeked}
 use Rattle.line_reader.specs.Reading.{GivesKnown, BeginsLong}
-use Rattle.line_reader.proofs.LineLemmas.{Feedless, lines_of-ended, lines_of-last, begins}
+use Rattle.line_reader.proofs.LineLemmas.{lines_of-ended, lines_of-last, begins}
 
 -- the text is the line so far, what is at hand and what the source has left
 pub record ReadsOn (text : Option (List ℕ)) (line ahead : List ℕ) (left : Option (List ℕ)) : Type 0 where
