@@ -1,5 +1,5 @@
 -- A step that the world takes is played: its lines and the world after it are those of the run that goes on with it.
-use Rattle.std.proofs.Common.{◌≡◌, ℕ, ◌+◌, ◌<◌, ◌||◌, ◌==◌, Bool, true, false, List, [], ◌∷◌, ◌++◌, length, drop, Option, None, Some, refl, sym, ap, ◌∙◌, subst, slice_get}
+use Rattle.std.proofs.Common.{◌≡◌, ℕ, ◌+◌, ◌<◌, ◌≤◌, arith, ◌||◌, ◌==◌, Bool, true, false, List, [], ◌∷◌, ◌++◌, length, drop, Option, None, Some, refl, sym, ap, ◌∙◌, subst, slice_get}
 use Rattle.std.specs.Prelude.{option_map, slice_index_or, slice_set}
 use Rattle.std.specs.List.{list_any}
 use Rattle.std.proofs.lemmas.List.{length-set}
@@ -9,14 +9,14 @@ use Rattle.trace_lines.specs.declared.line.Line.TheVariants as line
 use Rattle.trace_lines.specs.declared.step.Step.{Step}
 use Rattle.trace_lines.specs.declared.step.Step.TheVariants as step
 use Rattle.file_tree.specs.Book.{Entry}
-use Rattle.group_model.specs.Laws.{Whole}
+use Rattle.group_model.specs.Laws.{Near, Whole}
 use Rattle.group_model.specs.Moves.{Move, acts}
 use Rattle.group_model.specs.Names.{place_of}
 use Rattle.group_model.specs.Places.{Zero, One, Two, Place, get}
 use Rattle.group_model.specs.State.{Packet, Server}
 use Rattle.group_model.specs.Step.{Ask, Comes, Does, Input, Tick, numbered}
 use Rattle.group_run.specs.Lines.{answered_lines, entered_lines, lines_of_moves, refused_lines, sent_lines, state_lines}
-use Rattle.group_run.specs.Run.{Scene, begins, delivered_after, first_scene, group_after, is_elementary, lines_where, moves_of, next, run, run_lines, step_lines, stepped, stepped_where}
+use Rattle.group_run.specs.Run.{AreTaken, Scene, begins, delivered_after, first_scene, group_after, is_elementary, lines_where, moves_of, next, run, run_lines, step_lines, stepped, stepped_where}
 use Rattle.group_run.specs.Shown.{state_of}
 use Rattle.group_run.proofs.Early.{Early, numbered_early}
 use Rattle.group_run.proofs.RunLaws.{first_stands, run_stands}
@@ -142,7 +142,7 @@ takes_clocks old new (step.Clock server reading) lines h = ap (λ (w : WorldValu
 takes_clocks old new (step.Advance millis) lines h = ap (λ (w : WorldValue). w.clocks) h.world
 takes_clocks old new (step.Pump among) lines h = absurd h
 
-takes_halted : (old new : WorldValue) (s : Step) (lines : List Line) → Takes old new s lines → new.halted ≡ old.halted
+pub takes_halted : (old new : WorldValue) (s : Step) (lines : List Line) → Takes old new s lines → new.halted ≡ old.halted
 takes_halted old new (step.Ask server client number cred call) lines h = ap (λ (w : WorldValue). w.halted) h.world
 takes_halted old new (step.Tick server) lines h = ap (λ (w : WorldValue). w.halted) h.world
 takes_halted old new (step.Deliver n) lines h = ap (λ (w : WorldValue). w.halted) h.serves.world
@@ -153,6 +153,24 @@ takes_halted old new (step.Pump among) lines h = absurd h
 -- what stands after a run that leaves a world
 pub left_stands : (ss : List Step) (w : WorldValue) → IsLeftBy ss w → Stands (run_lines first_scene ss) (run first_scene ss).group
 left_stands ss w h = run_stands ss [] first_scene first_stands h.taken
+
+-- any two clocks of a world that a run leaves are at most 50 apart
+left_near : (ss : List Step) (w : WorldValue) → AreTaken first_scene ss → LooksAs (run first_scene ss) w
+    → Near (get w.clocks)
+left_near ss w taken looks = λ x y.
+    let near = (run_stands ss [] first_scene first_stands taken).whole.near x y in
+    let one = looks.clocks x in
+    let other = looks.clocks y in
+    omega (arith, near, one, other)
+
+pub left_by : (ss : List Step) (w : WorldValue) → AreTaken first_scene ss → LooksAs (run first_scene ss) w
+    → w.halted ≡ false → IsLeftBy ss w
+left_by ss w taken looks awake = record {
+  taken = taken;
+  looks = looks;
+  near = left_near ss w taken looks;
+  awake = awake;
+}
 
 -- ---- a step
 
@@ -165,11 +183,11 @@ leads_after old new s lines t ss h =
 pub takes_plays : (old new : WorldValue) (s : Step) (lines : List Line) → old.halted ≡ false → refusal_in old s ≡ None → Takes old new s lines → Plays old new s lines
 takes_plays old new s lines awake allowed t = record {
   lines_are = λ ss h. (leads_after old new s lines t ss h).lines_are;
-  left = λ ss h. record {
-    taken = taken_more ss first_scene s h.taken (allowed_is (run first_scene ss) old h.looks s allowed) (takes_elementary old new s lines t);
-    looks = subst (λ x. LooksAs x new) (sym (run_more ss first_scene s)) (leads_after old new s lines t ss h).looks;
-    awake = takes_halted old new s lines t ∙ awake;
-  };
+  left = λ ss h. left_by (ss ++ s ∷ []) new
+      (taken_more ss first_scene s h.taken (allowed_is (run first_scene ss) old h.looks s allowed)
+      (takes_elementary old new s lines t))
+      (subst (λ x. LooksAs x new) (sym (run_more ss first_scene s)) (leads_after old new s lines t ss h).looks)
+      (takes_halted old new s lines t ∙ awake);
   clocks = takes_clocks old new s lines t;
   was_awake = awake;
 }

@@ -6,6 +6,7 @@ use Rattle.trace_lines.specs.declared.step.Step.TheVariants as step
 use Rattle.trace_lines.specs.declared.line.Line.{Line}
 use Rattle.file_tree.specs.Book.{Entry}
 use Rattle.group_model.specs.FixedStart.{starting}
+use Rattle.group_model.specs.Laws.{Near}
 use Rattle.group_model.specs.Names.{place_of}
 use Rattle.group_model.specs.Places.{Zero, One, Two, Place, Trio, get, with_at}
 use Rattle.group_model.specs.State.{Packet, Server}
@@ -37,10 +38,11 @@ pub record LooksAs (w : Scene) (world : WorldValue) : Type 0 where
   pub clocks : (q : Place) → w.group.clock q ≡ get world.clocks q
   pub book : w.group.book ≡ world.book
 
--- a run of these steps from the fixed start leaves the world
+-- a run of these steps from the fixed start leaves the world; any two of its clocks are at most 50 milliseconds apart
 pub record IsLeftBy (ss : List Step) (world : WorldValue) : Type 0 where
   pub taken : AreTaken first_scene ss
   pub looks : LooksAs (run first_scene ss) world
+  pub near : Near (get world.clocks)
   pub awake : world.halted ≡ false
 
 -- ---- a step

@@ -1,6 +1,6 @@
 //! The world, one step after the other.
 
-ghost use Rattle.std.specs.Prelude.{◌≡◌, ◌^◌, ◌≤◌, ◌<◌, ◌+◌, ◌++◌, IfOk, IfErr, OnOk, IsErr, IsTrue, List, [], ◌∷◌, length, true, false, map, slice_index_or, slice_set, None};
+ghost use Rattle.std.specs.Prelude.{◌≡◌, ◌^◌, ◌≤◌, ◌<◌, ◌+◌, ◌++◌, IfOk, IfErr, OnOk, Err, IsTrue, List, [], ◌∷◌, length, true, false, map, slice_index_or, slice_set, None};
 ghost use Rattle.trace_lines.specs.declared.step.Step.{Step as Taken};
 ghost use Rattle.trace_lines.specs.declared.step.Step.TheVariants as step;
 ghost use Rattle.trace_lines.specs.declared.line.Line.TheVariants as line;
@@ -85,14 +85,16 @@ impl World {
         })
     }
 
-    /// Takes a step, and gives its lines. Every step after want of memory is answered with it.
+    /// Takes a step, and gives its lines. Want of memory halts the world, and nothing else does; each later step is
+    /// answered with it too, and the world stays as it is.
     pub fn step(&mut self, alloc: Global, step: Step) -> Result<Vec<Line>, Refusal>
         requires elementary { is_elementary step ≡ true }
         requires readings { AreReadings (clocks_after self.old.clocks step) }
         requires now { AreReadings self.old.clocks }
         ensures ok { IfOk result (λ lines. Plays self.old self.new step lines.items) }
         ensures err { IfErr result (λ r. Refused self.old self.new step r) }
-        ensures halted { self.old.halted ≡ true → IsErr result }
+        ensures halted { self.old.halted ≡ true → (result ≡ Err Refusal.NoMemory) × (self.new ≡ self.old) }
+        ensures halts { self.new.halted ≡ true → result ≡ Err Refusal.NoMemory }
     {
         if self.halted {
             return Err(Refusal::NoMemory);
