@@ -1,7 +1,8 @@
 //! Whether a server's state is the one before.
 
 ghost use Rattle.std.specs.Prelude.{◌≡◌};
-ghost use Rattle.group_run.specs.Shown.{held_number, mode_number, role_number, same_state, state_numbers};
+ghost use Rattle.group_run.specs.Shown.{held_number, mode_number, role_number, same_state};
+ghost use Rattle.group_run.specs.Shown.{state_numbers};
 
 use harp_base::{Held, Mode, Role, StateLine};
 

@@ -56,7 +56,8 @@ impl World {
         call: Call,
     ) -> Result<Vec<Line>, AllocError>
         requires { AreReadings self.old.clocks }
-        ensures { IfOk result (λ lines. Takes self.old self.new (step.Ask server client number cred call) lines.items) }
+        ensures { IfOk result (λ lines. Takes self.old self.new
+            (step.Ask server client number cred call) lines.items) }
     {
         let _ = &self.packets;
         let before = self.state_line(server);
@@ -99,7 +100,9 @@ impl World {
     /// Marks a packet as delivered.
     fn mark(&mut self, packet: usize)
         requires { packet < length self.old.packets }
-        ensures { self.new ≡ record self.old { delivered = slice_set self.old.delivered packet true } }
+        ensures { self.new ≡ record self.old {
+          delivered = slice_set self.old.delivered packet true;
+        } }
     {
         self.packets[packet].delivered = true;
         self.settled = settled_after(self.packets.as_slice(), self.settled);
