@@ -45,7 +45,7 @@ gave-fault text number given fault rest before mid world h is =
 
 pub is-alone : (s : Step) → ((among : Option (ServerId × ServerId)) → s ≡ step.Pump among → ⊥) → is_elementary s ≡ true
 is-alone (step.Pump among) not = absurd (not among refl)
-is-alone (step.Ask server client number call) not = refl
+is-alone (step.Ask server client number cred call) not = refl
 is-alone (step.Deliver n) not = refl
 is-alone (step.Tick server) not = refl
 is-alone (step.Clock server reading) not = refl
@@ -53,7 +53,7 @@ is-alone (step.Advance millis) not = refl
 
 stands_alone : (w : Scene) (s : Step) → is_elementary s ≡ true → spelled_out w s ≡ s ∷ []
 stands_alone w (step.Pump among) e = absurd cc
-stands_alone w (step.Ask server client number call) e = refl
+stands_alone w (step.Ask server client number cred call) e = refl
 stands_alone w (step.Deliver n) e = refl
 stands_alone w (step.Tick server) e = refl
 stands_alone w (step.Clock server reading) e = refl

@@ -68,7 +68,7 @@ deliveries_taken (suc most) among w = by (λ n. deliveries_taken most among (nex
 
 spelled_taken : (w : Scene) (s : Step) → refusal w.group s ≡ None → AreTaken w (spelled_out w s)
 spelled_taken w (step.Pump among) r = deliveries_taken most_deliveries among w
-spelled_taken w (step.Ask server client number call) r = (r, refl, tt)
+spelled_taken w (step.Ask server client number cred call) r = (r, refl, tt)
 spelled_taken w (step.Deliver n) r = (r, refl, tt)
 spelled_taken w (step.Tick server) r = (r, refl, tt)
 spelled_taken w (step.Clock server reading) r = (r, refl, tt)

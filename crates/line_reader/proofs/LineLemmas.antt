@@ -1,12 +1,7 @@
 -- The first line of a text.
 use Rattle.std.proofs.Common.{◌≡◌, ℕ, false, List, [], ◌∷◌, ◌++◌, refl}
 use Rattle.std.specs.Prelude.{◌==◌}
-use Rattle.std.specs.List.{AllByRecursion}
-use Rattle.line_reader.specs.Lines.{lines_of, begun_with}
-
--- bytes without a line feed
-abbrev pub Feedless : List ℕ → Type 0
-Feedless line = AllByRecursion (λ b. (b == 10) ≡ false) line
+use Rattle.line_reader.specs.Lines.{Feedless, lines_of, begun_with}
 
 pub feedless-push : (line : List ℕ) (b : ℕ) → Feedless line → (b == 10) ≡ false → Feedless (line ++ b ∷ [])
 feedless-push [] b h other = (other, tt)

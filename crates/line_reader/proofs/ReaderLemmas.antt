@@ -5,9 +5,9 @@ use Rattle.std.specs.Prelude.{◌==◌, vec_len}
 use Rattle.std.proofs.lemmas.Bool.{eqb-false}
 use Rattle.std.specs.Io.KnownBytes.{Keeps, prepend_known}
 use Rattle.line_reader.specs.declared.reader.Next.TheVariants as next
-use Rattle.line_reader.specs.Lines.{lines_of, Peeked}
+use Rattle.line_reader.specs.Lines.{Feedless, lines_of, Peeked}
 use Rattle.line_reader.specs.Reading.{GivesKnown, BeginsLong}
-use Rattle.line_reader.proofs.LineLemmas.{Feedless, lines_of-ended, lines_of-last, begins}
+use Rattle.line_reader.proofs.LineLemmas.{lines_of-ended, lines_of-last, begins}
 
 -- the text is the line so far, what is at hand and what the source has left
 pub record ReadsOn (text : Option (List ℕ)) (line ahead : List ℕ) (left : Option (List ℕ)) : Type 0 where
@@ -34,7 +34,9 @@ given : (text : Option (List ℕ)) (v : Vec ℕ Global) (rest : List ℕ) (left 
 given None v rest left h few k = tt
 given (Some t) v rest None h few k = absurd k
 given (Some t) v rest (Some x) h few k =
-    (ap lines_of (sym k ∙ append_assoc v.items (10 ∷ rest) x) ∙ lines_of-ended v.items (rest ++ x) h, few)
+    let whole = sym k ∙ append_assoc v.items (10 ∷ rest) x in
+    (ap lines_of whole ∙ lines_of-ended v.items (rest ++ x) h, few, v.items ++ 10 ∷ [], whole
+    ∙ sym (append_assoc v.items (10 ∷ []) (rest ++ x)))
 
 -- a line that is ended is given
 pub gives-ended : (text : Option (List ℕ)) (v : Vec ℕ Global) (ahead left_ahead : List ℕ) (left : Option (List ℕ)) (old : List ℕ) (old_left : Option (List ℕ)) (byte : Option ℕ)
@@ -63,7 +65,8 @@ last_given (Some t) v ahead ahead' (Some x) None h few some k l e = absurd l
 last_given (Some t) v ahead ahead' (Some x) (Some y) h few some k l e =
     let none : ahead' ++ y ≡ [] = rw (e.2, rests ahead ahead' x y e.0 e.1 e.2 l) refl in
     let whole : t ≡ v.items = sym k ∙ rw (e.0, e.1, append-nil v.items, append-nil v.items) refl in
-    (ap lines_of whole ∙ last_lines v.items some h ∙ ap (λ ls. v.items ∷ lines_of ls) (sym none), few)
+    (ap lines_of whole ∙ last_lines v.items some h ∙ ap (λ ls. v.items ∷ lines_of ls) (sym none), few, v.items,
+    whole ∙ sym (ap (λ s. v.items ++ s) none ∙ append-nil v.items))
 
 -- a last line that isn't ended is given
 pub gives-last : (text : Option (List ℕ)) (v : Vec ℕ Global) (ahead ahead' : List ℕ) (left left' : Option (List ℕ)) (byte : Option ℕ) → Feedless v.items

@@ -1,6 +1,11 @@
 -- The lines of a text.
-use Rattle.std.specs.Prelude.{◌≡◌, ℕ, ◌==◌, List, [], ◌∷◌, Option, Some, None, if◌then◌else◌}
+use Rattle.std.specs.Prelude.{◌≡◌, ℕ, ◌==◌, false, List, [], ◌∷◌, Option, Some, None, if◌then◌else◌}
+use Rattle.std.specs.List.{AllByRecursion}
 use Rattle.std.specs.Io.KnownBytes.{IsAtEnd}
+
+-- bytes without a line feed
+abbrev pub Feedless : List ℕ → Type 0
+Feedless bytes = AllByRecursion (λ b. (b == 10) ≡ false) bytes
 
 -- lines of which the first one begins with a byte
 abbrev pub begun_with : ℕ → List (List ℕ) → List (List ℕ)

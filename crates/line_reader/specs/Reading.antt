@@ -1,5 +1,5 @@
 -- What a reader of lines gives of a text.
-use Rattle.std.specs.Prelude.{◌≡◌, ℕ, ◌<◌, ◌≤◌, List, [], ◌∷◌, length, Option, Some, None, ⊤}
+use Rattle.std.specs.Prelude.{◌≡◌, ℕ, ◌<◌, ◌≤◌, List, [], ◌∷◌, ◌++◌, length, Option, Some, None, ⊤}
 use Rattle.std.specs.Io.KnownBytes.{prepend_known}
 use Rattle.line_reader.specs.declared.reader.Next.{Next}
 use Rattle.line_reader.specs.declared.reader.Next.TheVariants.{Line, TooLong, End}
@@ -13,9 +13,11 @@ text_left held left = prepend_known held left
 abbrev pub BeginsLong : List ℕ → Type 0
 BeginsLong text = (line : List ℕ) × (lines : List (List ℕ)) × (lines_of text ≡ line ∷ lines) × (20000 < length line)
 
--- of a text the first line is given, and the others are left; a line that is too long stays
+-- of a text the first line is given, and the others are left, which are its last bytes; a line that is too long
+-- stays
 abbrev pub GivesNext : List ℕ → List ℕ → Next → Type 0
 GivesNext text after (Line line) = (lines_of text ≡ line.items ∷ lines_of after) × (length line.items ≤ 20000)
+    × (taken : List ℕ) × (text ≡ taken ++ after)
 GivesNext text after TooLong = (after ≡ text) × BeginsLong text
 GivesNext text after End = (text ≡ []) × (after ≡ [])
 

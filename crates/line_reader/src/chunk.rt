@@ -41,10 +41,11 @@ impl Chunk {
         })
     }
 
-    /// The next byte of what is left of the source, or None at its end.
+    /// The next byte of what is left of the source, or None at its end. It fails only where nothing is at hand.
     pub fn peek<S: Source>(&mut self, source: &mut S) -> Result<Option<u8>, Failed>
         ensures ok { IfOk result (λ byte. Peeked self.old (S.left source.old) self.new byte) }
         ensures left { Keeps (prepend_known self.old (S.left source.old)) (prepend_known self.new (S.left source.new)) }
+        ensures none { OnErr result (self.new ≡ []) }
         ensures rose { OnErr result (Rose (S.faults source.old) (S.faults source.new)) }
         ensures count { S.faults source.old ≤ S.faults source.new }
     {

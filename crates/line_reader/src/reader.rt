@@ -3,6 +3,7 @@
 ghost use Rattle.std.specs.Prelude.{◌≡◌, ◌≤◌, [], length, IfOk, OnErr, Err};
 ghost use Rattle.std.specs.Io.KnownBytes.{Keeps};
 ghost use Rattle.harp_base.specs.Streams.{Rose};
+ghost use Rattle.line_reader.specs.Lines.{Feedless};
 ghost use Rattle.line_reader.specs.Reading.{text_left, GivesKnown, IsShort};
 
 use crate::chunk::Chunk;
@@ -90,11 +91,13 @@ impl LineReader {
         })
     }
 
-    /// The next line of the text that is left. After a fault the text left is as before.
+    /// The next line of the text that is left. After a fault the text left is as before. When the source fails, each
+    /// line was given that came whole.
     pub fn next<S: Source>(&mut self, alloc: Global, source: &mut S) -> Result<Next, ReadFault>
         ensures ok { IfOk result (λ next. GivesKnown (text_left self.old (S.left source.old)) (text_left self.new (S.left source.new)) next) }
         ensures short { IfOk result IsShort }
         ensures err { OnErr result (Keeps (text_left self.old (S.left source.old)) (text_left self.new (S.left source.new))) }
+        ensures begun { result ≡ Err ReadFault.Failed → Feedless self.new }
         ensures rose { result ≡ Err ReadFault.Failed → Rose (S.faults source.old) (S.faults source.new) }
         ensures count { S.faults source.old ≤ S.faults source.new }
     {

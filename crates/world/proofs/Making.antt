@@ -1,5 +1,6 @@
 -- What a call of the leader or of the partner makes of the world.
-use Rattle.std.proofs.Common.{◌≡◌, ℕ, zero, suc, ◌+◌, ◌-◌, ◌≤◌, List, [], ◌∷◌, length, take, drop, map, refl, sym, ap, subst, arith, nat_lt}
+use Rattle.std.proofs.Common.{◌≡◌, ℕ, zero, suc, ◌+◌, ◌-◌, ◌≤◌, List, [], ◌∷◌, length, take, drop}
+use Rattle.std.proofs.Common.{map, refl, sym, ap, subst, arith, nat_lt}
 use Rattle.std.specs.List.{flat_map}
 use Rattle.harp_base.specs.declared.peer.Peer.{Peer}
 use Rattle.file_tree.specs.Book.{Entry}
@@ -16,12 +17,14 @@ use Rattle.replica.specs.Said.{Makes, entered, sent}
 use Rattle.replica.specs.Servers.{IsLeading}
 use Rattle.replica.specs.declared.outputs.Outputs.{Outputs}
 use Rattle.replica.proofs.Ticks.{tick_is}
-use Rattle.world.specs.Given.{answered_lines as answered_lines_of, reads_in, refused_lines as refused_lines_of}
+use Rattle.world.specs.Given.{answered_lines as answered_lines_of, reads_in}
+use Rattle.world.specs.Given.{refused_lines as refused_lines_of}
 use Rattle.world.specs.Served.{Made, moved}
 use Rattle.world.specs.State.{WorldValue}
 use Rattle.world.proofs.Saying.{AreNone, HasPeers, makes_says}
 
-quiet : (w : WorldValue) (q : Place) (outs : Outputs) → AreNone outs → w ≡ moved w q [] → Made w w q [] outs
+quiet : (w : WorldValue) (q : Place) (outs : Outputs) → AreNone outs → w ≡ moved w q []
+    → Made w w q [] outs
 quiet w q outs none same = record {
   world = same;
   stands = refl;
@@ -41,16 +44,20 @@ nothing_made w One outs none = quiet w One outs none refl
 nothing_made w Two outs none = quiet w Two outs none refl
 
 -- a call of the leader, and one of the partner
-pub leader_made : (w : WorldValue) (s : Server Entry) (ms : List (Move Entry)) (peers : List Peer) (before after : Outputs) → AreNone before → HasPeers ms peers
-    → Makes Zero (get w.clocks Zero) ms peers w.leader s before after → Made w (record w { leader = s }) Zero ms after
+pub leader_made : (w : WorldValue) (s : Server Entry) (ms : List (Move Entry)) (peers : List Peer)
+    (before after : Outputs) → AreNone before → HasPeers ms peers
+    → Makes Zero (get w.clocks Zero) ms peers w.leader s before after
+    → Made w (record w { leader = s }) Zero ms after
 leader_made w s ms peers before after none has m = record {
   world = ap (λ (x : Server Entry). record w { leader = x }) m.state;
   stands = m.state;
   says = makes_says Zero (get w.clocks Zero) ms peers w.leader s before after none has m;
 }
 
-pub partner_made : (w : WorldValue) (s : Server Entry) (ms : List (Move Entry)) (peers : List Peer) (before after : Outputs) → AreNone before → HasPeers ms peers
-    → Makes One (get w.clocks One) ms peers w.partner s before after → Made w (record w { partner = s }) One ms after
+pub partner_made : (w : WorldValue) (s : Server Entry) (ms : List (Move Entry)) (peers : List Peer)
+    (before after : Outputs) → AreNone before → HasPeers ms peers
+    → Makes One (get w.clocks One) ms peers w.partner s before after
+    → Made w (record w { partner = s }) One ms after
 partner_made w s ms peers before after none has m = record {
   world = ap (λ (x : Server Entry). record w { partner = x }) m.state;
   stands = m.state;
@@ -60,7 +67,9 @@ partner_made w s ms peers before after none has m = record {
 -- ---- what has peers
 
 -- Events say nothing to clients
-events_brief : (to : Place) (v cp base n : ℕ) (es : List Entry) → (flat_map answered_by (events to v cp base n es) ≡ []) × (flat_map refused_by (events to v cp base n es) ≡ [])
+events_brief : (to : Place) (v cp base n : ℕ) (es : List Entry)
+    → (flat_map answered_by (events to v cp base n es) ≡ [])
+    × (flat_map refused_by (events to v cp base n es) ≡ [])
 events_brief to v cp base n [] = (refl, refl)
 events_brief to v cp base n (e ∷ es) = events_brief to v cp base (n + 1) es
 
@@ -70,9 +79,12 @@ tick_brief clock s leads = subst (λ (x : Server Entry). HasPeers (tick Zero clo
     (let said = events_brief One view_one s.cp 0 s.told_top (take 64 (drop s.told_top s.items)) in
     record { answers = rw said.0 (omega arith); refusals = rw said.1 (omega arith) }))
 
-pub event_brief : (clock : ℕ) (s : Server Entry) (from : Place) (v cp base : ℕ) (items : List Entry) → HasPeers (on_event One clock s from v cp base items) []
-event_brief clock s from v cp base items = by_if (λ ms. HasPeers ms []) (all_of (is_in_view s v ∷ same One (partner s.plan.storers) ∷ [])) _ []
-    (λ _. record { answers = omega arith; refusals = omega arith }) (λ _. record { answers = omega arith; refusals = omega arith })
+pub event_brief : (clock : ℕ) (s : Server Entry) (from : Place) (v cp base : ℕ) (items : List Entry)
+    → HasPeers (on_event One clock s from v cp base items) []
+event_brief clock s from v cp base items = by_if (λ ms. HasPeers ms [])
+    (all_of (is_in_view s v ∷ same One (partner s.plan.storers) ∷ [])) _ []
+    (λ _. record { answers = omega arith; refusals = omega arith })
+    (λ _. record { answers = omega arith; refusals = omega arith })
 
 -- each record that is committed is answered
 answers_size : (n : ℕ) (es : List Entry) → length (flat_map answered_by (answers n es)) ≡ length es
@@ -93,9 +105,11 @@ drop_size zero xs h = omega arith
 drop_size (suc n) [] h = absurd (omega (arith, h))
 drop_size (suc n) (x ∷ xs) h = let k = drop_size n xs (omega (arith, h)) in omega (arith, k)
 
-pub ack_brief : (s : Server Entry) (v t lb until : ℕ) (peers : List Peer) → IsLeading s → s.cp + length peers ≡ length s.items → HasPeers (on_ack s v t lb until) peers
+pub ack_brief : (s : Server Entry) (v t lb until : ℕ) (peers : List Peer) → IsLeading s
+    → s.cp + length peers ≡ length s.items → HasPeers (on_ack s v t lb until) peers
 ack_brief s v t lb until peers leads waiting = by_if P (all_of (ack_tests s v)) _ []
-    (λ _. by_if (λ ms. P (Noting t lb until ∷ ms)) (nat_lt s.cp t) (Committing t ∷ answers s.cp es) [] (λ _. record {
+    (λ _. by_if (λ ms. P (Noting t lb until ∷ ms)) (nat_lt s.cp t) (Committing t ∷ answers s.cp es)
+    [] (λ _. record {
       answers = rw (answers_size s.cp es) (omega (arith, few, rest, flat, waiting));
       refusals = rw (answers_refuse s.cp es) (omega arith);
     }) (λ _. record { answers = omega arith; refusals = omega arith }))

@@ -17,7 +17,16 @@ use Rattle.wire.specs.declared.message.Message.TheVariants as wire
 abbrev pub read_in : Answered → List Entry
 read_in a = elim a.asked [
   | None ↦ []
-  | Some call ↦ record { index = 0; client = a.client; number = a.number; call = call; stamp = 0; reply = a.reply } ∷ []
+  | Some asked ↦ record {
+    index = 0;
+    client = a.client;
+    number = a.number;
+    cred = asked.cred;
+    call =
+        asked.call;
+    stamp = 0;
+    reply = a.reply;
+  } ∷ []
 ]
 
 abbrev pub reads_in : List Answered → List Entry

@@ -1,5 +1,6 @@
 -- Packets on their way, as the machine has them.
-use Rattle.std.specs.Prelude.{◌≡◌, ℕ, ◌<◌, ◌++◌, Bool, true, false, List, length, map, Option, None, Some, slice_get, slice_index_or}
+use Rattle.std.specs.Prelude.{◌≡◌, ℕ, ◌<◌, ◌++◌, Bool, true, false, List, length, map, Option, None}
+use Rattle.std.specs.Prelude.{Some, slice_get, slice_index_or}
 use Rattle.file_tree.specs.Book.{Entry}
 use Rattle.group_rules.specs.Names.{place_of}
 use Rattle.group_rules.specs.State.{Packet as Sent}
@@ -20,12 +21,15 @@ abbrev pub AreSettled : ℕ → List Bool → Type 0
 AreSettled settled delivered = (n : ℕ) → n < settled → slice_index_or delivered n false ≡ true
 
 -- each packet among two servers below a number was delivered
-abbrev pub AreSettledAmong : Option (ServerId × ServerId) → List (Sent Entry) → List Bool → ℕ → Type 0
-AreSettledAmong among packets delivered settled = (n : ℕ) → n < settled → (p : Sent Entry) → slice_get packets n ≡ Some p
+abbrev pub AreSettledAmong : Option (ServerId × ServerId) → List (Sent Entry) → List Bool → ℕ
+    → Type 0
+AreSettledAmong among packets delivered settled = (n : ℕ) → n < settled → (p : Sent Entry)
+    → slice_get packets n ≡ Some p
     → is_among among p ≡ true → slice_index_or delivered n false ≡ true
 
 -- a packet among two servers that was never delivered
-pub record IsDueOf (among : Option (ServerId × ServerId)) (packets : List (Sent Entry)) (delivered : List Bool) (n : ℕ)
+pub record IsDueOf (among : Option (ServerId × ServerId)) (packets : List (Sent Entry))
+    (delivered : List Bool) (n : ℕ)
     : Type 0 where
   pub packet : Sent Entry
   pub sent_as : slice_get packets n ≡ Some packet
@@ -33,7 +37,8 @@ pub record IsDueOf (among : Option (ServerId × ServerId)) (packets : List (Sent
   pub waits : slice_index_or delivered n false ≡ false
 
 -- the first such packet, or none
-abbrev pub IsFirstDue : Option (ServerId × ServerId) → List (Sent Entry) → List Bool → Option ℕ → Type 0
+abbrev pub IsFirstDue : Option (ServerId × ServerId) → List (Sent Entry) → List Bool → Option ℕ
+    → Type 0
 IsFirstDue among packets delivered (Some n) =
     IsDueOf among packets delivered n × AreSettledAmong among packets delivered n
 IsFirstDue among packets delivered None = AreSettledAmong among packets delivered (length packets)

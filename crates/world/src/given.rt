@@ -4,7 +4,8 @@ ghost use Rattle.std.specs.Prelude.{◌≡◌, ◌+◌, ◌++◌, ◌∷◌, [],
 ghost use Rattle.group_rules.specs.Names.{place_of};
 ghost use Rattle.group_run.specs.Lines.{entered_line, entered_lines, state_lines};
 ghost use Rattle.replica.specs.Said.{entered, heard};
-ghost use Rattle.world.specs.Given.{answered_line, answered_lines, read_in, reads_in, refused_line, refused_lines, sent_line, sent_lines, shown_of};
+ghost use Rattle.world.specs.Given.{answered_line, answered_lines, read_in, reads_in, refused_line};
+ghost use Rattle.world.specs.Given.{refused_lines, sent_line, sent_lines, shown_of};
 ghost use Rattle.world.specs.Packets.{HasMore, posted};
 
 use crate::packet::Packet;
@@ -21,7 +22,8 @@ fn enter(
     book: &mut Vec<BookEntry>,
     lines: &mut Vec<Line>,
 ) -> Result<(), AllocError>
-    ensures book { OnOk result (map entered book.new.items ≡ map entered book.old.items ++ entered entry.now ∷ []) }
+    ensures book { OnOk result (map entered book.new.items ≡ map entered book.old.items
+        ++ entered entry.now ∷ []) }
     ensures more { OnOk result (length book.new.items ≡ length book.old.items + 1) }
     ensures lines { OnOk result (lines.new.items
         ≡ lines.old.items ++ entered_line (length book.old.items + 1) (entered entry.now) ∷ []) }
@@ -42,7 +44,8 @@ fn enter_updates(
     book: &mut Vec<BookEntry>,
     lines: &mut Vec<Line>,
 ) -> Result<(), AllocError>
-    ensures book { OnOk result (map entered book.new.items ≡ map entered book.old.items ++ map entered updates.now) }
+    ensures book { OnOk result (map entered book.new.items ≡ map entered book.old.items
+        ++ map entered updates.now) }
     ensures lines { OnOk result (lines.new.items
         ≡ lines.old.items ++ entered_lines (length book.old.items) (map entered updates.now)) }
 {
@@ -60,19 +63,21 @@ fn enter_read(
     book: &mut Vec<BookEntry>,
     lines: &mut Vec<Line>,
 ) -> Result<(), AllocError>
-    ensures book { OnOk result (map entered book.new.items ≡ map entered book.old.items ++ read_in answer.now) }
+    ensures book { OnOk result (map entered book.new.items ≡ map entered book.old.items
+        ++ read_in answer.now) }
     ensures lines { OnOk result (lines.new.items
         ≡ lines.old.items ++ entered_lines (length book.old.items) (read_in answer.now)) }
 {
     match &answer.asked {
         None => Ok(()),
-        Some(call) => {
+        Some(asked) => {
             let read = BookEntry {
                 index: 0,
                 client: answer.client,
                 number: answer.number,
+                cred: asked.cred,
                 stamp: 0,
-                call: call.copy(alloc)?,
+                call: asked.call.copy(alloc)?,
                 reply: answer.reply.copy(alloc)?,
             };
             enter(alloc, &read, book, lines)
@@ -87,7 +92,8 @@ fn enter_reads(
     book: &mut Vec<BookEntry>,
     lines: &mut Vec<Line>,
 ) -> Result<(), AllocError>
-    ensures book { OnOk result (map entered book.new.items ≡ map entered book.old.items ++ reads_in answers.now) }
+    ensures book { OnOk result (map entered book.new.items ≡ map entered book.old.items
+        ++ reads_in answers.now) }
     ensures lines { OnOk result (lines.new.items
         ≡ lines.old.items ++ entered_lines (length book.old.items) (reads_in answers.now)) }
 {
@@ -104,7 +110,8 @@ fn show_answer(
     answer: &Answered,
     lines: &mut Vec<Line>,
 ) -> Result<(), AllocError>
-    ensures { OnOk result (lines.new.items ≡ lines.old.items ++ answered_line server answer.now ∷ []) }
+    ensures { OnOk result (lines.new.items ≡ lines.old.items
+        ++ answered_line server answer.now ∷ []) }
 {
     lines.push(Line::Answered {
         server,
@@ -204,8 +211,10 @@ fn post(
     lines: &mut Vec<Line>,
 ) -> Result<(), AllocError>
     ensures packets { OnOk result (packets.new.items ≡ packets.old.items
-        ++ (record { from = from; to = send.now.to; message = send.now.message; delivered = false }) ∷ []) }
-    ensures lines { OnOk result (lines.new.items ≡ lines.old.items ++ sent_line from (length packets.old.items) send.now ∷ []) }
+        ++ (record { from = from; to = send.now.to; message = send.now.message; delivered = false })
+        ∷ []) }
+    ensures lines { OnOk result (lines.new.items ≡ lines.old.items
+        ++ sent_line from (length packets.old.items) send.now ∷ []) }
     ensures more { HasMore packets.old.items packets.new.items }
 {
     let line = Line::Sent {
@@ -233,7 +242,8 @@ fn post_all(
     lines: &mut Vec<Line>,
 ) -> Result<(), AllocError>
     ensures packets { OnOk result (packets.new.items ≡ packets.old.items ++ posted from sends.now) }
-    ensures lines { OnOk result (lines.new.items ≡ lines.old.items ++ sent_lines from (length packets.old.items) sends.now) }
+    ensures lines { OnOk result (lines.new.items ≡ lines.old.items
+        ++ sent_lines from (length packets.old.items) sends.now) }
     ensures more { HasMore packets.old.items packets.new.items }
 {
     for send in sends {
@@ -242,7 +252,8 @@ fn post_all(
     Ok(())
 }
 
-/// Puts a server's outputs into the book, among the packets and into lines, in the order of a trace.
+/// Puts a server's outputs into the book, among the packets and into lines, in the order of a
+/// trace.
 pub fn put(
     alloc: Global,
     server: ServerId,
@@ -253,10 +264,13 @@ pub fn put(
 ) -> Result<(), AllocError>
     ensures book { OnOk result (map entered book.new.items ≡ map entered book.old.items
         ++ (map entered outs.now.committed.items ++ reads_in outs.now.answers.items)) }
-    ensures packets { OnOk result (packets.new.items ≡ packets.old.items ++ posted server outs.now.sends.items) }
+    ensures packets { OnOk result (packets.new.items ≡ packets.old.items
+        ++ posted server outs.now.sends.items) }
     ensures lines { OnOk result (lines.new.items ≡ lines.old.items
-        ++ (entered_lines (length book.old.items) (map entered outs.now.committed.items ++ reads_in outs.now.answers.items)
-        ++ (answered_lines server outs.now.answers.items ++ (refused_lines server outs.now.refusals.items
+        ++ (entered_lines (length book.old.items) (map entered outs.now.committed.items
+        ++ reads_in outs.now.answers.items)
+        ++ (answered_lines server outs.now.answers.items
+        ++ (refused_lines server outs.now.refusals.items
         ++ sent_lines server (length packets.old.items) outs.now.sends.items)))) }
     ensures more { HasMore packets.old.items packets.new.items }
 {
@@ -276,7 +290,8 @@ pub fn show_state(
     now: StateLine,
     lines: &mut Vec<Line>,
 ) -> Result<(), AllocError>
-    ensures { OnOk result (lines.new.items ≡ lines.old.items ++ state_lines (place_of server) before now) }
+    ensures { OnOk result (lines.new.items ≡ lines.old.items
+        ++ state_lines (place_of server) before now) }
 {
     if before == now {
         return Ok(());

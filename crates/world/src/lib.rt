@@ -1,4 +1,5 @@
-//! The world that a schedule is played in: a group in the first open view, its packets, clocks and book.
+//! The world that a schedule is played in: a group in the first open view, its packets, clocks and
+//! book.
 #![tactic(auto)]
 
 mod given;

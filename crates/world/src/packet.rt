@@ -32,8 +32,8 @@ pub fn settled_after(packets: &[Packet], settled: usize) -> usize
     settled.max(packets.len())
 }
 
-/// The least number of a packet that was never delivered, among two servers where they are given. Those below
-/// `settled` all were.
+/// The least number of a packet that was never delivered, among two servers where they are given.
+/// Those below `settled` all were.
 pub fn first_due(
     packets: &[Packet],
     settled: usize,

@@ -1,6 +1,8 @@
 //! The world, one step after the other.
 
-ghost use Rattle.std.specs.Prelude.{◌≡◌, ◌^◌, ◌≤◌, ◌<◌, ◌+◌, ◌++◌, IfOk, IfErr, OnOk, IsErr, IsTrue, List, [], ◌∷◌, length, true, false, map, slice_index_or, slice_set, None};
+ghost use Rattle.std.specs.Prelude.{◌≡◌, ◌^◌, ◌≤◌, ◌<◌, ◌+◌, ◌++◌, IfOk, IfErr, OnOk, Err, IsTrue};
+ghost use Rattle.std.specs.Prelude.{List, [], ◌∷◌, length, true, false, map, slice_index_or};
+ghost use Rattle.std.specs.Prelude.{slice_set, None};
 ghost use Rattle.trace_lines.specs.declared.step.Step.{Step as Taken};
 ghost use Rattle.trace_lines.specs.declared.step.Step.TheVariants as step;
 ghost use Rattle.trace_lines.specs.declared.line.Line.TheVariants as line;
@@ -15,7 +17,8 @@ ghost use Rattle.replica.specs.Said.{entered};
 ghost use Rattle.world.specs.Given.{answered_lines, reads_in, refused_lines, sent_lines};
 ghost use Rattle.world.specs.Packets.{AreSettled, packet_of, posted};
 ghost use Rattle.world.specs.Served.{Gives, refusal_in, server_in};
-ghost use Rattle.world.specs.State.{AreReadings, IsLeftBy, Plays, Refused, clocks_after, first_world};
+ghost use Rattle.world.specs.State.{AreReadings, IsLeftBy, Plays, Refused, clocks_after};
+ghost use Rattle.world.specs.State.{first_world};
 
 mod serving;
 mod taking;
@@ -29,8 +32,8 @@ use std::alloc::{AllocError, Global};
 use std::marker::Model;
 use trace_lines::{BookEntry, Line, Step};
 
-/// Servers 0 and 1 as the leader and the partner of view 1.0, server 2 as the witness outside, the packets between
-/// them, their clocks in milliseconds, and the book of the calls that were entered.
+/// Servers 0 and 1 as the leader and the partner of view 1.0, server 2 as the witness outside, the
+/// packets between them, their clocks in milliseconds, and the book of the calls that were entered.
 #[derive(Drop)]
 pub struct World {
     leader: Leader,
@@ -65,8 +68,8 @@ impl Model for World {
 }
 
 impl World {
-    /// The group in its fixed start: view 1.0 is open, its leader is server 0 and its partner server 1; no update
-    /// stands, nothing was sent, and each clock reads 0.
+    /// The group in its fixed start: view 1.0 is open, its leader is server 0 and its partner
+    /// server 1; no update stands, nothing was sent, and each clock reads 0.
     pub fn new(alloc: Global) -> Result<World, AllocError>
         ensures { IfOk result (λ world. world ≡ first_world) }
     {
@@ -85,14 +88,17 @@ impl World {
         })
     }
 
-    /// Takes a step, and gives its lines. Every step after want of memory is answered with it.
+    /// Takes a step, and gives its lines. Want of memory halts the world, and nothing else does;
+    /// each later step is answered with it too, and the world stays as it is.
     pub fn step(&mut self, alloc: Global, step: Step) -> Result<Vec<Line>, Refusal>
         requires elementary { is_elementary step ≡ true }
         requires readings { AreReadings (clocks_after self.old.clocks step) }
         requires now { AreReadings self.old.clocks }
         ensures ok { IfOk result (λ lines. Plays self.old self.new step lines.items) }
         ensures err { IfErr result (λ r. Refused self.old self.new step r) }
-        ensures halted { self.old.halted ≡ true → IsErr result }
+        ensures halted { self.old.halted ≡ true → (result ≡ Err Refusal.NoMemory)
+            × (self.new ≡ self.old) }
+        ensures halts { self.new.halted ≡ true → result ≡ Err Refusal.NoMemory }
     {
         if self.halted {
             return Err(Refusal::NoMemory);
@@ -128,10 +134,11 @@ impl World {
         }
     }
 
-    /// The lowest number of a packet that was never delivered, among two servers where they are given. None comes
-    /// exactly where there is none.
+    /// The lowest number of a packet that was never delivered, among two servers where they are
+    /// given. None comes exactly where there is none.
     pub fn next(&self, among: Option<(ServerId, ServerId)>) -> Option<u64>
-        ensures { (ss : List Taken) → IsLeftBy ss self.now → result ≡ due among (run first_scene ss) }
+        ensures { (ss : List Taken) → IsLeftBy ss self.now
+            → result ≡ due among (run first_scene ss) }
     {
         first_due(self.packets.as_slice(), self.settled, among)
     }
@@ -155,8 +162,8 @@ impl World {
         }
     }
 
-    /// Puts the outputs of a server's step into the book, among the packets and into lines, and shows its state where
-    /// it isn't the one before.
+    /// Puts the outputs of a server's step into the book, among the packets and into lines, and
+    /// shows its state where it isn't the one before.
     fn give(
         &mut self,
         alloc: Global,
@@ -165,7 +172,8 @@ impl World {
         before: StateLine,
         outs: Outputs,
     ) -> Result<Vec<Line>, AllocError>
-        ensures { IfOk result (λ lines. Gives self.old self.new step server before outs lines.items) }
+        ensures { IfOk result
+            (λ lines. Gives self.old self.new step server before outs lines.items) }
     {
         let mut lines = Vec::new(alloc);
         lines.push(Line::Event { step })?;
@@ -219,7 +227,10 @@ impl World {
 
     /// Sets a server's clock.
     fn set_clock(&mut self, server: ServerId, reading: u64)
-        ensures { self.new ≡ record self.old { clocks = clocks_after self.old.clocks (step.Clock server reading) } }
+        ensures { self.new ≡ record self.old {
+          clocks = clocks_after self.old.clocks
+              (step.Clock server reading);
+        } }
     {
         let _ = &self.packets;
         match server {
@@ -232,7 +243,10 @@ impl World {
     /// All clocks go on.
     fn advance(&mut self, millis: u64)
         requires { AreReadings (clocks_after self.old.clocks (step.Advance millis)) }
-        ensures { self.new ≡ record self.old { clocks = clocks_after self.old.clocks (step.Advance millis) } }
+        ensures { self.new ≡ record self.old {
+          clocks = clocks_after self.old.clocks
+              (step.Advance millis);
+        } }
     {
         let _ = &self.packets;
         self.clocks.zero += millis;
@@ -248,7 +262,11 @@ fn is_near(reading: u64, zero: u64, one: u64, two: u64) -> bool
     requires zero { zero < 2 ^ 62 }
     requires one { one < 2 ^ 62 }
     requires two { two < 2 ^ 62 }
-    ensures { result ≡ near reading (λ q. get (record { zero_th = zero; one_th = one; two_th = two }) q) }
+    ensures { result ≡ near reading (λ q. get (record {
+      zero_th = zero;
+      one_th = one;
+      two_th = two;
+    }) q) }
 {
     reading <= zero + 50
         && zero <= reading + 50

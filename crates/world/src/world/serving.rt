@@ -6,12 +6,13 @@ ghost use Rattle.group_rules.specs.Names.{number_of_view, place_of};
 ghost use Rattle.group_rules.specs.Places.{Zero, One, get};
 ghost use Rattle.group_rules.specs.State.{Ack, Beat, Event};
 ghost use Rattle.replica.specs.Said.{heard};
-ghost use Rattle.world.specs.Served.{Made, RefusesAsk, ask_moves, cause_shown, message_moves, server_in, tick_moves};
+ghost use Rattle.world.specs.Served.{Made, RefusesAsk, ask_moves, cause_shown, message_moves};
+ghost use Rattle.world.specs.Served.{server_in, tick_moves};
 ghost use Rattle.world.specs.State.{AreReadings};
 
 use crate::world::World;
 use event_record::{Moment, Record};
-use harp_base::{Call, Peer, ServerId, ViewNo};
+use harp_base::{Call, Cred, Peer, ServerId, ViewNo};
 use replica::{Outputs, Refused};
 use std::alloc::{AllocError, Global};
 use trace_lines::Cause;
@@ -31,16 +32,18 @@ impl World {
         server: ServerId,
         client: u32,
         number: u64,
+        cred: Cred,
         call: &Call,
     ) -> Result<Outputs, AllocError>
         requires { AreReadings self.old.clocks }
         ensures { let q = place_of server in
             IfOk result (λ outs. Made self.old self.new q
-            (ask_moves q (get self.old.clocks q) (server_in self.old q) client number call.now) outs) }
+            (ask_moves q (get self.old.clocks q) (server_in self.old q) client number cred call.now)
+            outs) }
     {
         let _ = &self.packets;
         match server {
-            ServerId::Zero => self.serve_leader(alloc, client, number, call),
+            ServerId::Zero => self.serve_leader(alloc, client, number, cred, call),
             ServerId::One => refuse(alloc, client, number, Some(ServerId::Zero)),
             ServerId::Two => refuse(alloc, client, number, None),
         }
@@ -52,16 +55,18 @@ impl World {
         alloc: Global,
         client: u32,
         number: u64,
+        cred: Cred,
         call: &Call,
     ) -> Result<Outputs, AllocError>
         requires { AreReadings self.old.clocks }
         ensures { IfOk result (λ outs. Made self.old self.new Zero
-            (ask_moves Zero (get self.old.clocks Zero) (server_in self.old Zero) client number call.now) outs) }
+            (ask_moves Zero (get self.old.clocks Zero) (server_in self.old Zero) client number cred
+            call.now) outs) }
     {
         let now = self.clocks.zero;
         let mut outs = Outputs::new(alloc);
         self.leader
-            .ask(alloc, CLIENT, client, number, call, now, &mut outs)?;
+            .ask(alloc, CLIENT, client, number, cred, call, now, &mut outs)?;
         Ok(outs)
     }
 
@@ -117,7 +122,8 @@ impl World {
         from: ServerId,
         message: &Message,
     ) -> Result<Outputs, AllocError>
-        ensures { IfOk result (λ outs. Made self.old self.new Zero (message_moves Zero (get self.old.clocks Zero)
+        ensures { IfOk result (λ outs. Made self.old self.new Zero
+            (message_moves Zero (get self.old.clocks Zero)
             (server_in self.old Zero) (place_of from) (heard message.now)) outs) }
     {
         let _ = &self.packets;
@@ -143,8 +149,10 @@ impl World {
         lb: u64,
         until: Moment,
     ) -> Result<Outputs, AllocError>
-        ensures { IfOk result (λ outs. Made self.old self.new Zero (message_moves Zero (get self.old.clocks Zero)
-            (server_in self.old Zero) (place_of from) (Ack (number_of_view view) top lb until)) outs) }
+        ensures { IfOk result (λ outs. Made self.old self.new Zero
+            (message_moves Zero (get self.old.clocks Zero)
+            (server_in self.old Zero) (place_of from) (Ack (number_of_view view) top lb until))
+            outs) }
     {
         if !self.leader.heeds_ack(from, view, top, lb) {
             return Ok(Outputs::new(alloc));
@@ -162,7 +170,8 @@ impl World {
         message: &Message,
     ) -> Result<Outputs, AllocError>
         requires { AreReadings self.old.clocks }
-        ensures { IfOk result (λ outs. Made self.old self.new One (message_moves One (get self.old.clocks One)
+        ensures { IfOk result (λ outs. Made self.old self.new One
+            (message_moves One (get self.old.clocks One)
             (server_in self.old One) (place_of from) (heard message.now)) outs) }
     {
         let _ = &self.packets;
@@ -189,7 +198,8 @@ impl World {
         item: &Record,
     ) -> Result<Outputs, AllocError>
         requires { AreReadings self.old.clocks }
-        ensures { IfOk result (λ outs. Made self.old self.new One (message_moves One (get self.old.clocks One)
+        ensures { IfOk result (λ outs. Made self.old self.new One
+            (message_moves One (get self.old.clocks One)
             (server_in self.old One) (place_of from)
             (Event (number_of_view view) item.now.index cp base (entry_of item.now))) outs) }
     {
@@ -213,7 +223,8 @@ impl World {
         base: u64,
     ) -> Result<Outputs, AllocError>
         requires { AreReadings self.old.clocks }
-        ensures { IfOk result (λ outs. Made self.old self.new One (message_moves One (get self.old.clocks One)
+        ensures { IfOk result (λ outs. Made self.old self.new One
+            (message_moves One (get self.old.clocks One)
             (server_in self.old One) (place_of from) (Beat (number_of_view view) cp base)) outs) }
     {
         if !self.partner.heeds_beat(from, view, base) {

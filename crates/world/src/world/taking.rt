@@ -9,7 +9,7 @@ ghost use Rattle.world.specs.State.{AreReadings, clocks_after};
 
 use crate::packet::settled_after;
 use crate::world::World;
-use harp_base::{Call, ServerId};
+use harp_base::{Call, Cred, ServerId};
 use std::alloc::{AllocError, Global};
 use trace_lines::{Line, Step};
 
@@ -28,8 +28,9 @@ impl World {
                 server,
                 client,
                 number,
+                cred,
                 call,
-            } => self.ask(alloc, server, client, number, call),
+            } => self.ask(alloc, server, client, number, cred, call),
             Step::Tick { server } => self.tick(alloc, server),
             Step::Deliver { packet } => self.deliver(alloc, packet),
             Step::Clock { server, reading } => {
@@ -51,18 +52,21 @@ impl World {
         server: ServerId,
         client: u32,
         number: u64,
+        cred: Cred,
         call: Call,
     ) -> Result<Vec<Line>, AllocError>
         requires { AreReadings self.old.clocks }
-        ensures { IfOk result (λ lines. Takes self.old self.new (step.Ask server client number call) lines.items) }
+        ensures { IfOk result (λ lines. Takes self.old self.new
+            (step.Ask server client number cred call) lines.items) }
     {
         let _ = &self.packets;
         let before = self.state_line(server);
-        let outs = self.serve_ask(alloc, server, client, number, &call)?;
+        let outs = self.serve_ask(alloc, server, client, number, cred, &call)?;
         let step = Step::Ask {
             server,
             client,
             number,
+            cred,
             call,
         };
         self.give(alloc, step, server, before, outs)
@@ -96,7 +100,9 @@ impl World {
     /// Marks a packet as delivered.
     fn mark(&mut self, packet: usize)
         requires { packet < length self.old.packets }
-        ensures { self.new ≡ record self.old { delivered = slice_set self.old.delivered packet true } }
+        ensures { self.new ≡ record self.old {
+          delivered = slice_set self.old.delivered packet true;
+        } }
     {
         self.packets[packet].delivered = true;
         self.settled = settled_after(self.packets.as_slice(), self.settled);

@@ -5,7 +5,9 @@ use Rattle.world.proofs.given.post_all.Given as goal
 
 abbrev pub invariant-loop-send : goal.invariant-loop-send
 invariant-loop-send l = record {
-  packets : l.packets.items ++ posted l.from (drop l.send-index l.sends) ≡ l.initial.packets.items ++ posted l.from l.sends;
+  packets : l.packets.items ++ posted l.from (drop l.send-index l.sends) ≡ l.initial.packets.items
+      ++ posted l.from l.sends;
   more : HasMore l.initial.packets.items l.packets.items;
-  lines : l.lines.items ++ sent_lines l.from (length l.packets.items) (drop l.send-index l.sends) ≡ l.initial.lines.items ++ sent_lines l.from (length l.initial.packets.items) l.sends;
+  lines : l.lines.items ++ sent_lines l.from (length l.packets.items) (drop l.send-index l.sends)
+      ≡ l.initial.lines.items ++ sent_lines l.from (length l.initial.packets.items) l.sends;
 }

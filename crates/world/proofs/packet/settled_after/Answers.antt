@@ -11,7 +11,9 @@ pub returns-then-not-packets-n : goal.returns-then-not-packets-n
 returns-then-not-packets-n c = c.loop-n.invariant
 
 pub loop-n-preserved : goal.loop-n-preserved
-loop-n-preserved c = settled_next c.args.packets.now c.loop-n.n c.index-packets-n.result c.loop-n-test.true c.index-packets-n.is (ap was_delivered c.index-packets-n.is ∙ c.if-not-packets-n.false) c.loop-n.invariant
+loop-n-preserved c = settled_next c.args.packets.now c.loop-n.n c.index-packets-n.result
+    c.loop-n-test.true c.index-packets-n.is (ap was_delivered c.index-packets-n.is
+    ∙ c.if-not-packets-n.false) c.loop-n.invariant
 
 pub returns : goal.returns
 returns c n below = elim (cases_lt n c.args.settled) [

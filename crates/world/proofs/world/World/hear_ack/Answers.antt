@@ -16,9 +16,17 @@ returns-then-not-heeds_ack c =
     let a = c.args in
     let w : WorldValue = the_view c.self.inside in
     let fresh = c.new.ensures in
-    subst (λ (v : WorldValue). Made v v Zero (message_moves Zero (get v.clocks Zero) (server_in v Zero) (place_of a.from) (Ack (number_of_view a.view) a.top a.lb a.until)) c.new.result) c.self.view_is
+    subst (λ (v : WorldValue). Made v v Zero (message_moves Zero (get v.clocks Zero)
+    (server_in v Zero) (place_of a.from) (Ack (number_of_view a.view) a.top a.lb a.until))
+    c.new.result) c.self.view_is
     (rw (sym (c.heeds_ack.ensures.tests a.until) ∙ c.if-not-heeds_ack.true)
-    (nothing_made w Zero c.new.result (record { committed = fresh.committed; answers = fresh.answers; refusals = fresh.refusals; sends = fresh.sends })))
+    (nothing_made w Zero c.new.result (record {
+      committed = fresh.committed;
+      answers =
+          fresh.answers;
+      refusals = fresh.refusals;
+      sends = fresh.sends;
+    })))
 
 pub returns : goal.returns
 returns c =
@@ -28,11 +36,23 @@ returns c =
     let fresh = c.new-outs.ensures in
     let acked = c.in_ok-ack.ensures in
     let v = number_of_view a.view in
-    let heeds : heeds_ack Zero w.leader (place_of a.from) v a.top a.lb a.until ≡ true = sym (c.heeds_ack.ensures.tests a.until) ∙ c.if-not-heeds_ack.false in
-    let moves : on_ack w.leader view_one a.top a.lb a.until ≡ message_moves Zero (get w.clocks Zero) w.leader (place_of a.from) (Ack v a.top a.lb a.until) =
-    rw heeds (ap (λ v. on_ack w.leader v a.top a.lb a.until) (sym (c.heeds_ack.ensures.view c.if-not-heeds_ack.false))) in
-    subst (λ (x : WorldValue). Made x (record w { leader = s }) Zero (message_moves Zero (get x.clocks Zero) (server_in x Zero) (place_of a.from) (Ack v a.top a.lb a.until)) c.ack.new.outs) c.self.view_is
+    let heeds : heeds_ack Zero w.leader (place_of a.from) v a.top a.lb a.until
+    ≡ true = sym (c.heeds_ack.ensures.tests a.until) ∙ c.if-not-heeds_ack.false in
+    let moves : on_ack w.leader view_one a.top a.lb a.until
+    ≡ message_moves Zero (get w.clocks Zero) w.leader (place_of a.from) (Ack v a.top a.lb a.until) =
+    rw heeds (ap (λ v. on_ack w.leader v a.top a.lb a.until)
+    (sym (c.heeds_ack.ensures.view c.if-not-heeds_ack.false))) in
+    subst (λ (x : WorldValue). Made x (record w { leader = s }) Zero
+    (message_moves Zero (get x.clocks Zero) (server_in x Zero) (place_of a.from)
+    (Ack v a.top a.lb a.until)) c.ack.new.outs) c.self.view_is
     (subst (λ ms. Made w (record w { leader = s }) Zero ms c.ack.new.outs) moves
-    (leader_made w s (on_ack w.leader view_one a.top a.lb a.until) _ c.new-outs.result c.ack.new.outs
-    (record { committed = fresh.committed; answers = fresh.answers; refusals = fresh.refusals; sends = fresh.sends })
-    (ack_brief w.leader view_one a.top a.lb a.until _ c.heeds_ack.ensures.leads acked.waiting) (acked.makes (get w.clocks Zero))))
+    (leader_made w s (on_ack w.leader view_one a.top a.lb a.until) _ c.new-outs.result
+    c.ack.new.outs
+    (record {
+      committed = fresh.committed;
+      answers = fresh.answers;
+      refusals = fresh.refusals;
+      sends = fresh.sends;
+    })
+    (ack_brief w.leader view_one a.top a.lb a.until _ c.heeds_ack.ensures.leads acked.waiting)
+    (acked.makes (get w.clocks Zero))))

@@ -16,9 +16,15 @@ returns-then-not-heeds_beat c =
     let a = c.args in
     let w : WorldValue = the_view c.self.inside in
     let fresh = c.new.ensures in
-    subst (λ (v : WorldValue). Made v v One (message_moves One (get v.clocks One) (server_in v One) (place_of a.from) (Beat (number_of_view a.view) a.cp a.base)) c.new.result) c.self.view_is
+    subst (λ (v : WorldValue). Made v v One (message_moves One (get v.clocks One) (server_in v One)
+    (place_of a.from) (Beat (number_of_view a.view) a.cp a.base)) c.new.result) c.self.view_is
     (rw (sym (c.heeds_beat.ensures.tests a.cp) ∙ c.if-not-heeds_beat.true)
-    (nothing_made w One c.new.result (record { committed = fresh.committed; answers = fresh.answers; refusals = fresh.refusals; sends = fresh.sends })))
+    (nothing_made w One c.new.result (record {
+      committed = fresh.committed;
+      answers = fresh.answers;
+      refusals = fresh.refusals;
+      sends = fresh.sends;
+    })))
 
 pub returns : goal.returns
 returns c =
@@ -28,13 +34,25 @@ returns c =
     let fresh = c.new-outs.ensures in
     let v = number_of_view a.view in
     let now = get w.clocks One in
-    let heeds : heeds_beat One w.partner (place_of a.from) v a.cp a.base ≡ true = sym (c.heeds_beat.ensures.tests a.cp) ∙ c.if-not-heeds_beat.false in
+    let heeds : heeds_beat One w.partner (place_of a.from) v a.cp a.base
+    ≡ true = sym (c.heeds_beat.ensures.tests a.cp) ∙ c.if-not-heeds_beat.false in
     let from : place_of a.from ≡ Zero = c.heeds_beat.ensures.from c.if-not-heeds_beat.false in
     let view : v ≡ view_one = c.heeds_beat.ensures.view c.if-not-heeds_beat.false in
-    let moves : on_event One now w.partner Zero view_one a.cp a.base w.partner.items ≡ message_moves One now w.partner (place_of a.from) (Beat v a.cp a.base) =
-    rw heeds (ap (λ from. on_event One now w.partner from view_one a.cp a.base w.partner.items) (sym from) ∙ ap (λ v. on_event One now w.partner (place_of a.from) v a.cp a.base w.partner.items) (sym view)) in
-    subst (λ (x : WorldValue). Made x (record w { partner = s }) One (message_moves One (get x.clocks One) (server_in x One) (place_of a.from) (Beat v a.cp a.base)) c.beat.new.outs) c.self.view_is
+    let moves : on_event One now w.partner Zero view_one a.cp a.base w.partner.items
+    ≡ message_moves One now w.partner (place_of a.from) (Beat v a.cp a.base) =
+    rw heeds (ap (λ from. on_event One now w.partner from view_one a.cp a.base w.partner.items)
+    (sym from) ∙ ap (λ v. on_event One now w.partner (place_of a.from) v a.cp a.base
+    w.partner.items) (sym view)) in
+    subst (λ (x : WorldValue). Made x (record w { partner = s }) One
+    (message_moves One (get x.clocks One) (server_in x One) (place_of a.from) (Beat v a.cp a.base))
+    c.beat.new.outs) c.self.view_is
     (subst (λ ms. Made w (record w { partner = s }) One ms c.beat.new.outs) moves
-    (partner_made w s (on_event One now w.partner Zero view_one a.cp a.base w.partner.items) [] c.new-outs.result c.beat.new.outs
-    (record { committed = fresh.committed; answers = fresh.answers; refusals = fresh.refusals; sends = fresh.sends })
+    (partner_made w s (on_event One now w.partner Zero view_one a.cp a.base w.partner.items) []
+    c.new-outs.result c.beat.new.outs
+    (record {
+      committed = fresh.committed;
+      answers = fresh.answers;
+      refusals = fresh.refusals;
+      sends = fresh.sends;
+    })
     (event_brief now w.partner Zero view_one a.cp a.base w.partner.items) c.in_ok-beat.ensures))

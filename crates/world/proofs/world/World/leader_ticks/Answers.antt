@@ -11,7 +11,13 @@ returns c =
     let w : WorldValue = the_view c.self.inside in
     let fresh = c.new-outs.ensures in
     let ticked = c.in_ok-tick.ensures in
-    subst (λ (v : WorldValue). Made v v Zero (tick_moves Zero (get v.clocks Zero) (server_in v Zero)) c.tick.new.outs) c.self.view_is
+    subst (λ (v : WorldValue). Made v v Zero (tick_moves Zero (get v.clocks Zero)
+    (server_in v Zero)) c.tick.new.outs) c.self.view_is
     (leader_made w w.leader _ _ c.new-outs.result c.tick.new.outs
-    (record { committed = fresh.committed; answers = fresh.answers; refusals = fresh.refusals; sends = fresh.sends })
+    (record {
+      committed = fresh.committed;
+      answers = fresh.answers;
+      refusals = fresh.refusals;
+      sends = fresh.sends;
+    })
     (tick_brief (get w.clocks Zero) w.leader ticked.leads) ticked.makes)

@@ -13,7 +13,8 @@ returns-in-One c =
     rw c.in-One.is (IfOk-weaker c.refuse.result _ _ (λ outs h. record {
       world = refl;
       stands = refl;
-      says = refuses_says One (get w.clocks One) w.partner c.args.client c.args.number (Some Zero) outs h;
+      says = refuses_says One (get w.clocks One) w.partner c.args.client c.args.number
+          (Some Zero) outs h;
     }) c.refuse.ensures)
 
 pub returns-in-Two : goal.returns-in-Two

@@ -13,7 +13,15 @@ returns c =
     let w : WorldValue = the_view c.self.inside in
     let s = c.ask.new.self.server in
     let fresh = c.new-outs.ensures in
-    subst (λ (v : WorldValue). Made v (record w { leader = s }) Zero (ask_moves Zero (get v.clocks Zero) (server_in v Zero) a.client a.number a.call.now) c.ask.new.outs) c.self.view_is
+    subst (λ (v : WorldValue). Made v (record w { leader = s }) Zero
+    (ask_moves Zero (get v.clocks Zero) (server_in v Zero) a.client a.number a.cred a.call.now)
+    c.ask.new.outs) c.self.view_is
     (leader_made w s _ _ c.new-outs.result c.ask.new.outs
-    (record { committed = fresh.committed; answers = fresh.answers; refusals = fresh.refusals; sends = fresh.sends })
-    (ask_brief Zero (get w.clocks Zero) w.leader.items w.leader a.client a.number a.call.now _) c.in_ok-ask.ensures.asked.makes)
+    (record {
+      committed = fresh.committed;
+      answers = fresh.answers;
+      refusals = fresh.refusals;
+      sends = fresh.sends;
+    })
+    (ask_brief Zero (get w.clocks Zero) w.leader.items w.leader a.client a.number a.cred a.call.now
+    _) c.in_ok-ask.ensures.asked.makes)

@@ -12,5 +12,8 @@ returns c =
     let a = c.args in
     let w = a.self.now in
     let q = place_of a.server in
-    IfOk-weaker c.give.result _ _ (λ lines gives. serves_is w w c.give.new.self (step.Tick a.server) a.server (tick_moves q (get w.clocks q) (server_in w q)) c.in_ok-outs.outs lines.items c.in_ok-outs.ensures
-    (subst (λ before. Gives w c.give.new.self (step.Tick a.server) a.server before c.in_ok-outs.outs lines.items) c.state_line-before.ensures gives)) c.give.ensures
+    IfOk-weaker c.give.result _ _ (λ lines gives. serves_is w w c.give.new.self
+    (step.Tick a.server) a.server (tick_moves q (get w.clocks q) (server_in w q)) c.in_ok-outs.outs
+    lines.items c.in_ok-outs.ensures
+    (subst (λ before. Gives w c.give.new.self (step.Tick a.server) a.server before c.in_ok-outs.outs
+    lines.items) c.state_line-before.ensures gives)) c.give.ensures
