@@ -6,7 +6,8 @@ use Rattle.group_safety.specs.Bases.{Bases}
 use Rattle.group_rules.specs.Effects.{NewLog}
 use Rattle.group_safety.specs.Entered.{ServerWithin}
 use Rattle.group_safety.specs.Facts.{BodyOk, Ok, ServerOk}
-use Rattle.group_safety.specs.Laws.{Grows, Near}
+use Rattle.group_safety.specs.Laws.{Grows}
+use Rattle.group_rules.specs.Step.{Near}
 use Rattle.group_rules.specs.Moves.{Accepting, Appending, Choosing, Collecting, Committing, Heeding, Joining, Move, Sending, act, acts, book_after, moved, moved_by}
 use Rattle.group_rules.specs.Places.{Zero, One, Two, Place, Trio, at, get}
 use Rattle.group_safety.specs.Settled.{Settled}

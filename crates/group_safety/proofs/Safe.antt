@@ -5,7 +5,8 @@ use Rattle.group_safety.specs.Bases.{BasesAt, BasesBody}
 use Rattle.group_rules.specs.Effects.{down, first_mark, first_role}
 use Rattle.group_safety.specs.Entered.{BodyWithin, UpdatesFrom}
 use Rattle.group_safety.specs.Facts.{LogOk, Ok, PacketOk, PageOk, ServerOk}
-use Rattle.group_safety.specs.Laws.{Near, Whole, with_old_marks}
+use Rattle.group_safety.specs.Laws.{Whole, with_old_marks}
+use Rattle.group_rules.specs.Step.{Near}
 use Rattle.group_rules.specs.Limits.{IsDelta, delta_tests, limit, room}
 use Rattle.group_rules.specs.Moves.{Booting, Move, moved_by}
 use Rattle.group_rules.specs.Places.{IsIn, Zero, One, Two, Place, S01, all_of, at, leader}

@@ -11,12 +11,8 @@ use Rattle.group_rules.specs.Moves.{Choosing, Move, Reading, Saying, act, moved}
 use Rattle.group_rules.specs.Places.{Place, number}
 use Rattle.group_safety.specs.Settled.{Settled}
 use Rattle.group_rules.specs.State.{Ack, Answered, Answers, Beat, Event, Give, Group, JoinMade, Log, Message, Open, Outside, Packet, Page, Pulls, Saved, Server, longest_of, top}
-use Rattle.group_rules.specs.Step.{Ask, At, Comes, Crash, Deed, Happening, happens, run, step_of}
+use Rattle.group_rules.specs.Step.{Ask, At, Comes, Crash, Deed, Happening, Near, happens, run, step_of}
 use Rattle.group_safety.specs.Words.{Agree, Each, In, Under}
-
--- the clocks are at most 50 apart
-abbrev pub Near : (Place → ℕ) → Type 0
-Near clock = (x y : Place) → clock x ≤ clock y + 50
 
 -- All that every step keeps
 pub record Whole (g : Group Entry) : Type 0 where
