@@ -1,5 +1,6 @@
 -- The texts of traces and of their parts.
-use Rattle.std.proofs.Common.{◌≡◌, ℕ, ◌+◌, List, [], ◌∷◌, ◌++◌, length, take, refl, sym, ap, ◌∙◌, subst, append_assoc, Option, Some, None, arith, inl, inr}
+use Rattle.std.proofs.Common.{◌≡◌, ℕ, ◌+◌, List, [], ◌∷◌, ◌++◌, length, take, refl, sym, ap, ◌∙◌}
+use Rattle.std.proofs.Common.{subst, append_assoc, Option, Some, None, arith, inl, inr}
 use Rattle.std.specs.Io.KnownBytes.{Appends}
 use Rattle.std.proofs.lemmas.List.{take-append-le, take_all}
 use Rattle.std.proofs.Math.Seq.{take-append_seam, take-append-add}
@@ -17,11 +18,13 @@ pub trace_text-append : (xs ys : Trace) → trace_text (xs ++ ys) ≡ trace_text
 unfolding trace_text
 trace_text-append xs ys = flat_map-append (λ l. line_text l ++ 10 ∷ []) xs ys
 
-pub trace_text-cons : (l : Line) (ls : Trace) → trace_text (l ∷ ls) ≡ (line_text l ++ 10 ∷ []) ++ trace_text ls
+pub trace_text-cons : (l : Line) (ls : Trace) → trace_text (l ∷ ls) ≡ (line_text l ++ 10 ∷ [])
+    ++ trace_text ls
 unfolding trace_text
 trace_text-cons l ls = refl
 
-pub run-append : (w : Scene) (done later : List Step) → run w (done ++ later) ≡ run (run w done) later
+pub run-append : (w : Scene) (done later : List Step)
+    → run w (done ++ later) ≡ run (run w done) later
 unfolding run
 run-append w [] later = refl
 run-append w (s ∷ done) later = run-append (next w s) done later
@@ -32,10 +35,12 @@ unfolding run run_lines
 run_lines-append w [] later = refl
 run_lines-append w (s ∷ done) later =
     ap (λ ls. step_lines w.group s ++ ls) (run_lines-append (next w s) done later)
-    ∙ sym (append_assoc (step_lines w.group s) (run_lines (next w s) done) (run_lines (run (next w s) done) later))
+    ∙ sym (append_assoc (step_lines w.group s) (run_lines (next w s) done)
+    (run_lines (run (next w s) done) later))
 
 -- what is appended in two writes
-pub appends-twice : (a b c : Option (List ℕ)) (x y : List ℕ) → Appends a b x → Appends b c y → Appends a c (x ++ y)
+pub appends-twice : (a b c : Option (List ℕ)) (x y : List ℕ) → Appends a b x → Appends b c y
+    → Appends a c (x ++ y)
 appends-twice None b c x y p q = tt
 appends-twice (Some a) None c x y p q = absurd p
 appends-twice (Some a) (Some b) None x y p q = absurd q
@@ -48,7 +53,8 @@ grew-first a b x y p =
     (length x, subst (Appends a b) whole p)
 
 -- a first part of the second of two, after the first
-pub grew-second : (a b c : Option (List ℕ)) (x y : List ℕ) → Appends a b x → GrewByPart b c y → GrewByPart a c (x ++ y)
+pub grew-second : (a b c : Option (List ℕ)) (x y : List ℕ) → Appends a b x → GrewByPart b c y
+    → GrewByPart a c (x ++ y)
 grew-second a b c x y p q =
     let whole : x ++ take q.0 y ≡ take (length x + q.0) (x ++ y) = sym (take-append-add x y q.0) in
     (length x + q.0, subst (Appends a c) whole (appends-twice a b c x (take q.0 y) p q.1))

@@ -1,7 +1,8 @@
-//! Playing a schedule: its steps are taken one after the other, and each step's lines are written before the next line
-//! is read.
+//! Playing a schedule: its steps are taken one after the other, and each step's lines are written
+//! before the next line is read.
 
-ghost use Rattle.std.specs.Prelude.{◌≡◌, ◌≢◌, ◌<◌, ◌≤◌, ◌+◌, ℕ, List, Option, length, IfOk, MatchResult, Some, Ok, Err};
+ghost use Rattle.std.specs.Prelude.{◌≡◌, ◌≢◌, ◌<◌, ◌≤◌, ◌+◌, ℕ, List, Option, length, IfOk};
+ghost use Rattle.std.specs.Prelude.{MatchResult, Some, Ok, Err};
 ghost use Rattle.harp_base.specs.Streams.{Rose};
 ghost use Rattle.line_reader.specs.Reading.{text_left};
 ghost use Rattle.group_run.specs.Run.{Scene};
@@ -9,7 +10,8 @@ ghost use Rattle.world.specs.State.{first_world};
 ghost use Rattle.harp_cli.specs.Exit.{exit_of};
 ghost use Rattle.harp_cli.specs.Play.{Reading, given_by};
 ghost use Rattle.harp_cli.specs.Ends.{IsWhole, PlayEnds};
-ghost use Rattle.harp_cli.specs.OnTheWay.{AreBelow, GoesOn, HasCome, LineGives, TurnGives, with_given};
+ghost use Rattle.harp_cli.specs.OnTheWay.{AreBelow, GoesOn, HasCome, LineGives, StopGives};
+ghost use Rattle.harp_cli.specs.OnTheWay.{TurnGives, with_given};
 
 use crate::exit::{Exit, Stop};
 use crate::step::take_step;
@@ -45,10 +47,11 @@ fn take_line<K: Sink>(
 ) -> Result<Turn, Stop>
     requires short { length line.now ≤ 20000 }
     requires below { AreBelow number world.old.clocks }
-    ensures ends { (text : List ℕ) (rest : Scene → Reading) (before : Option (List ℕ))
-        → HasCome text (with_given number (given_by number line.now) rest) before (K.written sink.old) world.old
-        → MatchResult result (TurnGives text rest before (K.written sink.new) world.new)
-        (λ stop. PlayEnds text before (K.written sink.new) world.new (exit_of stop)) }
+    ensures ends { (all : Reading) (rest : Scene → Reading) (before : Option (List ℕ))
+        → HasCome all (with_given number (given_by number line.now) rest) before
+        (K.written sink.old) world.old
+        → MatchResult result (TurnGives all rest before (K.written sink.new) world.new)
+        (StopGives all before (K.written sink.new) world.new) }
     ensures below { result ≡ Ok Turn.GoesOn → AreBelow (number + 1) world.new.clocks }
     ensures rose { result ≡ Err Stop.SinkFailed → Rose (K.faults sink.old) (K.faults sink.new) }
     ensures count { K.faults sink.old ≤ K.faults sink.new }
@@ -78,19 +81,27 @@ fn play_line<S: Source, K: Sink>(
 ) -> Result<Turn, Stop>
     requires { AreBelow number world.old.clocks }
     ensures ends { (text : List ℕ) (before : Option (List ℕ))
-        → GoesOn text number (text_left reader.old (S.left source.old)) before (K.written sink.old) world.old
+        → GoesOn text number (text_left reader.old (S.left source.old)) before
+        (K.written sink.old) world.old
         → MatchResult result
-        (LineGives text number (text_left reader.new (S.left source.new)) before (K.written sink.new) world.new)
-        (λ stop. PlayEnds text before (K.written sink.new) world.new (exit_of stop)) }
+        (LineGives text number (S.left source.new) (text_left reader.new (S.left source.new)) before
+        (K.written sink.new) world.new)
+        (λ stop. PlayEnds text (S.left source.new) before (K.written sink.new) world.new
+        (exit_of stop)) }
     ensures last { 50000 < number → IfOk result (λ turn. turn ≢ Turn.GoesOn) }
     ensures below { result ≡ Ok Turn.GoesOn → AreBelow (number + 1) world.new.clocks }
-    ensures source_rose { result ≡ Err Stop.SourceFailed → Rose (S.faults source.old) (S.faults source.new) }
-    ensures sink_rose { result ≡ Err Stop.SinkFailed → Rose (K.faults sink.old) (K.faults sink.new) }
+    ensures source_rose { result ≡ Err Stop.SourceFailed
+        → Rose (S.faults source.old) (S.faults source.new) }
+    ensures sink_rose { result ≡ Err Stop.SinkFailed
+        → Rose (K.faults sink.old) (K.faults sink.new) }
     ensures source_count { S.faults source.old ≤ S.faults source.new }
     ensures sink_count { K.faults sink.old ≤ K.faults sink.new }
 {
     match reader.next(alloc, source) {
-        Ok(Next::End) => end(alloc, world, sink),
+        Ok(Next::End) => match end(alloc, world, sink) {
+            Ok(()) => Ok(Turn::Ended),
+            Err(stop) => Err(stop),
+        },
         Ok(Next::TooLong) => refuse(alloc, number, fault_of_long_line(number), sink),
         Ok(Next::Line(line)) => take_line(alloc, number, line.as_slice(), world, sink),
         Err(ReadFault::Failed) => Err(Stop::SourceFailed),
@@ -107,11 +118,16 @@ fn play_lines<S: Source, K: Sink>(
 ) -> Result<Exit, Stop>
     requires { world.old ≡ first_world }
     ensures ends { (text : List ℕ) → S.left source.old ≡ Some text
-        → MatchResult result (PlayEnds text (K.written sink.old) (K.written sink.new) world.new)
-        (λ stop. PlayEnds text (K.written sink.old) (K.written sink.new) world.new (exit_of stop)) }
+        → MatchResult result (PlayEnds text (S.left source.new) (K.written sink.old)
+        (K.written sink.new) world.new)
+        (λ stop. PlayEnds text (S.left source.new) (K.written sink.old)
+        (K.written sink.new) world.new
+        (exit_of stop)) }
     ensures whole { IfOk result IsWhole }
-    ensures source_rose { result ≡ Err Stop.SourceFailed → Rose (S.faults source.old) (S.faults source.new) }
-    ensures sink_rose { result ≡ Err Stop.SinkFailed → Rose (K.faults sink.old) (K.faults sink.new) }
+    ensures source_rose { result ≡ Err Stop.SourceFailed
+        → Rose (S.faults source.old) (S.faults source.new) }
+    ensures sink_rose { result ≡ Err Stop.SinkFailed
+        → Rose (K.faults sink.old) (K.faults sink.new) }
 {
     let mut reader = match LineReader::new(alloc) {
         Ok(reader) => reader,
@@ -137,9 +153,11 @@ pub fn play<S: Source, K: Sink>(
 ) -> Exit
     requires { world.old ≡ first_world }
     ensures ends { (text : List ℕ) → S.left source.old ≡ Some text
-        → PlayEnds text (K.written sink.old) (K.written sink.new) world.new result }
+        → PlayEnds text (S.left source.new) (K.written sink.old) (K.written sink.new) world.new
+        result }
     ensures words { result ≢ Exit.RefusedWords }
-    ensures source_rose { result ≡ Exit.SourceFailed → Rose (S.faults source.old) (S.faults source.new) }
+    ensures source_rose { result ≡ Exit.SourceFailed
+        → Rose (S.faults source.old) (S.faults source.new) }
     ensures sink_rose { result ≡ Exit.SinkFailed → Rose (K.faults sink.old) (K.faults sink.new) }
 {
     match play_lines(alloc, world, source, sink) {

@@ -4,10 +4,9 @@ ghost use Rattle.std.specs.Prelude.{◌≡◌, ◌≤◌, ℕ, List, Option, Som
 ghost use Rattle.harp_base.specs.Streams.{Rose};
 ghost use Rattle.group_run.specs.Run.{Scene, is_elementary, most_deliveries};
 ghost use Rattle.world.specs.State.{AreReadings, clocks_after};
-ghost use Rattle.harp_cli.specs.Exit.{exit_of};
 ghost use Rattle.harp_cli.specs.Play.{Reading};
-ghost use Rattle.harp_cli.specs.Ends.{PlayEnds};
-ghost use Rattle.harp_cli.specs.OnTheWay.{HasCome, TurnGives, with_given, with_pump, with_step};
+ghost use Rattle.harp_cli.specs.OnTheWay.{HasCome, StopGives, TurnGives, with_given, with_pump};
+ghost use Rattle.harp_cli.specs.OnTheWay.{with_step};
 
 use crate::exit::Stop;
 use crate::text::write_lines;
@@ -31,11 +30,12 @@ fn take_elementary<K: Sink>(
     requires elementary { is_elementary step ≡ true }
     requires readings { AreReadings (clocks_after world.old.clocks step) }
     requires now { AreReadings world.old.clocks }
-    ensures ends { (text : List ℕ) (rest : Scene → Reading) (before : Option (List ℕ))
-        → HasCome text (with_step number step rest) before (K.written sink.old) world.old
-        → MatchResult result (TurnGives text rest before (K.written sink.new) world.new)
-        (λ stop. PlayEnds text before (K.written sink.new) world.new (exit_of stop)) }
-    ensures clocks { result ≡ Ok Turn.GoesOn → world.new.clocks ≡ clocks_after world.old.clocks step }
+    ensures ends { (all : Reading) (rest : Scene → Reading) (before : Option (List ℕ))
+        → HasCome all (with_step number step rest) before (K.written sink.old) world.old
+        → MatchResult result (TurnGives all rest before (K.written sink.new) world.new)
+        (StopGives all before (K.written sink.new) world.new) }
+    ensures clocks { result ≡ Ok Turn.GoesOn → world.new.clocks
+        ≡ clocks_after world.old.clocks step }
     ensures rose { result ≡ Err Stop.SinkFailed → Rose (K.faults sink.old) (K.faults sink.new) }
     ensures count { K.faults sink.old ≤ K.faults sink.new }
     ensures own { result ≡ Err Stop.SourceFailed → ⊥ }
@@ -52,7 +52,8 @@ fn take_elementary<K: Sink>(
     }
 }
 
-/// Delivers the packets that were never delivered, in the order of their numbers, those sent meanwhile too.
+/// Delivers the packets that were never delivered, in the order of their numbers, those sent
+/// meanwhile too.
 fn pump<K: Sink>(
     alloc: Global,
     number: u64,
@@ -61,10 +62,10 @@ fn pump<K: Sink>(
     sink: &mut K,
 ) -> Result<Turn, Stop>
     requires { AreReadings world.old.clocks }
-    ensures ends { (text : List ℕ) (rest : Scene → Reading) (before : Option (List ℕ))
-        → HasCome text (with_pump most_deliveries among rest) before (K.written sink.old) world.old
-        → MatchResult result (TurnGives text rest before (K.written sink.new) world.new)
-        (λ stop. PlayEnds text before (K.written sink.new) world.new (exit_of stop)) }
+    ensures ends { (all : Reading) (rest : Scene → Reading) (before : Option (List ℕ))
+        → HasCome all (with_pump most_deliveries among rest) before (K.written sink.old) world.old
+        → MatchResult result (TurnGives all rest before (K.written sink.new) world.new)
+        (StopGives all before (K.written sink.new) world.new) }
     ensures clocks { result ≡ Ok Turn.GoesOn → world.new.clocks ≡ world.old.clocks }
     ensures rose { result ≡ Err Stop.SinkFailed → Rose (K.faults sink.old) (K.faults sink.new) }
     ensures count { K.faults sink.old ≤ K.faults sink.new }
@@ -94,11 +95,13 @@ pub fn take_step<K: Sink>(
 ) -> Result<Turn, Stop>
     requires readings { AreReadings (clocks_after world.old.clocks step) }
     requires now { AreReadings world.old.clocks }
-    ensures ends { (text : List ℕ) (rest : Scene → Reading) (before : Option (List ℕ))
-        → HasCome text (with_given number (Ok (Some step)) rest) before (K.written sink.old) world.old
-        → MatchResult result (TurnGives text rest before (K.written sink.new) world.new)
-        (λ stop. PlayEnds text before (K.written sink.new) world.new (exit_of stop)) }
-    ensures clocks { result ≡ Ok Turn.GoesOn → world.new.clocks ≡ clocks_after world.old.clocks step }
+    ensures ends { (all : Reading) (rest : Scene → Reading) (before : Option (List ℕ))
+        → HasCome all (with_given number (Ok (Some step)) rest) before
+        (K.written sink.old) world.old
+        → MatchResult result (TurnGives all rest before (K.written sink.new) world.new)
+        (StopGives all before (K.written sink.new) world.new) }
+    ensures clocks { result ≡ Ok Turn.GoesOn → world.new.clocks
+        ≡ clocks_after world.old.clocks step }
     ensures rose { result ≡ Err Stop.SinkFailed → Rose (K.faults sink.old) (K.faults sink.new) }
     ensures count { K.faults sink.old ≤ K.faults sink.new }
     ensures own { result ≡ Err Stop.SourceFailed → ⊥ }

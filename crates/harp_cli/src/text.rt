@@ -25,8 +25,10 @@ fn text_of(alloc: Global, lines: &[Line]) -> Result<Bytes, AllocError>
 
 /// Writes these lines; after a stop a first part of their text was written.
 pub fn write_lines<K: Sink>(alloc: Global, lines: &[Line], sink: &mut K) -> Result<(), Stop>
-    ensures all { OnOk result (Appends (K.written sink.old) (K.written sink.new) (trace_text lines.now)) }
-    ensures part { OnErr result (GrewByPart (K.written sink.old) (K.written sink.new) (trace_text lines.now)) }
+    ensures all { OnOk result (Appends (K.written sink.old) (K.written sink.new)
+        (trace_text lines.now)) }
+    ensures part { OnErr result (GrewByPart (K.written sink.old) (K.written sink.new)
+        (trace_text lines.now)) }
     ensures rose { result ≡ Err Stop.SinkFailed → Rose (K.faults sink.old) (K.faults sink.new) }
     ensures count { K.faults sink.old ≤ K.faults sink.new }
     ensures own { result ≡ Err Stop.SourceFailed → ⊥ }
@@ -38,8 +40,10 @@ pub fn write_lines<K: Sink>(alloc: Global, lines: &[Line], sink: &mut K) -> Resu
 
 /// Writes the last line.
 pub fn write_last<K: Sink>(alloc: Global, last: Line, sink: &mut K) -> Result<(), Stop>
-    ensures all { OnOk result (Appends (K.written sink.old) (K.written sink.new) (trace_text (last ∷ []))) }
-    ensures part { OnErr result (GrewByPart (K.written sink.old) (K.written sink.new) (trace_text (last ∷ []))) }
+    ensures all { OnOk result (Appends (K.written sink.old) (K.written sink.new)
+        (trace_text (last ∷ []))) }
+    ensures part { OnErr result (GrewByPart (K.written sink.old) (K.written sink.new)
+        (trace_text (last ∷ []))) }
     ensures rose { result ≡ Err Stop.SinkFailed → Rose (K.faults sink.old) (K.faults sink.new) }
     ensures count { K.faults sink.old ≤ K.faults sink.new }
     ensures own { result ≡ Err Stop.SourceFailed → ⊥ }

@@ -47,12 +47,12 @@ fn write_usage<K: Sink>(sink: &mut K) -> Exit
     }
 }
 
-/// Does what the words ask for, and gives the exit status: 0 done, 2 the words are refused, 3 the source failed, 4 the
-/// sink failed, 5 a line is refused, 6 there was no memory.
+/// Does what the words ask for, and gives the exit status: 0 done, 2 the words are refused, 3 the
+/// source failed, 4 the sink failed, 5 a line is refused, 6 there was no memory.
 ///
-/// `play` plays the schedule of the source in the world, which is new, and writes its trace to the sink. On other words
-/// the usage text is written and the world stays. Want of memory ends each of them. Nothing is said of the bytes of a
-/// source or a sink that doesn't tell them.
+/// `play` plays the schedule of the source in the world, which is new, and writes its trace to the
+/// sink. On other words the usage text is written and the world stays. Want of memory ends each of
+/// them. Nothing is said of the bytes of a source or a sink that doesn't tell them.
 pub fn harp<R: Threads + Sync, S: Source, K: Sink>(
     _rt: &R,
     alloc: Global,
@@ -62,10 +62,13 @@ pub fn harp<R: Threads + Sync, S: Source, K: Sink>(
     sink: &mut K,
 ) -> u8
     requires { world.old ≡ first_world }
-    // Which status comes, what was written by then, and which world is left.
-    ensures play { IsPlay words.now → (text : List ℕ) → S.left source.old ≡ Some text
-        → (exit : Exit) × (result ≡ status_of exit)
-        × PlayEnds text (K.written sink.old) (K.written sink.new) world.new exit }
+    // Which status comes; and of a source that tells its bytes, what was written by then, what the
+    // source has left, and which world is left.
+    ensures play { IsPlay words.now → (exit : Exit) × (result ≡ status_of exit)
+        × (exit ≢ Exit.RefusedWords)
+        × ((text : List ℕ) → S.left source.old ≡ Some text
+        → PlayEnds text (S.left source.new) (K.written sink.old) (K.written sink.new) world.new
+        exit) }
     ensures usage { (IsPlay words.now → ⊥)
         → (exit : Exit) × (result ≡ status_of exit)
         × UsageEnds (K.written sink.old) (K.written sink.new) exit × (world.new ≡ world.old) }

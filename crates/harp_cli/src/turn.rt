@@ -1,13 +1,13 @@
 //! What a line leads to, and the last lines of a trace.
 
-ghost use Rattle.std.specs.Prelude.{◌≡◌, ◌≢◌, ◌≤◌, ℕ, List, Option, IfOk, MatchResult, Ok, Err};
+ghost use Rattle.std.specs.Prelude.{◌≡◌, ◌≢◌, ◌≤◌, ℕ, List, Option, None, IfOk, MatchResult, Ok};
+ghost use Rattle.std.specs.Prelude.{Err};
 ghost use Rattle.harp_base.specs.Streams.{Rose};
 ghost use Rattle.group_run.specs.Run.{Scene};
 ghost use Rattle.world.specs.State.{WorldValue};
-ghost use Rattle.harp_cli.specs.Exit.{exit_of};
 ghost use Rattle.harp_cli.specs.Play.{Reading, all_read, refused_at};
-ghost use Rattle.harp_cli.specs.Ends.{PlayEnds};
-ghost use Rattle.harp_cli.specs.OnTheWay.{HasCome, TurnGives};
+ghost use Rattle.harp_cli.specs.Ends.{EndsWhole};
+ghost use Rattle.harp_cli.specs.OnTheWay.{HasCome, StopGives, TurnGives};
 
 use crate::exit::Stop;
 use crate::text::write_last;
@@ -28,21 +28,21 @@ pub enum Turn {
 }
 
 /// Writes the last line at the end of the input.
-pub fn end<K: Sink>(alloc: Global, world: &World, sink: &mut K) -> Result<Turn, Stop>
-    ensures ends { (text : List ℕ) (rest : Scene → Reading) (before : Option (List ℕ))
-        → HasCome text (λ w. all_read) before (K.written sink.old) world.now
-        → MatchResult result (TurnGives text rest before (K.written sink.new) world.now)
-        (λ stop. PlayEnds text before (K.written sink.new) world.now (exit_of stop)) }
+pub fn end<K: Sink>(alloc: Global, world: &World, sink: &mut K) -> Result<(), Stop>
+    ensures ends { (all : Reading) (before : Option (List ℕ))
+        → HasCome all (λ w. all_read) before (K.written sink.old) world.now
+        → MatchResult result (λ _. (all.refused ≡ None)
+        × EndsWhole all before (K.written sink.new) world.now)
+        (StopGives all before (K.written sink.new) world.now) }
     ensures rose { result ≡ Err Stop.SinkFailed → Rose (K.faults sink.old) (K.faults sink.new) }
     ensures count { K.faults sink.old ≤ K.faults sink.new }
     ensures own { result ≡ Err Stop.SourceFailed → ⊥ }
-    ensures last { IfOk result (λ turn. turn ≢ Turn.GoesOn) }
 {
     let last = Line::End {
         entered: world.book().len() as u64,
     };
     match write_last(alloc, last, sink) {
-        Ok(()) => Ok(Turn::Ended),
+        Ok(()) => Ok(()),
         Err(stop) => Err(stop),
     }
 }
@@ -54,10 +54,11 @@ pub fn refuse<K: Sink>(
     fault: LineFault,
     sink: &mut K,
 ) -> Result<Turn, Stop>
-    ensures ends { (text : List ℕ) (rest : Scene → Reading) (before : Option (List ℕ)) (world : WorldValue)
-        → HasCome text (λ w. refused_at number fault) before (K.written sink.old) world
-        → MatchResult result (TurnGives text rest before (K.written sink.new) world)
-        (λ stop. PlayEnds text before (K.written sink.new) world (exit_of stop)) }
+    ensures ends { (all : Reading) (rest : Scene → Reading) (before : Option (List ℕ))
+        (world : WorldValue)
+        → HasCome all (λ w. refused_at number fault) before (K.written sink.old) world
+        → MatchResult result (TurnGives all rest before (K.written sink.new) world)
+        (StopGives all before (K.written sink.new) world) }
     ensures rose { result ≡ Err Stop.SinkFailed → Rose (K.faults sink.old) (K.faults sink.new) }
     ensures count { K.faults sink.old ≤ K.faults sink.new }
     ensures own { result ≡ Err Stop.SourceFailed → ⊥ }

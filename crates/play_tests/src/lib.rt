@@ -6,6 +6,10 @@ mod calls;
 #[cfg(test)]
 mod ends;
 #[cfg(test)]
+mod failing;
+#[cfg(test)]
+mod full_log;
+#[cfg(test)]
 mod plays;
 #[cfg(test)]
 mod row;

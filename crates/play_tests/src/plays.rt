@@ -1,8 +1,6 @@
-//! The worked rows of three servers, compared whole, and ends that fail.
+//! The worked rows of three servers, compared whole.
 
 use crate::row::{Row, repeated, result_of};
-use harp_base::Bytes;
-use std::alloc::Global;
 use std::test::Fail;
 
 const ROWS: [Row; 14] = [
@@ -251,29 +249,6 @@ fn plays_no_line_that_is_too_long(rt: HostRuntime) -> Result<(), Fail> {
     let (status, sink) = result_of(&rt, "play", long.as_slice(), &[], &[])?;
     assert_eq!(rt; status, 5);
     assert_eq!(rt; sink.written(), b"bad 1 too-long\n".as_slice());
-    Ok(())
-}
-
-/// A comment of more than one read, and an update with its two deliveries.
-fn long_schedule(alloc: Global) -> Result<Bytes, Fail> {
-    let mut schedule = repeated(alloc, b"#########", 600)?;
-    schedule.extend(b"\nask 0 7 1 mkdir 1 61 755\npump\n")?;
-    Ok(schedule)
-}
-
-#[test]
-fn tells_which_end_failed(rt: HostRuntime) -> Result<(), Fail> {
-    let schedule = long_schedule(rt.alloc())?;
-    let (done, whole) = result_of(&rt, "play", schedule.as_slice(), &[], &[])?;
-    assert_eq!(rt; done, 0);
-    for call in 1..4u64 {
-        let (status, sink) = result_of(&rt, "play", schedule.as_slice(), &[call], &[])?;
-        assert_eq!(rt; status, 3);
-        assert!(rt; whole.written().starts_with(sink.written()));
-        let (status, sink) = result_of(&rt, "play", schedule.as_slice(), &[], &[call])?;
-        assert_eq!(rt; status, 4);
-        assert!(rt; whole.written().starts_with(sink.written()));
-    }
     Ok(())
 }
 

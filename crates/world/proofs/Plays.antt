@@ -12,7 +12,7 @@ use Rattle.trace_lines.specs.declared.line.Line.TheVariants as line
 use Rattle.trace_lines.specs.declared.step.Step.{Step}
 use Rattle.trace_lines.specs.declared.step.Step.TheVariants as step
 use Rattle.file_tree.specs.Book.{Entry}
-use Rattle.group_rules.specs.Step.{Near}
+use Rattle.group_safety.specs.Laws.{Near, Whole}
 use Rattle.group_rules.specs.Moves.{Move, acts}
 use Rattle.group_rules.specs.Names.{place_of}
 use Rattle.group_rules.specs.Places.{Zero, One, Two, Place, get}
@@ -230,7 +230,7 @@ leads_after : (old new : WorldValue) (s : Step) (lines : List Line) → Takes ol
     → (ss : List Step) → IsLeftBy ss old → Leads (run first_scene ss) new s lines
 leads_after old new s lines t ss h =
     let stands = left_stands ss old h in
-    takes_leads (run first_scene ss) old new h.looks (logs_whole _ (logs_whole _ stands.whole stands.early) stands.early) stands.early s lines t
+    takes_leads (run first_scene ss) old new h.looks (logs_whole _ stands.whole stands.early) stands.early s lines t
 
 -- a step that isn't refused, and that the world takes, is played
 pub takes_plays : (old new : WorldValue) (s : Step) (lines : List Line) → old.halted ≡ false

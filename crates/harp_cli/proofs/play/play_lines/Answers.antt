@@ -23,28 +23,39 @@ loop-number-preserved g c = record {
   ];
   below = c.in-Ok-GoesOn.ensures.below (ap Ok c.in-Ok-GoesOn.field-0-is);
   goes = λ text told.
-      subst (LineGives text c.loop-number.number (text_left c.play_line.new.reader
+      subst (LineGives text c.loop-number.number (g.S.Source.left c.play_line.new.source)
+      (text_left c.play_line.new.reader
       (g.S.Source.left c.play_line.new.source)) (g.K.Sink.written c.args.sink.now)
       (g.K.Sink.written c.play_line.new.sink) c.play_line.new.world) c.in-Ok-GoesOn.field-0-is
-      (c.in-Ok-GoesOn.ensures.ends text (g.K.Sink.written c.args.sink.now) (c.loop-number.invariant.goes text told));
-  source_count = omega (arith, c.loop-number.invariant.source_count, c.in-Ok-GoesOn.ensures.source_count);
+      (c.in-Ok-GoesOn.ensures.ends text (g.K.Sink.written c.args.sink.now)
+      (c.loop-number.invariant.goes text told));
+  source_count = omega (
+    arith,
+    c.loop-number.invariant.source_count,
+    c.in-Ok-GoesOn.ensures.source_count,
+  );
   sink_count = omega (arith, c.loop-number.invariant.sink_count, c.in-Ok-GoesOn.ensures.sink_count);
 }
 
 pub returns-in-Ok-Ended-clause-ends : goal.returns-in-Ok-Ended-clause-ends
 returns-in-Ok-Ended-clause-ends g c = λ text told.
-    subst (LineGives text c.loop-number.number (text_left c.play_line.new.reader
+    subst (LineGives text c.loop-number.number (g.S.Source.left c.play_line.new.source)
+    (text_left c.play_line.new.reader
     (g.S.Source.left c.play_line.new.source)) (g.K.Sink.written c.args.sink.now)
     (g.K.Sink.written c.play_line.new.sink) c.play_line.new.world) c.in-Ok-Ended.field-0-is
-    (c.in-Ok-Ended.ensures.ends text (g.K.Sink.written c.args.sink.now) (c.loop-number.invariant.goes text told))
+    (c.in-Ok-Ended.ensures.ends text (g.K.Sink.written c.args.sink.now)
+    (c.loop-number.invariant.goes text told))
 
 pub returns-in-Ok-Refused-clause-ends : goal.returns-in-Ok-Refused-clause-ends
 returns-in-Ok-Refused-clause-ends g c = λ text told.
-    subst (LineGives text c.loop-number.number (text_left c.play_line.new.reader
+    subst (LineGives text c.loop-number.number (g.S.Source.left c.play_line.new.source)
+    (text_left c.play_line.new.reader
     (g.S.Source.left c.play_line.new.source)) (g.K.Sink.written c.args.sink.now)
     (g.K.Sink.written c.play_line.new.sink) c.play_line.new.world) c.in-Ok-Refused.field-0-is
-    (c.in-Ok-Refused.ensures.ends text (g.K.Sink.written c.args.sink.now) (c.loop-number.invariant.goes text told))
+    (c.in-Ok-Refused.ensures.ends text (g.K.Sink.written c.args.sink.now)
+    (c.loop-number.invariant.goes text told))
 
 pub returns-in-Err-play_line-clause-ends : goal.returns-in-Err-play_line-clause-ends
 returns-in-Err-play_line-clause-ends g c = λ text told.
-    c.in-Err-play_line.ensures.ends text (g.K.Sink.written c.args.sink.now) (c.loop-number.invariant.goes text told)
+    c.in-Err-play_line.ensures.ends text (g.K.Sink.written c.args.sink.now)
+    (c.loop-number.invariant.goes text told)

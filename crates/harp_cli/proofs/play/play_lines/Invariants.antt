@@ -7,7 +7,8 @@ abbrev pub invariant-loop-number : goal.invariant-loop-number
 invariant-loop-number g l =
     Keeps l.number (g.S.Source.left l.fn.source) (g.K.Sink.written l.fn.sink)
     (text_left l.reader (g.S.Source.left l.source)) (g.K.Sink.written l.sink) l.world
-    (g.S.Source.faults l.fn.source) (g.S.Source.faults l.source) (g.K.Sink.faults l.fn.sink) (g.K.Sink.faults l.sink)
+    (g.S.Source.faults l.fn.source) (g.S.Source.faults l.source) (g.K.Sink.faults l.fn.sink)
+    (g.K.Sink.faults l.sink)
 
 abbrev pub decreases-loop-number : goal.decreases-loop-number
 decreases-loop-number g l = 50002 - l.number

@@ -7,9 +7,11 @@ use Rattle.harp_cli.proofs.step.pump.Given as goal
 
 abbrev pub invariant-loop : goal.invariant-loop
 invariant-loop g l = record {
-  come : (text : List ℕ) (rest : Scene → Reading) (before : Option (List ℕ))
-      → HasCome text (with_pump most_deliveries l.among rest) before (g.K.Sink.written l.fn.sink) l.fn.world
-      → HasCome text (with_pump (most_deliveries - l.counter) l.among rest) before (g.K.Sink.written l.sink) l.world;
+  come : (all : Reading) (rest : Scene → Reading) (before : Option (List ℕ))
+      → HasCome all (with_pump most_deliveries l.among rest) before (g.K.Sink.written l.fn.sink)
+      l.fn.world
+      → HasCome all (with_pump (most_deliveries - l.counter) l.among rest) before
+      (g.K.Sink.written l.sink) l.world;
   clocks : l.world.clocks ≡ l.fn.world.clocks;
   count : g.K.Sink.faults l.fn.sink ≤ g.K.Sink.faults l.sink;
 }

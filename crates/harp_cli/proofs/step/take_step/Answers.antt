@@ -5,8 +5,8 @@ pub returns-in_default : goal.returns-in_default
 returns-in_default g c =
     let alone = is-alone c.args.step c.in_default.not-Pump in
     record {
-      ends = λ text rest before h. c.take_elementary.ensures.ends text rest before
-          (gave-step text c.args.number c.args.step rest before
+      ends = λ all rest before h. c.take_elementary.ensures.ends all rest before
+          (gave-step all c.args.number c.args.step rest before
           (g.K.Sink.written c.args.sink.now) c.args.world.now alone h);
       clocks = c.take_elementary.ensures.clocks;
       rose = c.take_elementary.ensures.rose;

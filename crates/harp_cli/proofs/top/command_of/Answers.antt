@@ -8,4 +8,5 @@ pub returns-in-len1 : goal.returns-in-len1
 returns-in-len1 c =
     let only = one_word c.args.words.now c.word-item.result (omega arith) (omega arith) in
     ap (map (λ w. string_bytes w)) (only ∙ ap (λ w. w ∷ []) (sym c.word-item.is))
-    ∙ ap (λ t. t ∷ []) (sym c.as_str.ensures.value ∙ same_text c.as_str.result.now (codes "play") c.if-eq.ensures)
+    ∙ ap (λ t. t ∷ []) (sym c.as_str.ensures.value
+    ∙ same_text c.as_str.result.now (codes "play") c.if-eq.ensures)
