@@ -12,7 +12,7 @@ use Rattle.trace_lines.specs.declared.line.Line.TheVariants as line
 use Rattle.trace_lines.specs.declared.step.Step.{Step}
 use Rattle.trace_lines.specs.declared.step.Step.TheVariants as step
 use Rattle.file_tree.specs.Book.{Entry}
-use Rattle.group_safety.specs.Laws.{Near, Whole}
+use Rattle.group_rules.specs.Step.{Near}
 use Rattle.group_rules.specs.Moves.{Move, acts}
 use Rattle.group_rules.specs.Names.{place_of}
 use Rattle.group_rules.specs.Places.{Zero, One, Two, Place, get}

@@ -7,7 +7,7 @@ use Rattle.trace_lines.specs.declared.step.Step.TheVariants as step
 use Rattle.trace_lines.specs.declared.line.Line.{Line}
 use Rattle.file_tree.specs.Book.{Entry}
 use Rattle.group_rules.specs.FixedStart.{starting}
-use Rattle.group_safety.specs.Laws.{Near}
+use Rattle.group_rules.specs.Step.{Near}
 use Rattle.group_rules.specs.Names.{place_of}
 use Rattle.group_rules.specs.Places.{Zero, One, Two, Place, Trio, get, with_at}
 use Rattle.group_rules.specs.State.{Packet, Server}
