@@ -10,8 +10,8 @@ ghost use Rattle.group_rows.specs.RowsStops.{StopAtAJoin, StopBeforeTheMark, Sto
 ghost use Rattle.group_rows.specs.RowsPromises.{LongerPromises, ShorterPromises, OldMark, FullLog};
 ghost use Rattle.group_rows.specs.RowsWitness.{Witness, AbandonedFormation};
 
-/// The machine plays the worked rows line by line: what is entered, answered and refused, each message,
-/// and each change of a server's state.
+/// The machine plays the worked rows line by line: what is entered, answered and refused, each
+/// message, and each change of a server's state.
 pub fn worked_rows()
     ensures opening_at_its_moment { OpeningAtItsMoment }
     ensures late_acknowledgement { LateAcknowledgement }

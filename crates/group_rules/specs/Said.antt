@@ -1,4 +1,5 @@
--- What the moves of a step say: messages, answers and refusals, and the entries that come into the book.
+-- What the moves of a step say: messages, answers and refusals, and the entries that come into
+-- the book.
 use Rattle.std.specs.Prelude.{ℕ, ◌-◌, Bool, true, false, List, [], ◌∷◌, ◌++◌, take, drop}
 use Rattle.std.specs.List.{flat_map}
 use Rattle.file_tree.specs.Book.{Entry}
@@ -45,7 +46,11 @@ pub record Refusal : Type 0 where
 
 abbrev pub refused_say : Say Entry → List Refusal
 refused_say (Answers index e) = []
-refused_say (Refuses client number cause) = record { client = client; number = number; cause = cause } ∷ []
+refused_say (Refuses client number cause) = record {
+  client = client;
+  number = number;
+  cause = cause;
+} ∷ []
 refused_say (Lists n) = []
 
 abbrev pub refused_by : Move Entry → List Refusal

@@ -1,5 +1,5 @@
 -- One server's step, and what happens to a group.
-use Rattle.std.specs.Prelude.{ℕ, zero, suc, ◌+◌, ◌-◌, ◌≤◌, nat_lt, nat_le, Bool, true, false, List, [], ◌∷◌, length, take, Option, None, Some, slice_get, if◌then◌else◌}
+use Rattle.std.specs.Prelude.{◌≤◌, ℕ, zero, suc, ◌+◌, ◌-◌, nat_lt, nat_le, Bool, true, false, List, [], ◌∷◌, length, take, Option, None, Some, slice_get, if◌then◌else◌}
 use Rattle.harp_base.specs.declared.call.Call.{Call}
 use Rattle.harp_base.specs.declared.cred.Cred.{Cred}
 use Rattle.file_tree.specs.Book.{Entry}
@@ -132,10 +132,6 @@ abbrev pub cut_delivered : (List Entry → Entry → ℕ) → Group Entry → Op
 cut_delivered size g None = g
 cut_delivered size g (Some p) = cut_steps size g p.to (Comes p.from p.body)
 
--- the clocks are at most 50 apart
-abbrev pub Near : (Place → ℕ) → Type 0
-Near clock = (x y : Place) → clock x ≤ clock y + 50
-
 abbrev pub near_tests : ℕ → (Place → ℕ) → List Bool
 near_tests t clock = nat_le t (clock Zero + 50) ∷ nat_le (clock Zero) (t + 50) ∷ nat_le t (clock One + 50)
     ∷ nat_le (clock One) (t + 50) ∷ nat_le t (clock Two + 50) ∷ nat_le (clock Two) (t + 50) ∷ []
@@ -143,6 +139,10 @@ near_tests t clock = nat_le t (clock Zero + 50) ∷ nat_le (clock Zero) (t + 50)
 -- readings don't go back, and are at most 50 apart
 abbrev pub near : ℕ → (Place → ℕ) → Bool
 near t clock = all_of (near_tests t clock)
+
+-- the clocks are at most 50 apart
+abbrev pub Near : (Place → ℕ) → Type 0
+Near clock = (x y : Place) → clock x ≤ clock y + 50
 
 abbrev pub clock_tests : Group Entry → Place → ℕ → List Bool
 clock_tests g q t = nat_le (g.clock q) t ∷ near t (at g.clock q t) ∷ []

@@ -12,17 +12,18 @@ use Rattle.harp_trace.specs.Servers.{Packet as PacketShown, later_state, packet_
 use Rattle.harp_trace.specs.Trace.{Trace, entered_by, entries, is_last, later_step, step_of_line, steps}
 use Rattle.harp_trace.proofs.Places.{all-append}
 use Rattle.file_tree.specs.Book.{Entry}
-use Rattle.group_rules.specs.Moves.{Move, Reading, Saying, Sending}
+use Rattle.group_rules.specs.Moves.{Move, Sending}
 use Rattle.group_rules.specs.Names.{id_of, view_of}
 use Rattle.group_rules.specs.Places.{Place}
 use Rattle.group_rules.specs.Said.{answers_said, refusals_said}
-use Rattle.group_rules.specs.State.{Ack, Answers, Beat, Event, Lists, Message, Packet, Refuses}
+use Rattle.group_rules.specs.State.{Ack, Beat, Event, Message, Packet}
 use Rattle.group_run.specs.Lines.{answered_line, answered_lines, entered_lines, packet_lines, refused_line, refused_lines, sent_line, sent_lines, state_lines}
 use Rattle.group_rules.specs.Shown.{same_state}
 use Rattle.group_run.proofs.After.{packets_by}
 
 -- what holds of each line that is made of something
-each_line : {A : Type 0} (P : Line → Type 0) (f : A → Line) → ((a : A) → P (f a)) → (xs : List A) → AllByRecursion P (map f xs)
+each_line : {A : Type 0} (P : Line → Type 0) (f : A → Line) → ((a : A) → P (f a)) → (xs : List A)
+    → AllByRecursion P (map f xs)
 each_line P f h [] = tt
 each_line P f h (x ∷ xs) = (h x, each_line P f h xs)
 

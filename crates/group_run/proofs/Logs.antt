@@ -11,7 +11,8 @@ use Rattle.group_run.proofs.After.{none_above}
 use Rattle.group_run.proofs.Early.{Early}
 
 -- a log whose base is 0 has the whole list
-from_start : (g : Group Entry) → Whole g → (q : Place) → (g.server q).held ≡ Log → (g.server q).base ≡ 0
+from_start : (g : Group Entry) → Whole g → (q : Place) → (g.server q).held ≡ Log
+    → (g.server q).base ≡ 0
     → list_of g q ≡ (g.server q).items
 from_start g k q held base =
     let list = (g.page (g.server q).accepted).list in
@@ -25,7 +26,8 @@ leader_count g k h =
     let open' : (g.server Zero).mode ≡ Open = ap (λ (s : Server Entry). s.mode) h.leads.is in
     (k.settled.server Zero).count open' (none_above g k h Zero)
 
-lists_whole : (g : Group Entry) → Whole g → Early g → (q : Place) → list_of g q ≡ (g.server q).items
+lists_whole : (g : Group Entry) → Whole g → Early g → (q : Place)
+    → list_of g q ≡ (g.server q).items
 lists_whole g k h Zero = from_start g k Zero (ap (λ (s : Server Entry). s.held) h.leads.is)
     (ap (λ (s : Server Entry). s.base) h.leads.is)
 lists_whole g k h One = from_start g k One (ap (λ (s : Server Entry). s.held) h.follows.is)

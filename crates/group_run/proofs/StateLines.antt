@@ -1,5 +1,5 @@
 -- State lines: when two states are one, and what the last state line says.
-use Rattle.std.proofs.Common.{rules, ◌&&◌, ◌==◌, ◌≡◌, ℕ, zero, suc, ◌<◌, ◌≤◌, ◌⊎◌, Bool, true, false, List, [], ◌∷◌, ◌++◌, refl, sym, ap, ◌∙◌, inl, inr, arith, fold, if◌then◌else◌}
+use Rattle.std.proofs.Common.{rules, ◌&&◌, ◌==◌, ◌≡◌, ℕ, ◌<◌, ◌≤◌, ◌⊎◌, Bool, true, false, [], ◌∷◌, ◌++◌, refl, ap, ◌∙◌, inl, inr, arith, fold, if◌then◌else◌}
 use Rattle.std.proofs.lemmas.Bool.{cases_Bool, eqb-true}
 use Rattle.harp_base.specs.Server.{number_of}
 use Rattle.harp_base.specs.contracts.server.ViewNoPartialEq.TheImpl as view_equality
@@ -11,11 +11,8 @@ use Rattle.harp_base.specs.declared.server.ServerId.{ServerId}
 use Rattle.harp_base.specs.declared.server.ServerId.TheVariants as server
 use Rattle.harp_base.specs.declared.state.StateLine.{StateLine}
 use Rattle.harp_base.specs.declared.state.Mode.{Mode}
-use Rattle.harp_base.specs.declared.state.Mode.TheVariants as mode
 use Rattle.harp_base.specs.declared.state.Role.{Role}
-use Rattle.harp_base.specs.declared.state.Role.TheVariants as role
 use Rattle.harp_base.specs.declared.state.Held.{Held}
-use Rattle.harp_base.specs.declared.state.Held.TheVariants as held
 use Rattle.trace_lines.specs.declared.line.Line.{Line}
 use Rattle.trace_lines.specs.declared.line.Line.TheVariants as line
 use Rattle.harp_trace.specs.Servers.{HasShown, first_state, last_state, later_state, same_server}
@@ -78,11 +75,14 @@ same_is s t e =
     let e9 = both cp top e8.1 in
     fields s t (mode_is s.mode t.mode e1.0) (view_is s.promised t.promised e2.0)
     (view_is s.accepted t.accepted e3.0) (role_is s.role t.role e4.0) (held_is s.held t.held e5.0)
-    (is_eq' s.base t.base e6.0) (is_eq' s.lb t.lb e7.0) (is_eq' s.ap t.ap e8.0) (is_eq' s.cp t.cp e9.0)
+    (is_eq' s.base t.base e6.0) (is_eq' s.lb t.lb e7.0) (is_eq' s.ap t.ap e8.0)
+    (is_eq' s.cp t.cp e9.0)
     (is_eq' s.top t.top e9.1)
   where
-    fields : (s t : StateLine) → s.mode ≡ t.mode → s.promised ≡ t.promised → s.accepted ≡ t.accepted
-        → s.role ≡ t.role → s.held ≡ t.held → s.base ≡ t.base → s.lb ≡ t.lb → s.ap ≡ t.ap → s.cp ≡ t.cp
+    fields : (s t : StateLine) → s.mode ≡ t.mode → s.promised ≡ t.promised
+        → s.accepted ≡ t.accepted
+        → s.role ≡ t.role → s.held ≡ t.held → s.base ≡ t.base → s.lb ≡ t.lb → s.ap ≡ t.ap
+        → s.cp ≡ t.cp
         → s.top ≡ t.top → s ≡ t
     fields s t m p a r h base lb ap' cp top = λ i. record {
       mode = m i;

@@ -12,7 +12,8 @@ use Rattle.group_rules.specs.Step.{list_of}
 use Rattle.group_safety.specs.Laws.{Whole}
 use Rattle.group_run.specs.Run.{first_scene, run, run_lines}
 
--- Each server's log is its whole list of entries, and the leader has each update of the book as committed
+-- Each server's log is its whole list of entries, and the leader has each update of the book as
+-- committed
 pub record LogsAreWhole (g : Group Entry) : Type 0 where
   pub lists : (q : Place) → list_of g q ≡ (g.server q).items
   pub committed : (g.server Zero).cp ≡ length g.committed
@@ -25,8 +26,8 @@ pub record IsRight (trace : Trace) : Type 0 where
   pub answered_at_once : AreAnsweredAtOnce trace
 
 -- Of each list of steps that are taken from the first scene on: the event lines are these steps, the entered lines are
--- the group's book, the group meets the facts, its logs are whole, and the lines with any right last line are a right
--- trace
+-- the group's book, the group meets the facts, its logs are whole, and the lines with any right
+-- last line are a right trace
 pub record RunIsRight (ss : List Step) : Type 0 where
   pub events : steps (run_lines first_scene ss) ≡ ss
   pub book : entries (run_lines first_scene ss) ≡ (run first_scene ss).group.book

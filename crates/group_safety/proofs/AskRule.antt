@@ -42,7 +42,12 @@ appends g q s h e o u m =
     let b = neither _ _ n in
     let c = not_le room (length s.items) b.0 in
     let d = not_le limit (top s) b.1 in
-    goes_more g q s (Appending e) _ h (tt, tt, (c, (omega arith), u, m, (fine.modes.active a).0)) (appending h e (record { open' = o })) (λ k.
+    goes_more g q s (Appending e) _ h (
+      tt,
+      tt,
+      (c, (omega arith), u, m, (fine.modes.active a).0),
+      a,
+    ) (appending h e (record { open' = o })) (λ k.
     let p' = put_is g.page s.accepted (record p { list = p.list ++ e ∷ [] }) in
     let known = its k in
     goes_send _ q _ _ _ [] k (
@@ -105,6 +110,7 @@ read_at g q s h o client number cred c u list e later =
         count,
         later,
       ),
+      tt,
     ) (read_kept g h.ok q s h.is s.cp (read_entry s.cp list client number cred c))
 
 -- a read at an open leader under an unexpired promise

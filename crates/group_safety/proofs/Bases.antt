@@ -153,10 +153,6 @@ demoted_low : {E : Type 0} (lbs : Place → ℕ) (page : ℕ → Page E) (s : Se
 demoted_low lbs page s v true idle h = record { log = λ l. cc; saved = λ u x. cc; acked = λ o. absurd (idle o refl); heard = h.heard }
 demoted_low lbs page s v false idle h = record { log = λ l. cc; saved = λ u x. cc; acked = λ o. cc; heard = λ x lb e. absurd (none_heard x lb e) }
 
-demoted_lb : {E : Type 0} (s : Server E) (v : ℕ) (b : Bool) → (demoted_by b s v).lb ≡ s.lb
-demoted_lb s v true = refl
-demoted_lb s v false = refl
-
 pub bases_moved : {E : Type 0} (g : Group E) → Ok g → Bases g → (q : Place) (s : Server E) → g.server q ≡ s → (m : Move E) → BasesMay g q s m → Bases (moved g q s m)
 bases_moved g ok low q s e (Joining v duty) may =
     let p = parts g ok low q s (act q (g.clock q) s (Joining v duty)) e (λ _. le_refl _) g.page (stays_same g.page) low.page (λ h. record { log = h.log; saved = h.saved; acked = λ o. cc; heard = λ x lb e. absurd (none_heard x lb e) }) in

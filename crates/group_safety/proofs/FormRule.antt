@@ -3,10 +3,10 @@ use Rattle.std.proofs.Common.{◌≡◌, ℕ, suc, ◌+◌, ◌-◌, ◌≤◌, 
 use Rattle.std.proofs.lemmas.List.{length-take}
 use Rattle.file_tree.specs.Book.{Entry}
 use Rattle.group_rules.specs.Form.{accept_moves, adopted, fits, form_moves, keeps, on_form, on_give, pull_tests, role_of, wanted}
-use Rattle.group_rules.specs.Limits.{by_held, give_bytes, is_joins, is_pulls, room}
+use Rattle.group_rules.specs.Limits.{by_held, can_have, give_bytes, is_joins, is_pulls, room}
 use Rattle.group_rules.specs.Misfits.{given_tests}
 use Rattle.group_rules.specs.Moves.{Accepting, Pulling, Staging, act, moved}
-use Rattle.group_rules.specs.Places.{Place, all_of, is_p2, partner, same}
+use Rattle.group_rules.specs.Places.{IsIn, Zero, One, Two, Pair, Place, S01, S02, S12, all_of, is_p2, partner, same}
 use Rattle.group_rules.specs.Serving.{front, gives, held_tests, on_fetch, one_or_more, serving_accepted, serving_joined}
 use Rattle.group_rules.specs.State.{Group, Held, Plan, Server, top}
 use Rattle.group_safety.specs.Words.{IsJoining, Part, Under}
@@ -24,6 +24,24 @@ use Rattle.group_safety.proofs.Sends.{goes_if, goes_send, goes_where, partner_lb
 pub adopted_lb : (q : Place) (s : Server Entry) (plan : Plan) → is_p2 q ≡ false → s.lb ≤ (if is_p2 q then plan.base else s.lb)
 adopted_lb q s plan f = by_if (λ (n : ℕ). s.lb ≤ n) (is_p2 q) plan.base s.lb (λ t. absurd (true≢false (sym t ∙ f))) (λ _. le_refl _)
 
+-- a storer's role is one that a choice gives
+role_can : (pair : Pair) (q : Place) → IsIn pair q → can_have q (role_of pair q) ≡ true
+role_can S01 Zero i = refl
+role_can S01 One i = refl
+role_can S01 Two i = absurd i
+role_can S02 Zero i = refl
+role_can S02 One i = absurd i
+role_can S02 Two i = refl
+role_can S12 Zero i = absurd i
+role_can S12 One i = refl
+role_can S12 Two i = refl
+
+witness_lb : (q : Place) (s : Server Entry) (plan : Plan) → q ≡ Two
+    → (if is_p2 q then plan.base else s.lb) ≤ plan.base
+witness_lb q s plan two = by_if (λ (n : ℕ). n ≤ plan.base) (is_p2 q) plan.base s.lb
+    (λ _. le_refl _)
+    (λ f. absurd (true≢false (ap is_p2 (sym two) ∙ f)))
+
 -- the storer's own part: it accepts
 pub accepts : (g : Group Entry) (q : Place) (s : Server Entry) → Good g q s → (plan : Plan) (staged : List Entry) → IsJoining s.mode → (g.page s.promised).formed ≡ true → plan ≡ (g.page s.promised).plan → fits q s plan ≡ true
     → (same q plan.source ≡ false → Part (wanted q s plan) staged (g.page s.promised).list × (wanted q s plan + length staged ≡ plan.start)) → Goes g q s (accept_moves q s plan staged)
@@ -35,7 +53,20 @@ accepts g q s h plan staged j f known fit pulled =
     let start : plan.start ≡ (g.page s.promised).plan.start = ap (λ (p : Plan). p.start) known in
     let most = (fits_is q s plan fit).space in
     let space : length n.items ≤ room = omega arith in
-    goes_more g q s (Accepting plan role n) _ h (tt, (f, subst (λ (p : Plan). Under (lbs_of g.server) p.base) (sym known) (h.bases.page s.promised f), adopted_lb q s plan), (space, j)) (accepting' h plan role n may) (λ k.
+    let inside : IsIn plan.storers q = subst (λ (p : Plan). IsIn p.storers q)
+    (sym known) may.storer in
+    goes_more g q s (Accepting plan role n) _ h (
+      tt,
+      (
+        f,
+        subst (λ (p : Plan). Under (lbs_of g.server) p.base) (sym known)
+            (h.bases.page s.promised f),
+        adopted_lb q s plan,
+      ),
+      (space, j),
+      (role_can plan.storers q inside, witness_lb q s plan),
+    ) (accepting' h plan role n may)
+    (λ k.
     let g1 = moved g q s (Accepting plan role n) in
     let s1 = act q (g.clock q) s (Accepting plan role n) in
     goes_where g1 q s1 (same q (partner plan.storers)) _ k (λ t.
@@ -57,7 +88,7 @@ forms g q s h plan f known = goes_where g q s (all_of (is_joins s.mode ∷ fits 
     (λ t. subst (λ (x : Held). by_held x s.cp s.lb ≤ plan.start) (keeps_held q s plan t) fits'.own_cp) (λ _. fits'.base) in
     goes_if g q s (same q plan.source || (wanted q s plan == plan.start)) _ _
     (λ t. accepts g q s h plan [] j f known fit (λ n. (no_part _ _, ⊎_elim (λ y. absurd (true≢false (sym y ∙ n))) (λ y. let z = is_eq' (wanted q s plan) plan.start y in omega arith) (one_of _ _ t))))
-    (λ t. goes_more g q s (Pulling plan (wanted q s plan)) _ h (tt, tt, j)
+    (λ t. goes_more g q s (Pulling plan (wanted q s plan)) _ h (tt, tt, j, tt)
     (pull_kept g h.ok q s h.is plan (wanted q s plan) j (f, known, no_part _ _, subst (λ (p : Plan). wanted q s plan + 0 ≤ p.start) known (omega arith), fit, refl, not_either (same q plan.source) _ t))
     (λ k. goes_send _ q _ _ _ [] k (f, ap (λ (p : Plan). p.source) known) (tt, tt, tt) goes_done)))
   where
@@ -90,7 +121,7 @@ given g q s h from v index items part test = goes_where g q s (all_of (pull_test
     goes_if g q s (s.wanted_from + length (s.staged ++ items) == s.plan.start) _ _
     (λ x. accepts g q s h s.plan (s.staged ++ items) j ok.0 ok.1 ok.4 (λ _.
     (subst (λ (n : ℕ). Part n (s.staged ++ items) (g.page s.promised).list) (sym ok.5) more, subst (λ (n : ℕ). n + length (s.staged ++ items) ≡ s.plan.start) (sym ok.5) (is_eq' (s.wanted_from + length (s.staged ++ items)) s.plan.start x))))
-    (λ _. goes_more g q s (Staging (s.staged ++ items)) _ h (tt, tt, pulls)
+    (λ _. goes_more g q s (Staging (s.staged ++ items)) _ h (tt, tt, pulls, tt)
     (stage_kept g h.ok q s h.is (s.staged ++ items) (ok.0, ok.1, more, subst (λ (p : Plan). s.wanted_from + length (s.staged ++ items) ≤ p.start) ok.1 (omega arith), ok.4, ok.5, ok.6))
     (λ k. goes_send _ q _ _ _ [] k (ok.0, ap (λ (p : Plan). p.source) ok.1) (tt, tt, tt) goes_done)))
 

@@ -21,7 +21,13 @@ use Rattle.group_safety.proofs.Sends.{goes_each, goes_if, goes_send, goes_where,
 -- invite
 pub invited : (g : Group Entry) (q : Place) (s : Server Entry) → Good g q s → s.up ≡ true → (from : Place) (v : ℕ) → v / 3 ≤ limit → Goes g q s (on_invite s from v)
 invited g q s h up from v le = goes_if g q s (nat_lt s.promised v) _ _
-    (λ t. goes_more g q s (Joining v NoDuty) _ h (tt, tt, le) (joining h v NoDuty (record { up = up; higher = is_lt _ _ t; none = λ w p e. cc; own = λ reports e. cc }))
+    (λ t. goes_more g q s (Joining v NoDuty) _ h (tt, tt, le, up)
+    (joining h v NoDuty (record {
+      up = up;
+      higher = is_lt _ _ t;
+      none = λ w p e. cc;
+      own = λ reports e. cc;
+    }))
     (λ k. goes_send _ q _ _ _ [] k (inl refl) (tt, tt, tt) goes_done))
     (λ _. goes_where g q s (all_of (joined_tests s v)) _ h (λ t.
     let a = each_of (joined_tests s v) t in
@@ -47,11 +53,24 @@ told_join g q s h from v t j (Collects reports) e = goes_where g q s (v == s.pro
     chosen reports' known (choose reports') refl)
   where
     chosen : (reports' : Trio (Option Report)) → ((x : Place) (u : Report) → get reports' x ≡ Some u → In g.joins (record { from = x; view = s.promised; report = u })) → (o : Option Plan) → choose reports' ≡ o → Goes g q s (chosen_moves q s reports' o)
-    chosen reports' known None c = goes_one g q s _ h (tt, tt, tt) (calling h reports reports' e known)
-    chosen reports' known (Some plan) c = goes_more g q s (Collecting reports') _ h (tt, tt, tt) (calling h reports reports' e known) (λ k.
+    chosen reports' known None c = goes_one g q s _ h (tt, tt, tt, tt)
+        (calling h reports reports' e known)
+    chosen reports' known (Some plan) c = goes_more g q s (Collecting reports') _ h (
+      tt,
+      tt,
+      tt,
+      tt,
+    ) (calling h reports reports' e known) (λ k.
         let g1 = moved g q s (Collecting reports') in
         let s1 = act q (g.clock q) s (Collecting reports') in
-        goes_more g1 q s1 (Choosing plan (greatest reports')) _ k (((its k).duty reports' refl).unformed, (((its k).duty reports' refl).unformed, choose_low g1 q s1 k reports' refl plan c), starts_formed g1 q s1 k reports' refl plan c) (choosing k reports' plan (greatest reports') (choose_may g1 q s1 k reports' refl plan c)) (λ k2.
+        goes_more g1 q s1 (Choosing plan (greatest reports')) _ k (
+          ((its k).duty reports' refl).unformed,
+          (((its k).duty reports' refl).unformed, choose_low g1 q s1 k reports' refl plan c),
+          starts_formed g1 q s1 k reports' refl plan c,
+          tt,
+        )
+        (choosing k reports' plan (greatest reports')
+        (choose_may g1 q s1 k reports' refl plan c)) (λ k2.
         let s2 = act q (g.clock q) s1 (Choosing plan (greatest reports')) in
         steady_then q s2 (to_each (Form s.promised plan) (other_storers q plan.storers)) (form_moves q s2 plan)
         (steady_each q s2 (Form s.promised plan) (other_storers q plan.storers) (λ g' h' to. let x = (its h').chose s.promised plan refl in ((x.1, x.2), (tt, tt, tt))))
@@ -78,7 +97,7 @@ suspects g q s h up = goes_where g q s (nat_lt (s.promised / 3) limit) _ h (λ t
     let count : next_view s.promised q / 3 ≤ limit = next_count q s.promised (is_lt (s.promised / 3) limit t) in
     let v = next_view s.promised q in
     let own : Trio (Option Report) = with_at nobody q (Some (report_of s)) in
-    goes_more g q s (Joining v (Collects own)) _ h (tt, tt, count)
+    goes_more g q s (Joining v (Collects own)) _ h (tt, tt, count, up)
     (joining h v (Collects own) (record {
       up = up;
       higher = omega arith;

@@ -6,18 +6,17 @@ use Rattle.file_tree.specs.Book.{Entry}
 use Rattle.group_safety.specs.Bases.{BasesBody}
 use Rattle.group_rules.specs.Effects.{booted, down}
 use Rattle.group_safety.specs.Entered.{AnswerOk}
-use Rattle.group_safety.specs.Facts.{Ok}
+use Rattle.group_safety.specs.Facts.{BodyOk, Ok, PacketOk}
 use Rattle.group_safety.specs.Laws.{AllSaidRightly, AreRecords, BaseUnder, BasesOnBothDisks, CommittedSurvives, EveryLaterView, Grows, Growth, OneBook, ReadsAlone, SaidRightly, StandsFor, TwoOutcomes, Whole, WithinLimits}
 use Rattle.group_rules.specs.Limits.{delta_tests}
 use Rattle.group_rules.specs.Moves.{Booting, Choosing, Committing, Falling, Move, Opening, Reading, Saying, act, answered_after, book_after, moved, moved_by, new_entries, said_after}
 use Rattle.group_rules.specs.Places.{Place, all_of, number}
-use Rattle.group_rules.specs.State.{Answered, Answers, Beat, Event, Group, Lists, Log, Message, Packet, Page, Refuses, Say, Server, mark_of, top}
+use Rattle.group_rules.specs.State.{Answered, Answers, Beat, Event, Form, Group, Join, Lists, Log, Message, Packet, Plan, Refuses, Say, Server, mark_of, top}
 use Rattle.group_rules.specs.Step.{Advance, At, Boot, Clock, Comes, Crash, CutAt, CutDeliver, Deed, Deliver, Delta, Does, Happening, Input, clock_tests, cut_delivered, cut_steps, delivered, happens, numbered, run, step_of, steps, writes_any}
-use Rattle.group_safety.specs.Words.{Part, Sure}
+use Rattle.group_safety.specs.Words.{Each, Part, Sure, Under}
 use Rattle.group_rules.proofs.Tests.{by_if, if_is, if_not}
 use Rattle.group_safety.proofs.Common.{sure_up}
 use Rattle.group_safety.proofs.Lists.{get_drop}
-use Rattle.group_safety.proofs.Grow.{each_map}
 use Rattle.group_safety.proofs.Growth.{grows_same, grows_then}
 use Rattle.group_safety.proofs.BookLists.{follows_all}
 use Rattle.group_safety.proofs.Entering.{front_is}
@@ -66,10 +65,16 @@ reads_alone g h q o grant =
 pub one_book : (g : Group Entry) → Whole g → OneBook g
 one_book g h = record { book = h.books.book; updates = h.books.updates; lists = λ w f. follows_all [] (g.page w).list (h.books.list w f) }
 
-base_under : (lbs : Place → ℕ) (page : ℕ → Page Entry) (m : Message Entry) → BasesBody lbs page m → BaseUnder lbs m
-base_under lbs page (Event v index cp base e) h = h
-base_under lbs page (Beat v cp base) h = h
-base_under lbs page m h = tt
+base_under : (g : Group Entry) → Whole g → (from to : Place) (m : Message Entry)
+    → BodyOk g.page g.joins g.committed from to m → BasesBody (λ x. (g.server x).lb) g.page m
+    → BaseUnder (λ x. (g.server x).lb) m
+base_under g h from to (Join v t) k l = h.bases.join
+    (record { from = from; view = v; report = t }) k
+base_under g h from to (Form v plan) k l =
+    subst (λ (p : Plan). Under (λ x. (g.server x).lb) p.base) k.1 (h.bases.page v k.0)
+base_under g h from to (Event v index cp base e) k l = l
+base_under g h from to (Beat v cp base) k l = l
+base_under g h from to m k l = tt
 
 pub bases_on_both_disks : (g : Group Entry) → Whole g → BasesOnBothDisks g
 bases_on_both_disks g h = record {
@@ -77,8 +82,14 @@ bases_on_both_disks g h = record {
   saved = λ q. (h.bases.server q).saved;
   page = h.bases.page;
   join = h.bases.join;
-  packet = each_map (λ (p : Packet Entry). BasesBody (λ x. (g.server x).lb) g.page p.body) (λ (p : Packet Entry). BaseUnder (λ x. (g.server x).lb) p.body) (λ p. base_under (λ x. (g.server x).lb) g.page p.body) g.packets h.bases.packet;
+  packet = all g.packets h.ok.packet h.bases.packet;
 }
+  where
+    all : (ps : List (Packet Entry)) → Each (PacketOk g.page g.joins g.committed) ps
+        → Each (λ (p : Packet Entry). BasesBody (λ x. (g.server x).lb) g.page p.body) ps
+        → Each (λ (p : Packet Entry). BaseUnder (λ x. (g.server x).lb) p.body) ps
+    all [] k l = tt
+    all (p ∷ ps) k l = (base_under g h p.from p.to p.body k.0 l.0, all ps k.1 l.1)
 
 records_are : (base : ℕ) (items list : List Entry) → Part base items list → base + length items ≤ length list → AreRecords base items list
 records_are base items list part le =
@@ -232,10 +243,12 @@ cut_is size g q i = ⊎_elim
     (cases_Bool (g.server q).up)
   where
     cut_true : (g.server q).up ≡ true → writes_any q (g.clock q) (g.server q) (step_of size g q i) ≡ true → cut_steps size g q i ≡ moved_by g q (g.server q) (Falling ∷ [])
-    cut_true u w = if_is (g.server q).up _ g u ∙ if_is (writes_any q (g.clock q) (g.server q) (step_of size g q i)) _ _ w
+    cut_true u w = if_is (g.server q).up _ g u ∙ if_is
+        (writes_any q (g.clock q) (g.server q) (step_of size g q i)) _ _ w
 
     cut_false : (g.server q).up ≡ true → writes_any q (g.clock q) (g.server q) (step_of size g q i) ≡ false → cut_steps size g q i ≡ moved_by g q (g.server q) (step_of size g q i)
-    cut_false u w = if_is (g.server q).up _ g u ∙ if_not (writes_any q (g.clock q) (g.server q) (step_of size g q i)) _ _ w
+    cut_false u w = if_is (g.server q).up _ g u ∙ if_not
+        (writes_any q (g.clock q) (g.server q) (step_of size g q i)) _ _ w
 
     whole : (g.server q).up ≡ true → steps size g q i ≡ moved_by g q (g.server q) (step_of size g q i)
     whole u = if_is (g.server q).up _ g u

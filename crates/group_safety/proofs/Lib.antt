@@ -14,6 +14,7 @@ pub mod Modes
 pub mod Quiet
 pub mod Settled
 pub mod Bases
+pub mod Reported
 pub mod Growth
 pub mod BookLists
 pub mod Repeats

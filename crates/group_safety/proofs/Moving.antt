@@ -7,9 +7,9 @@ use Rattle.group_rules.specs.Effects.{NewLog}
 use Rattle.group_safety.specs.Entered.{ServerWithin}
 use Rattle.group_safety.specs.Facts.{BodyOk, Ok, ServerOk}
 use Rattle.group_safety.specs.Laws.{Grows}
-use Rattle.group_rules.specs.Step.{Near}
 use Rattle.group_rules.specs.Moves.{Accepting, Appending, Choosing, Collecting, Committing, Heeding, Joining, Move, Sending, act, acts, book_after, moved, moved_by}
 use Rattle.group_rules.specs.Places.{Zero, One, Two, Place, Trio, at, get}
+use Rattle.group_safety.specs.Reported.{Reported}
 use Rattle.group_safety.specs.Settled.{Settled}
 use Rattle.group_rules.specs.State.{Collects, Duty, Group, Message, Plan, Report, Role, Server}
 use Rattle.group_safety.specs.Words.{In}
@@ -22,8 +22,10 @@ use Rattle.group_safety.proofs.Appending.{append_kept}
 use Rattle.group_safety.proofs.Committing.{commit_kept}
 use Rattle.group_safety.proofs.Settled.{SettledMay, settled_moved}
 use Rattle.group_safety.proofs.Bases.{BasesMay, bases_moved}
+use Rattle.group_safety.proofs.Reported.{ReportedMay, reported_moved}
 use Rattle.group_safety.proofs.Growth.{grows_same, grows_then, grows_moved}
 use Rattle.group_safety.proofs.Entering.{Beside, BesideMay, beside_moved}
+use Rattle.group_rules.specs.Step.{Near}
 use Rattle.group_safety.proofs.Quiet.{Fine, fine, one_server, send_kept, ok_beside}
 
 pub at_self : {A : Type 0} (f : Place → A) (q : Place) (x : A) → at f q x q ≡ x
@@ -37,6 +39,7 @@ pub record Good (g : Group Entry) (q : Place) (s : Server Entry) : Type 0 where
   pub is : g.server q ≡ s
   pub settled : Settled g
   pub bases : Bases g
+  pub reported : Reported g
   pub beside : Beside g
   pub near : Near g.clock
 
@@ -50,7 +53,7 @@ its_within {q = q} h = subst (λ (s : Server Entry). ServerWithin s) h.is (h.bes
 
 -- what each move asks beside what makes its facts
 abbrev pub May : Group Entry → Place → Server Entry → Move Entry → Type 0
-May g q s m = SettledMay g q s m × BasesMay g q s m × BesideMay g q s m
+May g q s m = SettledMay g q s m × BasesMay g q s m × BesideMay g q s m × ReportedMay q s m
 
 -- each of the moves is made in a good group, and leads to one
 unfoldable pub Goes : Group Entry → Place → Server Entry → List (Move Entry) → Type 0
@@ -84,6 +87,7 @@ goes_more g q s m ms h r k next = (
     is = at_self g.server q (act q (g.clock q) s m);
     settled = settled_moved g h.ok h.settled q s h.is m r.0 k;
     bases = bases_moved g h.ok h.bases q s h.is m r.1;
+    reported = reported_moved g h.ok h.reported q s h.is (its_within h) m r.3;
     beside = beside_moved g h.ok h.beside q s h.is m r.0 r.1 r.2 k;
     near = h.near;
   }),

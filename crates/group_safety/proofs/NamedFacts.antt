@@ -5,6 +5,7 @@ use Rattle.group_safety.specs.Facts.{BodyOk, Ok, PacketOk}
 use Rattle.group_safety.specs.Laws.{Whole}
 use Rattle.group_safety.specs.NamedFacts.{AcceptedBelowPromised, CarriesEntries, CommitAgrees, CommitsAgreeWithTheBook, DemotesRightly, DemotionFollowsTwoDataServers, HeldTwiceSurvives, HoldsStart, HorizonsCoverPromises, NamedFacts, PromiseKnown, SaidTwice, StorerHoldsTheStart, StorersJoined}
 use Rattle.group_rules.specs.Places.{Place}
+use Rattle.group_safety.specs.Reported.{Reported}
 use Rattle.group_safety.specs.Settled.{Settled}
 use Rattle.group_rules.specs.State.{Ack, Beat, Demote, Event, Give, Group, JoinMade, Message, Page, top}
 use Rattle.group_safety.specs.Words.{Each, Holds, In}
@@ -43,12 +44,14 @@ accepted_below_promised g ok = record {
   lower = λ w p f. (ok.page w f).earlier p;
 }
 
-storers_joined : {E : Type 0} (g : Group E) → Ok g → StorersJoined g
-storers_joined g ok = record {
+storers_joined : {E : Type 0} (g : Group E) → Ok g → Reported g → StorersJoined g
+storers_joined g ok told = record {
   joined = λ w p f. (ok.page w f).storers_joined p;
   promised = λ w f q i. (ok.server q).views.promises w f i;
   shared = λ v w. share (g.page v).plan.storers (g.page w).plan.storers;
-  reports = λ q. (ok.server q).tells;
+  reports = λ q. (told.each q).log;
+  reports_saved = λ q. (told.each q).saved;
+  reports_now = λ q. (ok.server q).tells;
   opened = λ v f o. ((ok.page v f).opened_leader o, (ok.page v f).opened_partner o);
   accepted = λ v f q i. (ok.server q).views.into v f i;
   later = λ v f j i l into. (ok.join j i).latest v f l into;
@@ -113,7 +116,7 @@ demotion_follows g ok = record {
 pub named_facts : (g : Group Entry) → Whole g → NamedFacts g
 named_facts g h = record {
   accepted_below_promised = accepted_below_promised g h.ok;
-  storers_joined = storers_joined g h.ok;
+  storers_joined = storers_joined g h.ok h.reported;
   messages_carry_list_entries = each_map _ _ (λ p. carries g.page g.joins g.committed p.from p.to p.body) g.packets h.ok.packet;
   held_twice_survives = held_twice_survives g h.ok;
   said_twice_is_held = said_twice_is_held g h.ok;

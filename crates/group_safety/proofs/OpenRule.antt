@@ -37,7 +37,15 @@ open_goes g q s h w l lb e late =
     (subst (λ s. MayOpen g q s lb → Ok (record g { server = at g.server q (opening s (g.page s.accepted).plan.start lb); page = put g.page s.accepted (raised_page (g.page s.accepted) (g.page s.accepted).plan.start (g.page s.accepted).until) })) h.is (λ m. open_kept g h.ok q lb m)
     (record { waits = w; leads = leads; formed = e; late = subst (λ (p : Plan). p.horizon + 50 ≤ g.clock q) plan late })) in
     let commits = committing opens (at_self g.server q s0) (top s) (record { open' = refl; forward = log.cp_top; held_twice = subst (λ (p : Page _). top s ≤ p.held_twice) (sym (put_is g.page s.accepted p')) (le_of_eq top_is) }) in
-    goes_more g q s (Opening lb) _ h ((w, leads), (λ p. (its_low h).heard (partner s.plan.storers) lb e (ap (λ (n : ℕ). (g.page n).plan.storers) (fine.modes.active active).1 ∙ ap (λ (l : Plan). l.storers) (sym plan) ∙ p)), (w, (fine.modes.active active).0)) (merge (moved g q s (Opening lb)) g.server q s0 (act q (g.clock q) s (Opening lb)) commits) (λ k2.
+    goes_more g q s (Opening lb) _ h (
+      (w, leads),
+      (λ p. (its_low h).heard (partner s.plan.storers) lb e
+          (ap (λ (n : ℕ). (g.page n).plan.storers) (fine.modes.active active).1
+          ∙ ap (λ (l : Plan). l.storers) (sym plan) ∙ p)),
+      (w, (fine.modes.active active).0),
+      active,
+    ) (merge (moved g q s (Opening lb)) g.server q s0
+    (act q (g.clock q) s (Opening lb)) commits) (λ k2.
     let g2 = moved g q s (Opening lb) in
     let s2 = act q (g.clock q) s (Opening lb) in
     by_if (λ ms. Goes g2 q s2 (ms ++ Sending (partner s.plan.storers) (Beat s.accepted (top s) s.base) ∷ [])) (is_s01 s.plan.storers) _ []
@@ -60,7 +68,14 @@ pub rebases : (g : Group Entry) (q : Place) (s : Server Entry) → Good g q s �
 rebases g q s h = goes_where g q s (all_of (base_tests s)) _ h (λ t.
     let a = each_of (base_tests s) t in
     let n = is_lt s.base (min s.lb s.told_lb) a.1.1.0 in
-    goes_one g q s _ h (tt, both g q s h (open_is s.mode a.0) (s01_is _ a.1.0), ((its h).modes.active (subst (λ z. IsActive z) (sym (open_is s.mode a.0)) tt)).0) (base_kept g h.ok q s h.is (min s.lb s.told_lb) (subst (λ z. IsActive z) (sym (open_is s.mode a.0)) tt) (omega arith) (omega arith)))
+    goes_one g q s _ h (
+      tt,
+      both g q s h (open_is s.mode a.0) (s01_is _ a.1.0),
+      ((its h).modes.active (subst (λ z. IsActive z) (sym (open_is s.mode a.0)) tt)).0,
+      (subst (λ z. IsActive z) (sym (open_is s.mode a.0)) tt, omega arith),
+    )
+    (base_kept g h.ok q s h.is (min s.lb s.told_lb)
+    (subst (λ z. IsActive z) (sym (open_is s.mode a.0)) tt) (omega arith) (omega arith)))
 
 -- the clock stays
 clock_stays : (q : Place) (ms : List (Move Entry)) (g : Group Entry) (s : Server Entry) → (moved_by g q s ms).clock q ≡ g.clock q
@@ -75,4 +90,11 @@ pub formed_heard : (g : Group Entry) (q : Place) (s : Server Entry) → Good g q
 formed_heard g q s h from v lb f x p l = goes_where g q s (all_of (formed_tests s v)) _ h (λ t.
     let e : v ≡ s.promised = is_eq' v s.promised (each_of (formed_tests s v) t).0 in
     let b = subst (λ (n : ℕ). ((g.page n).formed ≡ true) × (from ≡ partner (g.page n).plan.storers) × ((g.page n).partner_in ≡ true) × ((g.page n).plan.storers ≡ S01 → lb ≤ lbs_of g.server One)) e (f, x, p, l) in
-    goes_one g q s _ h (tt, b.3, ⊎_elim (λ j. inl (joining_is s.mode j)) (λ w. inr (waits_is s.mode w)) (one_of _ _ (each_of (formed_tests s v) t).1.0)) (hear_kept g h.ok q s h.is from lb b.0 b.1 b.2))
+    goes_one g q s _ h (
+      tt,
+      b.3,
+      ⊎_elim (λ j. inl (joining_is s.mode j))
+          (λ w. inr (waits_is s.mode w)) (one_of _ _ (each_of (formed_tests s v) t).1.0),
+      tt,
+    )
+    (hear_kept g h.ok q s h.is from lb b.0 b.1 b.2))

@@ -277,13 +277,13 @@ rest_fine g q d s h held n lb log empty order = record {
 lost_fine : {E : Type 0} (g : Group E) (q : Place) (d : ℕ) (s : Server E) → Fine g q s → Fine g q (resting (g.clock q) d (lengthened d (mark_of s)) Lost (lost_log s.lb))
 lost_fine g q d s h = rest_fine g q d s h Lost _ h.logs.lb_sure (λ x. cc) (λ x. cc) h.logs.saved_order
 
-outside_is : (r : Role) → is_outside r ≡ true → r ≡ Outside
+pub outside_is : (r : Role) → is_outside r ≡ true → r ≡ Outside
 outside_is Outside e = refl
 outside_is (Leads p) e = cc
 outside_is (Follows p) e = cc
 
 -- a role that a choice can give isn't outside
-inside_is : (q : Place) (r : Role) → can_have q r ≡ true → r ≡ Outside → ⊥
+pub inside_is : (q : Place) (r : Role) → can_have q r ≡ true → r ≡ Outside → ⊥
 inside_is q (Leads p) e x = cc
 inside_is q (Follows p) e x = cc
 inside_is q Outside e x = true≢false (sym e)

@@ -2,10 +2,9 @@
 use Rattle.std.proofs.Common.{◌≡◌, ℕ, zero, suc, ◌⊎◌, inl, inr, refl, ◌<◌, ◌≤◌, true, false, sym, ◌∙◌, subst, arith, le_trans, lt_of_lt_of_le, ⊎_elim, lt_irrefl, le_of_eq}
 use Rattle.std.proofs.lemmas.Bool.{cases_Bool}
 use Rattle.group_safety.specs.Facts.{Ok}
-use Rattle.group_rules.specs.Step.{Near}
 use Rattle.group_rules.specs.Places.{IsIn, Place, leader, partner}
 use Rattle.group_rules.specs.State.{Group, Open}
-use Rattle.group_rules.specs.Step.{near}
+use Rattle.group_rules.specs.Step.{near, Near}
 use Rattle.group_safety.specs.Words.{IsActive}
 use Rattle.group_safety.proofs.Common.{share, either}
 

@@ -6,7 +6,7 @@ use Rattle.harp_base.specs.declared.call.Call.{Call}
 use Rattle.harp_base.specs.Update.{is_update}
 use Rattle.harp_base.specs.declared.cred.Cred.{Cred}
 use Rattle.file_tree.specs.Book.{Entry, last_of}
-use Rattle.group_rules.specs.Ask.{append, new_entry, on_ask, refuse, update_moves}
+use Rattle.group_rules.specs.Ask.{append, new_entry, on_ask, update_moves}
 use Rattle.group_rules.specs.Choose.{choose}
 use Rattle.group_rules.specs.Disk.{demote_tests, flush_tests, settled_tests}
 use Rattle.group_rules.specs.Effects.{demoted_by, report_of, taken}
@@ -20,7 +20,7 @@ use Rattle.group_rules.specs.Open.{and_then, base_tests, formed_tests, open_hear
 use Rattle.group_rules.specs.Places.{Zero, One, Two, Place, Trio, all_of, get, is_s01, leader, number, other_storers, partner, same, with_at}
 use Rattle.group_rules.specs.Replicate.{ack_tests, answers, is_in_view, on_event}
 use Rattle.group_rules.specs.Serving.{held_tests, serving_accepted, serving_joined}
-use Rattle.group_rules.specs.State.{Ack, Beat, Cause, Chose, Collects, Demote, Duty, Event, Fetch, Form, Formed, Give, Group, Invite, Join, Message, NoDuty, Packet, Plan, Report, Server, top}
+use Rattle.group_rules.specs.State.{Ack, Beat, Chose, Collects, Demote, Duty, Event, Fetch, Form, Formed, Give, Group, Invite, Join, Message, NoDuty, Packet, Plan, Report, Server, top}
 use Rattle.group_rules.specs.Step.{Apply, Ask, At, Comes, Crash, Deed, Deliver, Does, Flush, Input, ListTree, Power, Suspect, Tick, delivered, does, happens, list_of, numbered, on_message, rule, step, step_of, steps}
 use Rattle.group_rules.specs.Tick.{again, again_tests, beats, duties, duty_tests, events, invite_again, tick}
 use Rattle.group_rules.proofs.Tests.{by_if}
@@ -126,9 +126,6 @@ tick_adds : (q : Place) (clock : ℕ) (s : Server Entry) → Adds 0 q clock s (t
 tick_adds q clock s = adds_then 0 q clock s (if is_open s.mode then beats s else try_open q clock s) (λ s. duties q s s.duty ++ again q s)
     (keeping q clock s _ (keeps_if (is_open s.mode) _ _ (tt, keeps_events _ _ _ _ _ _) (keeps_open q clock s)))
     (λ s. keeps_both _ _ (keeps_duties q s s.duty) (keeps_again q s))
-
-refused : (client number : ℕ) (cause : Cause) → KeepsAll (refuse client number cause)
-refused client number cause = (tt, tt)
 
 append_adds : (q : Place) (clock : ℕ) (s : Server Entry) (e : Entry) → Adds 1 q clock s (append s e)
 append_adds q clock s e = adds_if 1 q clock s (nat_le room (length s.items) || nat_le limit (top s)) _ _

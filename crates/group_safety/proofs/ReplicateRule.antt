@@ -39,7 +39,23 @@ heeded g q s h up from v cp base items f o sure start low led space more = goes_
     let plan = (its h).modes.plan active in
     let follows : q ≡ partner (g.page s.accepted).plan.storers = same_is _ _ a.1.0 ∙ ap (λ (p : Plan). partner p.storers) plan in
     let new = more active e in
-    goes_more g q s (Heeding items cp base) _ h ((subst (λ (n : ℕ). (g.page n).plan.start ≤ cp) e start, active, new.0), low, (space a.0, active, (λ o. leader_not_partner _ (sym ((its h).modes.leads o).0 ∙ follows)), ((its h).modes.active active).0))
+    goes_more g q s (Heeding items cp base) _ h (
+      (
+        subst
+            (λ (n : ℕ). (g.page n).plan.start ≤ cp) e start,
+        active,
+        new.0,
+      ),
+      low,
+      (
+        space a.0,
+        active,
+        (λ o. leader_not_partner _ (sym ((its h).modes.leads o).0
+            ∙ follows)),
+        ((its h).modes.active active).0,
+      ),
+      active,
+    )
     (heeding' h items cp base (record {
       active = active;
       follows = follows;
@@ -122,13 +138,26 @@ acked g q s h v t lb until held_twice til low = goes_where g q s (all_of (ack_te
     let active : IsActive s.mode = subst (λ z. IsActive z) (sym open') tt in
     let twice : t ≤ (g.page s.accepted).held_twice = subst (λ (n : ℕ). t ≤ (g.page n).held_twice) v_is held_twice in
     let log = (its h).logs.log ((its h).modes.active active).0 in
-    goes_more g q s (Noting t lb until) _ h (tt, (λ p. low (ap (λ (n : ℕ). (g.page n).plan.storers) v_is ∙ ap (λ (l : Plan). l.storers) (sym ((its h).modes.plan active)) ∙ p)), open')
+    goes_more g q s (Noting t lb until) _ h (
+      tt,
+      (λ p. low
+          (ap (λ (n : ℕ). (g.page n).plan.storers) v_is
+          ∙ ap (λ (l : Plan). l.storers) (sym ((its h).modes.plan active)) ∙ p)),
+      open',
+      active,
+    )
     (note_kept g h.ok q s h.is t lb until (subst (λ (n : ℕ). until ≤ (g.page n).until) v_is til)) (λ k.
     goes_where _ q _ (nat_lt s.cp t) _ k (λ y.
     let s1 = act q (g.clock q) s (Noting t lb until) in
     let g1 = moved g q s (Noting t lb until) in
     let forward : s.cp ≤ t = le_of_lt (is_lt s.cp t y) in
-    goes_more g1 q s1 (Committing t) _ k ((open', forward, twice), tt, ((its h).modes.active active).0) (committing k.ok k.is t (record { open' = open'; forward = forward; held_twice = twice })) (λ k2.
+    goes_more g1 q s1 (Committing t) _ k (
+      (open', forward, twice),
+      tt,
+      ((its h).modes.active active).0,
+      active,
+    ) (committing k.ok k.is t
+    (record { open' = open'; forward = forward; held_twice = twice })) (λ k2.
     let s2 = act q (g.clock q) s1 (Committing t) in
     let g2 = moved g1 q s1 (Committing t) in
     steady_goes q s2 _ (answers_steady q s2 s.cp (take (t - s.cp) (drop (s.cp - s.base) s.items)) (λ g' k' i e z.

@@ -1,18 +1,18 @@
 -- The facts hold after every schedule, from each group that meets them.
 use Rattle.std.proofs.Common.{◌≡◌, ℕ, zero, suc, ◌+◌, ◌-◌, ◌≤◌, true, List, [], ◌∷◌, length, Option, None, Some, slice_get, refl, sym, subst, inl, arith, le_trans, true≢false, ⊎_elim, le_refl, le_of_eq, zero-le, nat_lt}
 use Rattle.file_tree.specs.Book.{Entry}
+use Rattle.group_safety.specs.Reported.{ReportedAt}
 use Rattle.group_safety.specs.Bases.{BasesAt, BasesBody}
 use Rattle.group_rules.specs.Effects.{down, first_mark, first_role}
 use Rattle.group_safety.specs.Entered.{BodyWithin, UpdatesFrom}
 use Rattle.group_safety.specs.Facts.{LogOk, Ok, PacketOk, PageOk, ServerOk}
 use Rattle.group_safety.specs.Laws.{Whole, with_old_marks}
-use Rattle.group_rules.specs.Step.{Near}
-use Rattle.group_rules.specs.Limits.{IsDelta, delta_tests, limit, room}
+use Rattle.group_rules.specs.Limits.{IsDelta, can_have, delta_tests, limit, room}
 use Rattle.group_rules.specs.Moves.{Booting, Move, moved_by}
 use Rattle.group_rules.specs.Places.{IsIn, Zero, One, Two, Place, S01, all_of, at, leader}
 use Rattle.group_safety.specs.Settled.{SettledBody}
 use Rattle.group_rules.specs.State.{Group, JoinMade, Outside, Packet, Page, Saved, Server, longest_of}
-use Rattle.group_rules.specs.Step.{Advance, At, Boot, Clock, Comes, CutAt, CutDeliver, Deliver, Delta, Does, Happening, Input, boot, clock_tests, cut_delivered, cut_steps, delivered, first_group, first_page, happens, list_of, near, near_tests, new_disks, numbered, run, step_of, steps, writes_any}
+use Rattle.group_rules.specs.Step.{Advance, At, Boot, Clock, Comes, CutAt, CutDeliver, Deliver, Delta, Does, Happening, Input, boot, clock_tests, cut_delivered, cut_steps, delivered, first_group, first_page, happens, list_of, near, near_tests, new_disks, numbered, run, step_of, steps, writes_any, Near}
 use Rattle.group_safety.specs.Words.{Each, Promised, Sure, Under}
 use Rattle.group_rules.proofs.Tests.{by_if, each_of, is_le}
 use Rattle.group_safety.proofs.Common.{each_at, none_heard}
@@ -22,14 +22,34 @@ use Rattle.group_safety.proofs.Entering.{down_tidy}
 use Rattle.group_safety.proofs.Moving.{Good, Goes, goes_good, goes_one}
 use Rattle.group_safety.proofs.Steps.{Known, falls, step_goes}
 
-near_same : (c d : Place → ℕ) → ((x : Place) → d x ≡ c x) → Near c → Near d
-near_same c d e h x y = let a = e x in let b = e y in let z = h x y in omega arith
-
 pub good_of : (g : Group Entry) → Whole g → (q : Place) → Good g q (g.server q)
-good_of g h q = record { ok = h.ok; is = refl; settled = h.settled; bases = h.bases; beside = record { answers = h.answers; books = h.books; within = h.within; tidy = h.tidy }; near = h.near }
+good_of g h q = record {
+  ok = h.ok;
+  is = refl;
+  settled = h.settled;
+  bases = h.bases;
+  reported = h.reported;
+  beside = record {
+    answers = h.answers;
+    books = h.books;
+    within = h.within;
+    tidy = h.tidy;
+  };
+  near = h.near;
+}
 
 pub whole_of : (g : Group Entry) (q : Place) (s : Server Entry) → Good g q s → Whole g
-whole_of g q s h = record { ok = h.ok; settled = h.settled; bases = h.bases; answers = h.beside.answers; books = h.beside.books; within = h.beside.within; tidy = h.beside.tidy; near = h.near }
+whole_of g q s h = record {
+  ok = h.ok;
+  settled = h.settled;
+  bases = h.bases;
+  reported = h.reported;
+  answers = h.beside.answers;
+  books = h.beside.books;
+  within = h.beside.within;
+  tidy = h.beside.tidy;
+  near = h.near;
+}
 
 -- the moves of a step lead from a group that meets the facts to one
 moves_whole : (g : Group Entry) (q : Place) (ms : List (Move Entry)) → Goes g q (g.server q) ms → Whole (moved_by g q (g.server q) ms)
@@ -111,6 +131,7 @@ later_whole g h clock later near = record {
   ok = later_group g h.ok clock later;
   settled = record { server = h.settled.server; packet = h.settled.packet };
   bases = record { server = h.bases.server; page = h.bases.page; join = h.bases.join; packet = h.bases.packet };
+  reported = record { each = h.reported.each };
   answers = record { each = h.answers.each };
   books = record { list = h.books.list; book = h.books.book; updates = h.books.updates };
   within = record { server = h.within.server; delta = h.within.delta; list = h.within.list; packet = h.within.packet };
@@ -124,6 +145,7 @@ delta_whole g h d is = record {
   ok = record { server = h.ok.server; page = h.ok.page; pair = h.ok.pair; join = h.ok.join; packet = h.ok.packet; first_view = h.ok.first_view; late = h.ok.late; committed = h.ok.committed };
   settled = record { server = h.settled.server; packet = h.settled.packet };
   bases = record { server = h.bases.server; page = h.bases.page; join = h.bases.join; packet = h.bases.packet };
+  reported = record { each = h.reported.each };
   answers = record { each = h.answers.each };
   books = record { list = h.books.list; book = h.books.book; updates = h.books.updates };
   within = record { server = h.within.server; delta = is; list = h.within.list; packet = h.within.packet };
@@ -161,6 +183,17 @@ old_marks_whole g h e = record {
   };
   settled = record { server = λ q. let x = h.settled.server q in record { settled = x.settled; count = x.count }; packet = h.settled.packet };
   bases = record { server = λ q. let x = h.bases.server q in record { log = x.log; saved = x.saved; acked = x.acked; heard = x.heard }; page = h.bases.page; join = h.bases.join; packet = h.bases.packet };
+  reported = record {
+    each = λ q. let x = h.reported.each q in record {
+      log = x.log;
+      saved = x.saved;
+      same = x.same;
+      none = x.none;
+      role = x.role;
+      witness = x.witness;
+      witness_saved = x.witness_saved;
+    };
+  };
   answers = record { each = h.answers.each };
   books = record { list = h.books.list; book = h.books.book; updates = h.books.updates };
   within = record { server = λ q. let x = h.within.server q in record { count = x.count; items = x.items; saved = x.saved; longest = (omega arith, omega arith); delta = subst (λ (l : Option ℕ). (g.server q).up ≡ true → IsDelta (g.server q).delta × ((g.server q).delta ≤ longest_of l)) (e q) x.delta }; delta = h.within.delta; list = h.within.list; packet = h.within.packet };
@@ -182,7 +215,12 @@ sent_known g h n p = by_if (λ (o : Option (Packet Entry)). o ≡ Some p → Kno
     (λ _ e. cc)
 
 pub boot_goes : (g : Group Entry) → Whole g → (q : Place) → Goes g q (g.server q) (Booting g.delta ∷ [])
-boot_goes g h q = goes_one g q (g.server q) (Booting g.delta) (good_of g h q) (tt, tt, h.within.delta) (boot_kept g h.ok q (g.server q) refl g.delta)
+boot_goes g h q = goes_one g q (g.server q) (Booting g.delta) (good_of g h q) (
+  tt,
+  tt,
+  h.within.delta,
+  tt,
+) (boot_kept g h.ok q (g.server q) refl g.delta)
 
 boot_whole : (g : Group Entry) → Whole g → (q : Place) → Whole (moved_by g q (g.server q) (Booting g.delta ∷ []))
 boot_whole g h q = moves_whole g q (Booting g.delta ∷ []) (boot_goes g h q)
@@ -304,6 +342,22 @@ first_low q = record {
   heard = λ x lb e. absurd (none_heard x lb e);
 }
 
+first_reported : (q : Place) → ReportedAt [] q (down (first_mark Entry 2000 q))
+first_reported q = record {
+  log = λ l. cc;
+  saved = λ v e r j i. absurd i;
+  same = λ l. cc;
+  none = λ up. cc;
+  role = first_can q;
+  witness = λ two l. cc;
+  witness_saved = λ two v e r. zero-le;
+}
+  where
+    first_can : (q : Place) → (first_role q ≡ Outside → ⊥) → can_have q (first_role q) ≡ true
+    first_can Zero r = refl
+    first_can One r = refl
+    first_can Two r = absurd (r refl)
+
 first_base : (w : ℕ) → (first_page w).plan.base ≤ 0
 first_base zero = le_refl _
 first_base (suc n) = le_refl _
@@ -326,6 +380,7 @@ new_whole = record {
   };
   settled = record { server = λ q. record { settled = ⊎_elim (λ x. cc) (λ x. cc); count = λ x. cc }; packet = tt };
   bases = record { server = first_low; page = λ w f. (first_base w, first_base w); join = λ j i l. absurd i; packet = tt };
+  reported = record { each = first_reported };
   answers = record { each = λ a i. absurd i };
   books = record { list = λ w f. subst (λ (l : List Entry). UpdatesFrom [] l) (sym (first_list w)) tt; book = tt; updates = refl };
   within = record {

@@ -24,7 +24,8 @@ BodyMay g m = SettledBody g.page m × BasesBody (lbs_of g.server) g.page m × Bo
 -- a message, and then the other moves
 pub goes_send : (g : Group Entry) (q : Place) (s : Server Entry) (to : Place) (m : Message Entry) (ms : List (Move Entry)) → Good g q s → BodyOk g.page g.joins g.committed q to m → BodyMay g m
     → (Good (moved g q s (Sending to m)) q s → Goes (moved g q s (Sending to m)) q s ms) → Goes g q s (Sending to m ∷ ms)
-goes_send g q s to m ms h b r next = goes_more g q s (Sending to m) ms h r (sending h to m b) next
+goes_send g q s to m ms h b r next = goes_more g q s (Sending to m) ms h (r.0, r.1, r.2, tt)
+    (sending h to m b) next
 
 pub goes_each : (g : Group Entry) (q : Place) (s : Server Entry) (m : Message Entry) (ps : List Place) → Good g q s → ((g : Group Entry) → (to : Place) → BodyOk g.page g.joins g.committed q to m) → ((g : Group Entry) → BodyMay g m) → Goes g q s (to_each m ps)
 goes_each g q s m [] h b r = goes_done h
@@ -40,7 +41,8 @@ goes_where g q s b x h t = goes_if g q s b x [] t (λ _. goes_done h)
 
 -- an answer, a refusal or a listing
 pub says : (g : Group Entry) (q : Place) (s : Server Entry) → Good g q s → (say : Say Entry) → SayMay g.page g.committed s.accepted say → Goes g q s (Saying say ∷ [])
-says g q s h say may = goes_one g q s (Saying say) h (tt, tt, may) (say_kept g h.ok q s h.is say)
+says g q s h say may = goes_one g q s (Saying say) h (tt, tt, may, tt)
+    (say_kept g h.ok q s h.is say)
 
 -- an active server's page
 pub at_page : (g : Group Entry) (q : Place) (s : Server Entry) → Good g q s → IsActive s.mode → s.plan ≡ (g.page s.accepted).plan
@@ -93,7 +95,12 @@ steady_more q s to m ms b k g h rest next = goes_send g q s to m (ms ++ rest) h 
 
 pub steady_say : (q : Place) (s : Server Entry) (say : Say Entry) (ms : List (Move Entry)) → ((g : Group Entry) → Good g q s → SayMay g.page g.committed s.accepted say) → Steady q s ms → Steady q s (Saying say ∷ ms)
 unfolding Steady
-steady_say q s say ms b k g h rest next = goes_more g q s (Saying say) (ms ++ rest) h (tt, tt, b g h) (say_kept g h.ok q s h.is say) (λ h'. k (moved g q s (Saying say)) h' rest next)
+steady_say q s say ms b k g h rest next = goes_more g q s (Saying say) (ms ++ rest) h (
+  tt,
+  tt,
+  b g h,
+  tt,
+) (say_kept g h.ok q s h.is say) (λ h'. k (moved g q s (Saying say)) h' rest next)
 
 pub steady_both : (q : Place) (s : Server Entry) (a b : List (Move Entry)) → Steady q s a → Steady q s b → Steady q s (a ++ b)
 unfolding Steady

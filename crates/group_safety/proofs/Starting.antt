@@ -1,5 +1,6 @@
 -- The fixed start is a group that meets the facts.
-use Rattle.std.proofs.Common.{◌≡◌, ℕ, zero, suc, ◌+◌, ◌/◌, ◌<◌, ◌≤◌, true, List, [], length, refl, sym, subst, inl, inr, arith, true≢false, ⊎_elim, le_refl, zero-le}
+use Rattle.std.proofs.Common.{◌≡◌, ℕ, zero, suc, ◌+◌, ◌/◌, ◌<◌, ◌≤◌, true, List, [], ◌∷◌, length, refl, sym, subst, inl, inr, arith, true≢false, ⊎_elim, le_refl, zero-le}
+use Rattle.group_safety.specs.Reported.{ReportedAt}
 use Rattle.group_safety.specs.Bases.{BasesAt}
 use Rattle.group_safety.specs.Entered.{IsTidy, ServerWithin, UpdatesFrom}
 use Rattle.group_safety.specs.Facts.{JoinOk, LogOk, LogsOk, ModesOk, PageOk, PairOk, ServerOk, ViewsOk}
@@ -145,6 +146,40 @@ bases Zero = record { log = λ _. (le_refl _, le_refl _); saved = λ v e. cc; ac
 bases One = record { log = λ _. (le_refl _, le_refl _); saved = λ v e. cc; acked = λ o e. le_refl _; heard = λ x lb e. absurd (none_heard x lb e) }
 bases Two = record { log = λ e. cc; saved = λ v e. cc; acked = λ o e. le_refl _; heard = λ x lb e. absurd (none_heard x lb e) }
 
+-- no join was made to a view above the open one
+above : (j : JoinMade) → In (starting_join Zero ∷ starting_join One ∷ []) j → view_one < j.view → ⊥
+above j i a = let low = by_join (λ (j : JoinMade). j.view ≤ view_one) (le_refl _)
+    (le_refl _) j i in absurd (omega arith)
+
+reported : (q : Place) → ReportedAt (starting_join Zero ∷ starting_join One ∷ []) q (starting q)
+reported Zero = record {
+  log = λ l j i f a. absurd (above j i a);
+  saved = λ v e. cc;
+  same = λ l v e. cc;
+  none = λ u n v e. cc;
+  role = λ r. refl;
+  witness = λ t l. le_refl _;
+  witness_saved = λ t v e. cc;
+}
+reported One = record {
+  log = λ l j i f a. absurd (above j i a);
+  saved = λ v e. cc;
+  same = λ l v e. cc;
+  none = λ u n v e. cc;
+  role = λ r. refl;
+  witness = λ t l. le_refl _;
+  witness_saved = λ t v e. cc;
+}
+reported Two = record {
+  log = λ l. cc;
+  saved = λ v e. cc;
+  same = λ l v e. cc;
+  none = λ u n v e. cc;
+  role = λ r. absurd (r refl);
+  witness = λ t l. le_refl _;
+  witness_saved = λ t v e. cc;
+}
+
 settled : (q : Place) → SettledAt starting_page [] (starting q)
 settled Zero = record { settled = λ _. le_refl _; count = λ o later. refl }
 settled One = record { settled = λ _. le_refl _; count = λ o later. refl }
@@ -178,6 +213,7 @@ start_whole = record {
   };
   settled = record { server = settled; packet = tt };
   bases = record { server = bases; page = λ w f. by_view (λ w. ((starting_page w).plan.base ≤ 0) × ((starting_page w).plan.base ≤ 0)) (le_refl _, le_refl _) (le_refl _, le_refl _) w f; join = λ j i l. by_join (λ j. (j.report.base ≤ 0) × (j.report.base ≤ 0)) (le_refl _, le_refl _) (le_refl _, le_refl _) j i; packet = tt };
+  reported = record { each = reported };
   answers = record { each = λ a i. absurd i };
   books = record { list = λ w f. by_view (λ w. UpdatesFrom [] (starting_page w).list) tt tt w f; book = tt; updates = refl };
   within = record { server = within; delta = (omega arith, omega arith); list = λ w f. by_view (λ w. length (starting_page w).list ≤ limit) zero-le zero-le w f; packet = tt };

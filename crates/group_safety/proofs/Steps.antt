@@ -1,5 +1,5 @@
 -- Each step of a server keeps the facts.
-use Rattle.std.proofs.Common.{◌≡◌, ℕ, ◌+◌, ◌/◌, ◌≤◌, not, true, List, [], ◌∷◌, take, min, refl, subst, arith, le_trans, le_refl}
+use Rattle.std.proofs.Common.{sym, true≢false, ◌≡◌, ℕ, ◌+◌, ◌/◌, ◌≤◌, not, true, List, [], ◌∷◌, take, min, refl, subst, arith, le_trans, le_refl}
 use Rattle.std.specs.Prelude.{⊤}
 use Rattle.file_tree.specs.Book.{Entry}
 use Rattle.group_rules.specs.Disk.{demote_tests, flush_tests, settled_tests}
@@ -10,7 +10,7 @@ use Rattle.group_rules.specs.Limits.{limit}
 use Rattle.group_rules.specs.Misfits.{misfits, proper, room_tests}
 use Rattle.group_rules.specs.Moves.{Falling, Flushing}
 use Rattle.group_rules.specs.Open.{rebase}
-use Rattle.group_rules.specs.Places.{Place, all_of, coordinator, number, same}
+use Rattle.group_rules.specs.Places.{is_p2, Place, all_of, coordinator, number, same}
 use Rattle.group_rules.specs.State.{Ack, Beat, Demote, Event, Fetch, Form, Formed, Give, Group, Invite, Join, Lists, Message, Server, top}
 use Rattle.group_rules.specs.Step.{Apply, Ask, Comes, Crash, Deed, Does, Flush, Input, ListTree, Power, Suspect, Tick, does, on_message, rule, step}
 use Rattle.group_rules.proofs.Tests.{Each', each_of, not_false, is_le, is_lt}
@@ -27,7 +27,7 @@ use Rattle.group_safety.proofs.Sends.{BodyMay, goes_if, goes_next, goes_where, s
 use Rattle.group_safety.proofs.TickRule.{ticks}
 
 pub falls : (g : Group Entry) (q : Place) (s : Server Entry) → Good g q s → Goes g q s (Falling ∷ [])
-falls g q s h = goes_one g q s Falling h (tt, tt, tt) (fall_kept g h.ok q s h.is)
+falls g q s h = goes_one g q s Falling h (tt, tt, tt, tt) (fall_kept g h.ok q s h.is)
 
 thirds : (a b : ℕ) → a ≤ b → a / 3 ≤ b / 3
 thirds a b l = omega arith
@@ -51,7 +51,12 @@ comes size list g q s h up from (Demote v) t b r = goes_where g q s (all_of (dem
     let a = each_of (demote_tests q s v) t in
     let low = (h.ok.server (coordinator v)).views.own v b.0 refl in
     let count : v / 3 ≤ limit = le_trans (thirds v (g.server (coordinator v)).promised low) (h.beside.within.server (coordinator v)).count in
-    goes_one g q s _ h (is_lt s.accepted v a.1.0, (p2_is q a.0, is_lt s.accepted v a.1.0), count) (demote_kept g h.ok q s h.is v (p2_is q a.0) (is_lt s.accepted v a.1.0) b.0 b.1 b.2))
+    goes_one g q s _ h (
+      is_lt s.accepted v a.1.0,
+      (p2_is q a.0, is_lt s.accepted v a.1.0),
+      count,
+      tt,
+    ) (demote_kept g h.ok q s h.is v (p2_is q a.0) (is_lt s.accepted v a.1.0) b.0 b.1 b.2))
 
 does_goes : (g : Group Entry) (q : Place) (s : Server Entry) → Good g q s → s.up ≡ true → (list : List Entry) → list ≡ take (top s) (g.page s.accepted).list → (d : Deed) → Goes g q s (does q (g.clock q) list s d)
 does_goes g q s h up list e Tick = ticks g q s h
@@ -61,12 +66,23 @@ does_goes g q s h up list e (Apply n) = goes_where g q s (all_of (settled_tests 
     let a = settled_is s.mode (each_of (settled_tests q s) t).0 in
     let order = (its h).logs.order ((its h).modes.active a).0 in
     let o = order.2 in
-    goes_one g q s _ h (tt, tt, ((its h).modes.active a).0) (apply_kept g h.ok q s h.is (min (s.ap + n) s.cp) (omega arith) (omega arith)))
+    goes_one g q s _ h (tt, tt, ((its h).modes.active a).0, a)
+    (apply_kept g h.ok q s h.is (min (s.ap + n) s.cp) (omega arith) (omega arith)))
 does_goes g q s h up list e Flush = goes_where g q s (all_of (flush_tests q s)) _ h (λ t.
     let a = settled_is s.mode (each_of (flush_tests q s) t).0 in
-    goes_one g q s Flushing h (tt, ((its h).logs.order ((its h).modes.active a).0).1, ((its h).modes.active a).0) (flush_kept g h.ok q s h.is a))
+    goes_one g q s Flushing h (
+      tt,
+      ((its h).logs.order ((its h).modes.active a).0).1,
+      ((its h).modes.active a).0,
+      (
+        a,
+        λ two. true≢false
+            (sym (subst (λ x. not (is_p2 x) ≡ true) two (each_of (flush_tests q s) t).1.0)),
+      ),
+    )
+    (flush_kept g h.ok q s h.is a))
 does_goes g q s h up list e ListTree = goes_where g q s (all_of (settled_tests q s)) _ h (λ _. says g q s h (Lists s.cp) tt)
-does_goes g q s h up list e Power = goes_one g q s _ h (tt, tt, tt) (save_kept g h.ok q s h.is)
+does_goes g q s h up list e Power = goes_one g q s _ h (tt, tt, tt, tt) (save_kept g h.ok q s h.is)
 does_goes g q s h up list e Crash = falls g q s h
 
 -- a message that a group has sent

@@ -6,12 +6,13 @@ use Rattle.file_tree.specs.Book.{Entry, updates, tree_after, IsBook}
 use Rattle.group_safety.specs.Bases.{Bases}
 use Rattle.group_safety.specs.Entered.{AnswersOk, Books, Tidy, Within}
 use Rattle.group_safety.specs.Facts.{Ok}
+use Rattle.group_safety.specs.Reported.{Reported}
 use Rattle.group_rules.specs.Limits.{IsDelta, limit, room}
 use Rattle.group_rules.specs.Moves.{Choosing, Move, Reading, Saying, act, moved}
 use Rattle.group_rules.specs.Places.{Place, number}
 use Rattle.group_safety.specs.Settled.{Settled}
-use Rattle.group_rules.specs.State.{Ack, Answered, Answers, Beat, Event, Give, Group, JoinMade, Log, Message, Open, Outside, Packet, Page, Pulls, Saved, Server, longest_of, top}
-use Rattle.group_rules.specs.Step.{Ask, At, Comes, Crash, Deed, Happening, Near, happens, run, step_of}
+use Rattle.group_rules.specs.State.{Ack, Answered, Answers, Beat, Event, Form, Give, Group, Join, JoinMade, Log, Message, Open, Outside, Packet, Page, Pulls, Saved, Server, longest_of, top}
+use Rattle.group_rules.specs.Step.{Ask, At, Near, Comes, Crash, Deed, Happening, happens, run, step_of}
 use Rattle.group_safety.specs.Words.{Agree, Each, In, Under}
 
 -- All that every step keeps
@@ -19,6 +20,7 @@ pub record Whole (g : Group Entry) : Type 0 where
   pub ok : Ok g
   pub settled : Settled g
   pub bases : Bases g
+  pub reported : Reported g
   pub answers : AnswersOk g
   pub books : Books g
   pub within : Within g
@@ -72,14 +74,16 @@ pub record OneBook (g : Group Entry) : Type 0 where
   pub updates : updates g.book ≡ g.committed
   pub lists : (w : ℕ) → (g.page w).formed ≡ true → IsBook (g.page w).list
 
--- a message's base is on both disks
+-- a message's base is on both disks; of a Join, where its sender is held
 abbrev pub BaseUnder : (Place → ℕ) → Message Entry → Type 0
+BaseUnder lbs (Join v t) = t.held ≡ Log → Under lbs t.base
+BaseUnder lbs (Form v plan) = Under lbs plan.base
 BaseUnder lbs (Event v index cp base e) = Under lbs base
 BaseUnder lbs (Beat v cp base) = Under lbs base
 BaseUnder lbs m = ⊤
 
--- EVERY BASE IS ON BOTH DISKS: of a log, a saved log, a page, a held join or a message, it is at most the LB in the
--- marks of servers 0 and 1
+-- EVERY BASE IS ON BOTH DISKS: of a log, a saved log, a page, a held server's join or a message,
+-- it is at most the LB in the marks of servers 0 and 1
 pub record BasesOnBothDisks (g : Group Entry) : Type 0 where
   pub log : (q : Place) → (g.server q).held ≡ Log → Under (λ x. (g.server x).lb) (g.server q).base
   pub saved : (q : Place) (v : Saved Entry) → (g.server q).saved ≡ Some v → Under (λ x. (g.server x).lb) v.base

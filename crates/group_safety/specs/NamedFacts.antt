@@ -2,6 +2,7 @@
 use Rattle.std.specs.Prelude.{◌≡◌, ℕ, ◌+◌, ◌-◌, ◌<◌, ◌≤◌, ◌⊎◌, true, false, List, length, Some, slice_get, ⊤}
 use Rattle.group_rules.specs.Places.{IsIn, Two, Place, S01, leader, partner}
 use Rattle.group_rules.specs.State.{Ack, Beat, Demote, Empty, Event, Give, Group, JoinMade, Live, Log, Message, Open, Outside, Packet, Page, Report, Saved, top}
+use Rattle.group_safety.specs.Reported.{JoinsReport}
 use Rattle.group_safety.specs.Words.{Agree, Each, In, Into, IsActive, Part, Promised, Sure, Tells}
 
 -- A server's accepted view is at most its promised one and was formed; it is active in its promised view alone; a
@@ -13,17 +14,26 @@ pub record AcceptedBelowPromised {E : Type 0} (g : Group E) : Type 0 where
   pub storer : (q : Place) → (g.server q).held ≡ Log → IsIn (g.page (g.server q).accepted).plan.storers q
   pub lower : (w : ℕ) → 0 < w → (g.page w).formed ≡ true → (g.page w).from < w
 
--- Both storers of a formed view joined it and promise it or more, so two formed views share a storer. While a held
--- server has joined, its joins report its accepted view and the numbers of the log that it keeps. Both storers of an
--- opened view accepted it, and each server that accepted a view has an accepted view of at least it, and so say its
--- later joins
+-- Both storers of a formed view joined it and promise it or more, so two formed views share a
+-- storer. The joins of a held server to views above its accepted one report that view, the base,
+-- CP and top of the log that it keeps, and an LB of at most the log's: so until it accepts a
+-- view, is demoted or loses the log, also after a power failure and a boot; while it has joined
+-- in this boot, they report the LB too. Both storers of an opened view accepted it, and each
+-- server that accepted a view has an accepted view of at least it, and so say its later joins
 pub record StorersJoined {E : Type 0} (g : Group E) : Type 0 where
   pub joined : (w : ℕ) → 0 < w → (g.page w).formed ≡ true → (q : Place) → IsIn (g.page w).plan.storers q
       → (t : Report) × In g.joins (record { from = q; view = w; report = t })
   pub promised : (w : ℕ) → (g.page w).formed ≡ true → (q : Place) → IsIn (g.page w).plan.storers q
       → w ≤ (g.server q).promised
   pub shared : (v w : ℕ) → (x : Place) × IsIn (g.page v).plan.storers x × IsIn (g.page w).plan.storers x
-  pub reports : (q : Place) → Tells g.joins q (g.server q)
+  pub reports : (q : Place) → (g.server q).held ≡ Log
+      → JoinsReport g.joins q (g.server q).accepted (g.server q).base
+      (g.server q).lb (g.server q).cp (top (g.server q))
+  pub reports_saved : (q : Place) (log : Saved E) → (g.server q).saved ≡ Some log
+      → ((g.server q).role ≡ Outside → ⊥)
+      → JoinsReport g.joins q (g.server q).accepted log.base (g.server q).lb log.cp
+      (log.base + length log.items)
+  pub reports_now : (q : Place) → Tells g.joins q (g.server q)
   pub opened : (v : ℕ) → (g.page v).formed ≡ true → (g.page v).opened ≡ true → ((g.page v).leader_in ≡ true)
       × ((g.page v).partner_in ≡ true)
   pub accepted : (v : ℕ) → (g.page v).formed ≡ true → (q : Place) → Into (g.page v) q → v ≤ (g.server q).accepted

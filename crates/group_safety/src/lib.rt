@@ -1,4 +1,5 @@
-//! The safety of the group: what every list of happenings keeps, from each group that meets the facts.
+//! The safety of the group: what every list of happenings keeps, from each group that meets the
+//! facts.
 #![tactic(auto)]
 
 ghost use Rattle.std.specs.Prelude.{◌≡◌, List, ℕ, Option, Some, true, false};

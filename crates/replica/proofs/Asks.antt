@@ -79,7 +79,8 @@ last_of_client client items = folded_of client None items (none_of client)
 
 -- an answer leaves the leader
 answers_entry : (now : ℕ) (peer : Peer) (e : Entry) (l : Leading) (before after : Outputs)
-    → after.answers.items ≡ before.answers.items ++ answered peer (record { index = e.index; entry = e; reads = false })
+    → after.answers.items ≡ before.answers.items ++ answered peer
+    (record { index = e.index; entry = e; reads = false })
     ∷ []
     → after.committed ≡ before.committed → after.refusals ≡ before.refusals → after.sends ≡ before.sends
     → Asked now (Saying (Answers e.index e) ∷ []) peer l l before after

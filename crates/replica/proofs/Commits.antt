@@ -1,5 +1,5 @@
 -- Commits, one after the other.
-use Rattle.std.proofs.Common.{false, ◌≡◌, ℕ, suc, ◌+◌, ◌-◌, ◌<◌, ◌≤◌, List, [], ◌∷◌, ◌++◌, take, drop, refl, sym, ap, ◌∙◌, arith, subst, append_assoc, inl, inr, None}
+use Rattle.std.proofs.Common.{false, ◌≡◌, ℕ, suc, ◌+◌, ◌-◌, ◌<◌, ◌≤◌, List, [], ◌∷◌, ◌++◌, take, drop, refl, sym, ap, ◌∙◌, arith, subst, append_assoc, inl, inr}
 use Rattle.std.specs.Prelude.{map, max}
 use Rattle.std.specs.List.{flat_map}
 use Rattle.std.proofs.lemmas.Bool.{cases_lt, le-ltb, lt-ltb}
@@ -19,17 +19,6 @@ use Rattle.replica.specs.declared.outputs.Outputs.{Outputs}
 
 -- ---- under way
 
-pub begins : (top : ℕ) (l : Leading) (outs : Outputs) → IsUnderWay top l l outs outs
-begins top l outs = record {
-  state = refl;
-  peers = refl;
-  committed = refl;
-  answers = refl;
-  refusals =
-      refl;
-  sends = refl;
-}
-
 -- what is left begins with the next entry
 left_split : (top : ℕ) (mid new : Leading) (before after : Outputs) → mid.server.cp < top
     → (h : CommitsNext mid new before after)
@@ -43,9 +32,17 @@ left_split top mid new before after below h =
 answers_split : (top : ℕ) (mid new : Leading) (before after : Outputs) → mid.server.cp < top
     → (h : CommitsNext mid new before after)
     → left_answers top mid
-    ≡ answered h.peer (record { index = mid.server.cp + 1; entry = h.entry; reads = false }) ∷ left_answers top new
+    ≡ answered h.peer (record {
+      index = mid.server.cp + 1;
+      entry = h.entry;
+      reads = false;
+    }) ∷ left_answers top new
 answers_split top mid new before after below h =
-    let first = answered h.peer (record { index = mid.server.cp + 1; entry = h.entry; reads = false }) in
+    let first = answered h.peer (record {
+      index = mid.server.cp + 1;
+      entry = h.entry;
+      reads = false;
+    }) in
     ap (λ es. answers_of (answers mid.server.cp es) mid.peers) (left_split top mid new before after below h)
     ∙ ap (λ ps. answers_of (answers mid.server.cp (h.entry ∷ left top new)) ps) h.peers
     ∙ ap (λ n. first ∷ answers_of (answers n (left top new)) new.peers) (sym (ap (λ (s : Server Entry). s.cp) h.state))

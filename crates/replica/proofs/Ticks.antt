@@ -1,11 +1,10 @@
 -- The moves of a tick of an open leader.
-use Rattle.std.proofs.Common.{◌≡◌, ℕ, zero, suc, ◌+◌, ◌-◌, ◌<◌, List, [], ◌∷◌, ◌++◌, length, take, drop, refl, sym, ap, ◌∙◌, arith, subst, append_assoc, Some, true, inl, inr}
-use Rattle.std.specs.Prelude.{map, max, min, nat_lt, slice_get}
+use Rattle.std.proofs.Common.{◌≡◌, ℕ, zero, suc, ◌+◌, ◌-◌, ◌<◌, List, [], ◌∷◌, ◌++◌, length, take, drop, refl, sym, ap, ◌∙◌, arith, subst, append_assoc, Some, true}
+use Rattle.std.specs.Prelude.{map, max, nat_lt, slice_get}
 use Rattle.std.specs.List.{flat_map}
-use Rattle.std.proofs.lemmas.Bool.{cases_lt, lt-ltb}
-use Rattle.std.proofs.lemmas.List.{append-nil, at_drop_all, drop-map}
+use Rattle.std.proofs.lemmas.Bool.{lt-ltb}
+use Rattle.std.proofs.lemmas.List.{append-nil, drop-map}
 use Rattle.std.proofs.lemmas.Option.{same_Some}
-use Rattle.std.proofs.Math.Seq.{take-nil}
 use Rattle.event_record.specs.Record.{entry_of}
 use Rattle.event_record.specs.declared.record.Record.{Record}
 use Rattle.file_tree.specs.Book.{Entry}
@@ -74,17 +73,10 @@ record_next log n r flat is =
     drop-map entry_of n log.records ∙ ap (map entry_of) (record_there log n r flat is)
     ∙ ap (λ es. entry_of r ∷ es) (sym (drop-map entry_of (n + 1) log.records))
 
--- nothing is left once the end is reached
-pub none_left : {E : Type 0} (items : List E) (t n : ℕ) → n ≡ min (length items) (t + 64)
-    → take (t + 64 - n) (drop n items) ≡ []
-none_left items t n end = elim (cases_lt (t + 64) (length items)) [
-  | inl below ↦ let none : t + 64 - n ≡ 0 = omega arith in ap (λ k. take k (drop n items)) none
-  | inr above ↦ at_drop_all (take (t + 64 - n)) items n (omega arith) ∙ take-nil (t + 64 - n)
-]
-
 -- what is sent of the first entry, and of those after it
 pub events-split : (to : Place) (v cp base n k m : ℕ) (items : List Entry) → n < length items → m ≡ k + 1
-    → sends_said (events to v cp base n (take 1 (drop n items))) ++ sends_said (events to v cp base (n + 1) (take k
+    → sends_said (events to v cp base n (take 1 (drop n items))) ++ sends_said
+    (events to v cp base (n + 1) (take k
     (drop (n + 1) items)))
     ≡ sends_said (events to v cp base n (take m (drop n items)))
 events-split to v cp base n k m items h is =
@@ -111,7 +103,8 @@ tick_is clock cp t lb grant items =
 made : (clock cp t lb grant : ℕ) (items : List Entry) (es : List Entry) (before after : Outputs)
     → after.committed ≡ before.committed → after.answers ≡ before.answers → after.refusals ≡ before.refusals
     → map sent after.sends.items
-    ≡ map sent before.sends.items ++ (One, Beat view_one cp 0) ∷ sends_said (events One view_one cp 0 t es)
+    ≡ map sent before.sends.items ++ (One, Beat view_one cp 0) ∷ sends_said
+    (events One view_one cp 0 t es)
     → Makes Zero clock (Sending One (Beat view_one cp 0) ∷ events One view_one cp 0 t es) [] (leading items cp
     t lb grant) (leading items cp t lb grant)
     before after

@@ -170,7 +170,8 @@ impl Leader {
     fn send_record(&self, alloc: Global, n: u64, outs: &mut Outputs) -> Result<(), AllocError>
         requires { n < length self.now.server.items }
         ensures sends { OnOk result (map sent outs.new.sends.items ≡ map sent outs.old.sends.items
-            ++ sends_said (events One view_one self.now.server.cp 0 n (take 1 (drop n self.now.server.items)))) }
+            ++ sends_said (events One view_one self.now.server.cp 0 n
+            (take 1 (drop n self.now.server.items)))) }
         ensures committed { outs.new.committed ≡ outs.old.committed }
         ensures answers { outs.new.answers ≡ outs.old.answers }
         ensures refusals { outs.new.refusals ≡ outs.old.refusals }

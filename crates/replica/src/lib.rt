@@ -13,3 +13,4 @@ pub use laws::steps_are_the_groups;
 pub use leader::Leader;
 pub use outputs::{Answered, AskedRead, Outputs, Refused, Sent};
 pub use partner::Partner;
+pub use view::view_one;

@@ -3,4 +3,9 @@ use Rattle.group_safety.proofs.Starting.{start_whole}
 use Rattle.group_safety.proofs.facts_hold.Goals as goal
 
 pub returns : goal.returns
-returns c = record { first = first_whole; fixed = start_whole; kept = λ size g w hs. run_whole size hs g w; old_marks = old_marks_whole }
+returns c = record {
+  first = first_whole;
+  fixed = start_whole;
+  kept = λ size g w hs. run_whole size hs g w;
+  old_marks = old_marks_whole;
+}

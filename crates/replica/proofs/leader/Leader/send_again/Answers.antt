@@ -21,7 +21,8 @@ loop-n-preserved c =
     let within : n < length s.items = omega (arith, many, c.top.ensures.value, c.self.invariant.0) in
     let split = events-split One view_one s.cp 0 n (s.told_top + 64 - (n + 1)) (s.told_top + 64 - n) s.items
     within (omega (arith, told, c.min-end.ensures)) in
-    let rest = sends_said (events One view_one s.cp 0 (n + 1) (take (s.told_top + 64 - (n + 1)) (drop (n + 1)
+    let rest = sends_said (events One view_one s.cp 0 (n + 1)
+    (take (s.told_top + 64 - (n + 1)) (drop (n + 1)
     s.items))) in
     record {
       sends = ap (λ xs. xs ++ rest) c.in_ok-send_record.ensures.sends

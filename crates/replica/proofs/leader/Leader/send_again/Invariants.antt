@@ -11,7 +11,8 @@ abbrev pub invariant-loop-n : goal.invariant-loop-n
 invariant-loop-n l = record {
   sends : map sent l.outs.sends.items ++ sends_said (events One view_one l.self.server.cp 0 l.n
       (take (l.self.server.told_top + 64 - l.n) (drop l.n l.self.server.items)))
-      ≡ map sent l.initial.outs.sends.items ++ sends_said (events One view_one l.self.server.cp 0 l.self.server.told_top
+      ≡ map sent l.initial.outs.sends.items ++ sends_said
+      (events One view_one l.self.server.cp 0 l.self.server.told_top
       (take 64 (drop l.self.server.told_top l.self.server.items)));
   committed : l.outs.committed ≡ l.initial.outs.committed;
   answers : l.outs.answers ≡ l.initial.outs.answers;
