@@ -26,8 +26,8 @@ mod taking;
 use crate::given::{put, show_state};
 use crate::packet::{Packet, first_due};
 use crate::refusal::Refusal;
-use harp_base::{Held, Mode, Role, ServerId, StateLine, Trio, ViewNo};
-use replica::{Leader, Outputs, Partner};
+use harp_base::{Held, Mode, Role, ServerId, StateLine, Trio};
+use replica::{Leader, Outputs, Partner, view_one};
 use std::alloc::{AllocError, Global};
 use std::marker::Model;
 use trace_lines::{BookEntry, Line, Step};
@@ -274,16 +274,6 @@ fn is_near(reading: u64, zero: u64, one: u64, two: u64) -> bool
         && one <= reading + 50
         && reading <= two + 50
         && two <= reading + 50
-}
-
-/// The view that stands from the fixed start on.
-fn view_one() -> ViewNo
-    ensures { result ≡ record { count = 1; coordinator = server.Zero } }
-{
-    match ViewNo::of(1, ServerId::Zero) {
-        Some(view) => view,
-        None => unreachable!(),
-    }
 }
 
 /// What a trace shows of the witness outside.
