@@ -33,6 +33,7 @@ use Rattle.world.specs.State.{IsLeftBy, LooksAs, Plays, WorldValue, clocks_after
 use Rattle.world.proofs.Scenes.{acts_there, allowed_is, as_many, at_with, flag_set, its_server}
 use Rattle.world.proofs.Scenes.{numbered_is, run_more, served_looks, taken_more}
 use Rattle.world.proofs.ServerBook.{book_is_entered}
+use Rattle.group_run.specs.Laws.{LogsAreWhole}
 use Rattle.group_run.proofs.Logs.{logs_whole}
 use Rattle.world.proofs.ServerMoves.{ask_is, message_is, tick_is}
 

@@ -26,7 +26,7 @@ use Rattle.replica.specs.Said.{entered, in_turn, refusals_of, refused}
 use Rattle.replica.specs.Said.{sent}
 use Rattle.replica.specs.declared.outputs.Outputs.{Outputs}
 use Rattle.world.specs.Given.{answered_line as answered_line_of, answered_lines as answered_lines_of, read_in, reads_in}
-use Rattle.world.specs.Given.{refused_line, refused_lines as refused_lines_of}
+use Rattle.world.specs.Given.{refused_line as refused_line_of, refused_lines as refused_lines_of}
 use Rattle.group_run.specs.Lines.{answered_line, refused_line}
 use Rattle.world.specs.Served.{RefusesAsk, Says, cause_shown, refuse_moves}
 use Rattle.trace_lines.specs.declared.line.Cause.TheVariants as causes
