@@ -1,7 +1,7 @@
 //! Calls over cells: the reads of a small tree against the plain one, and repeats.
 
 use dedup::{Seen, keep, seen};
-use plain_tree::PlainTree;
+use file_tree::PlainTree;
 use harp_base::{
     Bounded, Bytes, Call, Kind, Reply, SUPERUSER, SetAttr, Time, is_update, write_reply,
 };

@@ -2,7 +2,7 @@
 
 use crate::calls::ROWS;
 use crate::ends::schedule;
-use plain_tree::PlainTree;
+use file_tree::PlainTree;
 use harp_base::{Bytes, Call, Reply, SUPERUSER, is_update, write_reply};
 use harp_cells::{MemCells, Moment};
 use nfs_calls::{answer, prepare};

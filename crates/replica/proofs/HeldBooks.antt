@@ -14,7 +14,7 @@ use Rattle.harp_cells.proofs.TreeLaws.{no_values_are_first}
 use Rattle.event_record.specs.declared.record.Record.{Record}
 use Rattle.event_record.specs.Record.{AllStandFor, StandsFor, entry_of}
 use Rattle.event_record.proofs.Standing.{all_lead, all_push, cells_push, front_stands}
-use Rattle.cell_changes.specs.TreeCells.{TreeCells}
+use Rattle.update_changes.specs.TreeCells.{TreeCells}
 use Rattle.replica.specs.Cells.{AreMadeBy, HoldBook, made_by, no_values}
 use Rattle.replica.specs.Leader.{Stands}
 

@@ -18,7 +18,7 @@ use Rattle.harp_cells.specs.declared.value.Value.TheVariants as value
 use Rattle.harp_cells.specs.CellsOfTree.{StandForBook, StandForTree, client_value}
 use Rattle.harp_cells.specs.Effect.{Cells, after, changed, is_block_from, is_cell}
 use Rattle.event_record.proofs.Standing.{after_both}
-use Rattle.cell_changes.specs.Short.{AreShort, changes_tree}
+use Rattle.update_changes.specs.Short.{AreShort, changes_tree}
 use Rattle.group_model.specs.Ask.{new_entry}
 use Rattle.replica.specs.Cells.{HoldBook, PlansFor}
 

@@ -8,7 +8,7 @@ ghost use Rattle.file_tree.specs.Calls.{outcome};
 ghost use Rattle.harp_base.specs.Update.{is_update};
 ghost use Rattle.harp_cells.specs.Effect.{after};
 ghost use Rattle.replica.specs.Cells.{HoldBook, PlansFor, held_in};
-ghost use Rattle.cell_changes.specs.Short.{AreShort};
+ghost use Rattle.update_changes.specs.Short.{AreShort};
 
 use dedup::{Seen, seen};
 use event_record::Moment;
