@@ -15,7 +15,7 @@ use Rattle.harp_cells.specs.declared.value.Value.TheVariants as value
 use Rattle.harp_cells.specs.CellsOfTree.{inode_of, object_value}
 use Rattle.cell_changes.specs.Table.{set_by, change_to}
 use Rattle.cell_changes.proofs.Links.{NameSameKinds, links_kept, parent_kept}
-use Rattle.nfs_calls.specs.declared.totals.Totals.{Totals}
+use Rattle.nfs_calls.specs.declared.parts.totals.Totals.{Totals}
 use Rattle.nfs_calls.specs.Plans.{replaced_blocks, totals_of}
 use Rattle.nfs_calls.specs.TreeCells.{IsInode, object_at}
 use Rattle.nfs_calls.proofs.Entered.{same_inode}

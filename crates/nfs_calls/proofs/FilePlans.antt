@@ -26,8 +26,8 @@ use Rattle.harp_cells.specs.declared.value.Value.TheVariants as value
 use Rattle.inode_blocks.specs.Changes.{cuts, put_kept, kept_in}
 use Rattle.cell_changes.specs.Short.{AreShort}
 use Rattle.cell_changes.specs.Table.{resizes, tree_changes}
-use Rattle.nfs_calls.specs.declared.setting.Set.{Set}
-use Rattle.nfs_calls.specs.declared.totals.Totals.{Totals}
+use Rattle.nfs_calls.specs.declared.updates.set_attr.Set.{Set}
+use Rattle.nfs_calls.specs.declared.parts.totals.Totals.{Totals}
 use Rattle.nfs_calls.specs.Plans.{IsSet, bytes_given, planned, replaced_blocks, resizes_by, set_inode, set_tree, totals_of, used_with}
 use Rattle.nfs_calls.specs.TreeCells.{IsInode, attr_by, object_at}
 use Rattle.nfs_calls.proofs.Inodes.{content_size}

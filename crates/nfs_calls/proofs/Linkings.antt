@@ -29,8 +29,8 @@ use Rattle.inode_dirs.proofs.SlotCounts.{entry_grows}
 use Rattle.cell_changes.specs.Table.{change_to, free_slot, set_by, tree_changes}
 use Rattle.cell_changes.specs.TreeCells.{TreeCells}
 use Rattle.cell_changes.proofs.Links.{IsNamedAlike, directory_share, parent_kept}
-use Rattle.nfs_calls.specs.declared.entering.Room.{Room}
-use Rattle.nfs_calls.specs.declared.totals.Totals.{Totals}
+use Rattle.nfs_calls.specs.declared.parts.new_entry.Room.{Room}
+use Rattle.nfs_calls.specs.declared.parts.totals.Totals.{Totals}
 use Rattle.nfs_calls.specs.Plans.{entered, linked, links_by, planned, replaced_blocks, totals_of}
 use Rattle.nfs_calls.specs.TreeCells.{IsDirectory, IsInode, IsRoom, object_at}
 use Rattle.nfs_calls.proofs.Entered.{directory_body, entered_is, same_inode, slot_count}

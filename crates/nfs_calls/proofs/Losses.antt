@@ -25,7 +25,7 @@ use Rattle.harp_cells.specs.declared.change.Change.{Change}
 use Rattle.harp_cells.specs.declared.change.Change.TheVariants as change
 use Rattle.harp_cells.specs.CellsOfTree.{content_of, object_value, slot_value}
 use Rattle.cell_changes.specs.Table.{change_to, set_by, content_size, erases, loses, takes}
-use Rattle.nfs_calls.specs.declared.totals.Totals.{Totals}
+use Rattle.nfs_calls.specs.declared.parts.totals.Totals.{Totals}
 use Rattle.nfs_calls.specs.TreeCells.{IsInode, IsDirectory, object_at, bytes_within}
 use Rattle.nfs_calls.specs.Plans.{totals_of}
 use Rattle.nfs_calls.specs.Entries.{is_directory_kind, link_of, relinked, unlinked, is_last, erasure, loss, after_loss, IsTaking}

@@ -18,7 +18,7 @@ use Rattle.file_tree.specs.declared.object.Slot.{Slot}
 use Rattle.file_tree.specs.Tree.{Tree, Slots, place, slots_of, slots_within, with_entry, free_from, blocks_of, blocks_at, used_blocks, size_of, names_in, names_at, names_of, is_directory, is_directory_at, links_of, parent_of, kind_of, attr_at}
 use Rattle.file_tree.specs.Tries.{◌>>=◌, refuse, Tried}
 use Rattle.file_tree.specs.Permissions.{searched, may_make}
-use Rattle.harp_base.specs.Limits.{field_left}
+use Rattle.harp_base.specs.Limits.{field_left, object_numbers}
 use Rattle.file_tree.specs.Outcome.{room_for, reslotted, with_object, made, given_mode, free_name, make_dir}
 use Rattle.file_tree.specs.Sound.{IsSound, IsSoundObject}
 use Rattle.file_tree.proofs.Kept.{place_within, place_changed, place_push, used_push}
@@ -42,8 +42,8 @@ use Rattle.inode_dirs.proofs.SlotCounts.{entry_grows}
 use Rattle.cell_changes.specs.Table.{tree_changes, makes, change_to, free_slot}
 use Rattle.cell_changes.specs.TreeCells.{TreeCells}
 use Rattle.cell_changes.proofs.Links.{IsNamedAlike, IsSameKind, directory_share, parent_kept}
-use Rattle.nfs_calls.specs.declared.entering.Room.{Room}
-use Rattle.nfs_calls.specs.declared.totals.Totals.{Totals}
+use Rattle.nfs_calls.specs.declared.parts.new_entry.Room.{Room}
+use Rattle.nfs_calls.specs.declared.parts.totals.Totals.{Totals}
 use Rattle.nfs_calls.specs.Plans.{planned, replaced_blocks, totals_of, entered, made_inode, makes_by}
 use Rattle.nfs_calls.specs.TreeCells.{IsDirectory, IsInode, IsRoom, attr_by, object_at}
 use Rattle.nfs_calls.proofs.Entered.{same_inode, entered_is, slot_count, directory_body}
@@ -70,7 +70,7 @@ blocks_stored tree number i is = ap blocks_at is.at ∙ ap (λ (j : Inode). bloc
 -- the steps of the room for a new object, by what is stored
 pub room_for_steps : (tree : Tree) (dir : ℕ) (i : Inode) (s : Slot) (size : ℕ) (totals : Totals) → IsDirectory tree dir i → totals ≡ totals_of tree → s.number ≡ totals.next
     → room_for tree dir (slots_of (place tree dir)) s.name size
-    ≡ (refuse NoSpc (leb field_left totals.next) >>= λ (u : Unit {0}). replaced_blocks (totals.used + blocks_of size) i.size (264 * length (with_entry (slots_of (place tree dir)) s))
+    ≡ (refuse NoSpc (leb object_numbers totals.next) >>= λ (u : Unit {0}). replaced_blocks (totals.used + blocks_of size) i.size (264 * length (with_entry (slots_of (place tree dir)) s))
     >>= λ (n : ℕ). Ok (with_entry (slots_of (place tree dir)) s))
 unfolding room_for
 room_for_steps tree dir i s size totals is are number =
@@ -78,7 +78,7 @@ room_for_steps tree dir i s size totals is are number =
     let own : s.number ≡ length tree = number ∙ ap (λ (t : Totals). t.next) are in
     let entry : record { name = s.name; number = length tree } ≡ s = ap (λ (n : ℕ). let slot : Slot = record { name = s.name; number = n } in slot) (sym own) in
     rw (are, blocks_stored tree dir i is.own, entry)
-    (ap (λ (r : Tried Slots). refuse NoSpc (leb field_left (length tree)) >>= λ (u : Unit {0}). r)
+    (ap (λ (r : Tried Slots). refuse NoSpc (leb object_numbers (length tree)) >>= λ (u : Unit {0}). r)
     (sym (both_refuse NoSpc (ltb (65536 + blocks_of i.size) (used_blocks tree + blocks_of size + blocks_of (264 * length (with_entry slots s)))) _ (with_entry slots s))))
 
 pub chained : (n0 n1 n2 n3 n4 x y z w : List Change) → n0 ≡ [] → n1 ≡ n0 ++ x → n2 ≡ n1 ++ y → n3 ≡ n2 ++ z → n4 ≡ n3 ++ w → n4 ≡ x ++ y ++ z ++ w

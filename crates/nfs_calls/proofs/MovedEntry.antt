@@ -23,7 +23,7 @@ use Rattle.harp_cells.specs.declared.cell.Cell.TheVariants as cell
 use Rattle.harp_cells.specs.declared.change.Change.{Change}
 use Rattle.harp_cells.specs.declared.change.Change.TheVariants as change
 use Rattle.cell_changes.specs.Table.{set_by, slot_pair, dir_pair}
-use Rattle.nfs_calls.specs.declared.moving.Move.{Move}
+use Rattle.nfs_calls.specs.declared.updates.relocation.Relocation.{Relocation}
 use Rattle.nfs_calls.specs.TreeCells.{IsInode, IsDirectory, object_at}
 use Rattle.nfs_calls.specs.Entries.{is_directory_kind, link_of, relinked}
 use Rattle.nfs_calls.specs.Moves.{slot_changes, directory_changes, moved_inode, IsMoving}
@@ -55,16 +55,16 @@ pub directory_is_one : (tree : Tree) (dir : ℕ) (i : Inode) → IsDirectory tre
 directory_is_one tree dir i is = ap is_directory_at is.own.at ∙ ap is_directory (body_at tree dir i is)
 
 -- the moved object is neither of the directories
-pub record AreApart (m : Move) : Type 0 where
+pub record AreApart (m : Relocation) : Type 0 where
   pub from : m.number ≡ m.dir → ⊥
   pub to : m.number ≡ m.to_dir → ⊥
 
-pub move_held : (tree : Tree) (m : Move) (name to_name : List ℕ) → IsMoving tree m name to_name → Holds tree m.dir m.number
+pub move_held : (tree : Tree) (m : Relocation) (name to_name : List ℕ) → IsMoving tree m name to_name → Holds tree m.dir m.number
 move_held tree m name to_name is =
     found_held tree m.dir (object_at tree m.dir) (slots_of (place tree m.dir)) name (m.slot, m.number) is.from.own.at (body_at tree m.dir m.from is.from)
     (found (slots_of (place tree m.dir)) name (m.slot, m.number) is.entry)
 
-pub are_apart : (tree : Tree) (m : Move) (name to_name : List ℕ) → IsSound tree → IsMoving tree m name to_name → AreApart m
+pub are_apart : (tree : Tree) (m : Relocation) (name to_name : List ℕ) → IsSound tree → IsMoving tree m name to_name → AreApart m
 are_apart tree m name to_name sound is = record {
   from = λ (e : m.number ≡ m.dir).
       let d : is_directory_at (place tree m.dir) ≡ true = directory_is_one tree m.dir m.from is.from in
@@ -105,7 +105,7 @@ entered_beside slots s k within ne = elim (cases_lt (free_from 0 slots) (length 
 -- ---- what is touched
 
 -- a tree where the moved object is named by its new directory
-pub record IsMoved (tree new : Tree) (m : Move) (now : Time) : Type 0 where
+pub record IsMoved (tree new : Tree) (m : Relocation) (now : Time) : Type 0 where
   pub sound : IsSound new
   pub at : place new m.number ≡ Some (set_ctime now (object_at tree m.number))
   pub names : names_of new m.number ≡ names_of tree m.number
@@ -117,7 +117,7 @@ named_within new dir k o slots at body h =
     let here : names_at k (place new dir) ≡ names_in k slots = ap (names_at k) at ∙ ap (λ (b : Body). names_in k (slots_within b)) body in
     omega (arith, h, here, names_at-le new dir k)
 
-pub moved_put : (tree new : Tree) (m : Move) (now : Time) → IsInode tree m.number m.moved → IsMoved tree new m now
+pub moved_put : (tree new : Tree) (m : Relocation) (now : Time) → IsInode tree m.number m.moved → IsMoved tree new m now
     → set_by new (cell.Object m.number ∷ []) ≡ change.Put (cell.Object m.number) (value.Object (moved_inode m now)) ∷ []
 moved_put tree new m now is moved =
     let n = m.number in
@@ -143,7 +143,7 @@ moved_put tree new m now is moved =
     put_of new n (moved_inode m now) (object_after tree new n m.moved now m.moved.links _ is moved.at links parent)
 
 -- a directory's attributes, whose slots changed
-pub directory_moved : (tree new : Tree) (m : Move) (number : ℕ) (i : Inode) (after : Slots) (now : Time) (links size count : ℕ) → IsSound tree → IsMoved tree new m now
+pub directory_moved : (tree new : Tree) (m : Relocation) (number : ℕ) (i : Inode) (after : Slots) (now : Time) (links size count : ℕ) → IsSound tree → IsMoved tree new m now
     → IsDirectory tree number i → place new number ≡ Some (reslotted now after (object_at tree number)) → ((d : ℕ) → Holds tree d number → Holds new d number)
     → links ≡ 2 + subdirectories tree after → size ≡ 264 * length after → count ≡ length after
     → IsInode new number (record i { links = links; size = size; slots = count; mtime = now; ctime = now })
@@ -152,7 +152,7 @@ directory_moved tree new m number i after now links size count sound moved is at
     (λ k h. moved.kinds k (named_within new number k (reslotted now after (object_at tree number)) after at refl h)) l s c
 
 -- the directory that the entry left
-pub from_put : (tree new : Tree) (m : Move) (name to_name : List ℕ) (now : Time) → IsSound tree → IsMoving tree m name to_name → IsMoved tree new m now
+pub from_put : (tree new : Tree) (m : Relocation) (name to_name : List ℕ) (now : Time) → IsSound tree → IsMoving tree m name to_name → IsMoved tree new m now
     → place new m.dir ≡ Some (reslotted now (set (slots_of (place tree m.dir)) m.slot None) (object_at tree m.dir)) → ((d : ℕ) → Holds tree d m.dir → Holds new d m.dir)
     → set_by new (cell.Object m.dir ∷ []) ≡ change.Put (cell.Object m.dir) (value.Object (relinked now (m.from.links - link_of m.moved.kind) m.from)) ∷ []
 from_put tree new m name to_name now sound is moved at kept =
@@ -170,7 +170,7 @@ from_put tree new m name to_name now sound is moved at kept =
 both_true : (a b c d : ℕ) → ((a == b) && (c == d)) ≡ false → a ≡ b → c ≡ d → ⊥
 both_true a b c d t e f = let s : (a == b) ≡ true = eq-eqb a b e in let u : (c == d) ≡ true = eq-eqb c d f in let h : ((a == b) && (c == d)) ≡ true = rw (s, u) refl in both_ways _ t h
 
-pub slots_put : (new : Tree) (m : Move) (j : ℕ) (to_name : List ℕ)
+pub slots_put : (new : Tree) (m : Relocation) (j : ℕ) (to_name : List ℕ)
     → set_by new (cell.Slot m.to_dir j ∷ []) ≡ change.Put (cell.Slot m.to_dir j) (value.Slot m.number to_name) ∷ []
     → ((m.dir ≡ m.to_dir → m.slot ≡ j → ⊥) → set_by new (cell.Slot m.dir m.slot ∷ []) ≡ change.Erase (cell.Slot m.dir m.slot) ∷ [])
     → set_by new (slot_pair m.dir m.slot m.to_dir j) ≡ slot_changes m j to_name
@@ -182,7 +182,7 @@ slots_put new m j to_name put erase = elim (cases_Bool ((m.dir == m.to_dir) && (
       ∙ ap (λ (cs : List Change). change.Erase (cell.Slot m.dir m.slot) ∷ cs) put)
 ]
 
-pub directories_put : (new : Tree) (m : Move) (to : Inode) (now : Time)
+pub directories_put : (new : Tree) (m : Relocation) (to : Inode) (now : Time)
     → set_by new (cell.Object m.to_dir ∷ []) ≡ change.Put (cell.Object m.to_dir) (value.Object to) ∷ []
     → ((m.dir ≡ m.to_dir → ⊥) → set_by new (cell.Object m.dir ∷ [])
     ≡ change.Put (cell.Object m.dir) (value.Object (relinked now (m.from.links - link_of m.moved.kind) m.from)) ∷ [])

@@ -24,7 +24,7 @@ use Rattle.harp_cells.specs.declared.cell.Cell.TheVariants as cell
 use Rattle.harp_cells.specs.declared.change.Change.TheVariants as change
 use Rattle.harp_cells.specs.Effect.{Cells}
 use Rattle.cell_changes.specs.Table.{set_by, slot_pair}
-use Rattle.nfs_calls.specs.declared.moving.Move.{Move}
+use Rattle.nfs_calls.specs.declared.updates.relocation.Relocation.{Relocation}
 use Rattle.nfs_calls.specs.TreeCells.{object_at}
 use Rattle.nfs_calls.specs.Plans.{planned, replaced_blocks, entered}
 use Rattle.nfs_calls.specs.Entries.{link_of}
@@ -46,10 +46,10 @@ replaced_are used old new after e =
     given_at (replaced_blocks used old new) (AreReplaced used old new) after
     (unless NoSpc _ _ (AreReplaced used old new) (λ b. done _ (AreReplaced used old new) (record { enough = ltb-false _ _ b; after_is = refl }))) e
 
-stays_there : (m : Move) (slots : Slots) → (m.dir ≡ m.to_dir → ⊥) → freed m.dir m.to_dir m.slot slots ≡ slots
+stays_there : (m : Relocation) (slots : Slots) → (m.dir ≡ m.to_dir → ⊥) → freed m.dir m.to_dir m.slot slots ≡ slots
 stays_there m slots ne = let t : (m.dir == m.to_dir) ≡ false = ne_eqb m.dir m.to_dir ne in rw t refl
 
-pub across_planned : (cells : Cells) (tree : Tree) (m : Move) (name to_name : List ℕ) (now : Time) (j many used : ℕ) → IsSound tree → (m.dir ≡ m.to_dir → ⊥) → IsMoving tree m name to_name
+pub across_planned : (cells : Cells) (tree : Tree) (m : Relocation) (name to_name : List ℕ) (now : Time) (j many used : ℕ) → IsSound tree → (m.dir ≡ m.to_dir → ⊥) → IsMoving tree m name to_name
     → entry (slots_of (place tree m.to_dir)) to_name ≡ None → j ≡ free_from 0 (slots_of (place tree m.to_dir))
     → many ≡ length (with_entry (slots_of (place tree m.to_dir)) (moved_slot m to_name)) → replaced_blocks (used_blocks tree) m.to.size (264 * many) ≡ Ok used
     → planned cells tree (call.Rename m.dir name m.to_dir to_name) (moved_outcome tree m.dir (m.slot, m.number) m.to_dir to_name None now)
@@ -115,7 +115,7 @@ no_room : (tree : Tree) (number old new : ℕ) (status : Status) → blocks_at (
     → room tree number new ≡ Err status
 no_room tree number old new status blocks e = rw blocks (refusing _ _ status e)
 
-pub across_full : (cells : Cells) (tree : Tree) (m : Move) (name to_name : List ℕ) (now : Time) (status : Status) → (m.dir ≡ m.to_dir → ⊥) → IsMoving tree m name to_name
+pub across_full : (cells : Cells) (tree : Tree) (m : Relocation) (name to_name : List ℕ) (now : Time) (status : Status) → (m.dir ≡ m.to_dir → ⊥) → IsMoving tree m name to_name
     → replaced_blocks (used_blocks tree) m.to.size (264 * length (with_entry (slots_of (place tree m.to_dir)) (moved_slot m to_name))) ≡ Err status
     → planned cells tree (call.Rename m.dir name m.to_dir to_name) (moved_outcome tree m.dir (m.slot, m.number) m.to_dir to_name None now) ≡ Err status
 unfolding check_target moved_in

@@ -25,8 +25,8 @@ use Rattle.harp_cells.specs.declared.change.Change.TheVariants as change
 use Rattle.harp_cells.specs.declared.value.Value.TheVariants as value
 use Rattle.harp_cells.specs.Effect.{Cells}
 use Rattle.cell_changes.specs.Table.{set_by, slot_pair, dir_pair, moves, tree_changes}
-use Rattle.nfs_calls.specs.declared.moving.Move.{Move}
-use Rattle.nfs_calls.specs.declared.totals.Totals.{Totals}
+use Rattle.nfs_calls.specs.declared.updates.relocation.Relocation.{Relocation}
+use Rattle.nfs_calls.specs.declared.parts.totals.Totals.{Totals}
 use Rattle.nfs_calls.specs.TreeCells.{object_at}
 use Rattle.nfs_calls.specs.Plans.{planned, totals_of}
 use Rattle.nfs_calls.specs.Entries.{relinked, loss}
@@ -35,15 +35,15 @@ use Rattle.nfs_calls.proofs.Sets.{IsSet, place_at, place_other, length_on, names
 use Rattle.nfs_calls.proofs.Losses.{body_at}
 use Rattle.nfs_calls.proofs.MovedEntry.{IsMoved, are_apart}
 
-abbrev pub moved_slot : Move → List ℕ → Slot
+abbrev pub moved_slot : Relocation → List ℕ → Slot
 moved_slot m to_name = record { name = to_name; number = m.number }
 
 -- the tree with the entry in the new directory's slots
-abbrev pub tree_in : Tree → Move → Slots → Time → Tree
+abbrev pub tree_in : Tree → Relocation → Slots → Time → Tree
 tree_in tree m full now = change (change (change tree m.dir (slot_changed now m.slot None)) m.to_dir (reslotted now full)) m.number (set_ctime now)
 
 -- what it keeps
-pub record Enters (tree : Tree) (m : Move) (now : Time) (free full : Slots) (p : Object) : Type 0 where
+pub record Enters (tree : Tree) (m : Relocation) (now : Time) (free full : Slots) (p : Object) : Type 0 where
   pub moved : IsMoved tree (tree_in tree m full now) m now
   pub to_at : place (tree_in tree m full now) m.to_dir ≡ Some (reslotted now full p)
   pub from_at : (m.dir ≡ m.to_dir → ⊥) → place (tree_in tree m full now) m.dir ≡ Some (slot_changed now m.slot None (object_at tree m.dir))
@@ -55,7 +55,7 @@ pub record Enters (tree : Tree) (m : Move) (now : Time) (free full : Slots) (p :
 pub freed_is : (now : Time) (slot : ℕ) (slots : Slots) (o : Object) → o.body ≡ Directory slots → slot_changed now slot None o ≡ reslotted now (set slots slot None) o
 freed_is now slot slots o body = ap (λ (b : Body). record o { mtime = now; ctime = now; body = slot_replaced b slot None }) body
 
-pub enters : (tree : Tree) (m : Move) (name to_name : List ℕ) (now : Time) (free : Slots) (p : Object) → IsSound tree → IsMoving tree m name to_name
+pub enters : (tree : Tree) (m : Relocation) (name to_name : List ℕ) (now : Time) (free : Slots) (p : Object) → IsSound tree → IsMoving tree m name to_name
     → IsSound (tree_in tree m (with_entry free (moved_slot m to_name)) now)
     → place (change tree m.dir (slot_changed now m.slot None)) m.to_dir ≡ Some p → p.body ≡ Directory free
     → Enters tree m now free (with_entry free (moved_slot m to_name)) p
@@ -115,7 +115,7 @@ enters tree m name to_name now free p sound is whole p_at p_body =
 -- ---- the outcome and its changes
 
 -- the parts of the plan, where there is room
-pub in_planned : (cells : Cells) (tree : Tree) (m : Move) (name to_name : List ℕ) (now : Time) (free : Slots) (a b c : List Change) (totals : Totals)
+pub in_planned : (cells : Cells) (tree : Tree) (m : Relocation) (name to_name : List ℕ) (now : Time) (free : Slots) (a b c : List Change) (totals : Totals)
     → entry (slots_of (place tree m.dir)) name ≡ Some (m.slot, m.number) → entry (slots_of (place tree m.to_dir)) to_name ≡ None
     → freed m.dir m.to_dir m.slot (slots_of (place tree m.to_dir)) ≡ free
     → room tree m.to_dir (264 * length (with_entry free (moved_slot m to_name))) ≡ Ok tt
@@ -129,12 +129,12 @@ in_planned cells tree m name to_name now free a b c totals e none is enough sa s
     rw (is, enough) (rw (e, none) (rw is (rw (sa, sb, sc, st) refl)))
 
 -- a plan that moves an entry, by the attributes of its new directory and the totals
-abbrev pub in_view : Move → ℕ → List ℕ → Time → Inode → Totals → Reply × List Change × Totals
+abbrev pub in_view : Relocation → ℕ → List ℕ → Time → Inode → Totals → Reply × List Change × Totals
 in_view m j to_name now to totals =
     (Done, slot_changes m j to_name ++ directory_changes m to now ++ change.Put (cell.Object m.number) (value.Object (moved_inode m now)) ∷ [], totals)
 
 -- and one that replaces an entry
-abbrev pub over_view : Move → ℕ × ℕ → List ℕ → Time → Inode → Totals → Reply × List Change × Totals
+abbrev pub over_view : Relocation → ℕ × ℕ → List ℕ → Time → Inode → Totals → Reply × List Change × Totals
 over_view m y to_name now j totals = (
   Done,
   slot_changes m y.0 to_name ++ directory_changes m (relinked now (links_over m) m.to) now ++ loss y.1 j now

@@ -25,8 +25,8 @@ use Rattle.harp_cells.specs.declared.cell.Cell.TheVariants as cell
 use Rattle.harp_cells.specs.declared.change.Change.{Change}
 use Rattle.harp_cells.specs.Effect.{Cells}
 use Rattle.cell_changes.specs.Table.{set_by, slot_pair, dir_pair, loses, moves, tree_changes}
-use Rattle.nfs_calls.specs.declared.moving.Move.{Move}
-use Rattle.nfs_calls.specs.declared.totals.Totals.{Totals}
+use Rattle.nfs_calls.specs.declared.updates.relocation.Relocation.{Relocation}
+use Rattle.nfs_calls.specs.declared.parts.totals.Totals.{Totals}
 use Rattle.nfs_calls.specs.TreeCells.{IsInode, object_at}
 use Rattle.nfs_calls.specs.Plans.{planned, totals_of}
 use Rattle.nfs_calls.specs.Entries.{loss, after_loss}
@@ -37,25 +37,25 @@ use Rattle.nfs_calls.proofs.MovedEntry.{IsMoved, are_apart}
 use Rattle.nfs_calls.proofs.MovesIn.{moved_slot}
 
 -- an entry that another one replaces: its slot, its object, which has no entry of its own, and the attributes of that
-pub record IsTarget (tree : Tree) (m : Move) (to_name : List ℕ) (y : ℕ × ℕ) (j : Inode) : Type 0 where
+pub record IsTarget (tree : Tree) (m : Relocation) (to_name : List ℕ) (y : ℕ × ℕ) (j : Inode) : Type 0 where
   pub entry : entry (slots_of (place tree m.to_dir)) to_name ≡ Some y
   pub object : IsInode tree y.1 j
   pub other : y.1 ≡ m.number → ⊥
   pub bare : IsBare tree y.1
   pub kinds : is_directory_at (place tree y.1) ≡ is_directory_at (place tree m.number)
 
-abbrev pub tree_over : Tree → Move → List ℕ → ℕ × ℕ → Time → Tree
+abbrev pub tree_over : Tree → Relocation → List ℕ → ℕ × ℕ → Time → Tree
 tree_over tree m to_name y now = moved_over tree m.dir (m.slot, m.number) m.to_dir to_name y now
 
 -- the new directory's slots with the entry replaced
-abbrev pub over_slots : Tree → Move → List ℕ → ℕ × ℕ → Slots
+abbrev pub over_slots : Tree → Relocation → List ℕ → ℕ × ℕ → Slots
 over_slots tree m to_name y = set (slots_of (place tree m.to_dir)) y.0 (Some (moved_slot m to_name))
 
-abbrev pub swapped : Tree → Move → List ℕ → ℕ × ℕ → Time → Tree
+abbrev pub swapped : Tree → Relocation → List ℕ → ℕ × ℕ → Time → Tree
 swapped tree m to_name y now = change tree m.to_dir (slot_changed now y.0 (Some (moved_slot m to_name)))
 
 -- what the tree keeps
-pub record Replaces (tree : Tree) (m : Move) (to_name : List ℕ) (y : ℕ × ℕ) (j : Inode) (now : Time) (after : Slots) (q : Object) : Type 0 where
+pub record Replaces (tree : Tree) (m : Relocation) (to_name : List ℕ) (y : ℕ × ℕ) (j : Inode) (now : Time) (after : Slots) (q : Object) : Type 0 where
   pub moved : IsMoved tree (tree_over tree m to_name y now) m now
   pub to_at : place (tree_over tree m to_name y now) m.to_dir ≡ Some (reslotted now after (object_at tree m.to_dir))
   pub from_at : place (tree_over tree m to_name y now) m.dir ≡ Some (slot_changed now m.slot None q)
@@ -67,7 +67,7 @@ pub slot_is : (now : Time) (i : ℕ) (s : _) (slots : Slots) (o : Object) → o.
 slot_is now i s slots o body = ap (λ (b : Body). record o { mtime = now; ctime = now; body = slot_replaced b i s }) body
 
 -- the target is neither of the directories
-pub record IsAside (m : Move) (y : ℕ × ℕ) : Type 0 where
+pub record IsAside (m : Relocation) (y : ℕ × ℕ) : Type 0 where
   pub from : y.1 ≡ m.dir → ⊥
   pub to : y.1 ≡ m.to_dir → ⊥
 
@@ -76,7 +76,7 @@ bare_aside tree number dir k bare held e =
     let some : Holds tree number k = subst (λ (n : ℕ). Holds tree n k) (sym e) held in
     let none = bare k in omega (arith, none, some)
 
-pub is_aside : (tree : Tree) (m : Move) (name to_name : List ℕ) (y : ℕ × ℕ) (j : Inode) → IsMoving tree m name to_name → IsTarget tree m to_name y j → IsAside m y
+pub is_aside : (tree : Tree) (m : Relocation) (name to_name : List ℕ) (y : ℕ × ℕ) (j : Inode) → IsMoving tree m name to_name → IsTarget tree m to_name y j → IsAside m y
 is_aside tree m name to_name y j is target = record {
   from = bare_aside tree y.1 m.dir m.number target.bare
       (found_held tree m.dir (object_at tree m.dir) (slots_of (place tree m.dir)) name (m.slot, m.number) is.from.own.at (body_at tree m.dir m.from is.from)
@@ -91,7 +91,7 @@ pub over_names : (slots : Slots) (to_name : List ℕ) (y : ℕ × ℕ) (s : Slot
     → names_in k (set slots y.0 (Some s)) + one y.1 k ≡ names_in k slots + one s.number k
 over_names slots to_name y s k g = omega (arith, share_found slots to_name y k g, names_set slots y.0 (Some s) k g.within)
 
-pub replaces : (tree : Tree) (m : Move) (name to_name : List ℕ) (y : ℕ × ℕ) (j : Inode) (now : Time) (left after : Slots) (q : Object) → IsSound tree → IsMoving tree m name to_name
+pub replaces : (tree : Tree) (m : Relocation) (name to_name : List ℕ) (y : ℕ × ℕ) (j : Inode) (now : Time) (left after : Slots) (q : Object) → IsSound tree → IsMoving tree m name to_name
     → IsTarget tree m to_name y j → place (swapped tree m to_name y now) m.dir ≡ Some q → q.body ≡ Directory left → IsFound left name (m.slot, m.number)
     → place (change (swapped tree m to_name y now) m.dir (slot_changed now m.slot None)) m.to_dir ≡ Some (reslotted now after (object_at tree m.to_dir))
     → 1 ≤ names_in m.number after → Replaces tree m to_name y j now after q
@@ -186,18 +186,18 @@ replaces tree m name to_name y j now left after q sound is target q_at q_body f 
 either_step : Tree → Tree → Bool → Tried Tree
 either_step tree new b = elim b [ true ↦ Ok tree | false ↦ Ok new ]
 
-to_other : (tree : Tree) (m : Move) (to_name : List ℕ) (y : ℕ × ℕ) (now : Time) → (y.1 ≡ m.number → ⊥)
+to_other : (tree : Tree) (m : Relocation) (to_name : List ℕ) (y : ℕ × ℕ) (now : Time) → (y.1 ≡ m.number → ⊥)
     → moved_to tree m.dir (m.slot, m.number) m.to_dir (slots_of (place tree m.to_dir)) to_name (Some y) now ≡ Ok (tree_over tree m to_name y now)
 unfolding either_step
 to_other tree m to_name y now ne = ap (either_step tree (tree_over tree m to_name y now)) (ne_eqb y.1 m.number ne)
 
-to_same : (tree : Tree) (m : Move) (to_name : List ℕ) (y : ℕ × ℕ) (now : Time) → y.1 ≡ m.number
+to_same : (tree : Tree) (m : Relocation) (to_name : List ℕ) (y : ℕ × ℕ) (now : Time) → y.1 ≡ m.number
     → moved_to tree m.dir (m.slot, m.number) m.to_dir (slots_of (place tree m.to_dir)) to_name (Some y) now ≡ Ok tree
 unfolding either_step
 to_same tree m to_name y now e = ap (either_step tree (tree_over tree m to_name y now)) (eq-eqb y.1 m.number e)
 
 -- the parts of the plan
-pub over_planned : (cells : Cells) (tree : Tree) (m : Move) (name to_name : List ℕ) (y : ℕ × ℕ) (now : Time) (a b l c : List Change) (totals : Totals)
+pub over_planned : (cells : Cells) (tree : Tree) (m : Relocation) (name to_name : List ℕ) (y : ℕ × ℕ) (now : Time) (a b l c : List Change) (totals : Totals)
     → entry (slots_of (place tree m.dir)) name ≡ Some (m.slot, m.number) → entry (slots_of (place tree m.to_dir)) to_name ≡ Some y
     → (y.1 ≡ m.number → ⊥) → check_target tree m.number (Some y) ≡ Ok tt
     → set_by (tree_over tree m to_name y now) (slot_pair m.dir m.slot m.to_dir y.0) ≡ a
@@ -212,7 +212,7 @@ over_planned cells tree m name to_name y now a b l c totals e to_e ne checked sa
     rw (checked, to_other tree m to_name y now ne) (rw (e, to_e) (rw t (rw (sa, sb, sl, sc, st) refl)))
 
 -- onto the same object
-pub same_planned : (cells : Cells) (tree : Tree) (m : Move) (name to_name : List ℕ) (y : ℕ × ℕ) (now : Time)
+pub same_planned : (cells : Cells) (tree : Tree) (m : Relocation) (name to_name : List ℕ) (y : ℕ × ℕ) (now : Time)
     → entry (slots_of (place tree m.dir)) name ≡ Some (m.slot, m.number) → entry (slots_of (place tree m.to_dir)) to_name ≡ Some y
     → y.1 ≡ m.number → check_target tree m.number (Some y) ≡ Ok tt
     → planned cells tree (call.Rename m.dir name m.to_dir to_name) (moved_outcome tree m.dir (m.slot, m.number) m.to_dir to_name (Some y) now) ≡ Ok (Done, [], totals_of tree)

@@ -20,7 +20,7 @@ use Rattle.harp_cells.specs.declared.cell.Cell.TheVariants as cell
 use Rattle.harp_cells.specs.declared.change.Change.TheVariants as change
 use Rattle.harp_cells.specs.Effect.{Cells}
 use Rattle.cell_changes.specs.Table.{set_by, slot_pair}
-use Rattle.nfs_calls.specs.declared.moving.Move.{Move}
+use Rattle.nfs_calls.specs.declared.updates.relocation.Relocation.{Relocation}
 use Rattle.nfs_calls.specs.TreeCells.{object_at}
 use Rattle.nfs_calls.specs.Plans.{planned, totals_of}
 use Rattle.nfs_calls.specs.Entries.{relinked}
@@ -35,10 +35,10 @@ use Rattle.nfs_calls.proofs.MovesIn.{moved_slot, tree_in, Enters, enters, in_pla
 pub room_ok : (tree : Tree) (number size : ℕ) → used_blocks tree + blocks_of size ≤ 65536 + blocks_at (place tree number) → room tree number size ≡ Ok tt
 room_ok tree number size le = rw (le-ltb (65536 + blocks_at (place tree number)) (used_blocks tree + blocks_of size) le) refl
 
-abbrev pub within : Move → Move
+abbrev pub within : Relocation → Relocation
 within m = record m { dir = m.to_dir }
 
-within_done : (cells : Cells) (tree : Tree) (m : Move) (name to_name : List ℕ) (now : Time) (j : ℕ) → IsSound tree → IsMoving tree (within m) name to_name
+within_done : (cells : Cells) (tree : Tree) (m : Relocation) (name to_name : List ℕ) (now : Time) (j : ℕ) → IsSound tree → IsMoving tree (within m) name to_name
     → entry (slots_of (place tree m.to_dir)) to_name ≡ None → j ≡ min m.slot (free_from 0 (slots_of (place tree m.to_dir)))
     → planned cells tree (call.Rename m.to_dir name m.to_dir to_name) (moved_outcome tree m.to_dir (m.slot, m.number) m.to_dir to_name None now)
     ≡ Ok (
@@ -98,7 +98,7 @@ within_done cells tree m name to_name now j sound is none first =
     (rw (used, e.next) refl)
 
 -- both directories are one
-pub within_planned : (cells : Cells) (tree : Tree) (m : Move) (name to_name : List ℕ) (now : Time) (j : ℕ) → IsSound tree → m.dir ≡ m.to_dir → IsMoving tree m name to_name
+pub within_planned : (cells : Cells) (tree : Tree) (m : Relocation) (name to_name : List ℕ) (now : Time) (j : ℕ) → IsSound tree → m.dir ≡ m.to_dir → IsMoving tree m name to_name
     → entry (slots_of (place tree m.to_dir)) to_name ≡ None → j ≡ min m.slot (free_from 0 (slots_of (place tree m.to_dir)))
     → planned cells tree (call.Rename m.dir name m.to_dir to_name) (moved_outcome tree m.dir (m.slot, m.number) m.to_dir to_name None now)
     ≡ Ok (
@@ -109,11 +109,11 @@ pub within_planned : (cells : Cells) (tree : Tree) (m : Move) (name to_name : Li
     )
 within_planned cells tree m name to_name now j sound one is none first =
     let same : m ≡ within m = ap (λ (d : ℕ). record m { dir = d }) one in
-    subst (λ (n : Move). planned cells tree (call.Rename n.dir name n.to_dir to_name) (moved_outcome tree n.dir (n.slot, n.number) n.to_dir to_name None now)
+    subst (λ (n : Relocation). planned cells tree (call.Rename n.dir name n.to_dir to_name) (moved_outcome tree n.dir (n.slot, n.number) n.to_dir to_name None now)
     ≡ Ok (
       Done,
       slot_changes n j to_name ++ directory_changes n (relinked now n.to.links n.to) now
           ++ change.Put (cell.Object n.number) (value.Object (moved_inode n now)) ∷ [],
       totals_of tree,
     )) (sym same)
-    (within_done cells tree m name to_name now j sound (subst (λ (n : Move). IsMoving tree n name to_name) same is) none first)
+    (within_done cells tree m name to_name now j sound (subst (λ (n : Relocation). IsMoving tree n name to_name) same is) none first)

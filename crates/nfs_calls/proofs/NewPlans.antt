@@ -1,5 +1,6 @@
 -- The plans of calls that make links and files.
-use Rattle.std.proofs.Common.{◌≡◌, ℕ, ◌+◌, ◌*◌, ltb, Bool, true, false, List, [], length, replicate, Some, None, Ok, refl, ap, ◌∙◌}
+use Rattle.std.proofs.Common.{◌≡◌, ℕ, ◌+◌, ◌*◌, ltb, Bool, true, false, List, [], length, replicate, Some, None, Result, Ok, Err, refl, sym, ap, subst, ◌∙◌}
+use Rattle.std.specs.Prelude.{not, IsErr, IsErrAnd}
 use Rattle.std.proofs.lemmas.Bool.{ltb-false}
 use Rattle.std.proofs.lemmas.List.{length-replicate}
 use Rattle.harp_base.specs.declared.attr.Attr.{Attr}
@@ -8,13 +9,15 @@ use Rattle.harp_base.specs.declared.attr.SetAttr.{SetAttr}
 use Rattle.harp_base.specs.declared.attr.Time.{Time}
 use Rattle.harp_base.specs.declared.call.Call.TheVariants as call
 use Rattle.harp_base.specs.declared.cred.Cred.{Cred}
+use Rattle.harp_base.specs.declared.reply.Reply.{Reply}
 use Rattle.harp_base.specs.declared.reply.Reply.TheVariants.{Done, Node}
 use Rattle.harp_base.specs.declared.reply.Status.{Status}
+use Rattle.harp_base.specs.declared.reply.Status.TheVariants.{Exist}
 use Rattle.file_tree.specs.declared.object.Body.TheVariants as body
-use Rattle.file_tree.specs.Tree.{Tree, place, slots_of, entry, blocks_of, used_blocks}
-use Rattle.file_tree.specs.Tries.{refuse, entry_name}
-use Rattle.file_tree.specs.Permissions.{searched, may_make}
-use Rattle.file_tree.specs.Outcome.{given, has_entry, room_for, made, make_link, create, create_again, create_new, is_regular, is_regular_at}
+use Rattle.file_tree.specs.Tree.{Tree, attr_at, place, slots_of, entry, blocks_of, used_blocks}
+use Rattle.file_tree.specs.Tries.{◌>>=◌, Tried, refuse, entry_name}
+use Rattle.file_tree.specs.Permissions.{searched, may_make, heeded}
+use Rattle.file_tree.specs.Outcome.{given, set_fields, has_entry, room_for, made, make_link, create, create_again, create_new, is_regular}
 use Rattle.harp_base.specs.Limits.{largest_file}
 use Rattle.file_tree.proofs.SlotLaws.{no_entry, none_named}
 use Rattle.harp_cells.specs.Effect.{Cells}
@@ -22,9 +25,13 @@ use Rattle.harp_cells.specs.declared.change.Change.{Change}
 use Rattle.harp_cells.specs.declared.value.Inode.{Inode}
 use Rattle.cell_changes.specs.Table.{tree_changes}
 use Rattle.cell_changes.specs.TreeCells.{TreeCells}
-use Rattle.nfs_calls.specs.declared.entering.Room.{Room}
-use Rattle.nfs_calls.specs.declared.totals.Totals.{Totals}
-use Rattle.nfs_calls.specs.Plans.{planned, sets_planned, totals_of, made_inode, replaced_blocks}
+use Rattle.nfs_calls.specs.declared.error.CallError.{CallError}
+use Rattle.nfs_calls.specs.declared.error.CallError.TheVariants as error
+use Rattle.nfs_calls.specs.declared.updates.set_attr.Set.{Set}
+use Rattle.nfs_calls.specs.Gives.{Fails, Gives}
+use Rattle.nfs_calls.specs.declared.parts.new_entry.Room.{Room}
+use Rattle.nfs_calls.specs.declared.parts.totals.Totals.{Totals}
+use Rattle.nfs_calls.specs.Plans.{IsSet, planned, sets_planned, totals_of, made_inode, replaced_blocks}
 use Rattle.nfs_calls.specs.TreeCells.{IsInode, attr_by, object_at}
 use Rattle.nfs_calls.proofs.Makes.{IsNew, IsOpen, IsComputed, computed_changes, made_tree, full_of, made_new, made_file, made_changes, made_totals, mode_fits, attr_placed}
 
@@ -96,5 +103,43 @@ pub create_sets : (cells : Cells) (tree : Tree) (cred : Cred) (dir : ℕ) (name 
 unfolding create tree_changes
 create_sets cells tree cred dir name a now x searches right found = rw (searches, right, found) refl
 
-pub regular_at : (tree : Tree) (number : ℕ) (i : Inode) → IsInode tree number i → is_regular_at (place tree number) ≡ is_regular (object_at tree number).body
-regular_at tree number i is = ap is_regular_at is.at
+-- a file that is there, whose attributes these are
+module _ (cells : Cells) (tree : Tree) (cred : Cred) (number : ℕ) (i : Inode) (a : SetAttr) (now : Time)
+    (is : IsInode tree number i) where
+  abbrev not_regular : Bool
+  not_regular = not (is_regular (object_at tree number).body)
+
+  abbrev set_again : Tried Tree
+  set_again = set_fields tree cred number (heeded cred i.uid a) now
+
+  again_is : create_again tree cred number a now
+      ≡ (refuse Exist not_regular >>= λ (u : Unit {0}). set_again >>= λ (new : Tree). Ok (Node number (attr_at new number), new))
+  unfolding create_again
+  again_is = rw (is.at, is.is) refl
+
+  abbrev again_planned : Tried (Reply × List Change × Totals)
+  again_planned = sets_planned cells tree number a.size (create_again tree cred number a now)
+
+  pub again_refused : (s : Status) → Err s ≡ refuse Exist not_regular → again_planned ≡ Err s
+  again_refused s refused = rw (again_is, ← refused) refl
+
+  pub again_fails : (e : CallError) → Ok tt ≡ refuse Exist not_regular → Fails e set_again → Fails e again_planned
+  again_fails (error.Fault fault) passes fails = tt
+  again_fails (error.Status s) passes fails = rw (again_is, ← passes, fails) refl
+
+  pub again_sets : (new : Tree) (size : ℕ) (s : Set) (attr : Attr) → Ok tt ≡ refuse Exist not_regular → set_again ≡ Ok new
+      → size ≡ a.size → IsSet cells tree new number size s → attr ≡ attr_by number s.inode
+      → again_planned ≡ Ok (Node number attr, s.changes.items, s.totals)
+  again_sets new size s attr passes done sized set attributes =
+      rw (again_is, ← passes, done, attributes, set.attr, set.changes, set.totals, sized) refl
+
+pub again_none : (cells : Cells) (tree : Tree) (cred : Cred) (number : ℕ) (a : SetAttr) (now : Time)
+    → place tree number ≡ None → sets_planned cells tree number a.size (create_again tree cred number a now) ≡ Err Exist
+unfolding create_again
+again_none cells tree cred number a now none = rw none refl
+
+-- a refusal or a fault that `?` hands on
+pub handed_on : {X Y : Type 0} (view : X → Y) (r : Result X CallError) (e : CallError) (step : Tried Y)
+    → IsErr r → IsErrAnd r (λ f. f ≡ e) → Fails e step → Gives view r step
+handed_on view (Ok x) e step is same fails = absurd cc
+handed_on view (Err f) e step is same fails = subst (λ (g : CallError). Fails g step) (sym same) fails

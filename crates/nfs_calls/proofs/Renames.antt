@@ -13,9 +13,9 @@ use Rattle.file_tree.specs.Rename.{is_above, rename}
 use Rattle.harp_cells.specs.declared.reads.CellFault.{CellFault}
 use Rattle.harp_cells.specs.declared.value.Inode.{Inode}
 use Rattle.harp_cells.specs.Effect.{Cells}
-use Rattle.nfs_calls.specs.declared.moving.Move.{Move}
-use Rattle.nfs_calls.specs.declared.plan.Plan.{Plan}
-use Rattle.nfs_calls.specs.declared.refusal.Refusal.{Refusal}
+use Rattle.nfs_calls.specs.declared.updates.relocation.Relocation.{Relocation}
+use Rattle.nfs_calls.specs.declared.updates.planned.Planned.{Planned}
+use Rattle.nfs_calls.specs.declared.error.CallError.{CallError}
 use Rattle.nfs_calls.specs.TreeCells.{IsInode, IsDirectory, object_at}
 use Rattle.nfs_calls.specs.Gives.{Gives}
 use Rattle.nfs_calls.specs.Plans.{plan_view, planned}
@@ -37,7 +37,7 @@ moved_is : (tree : Tree) (dir : ℕ) (x : ℕ × ℕ) (to_dir : ℕ) (to_name : 
 moved_is tree dir x to_dir to_name target now apart e = rw (apart, e) refl
 
 -- the move, by a copy of the new name
-pub moved_gives : (cells : Cells) (tree : Tree) (m : Move) (name owned to_name : List ℕ) (now : Time) (target : Option (ℕ × ℕ)) (r : Result Plan Refusal) → owned ≡ to_name
+pub moved_gives : (cells : Cells) (tree : Tree) (m : Relocation) (name owned to_name : List ℕ) (now : Time) (target : Option (ℕ × ℕ)) (r : Result Planned CallError) → owned ≡ to_name
     → (IsMoving tree m name owned → entry (slots_of (place tree m.to_dir)) owned ≡ target
     → Gives plan_view r (planned cells tree (call.Rename m.dir name m.to_dir owned) (moved_outcome tree m.dir (m.slot, m.number) m.to_dir owned target now)))
     → IsMoving tree m name to_name → entry (slots_of (place tree m.to_dir)) to_name ≡ target

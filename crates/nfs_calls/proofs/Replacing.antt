@@ -20,7 +20,7 @@ use Rattle.harp_cells.specs.declared.value.Value.TheVariants as value
 use Rattle.harp_cells.specs.declared.cell.Cell.TheVariants as cell
 use Rattle.harp_cells.specs.declared.change.Change.TheVariants as change
 use Rattle.harp_cells.specs.Effect.{Cells}
-use Rattle.nfs_calls.specs.declared.moving.Move.{Move}
+use Rattle.nfs_calls.specs.declared.updates.relocation.Relocation.{Relocation}
 use Rattle.nfs_calls.specs.TreeCells.{object_at}
 use Rattle.nfs_calls.specs.Plans.{planned, totals_of}
 use Rattle.nfs_calls.specs.Entries.{relinked, loss, after_loss}
@@ -34,7 +34,7 @@ use Rattle.nfs_calls.proofs.MovesWithin.{within}
 use Rattle.nfs_calls.proofs.MovesOver.{IsTarget, tree_over, over_slots, swapped, Replaces, slot_is, is_aside, over_names, replaces, over_planned}
 
 -- the new directory has as many subdirectories
-same_subdirectories : (tree : Tree) (m : Move) (to_name : List ℕ) (y : ℕ × ℕ) (j : Inode) → IsTarget tree m to_name y j
+same_subdirectories : (tree : Tree) (m : Relocation) (to_name : List ℕ) (y : ℕ × ℕ) (j : Inode) → IsTarget tree m to_name y j
     → subdirectories tree (over_slots tree m to_name y) ≡ subdirectories tree (slots_of (place tree m.to_dir))
 same_subdirectories tree m to_name y j target =
     let to_slots = slots_of (place tree m.to_dir) in
@@ -43,7 +43,7 @@ same_subdirectories tree m to_name y j target =
     share_of_found tree to_slots to_name y g ∙ rw target.kinds refl in
     omega (arith, share, subdirectories_set tree to_slots y.0 (Some (moved_slot m to_name)) g.within)
 
-across_target : (cells : Cells) (tree : Tree) (m : Move) (name to_name : List ℕ) (y : ℕ × ℕ) (j : Inode) (now : Time) → IsSound tree → (m.dir ≡ m.to_dir → ⊥) → IsMoving tree m name to_name
+across_target : (cells : Cells) (tree : Tree) (m : Relocation) (name to_name : List ℕ) (y : ℕ × ℕ) (j : Inode) (now : Time) → IsSound tree → (m.dir ≡ m.to_dir → ⊥) → IsMoving tree m name to_name
     → IsTarget tree m to_name y j → check_target tree m.number (Some y) ≡ Ok tt
     → planned cells tree (call.Rename m.dir name m.to_dir to_name) (moved_outcome tree m.dir (m.slot, m.number) m.to_dir to_name (Some y) now)
     ≡ Ok (
@@ -94,7 +94,7 @@ across_target cells tree m name to_name y j now sound two is target checked =
     (moved_put tree new m now is.moved r.moved)
     (sym r.totals)
 
-within_target : (cells : Cells) (tree : Tree) (m : Move) (name to_name : List ℕ) (y : ℕ × ℕ) (j : Inode) (now : Time) → IsSound tree → IsMoving tree (within m) name to_name
+within_target : (cells : Cells) (tree : Tree) (m : Relocation) (name to_name : List ℕ) (y : ℕ × ℕ) (j : Inode) (now : Time) → IsSound tree → IsMoving tree (within m) name to_name
     → IsTarget tree m to_name y j → check_target tree m.number (Some y) ≡ Ok tt
     → planned cells tree (call.Rename m.to_dir name m.to_dir to_name) (moved_outcome tree m.to_dir (m.slot, m.number) m.to_dir to_name (Some y) now)
     ≡ Ok (
@@ -168,7 +168,7 @@ within_target cells tree m name to_name y j now sound is goal checked =
     (moved_put tree new n now is.moved r.moved)
     (sym r.totals)
 
-pub target_planned : (cells : Cells) (tree : Tree) (m : Move) (name to_name : List ℕ) (y : ℕ × ℕ) (j : Inode) (now : Time) → IsSound tree → IsMoving tree m name to_name
+pub target_planned : (cells : Cells) (tree : Tree) (m : Relocation) (name to_name : List ℕ) (y : ℕ × ℕ) (j : Inode) (now : Time) → IsSound tree → IsMoving tree m name to_name
     → IsTarget tree m to_name y j → check_target tree m.number (Some y) ≡ Ok tt
     → planned cells tree (call.Rename m.dir name m.to_dir to_name) (moved_outcome tree m.dir (m.slot, m.number) m.to_dir to_name (Some y) now)
     ≡ Ok (
@@ -180,13 +180,13 @@ pub target_planned : (cells : Cells) (tree : Tree) (m : Move) (name to_name : Li
 target_planned cells tree m name to_name y j now sound is target checked = elim (cases_eq m.dir m.to_dir) [
   | inl one_dir ↦
       let same : m ≡ within m = ap (λ (d : ℕ). record m { dir = d }) one_dir in
-      subst (λ (n : Move). planned cells tree (call.Rename n.dir name n.to_dir to_name) (moved_outcome tree n.dir (n.slot, n.number) n.to_dir to_name (Some y) now)
+      subst (λ (n : Relocation). planned cells tree (call.Rename n.dir name n.to_dir to_name) (moved_outcome tree n.dir (n.slot, n.number) n.to_dir to_name (Some y) now)
       ≡ Ok (
         Done,
         slot_changes n y.0 to_name ++ directory_changes n (relinked now (links_over n) n.to) now ++ loss y.1 j now
             ++ change.Put (cell.Object n.number) (value.Object (moved_inode n now)) ∷ [],
         after_loss (totals_of tree) j,
       )) (sym same)
-      (within_target cells tree m name to_name y j now sound (subst (λ (n : Move). IsMoving tree n name to_name) same is) target checked)
+      (within_target cells tree m name to_name y j now sound (subst (λ (n : Relocation). IsMoving tree n name to_name) same is) target checked)
   | inr two ↦ across_target cells tree m name to_name y j now sound two is target checked
 ]

@@ -27,7 +27,7 @@ use Rattle.inode_dirs.specs.Slots.{TellsSlots}
 use Rattle.inode_dirs.specs.Pages.{entries_under}
 use Rattle.inode_dirs.proofs.TreeCells.{cookies_fit, trees_hold_slots}
 use Rattle.inode_dirs.proofs.SlotCounts.{empty_is_last}
-use Rattle.nfs_calls.specs.declared.totals.Totals.{Totals}
+use Rattle.nfs_calls.specs.declared.parts.totals.Totals.{Totals}
 use Rattle.nfs_calls.specs.TreeCells.{IsInode}
 use Rattle.nfs_calls.specs.Plans.{planned, totals_of}
 

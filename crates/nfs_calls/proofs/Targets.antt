@@ -17,9 +17,9 @@ use Rattle.file_tree.proofs.RenameLaw.{target_bare}
 use Rattle.file_tree.proofs.TryLaws.{unless, refused_unless, given_at}
 use Rattle.harp_cells.specs.declared.value.Inode.{Inode}
 use Rattle.harp_cells.specs.Effect.{Cells}
-use Rattle.nfs_calls.specs.declared.moving.Move.{Move}
-use Rattle.nfs_calls.specs.declared.refusal.Refusal.{Refusal}
-use Rattle.nfs_calls.specs.declared.refusal.Refusal.TheVariants as refusal
+use Rattle.nfs_calls.specs.declared.updates.relocation.Relocation.{Relocation}
+use Rattle.nfs_calls.specs.declared.error.CallError.{CallError}
+use Rattle.nfs_calls.specs.declared.error.CallError.TheVariants as error
 use Rattle.nfs_calls.specs.TreeCells.{IsInode}
 use Rattle.nfs_calls.specs.Gives.{Fails}
 use Rattle.nfs_calls.specs.Plans.{planned}
@@ -107,7 +107,7 @@ target_kind tree moved y e =
     refused_unless NotEmpty (b && not (y.1 == moved) && not (has_no_entry (slots_of (place tree y.1)))) (λ u. b ≡ a) (λ third.
     both_ways_round a b first second)))) e
 
-pub target_is : (tree : Tree) (m : Move) (to_name : List ℕ) (y : ℕ × ℕ) (j : Inode) → entry (slots_of (place tree m.to_dir)) to_name ≡ Some y → IsInode tree y.1 j
+pub target_is : (tree : Tree) (m : Relocation) (to_name : List ℕ) (y : ℕ × ℕ) (j : Inode) → entry (slots_of (place tree m.to_dir)) to_name ≡ Some y → IsInode tree y.1 j
     → (y.1 ≡ m.number → ⊥) → check_target tree m.number (Some y) ≡ Ok tt → IsTarget tree m to_name y j
 target_is tree m to_name y j e is ne checked = record {
   entry = e;
@@ -118,10 +118,10 @@ target_is tree m to_name y j e is ne checked = record {
 }
 
 -- a refusal that one step gives, and then another one
-pub fails_then : {A B : Type 0} (r : Refusal) (a : Tried A) (b : Tried B) → ((status : Status) → a ≡ Err status → b ≡ Err status) → Fails r a → Fails r b
-fails_then (refusal.Fault fault) a b h e = tt
-fails_then (refusal.Status status) a b h e = h status e
+pub fails_then : {A B : Type 0} (r : CallError) (a : Tried A) (b : Tried B) → ((status : Status) → a ≡ Err status → b ≡ Err status) → Fails r a → Fails r b
+fails_then (error.Fault fault) a b h e = tt
+fails_then (error.Status status) a b h e = h status e
 
-pub target_refused : (cells : Cells) (tree : Tree) (m : Move) (name to_name : List ℕ) (y : ℕ × ℕ) (now : Time) (status : Status) → check_target tree m.number (Some y) ≡ Err status
+pub target_refused : (cells : Cells) (tree : Tree) (m : Relocation) (name to_name : List ℕ) (y : ℕ × ℕ) (now : Time) (status : Status) → check_target tree m.number (Some y) ≡ Err status
     → planned cells tree (call.Rename m.dir name m.to_dir to_name) (moved_outcome tree m.dir (m.slot, m.number) m.to_dir to_name (Some y) now) ≡ Err status
 target_refused cells tree m name to_name y now status e = rw e refl

@@ -31,7 +31,7 @@ use Rattle.inode_blocks.specs.Changes.{block_put, block_put_at, blocks_met, puts
 use Rattle.cell_changes.specs.Short.{AreShort, changes_tree, puts_block}
 use Rattle.cell_changes.specs.Table.{content_size, set_by, tree_changes}
 use Rattle.cell_changes.specs.TreeCells.{TreeCells}
-use Rattle.nfs_calls.specs.declared.totals.Totals.{Totals}
+use Rattle.nfs_calls.specs.declared.parts.totals.Totals.{Totals}
 use Rattle.nfs_calls.specs.Plans.{planned, replaced_blocks, totals_of}
 use Rattle.nfs_calls.specs.TreeCells.{IsInode, attr_by, bytes_within, object_at}
 use Rattle.nfs_calls.proofs.Inodes.{attr_is, live_is, content_size as stored_size}

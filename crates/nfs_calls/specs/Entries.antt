@@ -10,7 +10,7 @@ use Rattle.harp_cells.specs.declared.value.Value.TheVariants as value
 use Rattle.harp_cells.specs.declared.cell.Cell.TheVariants as cell
 use Rattle.harp_cells.specs.declared.change.Change.{Change}
 use Rattle.harp_cells.specs.declared.change.Change.TheVariants as change
-use Rattle.nfs_calls.specs.declared.totals.Totals.{Totals}
+use Rattle.nfs_calls.specs.declared.parts.totals.Totals.{Totals}
 use Rattle.nfs_calls.specs.TreeCells.{IsInode, IsDirectory}
 
 abbrev pub is_directory_kind : Kind → Bool

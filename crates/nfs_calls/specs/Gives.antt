@@ -2,15 +2,15 @@
 use Rattle.std.specs.Prelude.{◌≡◌, Result, Ok, Err}
 use Rattle.harp_base.specs.declared.reply.Status.{Status}
 use Rattle.file_tree.specs.Tries.{Tried}
-use Rattle.nfs_calls.specs.declared.refusal.Refusal.{Refusal}
-use Rattle.nfs_calls.specs.declared.refusal.Refusal.TheVariants as refusal
+use Rattle.nfs_calls.specs.declared.error.CallError.{CallError}
+use Rattle.nfs_calls.specs.declared.error.CallError.TheVariants as error
 
-abbrev pub Fails : {Y : Type 0} → Refusal → Tried Y → Type 0
-Fails (refusal.Fault fault) step = Unit {0}
-Fails (refusal.Status status) step = step ≡ Err status
+abbrev pub Fails : {Y : Type 0} → CallError → Tried Y → Type 0
+Fails (error.Fault fault) step = Unit {0}
+Fails (error.Status status) step = step ≡ Err status
 
 -- what a function returned, seen by view, is the step's value or refusal, unless the cells couldn't be read
-abbrev pub Gives : {X Y : Type 0} → (X → Y) → Result X Refusal → Tried Y → Type 0
+abbrev pub Gives : {X Y : Type 0} → (X → Y) → Result X CallError → Tried Y → Type 0
 Gives view (Ok x) step = step ≡ Ok (view x)
 Gives view (Err e) step = Fails e step
 

@@ -3,3 +3,4 @@ pub mod Gives
 pub mod Plans
 pub mod Entries
 pub mod Moves
+pub mod Forms

@@ -15,32 +15,32 @@ use Rattle.harp_cells.specs.declared.value.Value.TheVariants as value
 use Rattle.harp_cells.specs.declared.cell.Cell.TheVariants as cell
 use Rattle.harp_cells.specs.declared.change.Change.{Change}
 use Rattle.harp_cells.specs.declared.change.Change.TheVariants as change
-use Rattle.nfs_calls.specs.declared.moving.Move.{Move}
+use Rattle.nfs_calls.specs.declared.updates.relocation.Relocation.{Relocation}
 use Rattle.nfs_calls.specs.TreeCells.{IsInode, IsDirectory}
 use Rattle.nfs_calls.specs.Entries.{is_directory_kind, link_of, relinked}
 
 -- ---- changes
 
 -- the old slot is freed, unless it is the new one, which gets the entry
-abbrev pub slot_changes : Move → ℕ → List ℕ → List Change
+abbrev pub slot_changes : Relocation → ℕ → List ℕ → List Change
 slot_changes m to_slot to_name =
     if (m.dir == m.to_dir) && (m.slot == to_slot)
     then change.Put (cell.Slot m.to_dir to_slot) (value.Slot m.number to_name) ∷ []
     else change.Erase (cell.Slot m.dir m.slot) ∷ change.Put (cell.Slot m.to_dir to_slot) (value.Slot m.number to_name) ∷ []
 
 -- the directory that the entry leaves, unless it is the one that it moves to
-abbrev pub directory_changes : Move → Inode → Time → List Change
+abbrev pub directory_changes : Relocation → Inode → Time → List Change
 directory_changes m to now =
     if m.dir == m.to_dir then change.Put (cell.Object m.to_dir) (value.Object to) ∷ []
     else change.Put (cell.Object m.dir) (value.Object (relinked now (m.from.links - link_of m.moved.kind) m.from))
     ∷ change.Put (cell.Object m.to_dir) (value.Object to) ∷ []
 
 -- the moved object: a directory gets another parent
-abbrev pub moved_inode : Move → Time → Inode
+abbrev pub moved_inode : Relocation → Time → Inode
 moved_inode m now = record m.moved { parent = if is_directory_kind m.moved.kind then m.to_dir else m.moved.parent; ctime = now }
 
 -- the links of the directory that the entry moves to, where it replaces an entry of its own kind
-abbrev pub links_over : Move → ℕ
+abbrev pub links_over : Relocation → ℕ
 links_over m = if m.dir == m.to_dir then m.to.links - link_of m.moved.kind else m.to.links
 
 -- ---- steps of a rename
@@ -71,7 +71,7 @@ found_outcome tree cred dir name to_dir to_name now = do
   apart_outcome tree dir x to_dir to_name now
 
 -- an entry that may move: both are directories, and the object isn't above the one that it moves to
-pub record IsMoving (tree : Tree) (m : Move) (name to_name : List ℕ) : Type 0 where
+pub record IsMoving (tree : Tree) (m : Relocation) (name to_name : List ℕ) : Type 0 where
   pub from : IsDirectory tree m.dir m.from
   pub to : IsDirectory tree m.to_dir m.to
   pub entry : entry (slots_of (place tree m.dir)) name ≡ Some (m.slot, m.number)

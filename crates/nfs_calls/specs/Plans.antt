@@ -11,7 +11,7 @@ use Rattle.file_tree.specs.declared.object.Body.{Body}
 use Rattle.file_tree.specs.Tree.{Tree, attr_at, blocks_of, used_blocks}
 use Rattle.file_tree.specs.Tries.{◌>>=◌, refuse, Tried}
 use Rattle.file_tree.specs.Calls.{settled}
-use Rattle.harp_base.specs.Limits.{field_left}
+use Rattle.harp_base.specs.Limits.{field_left, longest_name, slot_size, tree_blocks}
 use Rattle.file_tree.specs.Outcome.{Outcome, given, given_mode, given_time, mtime_for_size, resized, change, with_fields}
 use Rattle.harp_cells.specs.declared.cell.Cell.TheVariants as cell
 use Rattle.harp_cells.specs.declared.change.Change.{Change}
@@ -21,16 +21,16 @@ use Rattle.harp_cells.specs.declared.value.Value.TheVariants as value
 use Rattle.harp_cells.specs.Effect.{Cells}
 use Rattle.inode_blocks.specs.Changes.{text_put, cuts, kept_in}
 use Rattle.cell_changes.specs.Table.{changes_by, tree_changes, sets}
-use Rattle.nfs_calls.specs.declared.plan.Plan.{Plan}
-use Rattle.nfs_calls.specs.declared.setting.Set.{Set}
-use Rattle.nfs_calls.specs.declared.totals.Totals.{Totals}
+use Rattle.nfs_calls.specs.declared.updates.planned.Planned.{Planned}
+use Rattle.nfs_calls.specs.declared.updates.set_attr.Set.{Set}
+use Rattle.nfs_calls.specs.declared.parts.totals.Totals.{Totals}
 use Rattle.nfs_calls.specs.TreeCells.{attr_by, bytes_within, object_at}
 
 abbrev pub totals_of : Tree → Totals
 totals_of tree = record { next = length tree; used = used_blocks tree }
 
 -- a plan as its reply, its changes and its totals
-abbrev pub plan_view : Plan → Reply × List Change × Totals
+abbrev pub plan_view : Planned → Reply × List Change × Totals
 plan_view p = (p.reply, p.changes.items, p.totals)
 
 -- the reply of an outcome, the changes that lead to its tree, and the totals of that tree
@@ -43,7 +43,7 @@ planned cells tree c outcome = do
 
 -- a name that an entry's cell holds
 abbrev pub FitsName : List ℕ → Type 0
-FitsName name = (1 ≤ length name) × (length name ≤ 255)
+FitsName name = (1 ≤ length name) × (length name ≤ longest_name)
 
 -- a number as far as 32 bits hold it
 abbrev pub capped : ℕ → ℕ
@@ -52,14 +52,14 @@ capped n = min n 4294967295
 -- the used blocks where those of one size are replaced by those of another, as far as there is room
 abbrev pub replaced_blocks : ℕ → ℕ → ℕ → Tried ℕ
 replaced_blocks used old new = do
-  _ ← refuse NoSpc (nat_lt (65536 + blocks_of old) (used + blocks_of new))
+  _ ← refuse NoSpc (nat_lt (tree_blocks + blocks_of old) (used + blocks_of new))
   Ok (used + blocks_of new - blocks_of old)
 
 -- a directory with so many slots after an entry came, and so many links more
 unfoldable pub entered : Inode → ℕ → ℕ → Time → Inode
 entered i slots more now = record i {
   links = capped (i.links + more);
-  size = capped (264 * slots);
+  size = capped (slot_size * slots);
   slots = capped slots;
   mtime = now;
   ctime = now;

@@ -11,8 +11,8 @@ use Rattle.file_tree.specs.Tries.{directory}
 use Rattle.harp_cells.specs.declared.value.Inode.{Inode}
 use Rattle.harp_cells.specs.declared.value.Value.{Value}
 use Rattle.harp_cells.specs.declared.value.Value.TheVariants as value
-use Rattle.nfs_calls.specs.declared.entering.Room.{Room}
-use Rattle.nfs_calls.specs.declared.totals.Totals.{Totals}
+use Rattle.nfs_calls.specs.declared.parts.new_entry.Room.{Room}
+use Rattle.nfs_calls.specs.declared.parts.totals.Totals.{Totals}
 use Rattle.harp_cells.specs.CellsOfTree.{inode_of}
 
 abbrev pub root_inode : Inode

@@ -1,31 +1,12 @@
-//! The calls of NFS version 2 over the cells of a file tree.
+//! The calls of NFS version 2 over the cells of a file tree: the answers to reads, and the plans of updates. It shares
+//! no code with plain_tree, a second opinion on the outcomes, but the tests of permissions of file_tree.
 #![tactic(auto)]
 
-mod answering;
-mod creating;
-mod directory;
-mod entering;
-mod file;
-mod inode;
-mod linking;
-mod losing;
-mod making;
-mod moving;
-mod names;
-mod permissions;
-mod plan;
-mod preparing;
-mod pushes;
+mod error;
+mod parts;
 mod reads;
-mod refusal;
-mod removes;
-mod rename;
-mod renaming;
-mod setting;
-mod space;
-mod totals;
-mod writing;
+mod updates;
 
-pub use answering::answer;
 pub use file_tree::may;
-pub use preparing::{Prepared, prepare};
+pub use reads::answer::answer;
+pub use updates::prepare::{Prepared, prepare};

@@ -1,0 +1,14 @@
+//! What an update plans.
+
+use crate::parts::totals::Totals;
+use harp_base::Reply;
+use harp_cells::Change;
+
+/// The reply to an update, its changes of the tree's cells, in their order, but for the Put of the totals, and the totals
+/// after it.
+#[derive(Debug, Drop)]
+pub struct Planned {
+    pub reply: Reply,
+    pub changes: Vec<Change>,
+    pub totals: Totals,
+}
