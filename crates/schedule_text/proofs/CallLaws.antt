@@ -42,16 +42,26 @@ fields_text (call.GetAttr handle) = spaced (decimal handle)
 fields_text (call.SetAttr handle attr) = spaced (decimal handle) ++ spaced (set_attr_text attr)
 fields_text (call.Lookup dir name) = spaced (decimal dir) ++ spaced (hex_text name)
 fields_text (call.ReadLink handle) = spaced (decimal handle)
-fields_text (call.Read handle offset count) = spaced (decimal handle) ++ spaced (decimal offset) ++ spaced (decimal count)
-fields_text (call.Write handle offset bytes) = spaced (decimal handle) ++ spaced (decimal offset) ++ spaced (hex_text bytes)
-fields_text (call.Create dir name attr) = spaced (decimal dir) ++ spaced (hex_text name) ++ spaced (set_attr_text attr)
+fields_text (call.Read handle offset count) = spaced (decimal handle) ++ spaced (decimal offset)
+    ++ spaced (decimal count)
+fields_text (call.Write handle offset bytes) = spaced (decimal handle) ++ spaced (decimal offset)
+    ++ spaced (hex_text bytes)
+fields_text (call.Create dir name attr) =
+    spaced (decimal dir) ++ spaced (hex_text name) ++ spaced (set_attr_text attr)
 fields_text (call.Remove dir name) = spaced (decimal dir) ++ spaced (hex_text name)
-fields_text (call.Rename dir name to_dir to_name) = spaced (decimal dir) ++ spaced (hex_text name) ++ spaced (decimal to_dir) ++ spaced (hex_text to_name)
-fields_text (call.Link handle dir name) = spaced (decimal handle) ++ spaced (decimal dir) ++ spaced (hex_text name)
-fields_text (call.SymLink dir name text attr) = spaced (decimal dir) ++ spaced (hex_text name) ++ spaced (hex_text text) ++ spaced (set_attr_text attr)
-fields_text (call.MkDir dir name attr) = spaced (decimal dir) ++ spaced (hex_text name) ++ spaced (set_attr_text attr)
+fields_text (call.Rename dir name to_dir to_name) =
+    spaced (decimal dir) ++ spaced (hex_text name) ++ spaced (decimal to_dir)
+    ++ spaced (hex_text to_name)
+fields_text (call.Link handle dir name) = spaced (decimal handle) ++ spaced (decimal dir)
+    ++ spaced (hex_text name)
+fields_text (call.SymLink dir name text attr) =
+    spaced (decimal dir) ++ spaced (hex_text name) ++ spaced (hex_text text)
+    ++ spaced (set_attr_text attr)
+fields_text (call.MkDir dir name attr) =
+    spaced (decimal dir) ++ spaced (hex_text name) ++ spaced (set_attr_text attr)
 fields_text (call.RmDir dir name) = spaced (decimal dir) ++ spaced (hex_text name)
-fields_text (call.ReadDir dir cookie count) = spaced (decimal dir) ++ spaced (decimal cookie) ++ spaced (decimal count)
+fields_text (call.ReadDir dir cookie count) =
+    spaced (decimal dir) ++ spaced (decimal cookie) ++ spaced (decimal count)
 fields_text (call.StatFs handle) = spaced (decimal handle)
 
 call_parts : (c : Call) → call_text c ≡ name_text (call_name c) ++ fields_text c
@@ -94,7 +104,8 @@ fields_end_name (call.StatFs handle) = refl
 
 -- ---- the fields
 
-entry_row : IsRow entry_at (λ x. spaced (decimal x.0) ++ spaced (hex_text x.1)) (λ x. (x.0 < 2 ^ 32) × AreBytes 4096 x.1)
+entry_row : IsRow entry_at (λ x. spaced (decimal x.0) ++ spaced (hex_text x.1))
+    (λ x. (x.0 < 2 ^ 32) × AreBytes 4096 x.1)
 entry_row = both_row u32_row name_row
 
 numbers_row : IsRow numbers_at (λ x. spaced (decimal x.0) ++ spaced (decimal x.1))
@@ -105,7 +116,8 @@ numbers_row = both_row u32_row u32_row
 abbrev IsNamed : CallName → Call → Type 0
 IsNamed n c = CallFits c × (call_name c ≡ n)
 
-module _ {A : Type 0} {r : Reader A} {spell : A → List ℕ} {Fits : A → Type 0} (row : IsRow r spell Fits) where
+module _ {A : Type 0} {r : Reader A} {spell : A → List ℕ} {Fits : A → Type 0}
+    (row : IsRow r spell Fits) where
   made_takes : (made : A → Call) (n : CallName)
       → ((a : A) → Fits a → (fields_text (made a) ≡ spell a) × IsNamed n (made a))
       → (line : List ℕ) (at : ℕ) (x : Call × ℕ) → made_at r made line at ≡ Ok x
@@ -118,10 +130,12 @@ module _ {A : Type 0} {r : Reader A} {spell : A → List ℕ} {Fits : A → Type
       (ok_is (made p.0.0, p.0.1) x p.2)
       (subst (λ (l : List ℕ). Spells line at l p.0.1) (sym s.0) t.0, s.1)
 
-  made_again : (made : A → Call) (a : A) → Fits a → (line : List ℕ) (at : ℕ) (rest : List ℕ) → EndsWord rest
+  made_again : (made : A → Call) (a : A) → Fits a → (line : List ℕ) (at : ℕ) (rest : List ℕ)
+      → EndsWord rest
       → drop at line ≡ spell a ++ rest → made_at r made line at ≡ Ok (made a, at + length (spell a))
   made_again made a fits line at rest ends e =
-      ap (λ (o : Read A). o >>= λ y. read_of (made y.0) y.1) (row.field.again line at a rest fits ends e)
+      ap (λ (o : Read A). o >>= λ y. read_of (made y.0) y.1)
+      (row.field.again line at a rest fits ends e)
 
   made_placed : (made : A → Call) → PlacedReader (made_at r made)
   made_placed made line at = faults.bind (r line at) _ (row.placed line at) (λ x. tt)
@@ -136,66 +150,133 @@ fields_take : (n : CallName) (line : List ℕ) (at : ℕ) (x : Call × ℕ) → 
     → Spells line at (fields_text x.0) x.1 × IsNamed n x.0
 unfolding fields_at
 fields_take names.Null line at x e = nothing_takes line at x e
-fields_take names.GetAttr line at x e = made_takes u32_row call.GetAttr names.GetAttr (λ a f. (refl, (f, refl))) line at x e
-fields_take names.SetAttr line at x e = made_takes (both_row u32_row attr_row) (λ x. call.SetAttr x.0 x.1) names.SetAttr (λ a f. (refl, (f, refl))) line at x e
-fields_take names.Lookup line at x e = made_takes entry_row (λ x. call.Lookup x.0 x.1) names.Lookup (λ a f. (refl, (f, refl))) line at x e
-fields_take names.ReadLink line at x e = made_takes u32_row call.ReadLink names.ReadLink (λ a f. (refl, (f, refl))) line at x e
-fields_take names.Read line at x e = made_takes (both_row numbers_row u32_row) (λ x. call.Read x.0.0 x.0.1 x.1) names.Read (λ a f. (refl, ((f.0.0, f.0.1, f.1), refl))) line at x e
-fields_take names.Write line at x e = made_takes (both_row numbers_row bytes_row) (λ x. call.Write x.0.0 x.0.1 x.1) names.Write (λ a f. (refl, ((f.0.0, f.0.1, f.1), refl))) line at x e
-fields_take names.Create line at x e = made_takes (both_row entry_row attr_row) (λ x. call.Create x.0.0 x.0.1 x.1) names.Create (λ a f. (refl, ((f.0.0, f.0.1, f.1), refl))) line at x e
-fields_take names.Remove line at x e = made_takes entry_row (λ x. call.Remove x.0 x.1) names.Remove (λ a f. (refl, (f, refl))) line at x e
-fields_take names.Rename line at x e = made_takes (both_row (both_row entry_row u32_row) name_row) (λ x. call.Rename x.0.0.0 x.0.0.1 x.0.1 x.1) names.Rename (λ a f. (refl, ((f.0.0.0, f.0.0.1, f.0.1, f.1), refl))) line at x e
-fields_take names.Link line at x e = made_takes (both_row numbers_row name_row) (λ x. call.Link x.0.0 x.0.1 x.1) names.Link (λ a f. (refl, ((f.0.0, f.0.1, f.1), refl))) line at x e
-fields_take names.SymLink line at x e = made_takes (both_row (both_row entry_row name_row) attr_row) (λ x. call.SymLink x.0.0.0 x.0.0.1 x.0.1 x.1) names.SymLink (λ a f. (refl, ((f.0.0.0, f.0.0.1, f.0.1, f.1), refl))) line at x e
-fields_take names.MkDir line at x e = made_takes (both_row entry_row attr_row) (λ x. call.MkDir x.0.0 x.0.1 x.1) names.MkDir (λ a f. (refl, ((f.0.0, f.0.1, f.1), refl))) line at x e
-fields_take names.RmDir line at x e = made_takes entry_row (λ x. call.RmDir x.0 x.1) names.RmDir (λ a f. (refl, (f, refl))) line at x e
-fields_take names.ReadDir line at x e = made_takes (both_row numbers_row u32_row) (λ x. call.ReadDir x.0.0 x.0.1 x.1) names.ReadDir (λ a f. (refl, ((f.0.0, f.0.1, f.1), refl))) line at x e
-fields_take names.StatFs line at x e = made_takes u32_row call.StatFs names.StatFs (λ a f. (refl, (f, refl))) line at x e
+fields_take names.GetAttr line at x e =
+    made_takes u32_row call.GetAttr names.GetAttr (λ a f. (refl, (f, refl))) line at x e
+fields_take names.SetAttr line at x e =
+    made_takes (both_row u32_row attr_row) (λ x. call.SetAttr x.0 x.1) names.SetAttr
+    (λ a f. (refl, (f, refl))) line at x e
+fields_take names.Lookup line at x e =
+    made_takes entry_row (λ x. call.Lookup x.0 x.1) names.Lookup (λ a f. (refl, (f, refl))) line at
+    x e
+fields_take names.ReadLink line at x e =
+    made_takes u32_row call.ReadLink names.ReadLink (λ a f. (refl, (f, refl))) line at x e
+fields_take names.Read line at x e =
+    made_takes (both_row numbers_row u32_row) (λ x. call.Read x.0.0 x.0.1 x.1) names.Read
+    (λ a f. (refl, ((f.0.0, f.0.1, f.1), refl))) line at x e
+fields_take names.Write line at x e =
+    made_takes (both_row numbers_row bytes_row) (λ x. call.Write x.0.0 x.0.1 x.1) names.Write
+    (λ a f. (refl, ((f.0.0, f.0.1, f.1), refl))) line at x e
+fields_take names.Create line at x e =
+    made_takes (both_row entry_row attr_row) (λ x. call.Create x.0.0 x.0.1 x.1) names.Create
+    (λ a f. (refl, ((f.0.0, f.0.1, f.1), refl))) line at x e
+fields_take names.Remove line at x e =
+    made_takes entry_row (λ x. call.Remove x.0 x.1) names.Remove (λ a f. (refl, (f, refl))) line at
+    x e
+fields_take names.Rename line at x e =
+    made_takes (both_row (both_row entry_row u32_row) name_row)
+    (λ x. call.Rename x.0.0.0 x.0.0.1 x.0.1 x.1) names.Rename
+    (λ a f. (refl, ((f.0.0.0, f.0.0.1, f.0.1, f.1), refl))) line at x e
+fields_take names.Link line at x e =
+    made_takes (both_row numbers_row name_row) (λ x. call.Link x.0.0 x.0.1 x.1) names.Link
+    (λ a f. (refl, ((f.0.0, f.0.1, f.1), refl))) line at x e
+fields_take names.SymLink line at x e =
+    made_takes (both_row (both_row entry_row name_row) attr_row)
+    (λ x. call.SymLink x.0.0.0 x.0.0.1 x.0.1 x.1) names.SymLink
+    (λ a f. (refl, ((f.0.0.0, f.0.0.1, f.0.1, f.1), refl))) line at x e
+fields_take names.MkDir line at x e =
+    made_takes (both_row entry_row attr_row) (λ x. call.MkDir x.0.0 x.0.1 x.1) names.MkDir
+    (λ a f. (refl, ((f.0.0, f.0.1, f.1), refl))) line at x e
+fields_take names.RmDir line at x e =
+    made_takes entry_row (λ x. call.RmDir x.0 x.1) names.RmDir (λ a f. (refl, (f, refl))) line at x
+    e
+fields_take names.ReadDir line at x e =
+    made_takes (both_row numbers_row u32_row) (λ x. call.ReadDir x.0.0 x.0.1 x.1) names.ReadDir
+    (λ a f. (refl, ((f.0.0, f.0.1, f.1), refl))) line at x e
+fields_take names.StatFs line at x e =
+    made_takes u32_row call.StatFs names.StatFs (λ a f. (refl, (f, refl))) line at x e
 
 fields_again : (c : Call) (line : List ℕ) (at : ℕ) (rest : List ℕ) → CallFits c → EndsWord rest
     → drop at line ≡ fields_text c ++ rest
     → fields_at (call_name c) line at ≡ Ok (c, at + length (fields_text c))
 unfolding fields_at
 fields_again call.Null line at rest f ends e = ap (λ (n : ℕ). read_of call.Null n) (omega arith)
-fields_again (call.GetAttr handle) line at rest f ends e = made_again u32_row call.GetAttr handle f line at rest ends e
-fields_again (call.SetAttr handle attr) line at rest f ends e = made_again (both_row u32_row attr_row) (λ x. call.SetAttr x.0 x.1) (handle, attr) f line at rest ends e
-fields_again (call.Lookup dir name) line at rest f ends e = made_again entry_row (λ x. call.Lookup x.0 x.1) (dir, name) f line at rest ends e
-fields_again (call.ReadLink handle) line at rest f ends e = made_again u32_row call.ReadLink handle f line at rest ends e
-fields_again (call.Read handle offset count) line at rest f ends e = made_again (both_row numbers_row u32_row) (λ x. call.Read x.0.0 x.0.1 x.1) ((handle, offset), count) ((f.0, f.1), f.2) line at rest ends e
-fields_again (call.Write handle offset bytes) line at rest f ends e = made_again (both_row numbers_row bytes_row) (λ x. call.Write x.0.0 x.0.1 x.1) ((handle, offset), bytes) ((f.0, f.1), f.2) line at rest ends e
-fields_again (call.Create dir name attr) line at rest f ends e = made_again (both_row entry_row attr_row) (λ x. call.Create x.0.0 x.0.1 x.1) ((dir, name), attr) ((f.0, f.1), f.2) line at rest ends e
-fields_again (call.Remove dir name) line at rest f ends e = made_again entry_row (λ x. call.Remove x.0 x.1) (dir, name) f line at rest ends e
-fields_again (call.Rename dir name to_dir to_name) line at rest f ends e = made_again (both_row (both_row entry_row u32_row) name_row) (λ x. call.Rename x.0.0.0 x.0.0.1 x.0.1 x.1) (((dir, name), to_dir), to_name) (((f.0, f.1), f.2), f.3) line at rest ends e
-fields_again (call.Link handle dir name) line at rest f ends e = made_again (both_row numbers_row name_row) (λ x. call.Link x.0.0 x.0.1 x.1) ((handle, dir), name) ((f.0, f.1), f.2) line at rest ends e
-fields_again (call.SymLink dir name text attr) line at rest f ends e = made_again (both_row (both_row entry_row name_row) attr_row) (λ x. call.SymLink x.0.0.0 x.0.0.1 x.0.1 x.1) (((dir, name), text), attr) (((f.0, f.1), f.2), f.3) line at rest ends e
-fields_again (call.MkDir dir name attr) line at rest f ends e = made_again (both_row entry_row attr_row) (λ x. call.MkDir x.0.0 x.0.1 x.1) ((dir, name), attr) ((f.0, f.1), f.2) line at rest ends e
-fields_again (call.RmDir dir name) line at rest f ends e = made_again entry_row (λ x. call.RmDir x.0 x.1) (dir, name) f line at rest ends e
-fields_again (call.ReadDir dir cookie count) line at rest f ends e = made_again (both_row numbers_row u32_row) (λ x. call.ReadDir x.0.0 x.0.1 x.1) ((dir, cookie), count) ((f.0, f.1), f.2) line at rest ends e
-fields_again (call.StatFs handle) line at rest f ends e = made_again u32_row call.StatFs handle f line at rest ends e
+fields_again (call.GetAttr handle) line at rest f ends e =
+    made_again u32_row call.GetAttr handle f line at rest ends e
+fields_again (call.SetAttr handle attr) line at rest f ends e =
+    made_again (both_row u32_row attr_row) (λ x. call.SetAttr x.0 x.1) (handle, attr) f line at rest
+    ends e
+fields_again (call.Lookup dir name) line at rest f ends e =
+    made_again entry_row (λ x. call.Lookup x.0 x.1) (dir, name) f line at rest ends e
+fields_again (call.ReadLink handle) line at rest f ends e =
+    made_again u32_row call.ReadLink handle f line at rest ends e
+fields_again (call.Read handle offset count) line at rest f ends e =
+    made_again (both_row numbers_row u32_row) (λ x. call.Read x.0.0 x.0.1 x.1)
+    ((handle, offset), count) ((f.0, f.1), f.2) line at rest ends e
+fields_again (call.Write handle offset bytes) line at rest f ends e =
+    made_again (both_row numbers_row bytes_row) (λ x. call.Write x.0.0 x.0.1 x.1)
+    ((handle, offset), bytes) ((f.0, f.1), f.2) line at rest ends e
+fields_again (call.Create dir name attr) line at rest f ends e =
+    made_again (both_row entry_row attr_row) (λ x. call.Create x.0.0 x.0.1 x.1) ((dir, name), attr)
+    ((f.0, f.1), f.2) line at rest ends e
+fields_again (call.Remove dir name) line at rest f ends e =
+    made_again entry_row (λ x. call.Remove x.0 x.1) (dir, name) f line at rest ends e
+fields_again (call.Rename dir name to_dir to_name) line at rest f ends e =
+    made_again (both_row (both_row entry_row u32_row) name_row)
+    (λ x. call.Rename x.0.0.0 x.0.0.1 x.0.1 x.1) (((dir, name), to_dir), to_name)
+    (((f.0, f.1), f.2), f.3) line at rest ends e
+fields_again (call.Link handle dir name) line at rest f ends e =
+    made_again (both_row numbers_row name_row) (λ x. call.Link x.0.0 x.0.1 x.1)
+    ((handle, dir), name) ((f.0, f.1), f.2) line at rest ends e
+fields_again (call.SymLink dir name text attr) line at rest f ends e =
+    made_again (both_row (both_row entry_row name_row) attr_row)
+    (λ x. call.SymLink x.0.0.0 x.0.0.1 x.0.1 x.1) (((dir, name), text), attr)
+    (((f.0, f.1), f.2), f.3) line at rest ends e
+fields_again (call.MkDir dir name attr) line at rest f ends e =
+    made_again (both_row entry_row attr_row) (λ x. call.MkDir x.0.0 x.0.1 x.1) ((dir, name), attr)
+    ((f.0, f.1), f.2) line at rest ends e
+fields_again (call.RmDir dir name) line at rest f ends e =
+    made_again entry_row (λ x. call.RmDir x.0 x.1) (dir, name) f line at rest ends e
+fields_again (call.ReadDir dir cookie count) line at rest f ends e =
+    made_again (both_row numbers_row u32_row) (λ x. call.ReadDir x.0.0 x.0.1 x.1)
+    ((dir, cookie), count) ((f.0, f.1), f.2) line at rest ends e
+fields_again (call.StatFs handle) line at rest f ends e =
+    made_again u32_row call.StatFs handle f line at rest ends e
 
 fields_placed : (n : CallName) → PlacedReader (fields_at n)
 unfolding fields_at
 fields_placed names.Null line at = tt
 fields_placed names.GetAttr line at = made_placed u32_row call.GetAttr line at
-fields_placed names.SetAttr line at = made_placed (both_row u32_row attr_row) (λ x. call.SetAttr x.0 x.1) line at
+fields_placed names.SetAttr line at =
+    made_placed (both_row u32_row attr_row) (λ x. call.SetAttr x.0 x.1) line at
 fields_placed names.Lookup line at = made_placed entry_row (λ x. call.Lookup x.0 x.1) line at
 fields_placed names.ReadLink line at = made_placed u32_row call.ReadLink line at
-fields_placed names.Read line at = made_placed (both_row numbers_row u32_row) (λ x. call.Read x.0.0 x.0.1 x.1) line at
-fields_placed names.Write line at = made_placed (both_row numbers_row bytes_row) (λ x. call.Write x.0.0 x.0.1 x.1) line at
-fields_placed names.Create line at = made_placed (both_row entry_row attr_row) (λ x. call.Create x.0.0 x.0.1 x.1) line at
+fields_placed names.Read line at =
+    made_placed (both_row numbers_row u32_row) (λ x. call.Read x.0.0 x.0.1 x.1) line at
+fields_placed names.Write line at =
+    made_placed (both_row numbers_row bytes_row) (λ x. call.Write x.0.0 x.0.1 x.1) line at
+fields_placed names.Create line at =
+    made_placed (both_row entry_row attr_row) (λ x. call.Create x.0.0 x.0.1 x.1) line at
 fields_placed names.Remove line at = made_placed entry_row (λ x. call.Remove x.0 x.1) line at
-fields_placed names.Rename line at = made_placed (both_row (both_row entry_row u32_row) name_row) (λ x. call.Rename x.0.0.0 x.0.0.1 x.0.1 x.1) line at
-fields_placed names.Link line at = made_placed (both_row numbers_row name_row) (λ x. call.Link x.0.0 x.0.1 x.1) line at
-fields_placed names.SymLink line at = made_placed (both_row (both_row entry_row name_row) attr_row) (λ x. call.SymLink x.0.0.0 x.0.0.1 x.0.1 x.1) line at
-fields_placed names.MkDir line at = made_placed (both_row entry_row attr_row) (λ x. call.MkDir x.0.0 x.0.1 x.1) line at
+fields_placed names.Rename line at =
+    made_placed (both_row (both_row entry_row u32_row) name_row)
+    (λ x. call.Rename x.0.0.0 x.0.0.1 x.0.1 x.1) line at
+fields_placed names.Link line at =
+    made_placed (both_row numbers_row name_row) (λ x. call.Link x.0.0 x.0.1 x.1) line at
+fields_placed names.SymLink line at =
+    made_placed (both_row (both_row entry_row name_row) attr_row)
+    (λ x. call.SymLink x.0.0.0 x.0.0.1 x.0.1 x.1) line at
+fields_placed names.MkDir line at =
+    made_placed (both_row entry_row attr_row) (λ x. call.MkDir x.0.0 x.0.1 x.1) line at
 fields_placed names.RmDir line at = made_placed entry_row (λ x. call.RmDir x.0 x.1) line at
-fields_placed names.ReadDir line at = made_placed (both_row numbers_row u32_row) (λ x. call.ReadDir x.0.0 x.0.1 x.1) line at
+fields_placed names.ReadDir line at =
+    made_placed (both_row numbers_row u32_row) (λ x. call.ReadDir x.0.0 x.0.1 x.1) line at
 fields_placed names.StatFs line at = made_placed u32_row call.StatFs line at
 
 fields_field : (n : CallName) → IsField (fields_at n) fields_text (IsNamed n)
 fields_field n = record {
   takes = fields_take n;
-  again = λ line at c rest named ends e. subst (λ (m : CallName). fields_at m line at ≡ read_of c (at + length
+  again = λ line at c rest named ends e. subst (λ (m : CallName). fields_at m line at ≡ read_of c
+      (at + length
       (fields_text c))) named.1 (fields_again c line at rest named.0 ends e);
 }
 
@@ -206,7 +287,8 @@ abbrev pub IsCallText : List ℕ → Call → Type 0
 IsCallText text c = (text ≡ call_text c) × CallFits c
 
 -- a name and the fields behind it
-call_stands : (line : List ℕ) (at : ℕ) (n : CallName) (c : Call) → word_at line at ≡ name_text n → call_name c ≡ n
+call_stands : (line : List ℕ) (at : ℕ) (n : CallName) (c : Call) → word_at line at ≡ name_text n
+    → call_name c ≡ n
     → drop (at + length (word_at line at)) line ≡ fields_text c → drop at line ≡ call_text c
 call_stands line at n c word named e =
     (word_spells line at).parts
@@ -226,9 +308,13 @@ call_says line at = by (call_named (word_at line at)) refl
     by (Some n) is =
         whole_says (fields_at n) fields_text (IsNamed n) (λ c. c) (fields_field n) (fields_placed n)
         (IsCallText (drop at line)) line next
-        (λ c named e. (call_stands line at n c (names_call (word_at line at) n is) named.1 e, named.0))
+        (λ c named e. (
+          call_stands line at n c (names_call (word_at line at) n is) named.1 e,
+          named.0,
+        ))
 
-pub call_again : (c : Call) (line : List ℕ) (at : ℕ) → CallFits c → drop at line ≡ call_text c → call_at line at ≡ Ok c
+pub call_again : (c : Call) (line : List ℕ) (at : ℕ) → CallFits c → drop at line ≡ call_text c
+    → call_at line at ≡ Ok c
 unfolding call_at
 call_again c line at fits e =
     let n = call_name c in
@@ -237,9 +323,12 @@ call_again c line at fits e =
     let whole : drop at line ≡ name ++ fields = e ∙ call_parts c in
     let word = word_stands line at name fields (name_is_name n) (fields_end_name c) whole in
     let some = name_some name (name_is_name n) in
-    let end : at + length (name ++ fields) ≡ length line = ends_behind line at (name ++ fields) whole
+    let end : at + length (name ++ fields) ≡ length line =
+    ends_behind line at (name ++ fields) whole
     (omega (arith, some, length-append name fields)) in
     ap (λ (w : List ℕ). call_of line at (at + length w) (call_named w)) word
     ∙ ap (λ (o : Option CallName). call_of line at (at + length name) o) (named_again n)
-    ∙ whole_ends (fields_at n) fields_text (IsNamed n) (λ c. c) (fields_field n) line (at + length name) c
-    (fits, refl) (drop_past line at name fields whole) (omega (arith, end, length-append name fields))
+    ∙ whole_ends (fields_at n) fields_text (IsNamed n) (λ c. c) (fields_field n) line
+    (at + length name) c
+    (fits, refl) (drop_past line at name fields whole)
+    (omega (arith, end, length-append name fields))

@@ -5,7 +5,7 @@ use Rattle.std.proofs.lemmas.Bool.{eqb-true, eq-eqb, ne_eqb}
 use Rattle.harp_base.specs.Server.{number_of}
 use Rattle.trace_lines.specs.declared.step.Step.{Step}
 use Rattle.trace_lines.specs.declared.step.Step.TheVariants as step
-use Rattle.spelling.specs.Text.{spaced, call_text, among_text, step_text}
+use Rattle.spelling.specs.Text.{spaced, call_text, cred_text, among_text, step_text}
 use Rattle.text_fields.specs.declared.fault.TextFault.{TextFault}
 use Rattle.text_fields.specs.declared.fault.TextFault.TheVariants.{Grammar, Unbuilt, NoMemory}
 use Rattle.text_fields.specs.Fields.{◌>>=◌, EndsWord, word_at}
@@ -16,7 +16,7 @@ use Rattle.schedule_text.specs.Grammar.{IsStepLine, IsBlank, IsUnbuilt, IsNoStep
 use Rattle.schedule_text.specs.Reading.{step_of, step_behind, form_of, step_at, placeless, is_blank, meaning_of}
 use Rattle.schedule_text.proofs.Rows.{Reads, IsStepText}
 use Rattle.schedule_text.proofs.WordLaws.{is_name, name_first, word_spells, word_ends, word_stands, Named, NamedBy, form_names, unbuilt_step}
-use Rattle.schedule_text.proofs.AskLaws.{asked_text, ask_says, ask_again, head_parts}
+use Rattle.schedule_text.proofs.AskLaws.{head_text, ask_says, ask_again, head_parts}
 use Rattle.schedule_text.proofs.FormLaws.{deliver_says, tick_says, clock_says, advance_says, pump_says, deliver_again, tick_again, clock_again, advance_again, pump_all_again, pump_pair_again}
 
 -- ---- what is read says what the line is
@@ -29,7 +29,8 @@ StepSays line (Err (Grammar n)) = Unit {0}
 StepSays line (Err NoMemory) = ⊥
 
 -- a step whose text is the line
-reads_says : (line text : List ℕ) (r : Result Step TextFault) → line ≡ text → Reads (IsStepText text) r
+reads_says : (line text : List ℕ) (r : Result Step TextFault) → line ≡ text
+    → Reads (IsStepText text) r
     → StepSays line r
 reads_says line text (Ok s) is says = record { fits = says.1; spelled = is ∙ says.0 }
 reads_says line text (Err (Grammar n)) is says = tt
@@ -53,28 +54,44 @@ headed line =
 form_says : (line word : List ℕ) (f : Form) → Headed line word → Named word f
     → StepSays line (step_of line (length word) f)
 form_says line word form.Ask head is =
-    subst (λ (w : List ℕ). Headed line w → StepSays line (step_of line (length w) form.Ask)) (sym is)
-    (λ h. reads_says line (codes "ask" ++ drop 3 line) (step_of line 3 form.Ask) h.parts (ask_says line 3)) head
+    subst (λ (w : List ℕ). Headed line w → StepSays line (step_of line (length w) form.Ask))
+    (sym is)
+    (λ h. reads_says line (codes "ask" ++ drop 3 line) (step_of line 3 form.Ask) h.parts
+    (ask_says line 3)) head
 form_says line word form.Deliver head is =
-    subst (λ (w : List ℕ). Headed line w → StepSays line (step_of line (length w) form.Deliver)) (sym is)
+    subst (λ (w : List ℕ). Headed line w → StepSays line (step_of line (length w) form.Deliver))
+    (sym is)
     (λ h. reads_says line (codes "deliver" ++ drop 7 line) (step_of line 7 form.Deliver) h.parts
     (deliver_says line 7)) head
 form_says line word form.Pump head is =
-    subst (λ (w : List ℕ). Headed line w → StepSays line (step_of line (length w) form.Pump)) (sym is)
-    (λ h. reads_says line (codes "pump" ++ drop 4 line) (step_of line 4 form.Pump) h.parts (pump_says line 4)) head
+    subst (λ (w : List ℕ). Headed line w → StepSays line (step_of line (length w) form.Pump))
+    (sym is)
+    (λ h. reads_says line (codes "pump" ++ drop 4 line) (step_of line 4 form.Pump) h.parts
+    (pump_says line 4)) head
 form_says line word form.Tick head is =
-    subst (λ (w : List ℕ). Headed line w → StepSays line (step_of line (length w) form.Tick)) (sym is)
-    (λ h. reads_says line (codes "tick" ++ drop 4 line) (step_of line 4 form.Tick) h.parts (tick_says line 4)) head
+    subst (λ (w : List ℕ). Headed line w → StepSays line (step_of line (length w) form.Tick))
+    (sym is)
+    (λ h. reads_says line (codes "tick" ++ drop 4 line) (step_of line 4 form.Tick) h.parts
+    (tick_says line 4)) head
 form_says line word form.Clock head is =
-    subst (λ (w : List ℕ). Headed line w → StepSays line (step_of line (length w) form.Clock)) (sym is)
-    (λ h. reads_says line (codes "clock" ++ drop 5 line) (step_of line 5 form.Clock) h.parts (clock_says line 5))
+    subst (λ (w : List ℕ). Headed line w → StepSays line (step_of line (length w) form.Clock))
+    (sym is)
+    (λ h. reads_says line (codes "clock" ++ drop 5 line) (step_of line 5 form.Clock) h.parts
+    (clock_says line 5))
     head
 form_says line word form.Advance head is =
-    subst (λ (w : List ℕ). Headed line w → StepSays line (step_of line (length w) form.Advance)) (sym is)
+    subst (λ (w : List ℕ). Headed line w → StepSays line (step_of line (length w) form.Advance))
+    (sym is)
     (λ h. reads_says line (codes "advance" ++ drop 7 line) (step_of line 7 form.Advance) h.parts
     (advance_says line 7)) head
 form_says line word form.Later head is =
-    record { name = word; rest = drop (length word) line; listed = is; ends = head.ends; parts = head.parts }
+    record {
+      name = word;
+      rest = drop (length word) line;
+      listed = is;
+      ends = head.ends;
+      parts = head.parts;
+    }
 
 behind_says : (line word : List ℕ) (o : Option Form) → Headed line word → NamedBy word o
     → StepSays line (step_behind line (length word) o)
@@ -84,7 +101,8 @@ behind_says line word (Some f) head is = form_says line word f head is
 step_says : (line : List ℕ) → StepSays line (step_at line)
 unfolding step_at
 step_says line =
-    behind_says line (word_at line 0) (form_of (word_at line 0)) (headed line) (form_names (word_at line 0))
+    behind_says line (word_at line 0) (form_of (word_at line 0)) (headed line)
+    (form_names (word_at line 0))
 
 -- ---- what the line is says what is read
 
@@ -99,15 +117,17 @@ at_form : (line name rest : List ℕ) (f : Form) → Begins line name rest → f
 unfolding step_at
 at_form line name rest f b known =
     ap (λ (w : List ℕ). step_behind line (length w) (form_of w))
-    (word_stands line 0 name rest b.named b.ends b.parts) ∙ ap (step_behind line (length name)) known
+    (word_stands line 0 name rest b.named b.ends b.parts)
+    ∙ ap (step_behind line (length name)) known
 
 past_name : (line name rest : List ℕ) → line ≡ name ++ rest → drop (length name) line ≡ rest
 past_name line name rest e =
-    ap (λ (n : ℕ). drop n line) {x = length name} {y = 0 + length name} (omega arith) ∙ drop_past line 0 name rest e
+    ap (λ (n : ℕ). drop n line) {x = length name} {y = 0 + length name} (omega arith)
+    ∙ drop_past line 0 name rest e
 
 -- the name of a step, and what stands behind it
 abbrev step_name : Step → List ℕ
-step_name (step.Ask server c q asked) = codes "ask"
+step_name (step.Ask server c q cred asked) = codes "ask"
 step_name (step.Deliver packet) = codes "deliver"
 step_name (step.Pump among) = codes "pump"
 step_name (step.Tick server) = codes "tick"
@@ -115,41 +135,48 @@ step_name (step.Clock server reading) = codes "clock"
 step_name (step.Advance millis) = codes "advance"
 
 abbrev step_rest : Step → List ℕ
-step_rest (step.Ask server c q asked) = asked_text server c q ++ spaced (call_text asked)
+step_rest (step.Ask server c q cred asked) = head_text server c q cred ++ spaced (call_text asked)
 step_rest (step.Deliver packet) = spaced (decimal packet)
 step_rest (step.Pump among) = among_text among
 step_rest (step.Tick server) = spaced (decimal (number_of server))
-step_rest (step.Clock server reading) = spaced (decimal (number_of server)) ++ spaced (decimal reading)
+step_rest (step.Clock server reading) =
+    spaced (decimal (number_of server)) ++ spaced (decimal reading)
 step_rest (step.Advance millis) = spaced (decimal millis)
 
-step_begins : (s : Step) (line : List ℕ) → IsStepLine line s → Begins line (step_name s) (step_rest s)
+step_begins : (s : Step) (line : List ℕ) → IsStepLine line s
+    → Begins line (step_name s) (step_rest s)
 unfolding step_text among_text
-step_begins (step.Ask server c q asked) line is =
+step_begins (step.Ask server c q cred asked) line is =
     record {
       named = refl;
       ends = refl;
       parts = is.spelled
-          ∙ ap (λ (l : List ℕ). l ++ spaced (call_text asked)) (head_parts server c q);
+          ∙ ap (λ (l : List ℕ). l ++ cred_text cred ++ spaced (call_text asked))
+          (head_parts server c q);
     }
 step_begins (step.Deliver packet) line is = record { named = refl; ends = refl; parts = is.spelled }
 step_begins (step.Pump None) line is = record { named = refl; ends = tt; parts = is.spelled }
-step_begins (step.Pump (Some pair)) line is = record { named = refl; ends = refl; parts = is.spelled }
+step_begins (step.Pump (Some pair)) line is =
+    record { named = refl; ends = refl; parts = is.spelled }
 step_begins (step.Tick server) line is = record { named = refl; ends = refl; parts = is.spelled }
-step_begins (step.Clock server reading) line is = record { named = refl; ends = refl; parts = is.spelled }
+step_begins (step.Clock server reading) line is =
+    record { named = refl; ends = refl; parts = is.spelled }
 step_begins (step.Advance millis) line is = record { named = refl; ends = refl; parts = is.spelled }
 
 begun : (s : Step) (line : List ℕ) (f : Form) → IsStepLine line s → form_of (step_name s) ≡ Some f
     → step_at line ≡ step_of line (length (step_name s)) f
 begun s line f is known = at_form line (step_name s) (step_rest s) f (step_begins s line is) known
 
-behind_name : (s : Step) (line : List ℕ) → IsStepLine line s → drop (length (step_name s)) line ≡ step_rest s
+behind_name : (s : Step) (line : List ℕ) → IsStepLine line s
+    → drop (length (step_name s)) line ≡ step_rest s
 behind_name s line is = past_name line (step_name s) (step_rest s) (step_begins s line is).parts
 
 step_again : (s : Step) (line : List ℕ) → IsStepLine line s → step_at line ≡ Ok s
 unfolding among_text
-step_again (step.Ask server c q asked) line is =
-    let s = step.Ask server c q asked in
-    begun s line form.Ask is refl ∙ ask_again line 3 server c q asked is.fits.0 is.fits.1 is.fits.2
+step_again (step.Ask server c q cred asked) line is =
+    let s = step.Ask server c q cred asked in
+    begun s line form.Ask is refl
+    ∙ ask_again line 3 server c q cred asked is.fits.0 is.fits.1 is.fits.2 is.fits.3
     (behind_name s line is)
 step_again (step.Deliver packet) line is =
     let s = step.Deliver packet in
@@ -161,20 +188,23 @@ step_again (step.Pump None) line is =
 step_again (step.Pump (Some pair)) line is =
     let s = step.Pump (Some pair) in
     let b = step_begins s line is in
-    begun s line form.Pump is refl ∙ pump_pair_again line 4 pair is.fits (omega (arith, ap length b.parts))
+    begun s line form.Pump is refl
+    ∙ pump_pair_again line 4 pair is.fits (omega (arith, ap length b.parts))
     (behind_name s line is)
 step_again (step.Tick server) line is =
     let s = step.Tick server in
     begun s line form.Tick is refl ∙ tick_again line 4 server (behind_name s line is)
 step_again (step.Clock server reading) line is =
     let s = step.Clock server reading in
-    begun s line form.Clock is refl ∙ clock_again line 5 server reading is.fits (behind_name s line is)
+    begun s line form.Clock is refl
+    ∙ clock_again line 5 server reading is.fits (behind_name s line is)
 step_again (step.Advance millis) line is =
     let s = step.Advance millis in
     begun s line form.Advance is refl ∙ advance_again line 7 millis is.fits (behind_name s line is)
 
 unbuilt_begins : (line : List ℕ) (u : IsUnbuilt line) → Begins line u.name u.rest
-unbuilt_begins line u = record { named = (unbuilt_step u.name u.listed).0; ends = u.ends; parts = u.parts }
+unbuilt_begins line u =
+    record { named = (unbuilt_step u.name u.listed).0; ends = u.ends; parts = u.parts }
 
 unbuilt_again : (line : List ℕ) → IsUnbuilt line → step_at line ≡ Err Unbuilt
 unbuilt_again line u =
@@ -184,7 +214,8 @@ unbuilt_again line u =
 
 -- a line that isn't empty is blank by its first byte
 first_says : (b : ℕ) (line : List ℕ) → is_blank (b ∷ line) ≡ eqb b 35
-first_says b line = ap (λ (c : Bool). c || eqb b 35) (ne_eqb (length (b ∷ line)) 0 (λ e. omega arith))
+first_says b line =
+    ap (λ (c : Bool). c || eqb b 35) (ne_eqb (length (b ∷ line)) 0 (λ e. omega arith))
 
 blank_takes : (line : List ℕ) → is_blank line ≡ true → IsBlank line
 blank_takes [] e = tt
@@ -201,7 +232,8 @@ lettered (b ∷ line) first = first_says b line ∙ ne_eqb b 35 (λ e. omega ari
 
 begun_lettered : (line name rest : List ℕ) → Begins line name rest → is_blank line ≡ false
 begun_lettered line name rest b =
-    lettered line (omega (arith, ap (λ (l : List ℕ). get_or l 0 0) b.parts, name_first name rest b.named))
+    lettered line
+    (omega (arith, ap (λ (l : List ℕ). get_or l 0 0) b.parts, name_first name rest b.named))
 
 step_lettered : (s : Step) (line : List ℕ) → IsStepLine line s → is_blank line ≡ false
 step_lettered s line is = begun_lettered line (step_name s) (step_rest s) (step_begins s line is)
@@ -243,7 +275,8 @@ unfolding meaning_of
 explained line = by (is_blank line) refl
   where
     read : (r : Result Step TextFault) → StepSays line r
-        → (placeless (step_at line) >>= λ s. Ok (Some s)) ≡ (placeless r >>= λ s. Ok (Some s)) → is_blank line ≡ false
+        → (placeless (step_at line) >>= λ s. Ok (Some s)) ≡ (placeless r >>= λ s. Ok (Some s))
+        → is_blank line ≡ false
         → Explains line (placeless r >>= λ s. Ok (Some s))
     read (Ok s) says is letter = says
     read (Err Unbuilt) says is letter = says

@@ -1,5 +1,5 @@
 -- Two fields, the fields of calls, the end of a line, and the rest of a line that is a field.
-use Rattle.std.proofs.Common.{◌≡◌, ℕ, ◌+◌, ◌^◌, ◌<◌, inl, inr, Bool, true, false, cond, eqb, List, [], ◌++◌, length, drop, Result, Ok, Err, refl, sym, ap, subst, ◌∙◌, append_assoc, arith}
+use Rattle.std.proofs.Common.{◌≡◌, ℕ, ◌+◌, ◌^◌, ◌<◌, Bool, true, false, cond, eqb, List, [], ◌++◌, length, drop, Result, Ok, Err, refl, sym, ap, subst, ◌∙◌, append_assoc, arith}
 use Rattle.std.specs.Prelude.{decimal}
 use Rattle.std.proofs.lemmas.Bool.{eqb-true, eq-eqb}
 use Rattle.std.proofs.lemmas.List.{length-append, length-drop, append-nil, drop_all}
@@ -9,7 +9,7 @@ use Rattle.spelling.specs.Fits.{AreBytes, SetAttrFits, StepFits}
 use Rattle.text_fields.specs.declared.fault.TextFault.{TextFault}
 use Rattle.text_fields.specs.declared.fault.TextFault.TheVariants.{Grammar, Unbuilt, NoMemory}
 use Rattle.text_fields.specs.Fields.{Reader, Read, ◌>>=◌, EndsWord, spaced_at, u32_at, count_at, server_at, hex_at, set_attr_at}
-use Rattle.text_fields.proofs.Places.{Spells, Spells-then, IsField, spaced_field, drop_past, bind_ok, chosen, ok_is}
+use Rattle.text_fields.proofs.Places.{Spells, Spells-then, IsField, spaced_field, drop_past, bind_ok, ok_is}
 use Rattle.text_fields.proofs.FieldLaws.{u32_field, count_field, server_field, server_text}
 use Rattle.text_fields.proofs.Names.{name_field}
 use Rattle.text_fields.proofs.SetAttrLaws.{set_attr_field}
@@ -30,21 +30,10 @@ asked_field = spaced_field server_at server_text (λ s. Unit {0}) server_field
 
 -- ---- the end
 
-pub end_placed : {A : Type 0} (x : A) (line : List ℕ) (at : ℕ) → Placed (end_at x line at)
-end_placed x line at = choice (eqb at (length line)) _ _ tt tt
-
-end_takes : {A : Type 0} (x y : A) (line : List ℕ) (at : ℕ) → end_at x line at ≡ Ok y → (at ≡ length line) × (x ≡ y)
-end_takes {A} x y line at e =
-    elim (chosen (eqb at (length line)) (Ok x) (Err (Grammar at)) (Ok y) e) [
-      | inl here ↦ (eqb-true at (length line) here.0, ok_is x y here.1)
-      | inr other ↦ absurd (not_ok (Grammar at) y other.1)
-    ]
-  where
-    not_ok : (f : TextFault) (y : A) → Err f ≡ Ok y → ⊥
-    not_ok f y e = cc
-
-end_again : {A : Type 0} (x : A) (line : List ℕ) (at : ℕ) → at ≡ length line → end_at x line at ≡ Ok x
-end_again x line at e = ap (λ (b : Bool). cond b (Ok x) (Err (Grammar at))) (eq-eqb at (length line) e)
+end_again : {A : Type 0} (x : A) (line : List ℕ) (at : ℕ) → at ≡ length line
+    → end_at x line at ≡ Ok x
+end_again x line at e =
+    ap (λ (b : Bool). cond b (Ok x) (Err (Grammar at))) (eq-eqb at (length line) e)
 
 -- the line ends behind a text
 pub ends_behind : (line : List ℕ) (at : ℕ) (text : List ℕ) → drop at line ≡ text → 0 < length text
@@ -52,7 +41,8 @@ pub ends_behind : (line : List ℕ) (at : ℕ) (text : List ℕ) → drop at lin
 ends_behind line at text e some = omega (arith, ap length e, length-drop at line)
 
 -- the text up to the end of the line
-whole_rest : (line : List ℕ) (at : ℕ) (text : List ℕ) (next : ℕ) → Spells line at text next → next ≡ length line
+whole_rest : (line : List ℕ) (at : ℕ) (text : List ℕ) (next : ℕ) → Spells line at text next
+    → next ≡ length line
     → drop at line ≡ text
 whole_rest line at text next s e =
     s.parts ∙ ap (λ (l : List ℕ). text ++ l) (drop_all next line (omega arith)) ∙ append-nil text
@@ -60,8 +50,10 @@ whole_rest line at text next s e =
 -- ---- two fields
 
 -- a field that stands, and what stands behind it
-pub stands : {A : Type 0} (r : Reader A) (spell : A → List ℕ) (Fits : A → Type 0) → IsField r spell Fits
-    → (line : List ℕ) (at : ℕ) (x : A) (rest : List ℕ) → Fits x → EndsWord rest → drop at line ≡ spell x ++ rest
+pub stands : {A : Type 0} (r : Reader A) (spell : A → List ℕ) (Fits : A → Type 0)
+    → IsField r spell Fits
+    → (line : List ℕ) (at : ℕ) (x : A) (rest : List ℕ) → Fits x → EndsWord rest
+    → drop at line ≡ spell x ++ rest
     → (r line at ≡ Ok (x, at + length (spell x))) × (drop (at + length (spell x)) line ≡ rest)
 stands r spell Fits field line at x rest fits ends e =
     (field.again line at x rest fits ends e, drop_past line at (spell x) rest e)
@@ -77,7 +69,8 @@ module _ {A B : Type 0} (r : Reader A) (spell_r : A → List ℕ) (FitsR : A →
   abbrev pair_of : A → B → ℕ → Read (A × B)
   pair_of x y n = Ok ((x, y), n)
 
-  both_takes : IsField r spell_r FitsR → IsField s spell_s FitsS → (line : List ℕ) (at : ℕ) (x : (A × B) × ℕ)
+  both_takes : IsField r spell_r FitsR → IsField s spell_s FitsS
+      → (line : List ℕ) (at : ℕ) (x : (A × B) × ℕ)
       → both_at r s line at ≡ Ok x → Spells line at (spell_both x.0) x.1 × FitBoth x.0
   both_takes first second line at x e =
       let p = bind_ok (r line at) (λ y. s line y.1 >>= λ z. pair_of y.0 z.0 z.1) x e in
@@ -94,7 +87,8 @@ module _ {A B : Type 0} (r : Reader A) (spell_r : A → List ℕ) (FitsR : A →
       → drop at line ≡ spell_both x ++ rest
       → both_at r s line at ≡ Ok (x, at + length (spell_both x))
   both_again first second apart line at x rest fits ends e =
-      let one = stands r spell_r FitsR first line at x.0 (spell_s x.1 ++ rest) fits.0 (apart x.1 rest)
+      let one = stands r spell_r FitsR first line at x.0 (spell_s x.1 ++ rest) fits.0
+      (apart x.1 rest)
       (e ∙ append_assoc (spell_r x.0) (spell_s x.1) rest) in
       let mid = at + length (spell_r x.0) in
       let two = second.again line mid x.1 rest fits.1 ends one.1 in
@@ -106,11 +100,13 @@ module _ {A B : Type 0} (r : Reader A) (spell_r : A → List ℕ) (FitsR : A →
   pub both_field : IsField r spell_r FitsR → IsField s spell_s FitsS
       → ((y : B) (rest : List ℕ) → EndsWord (spell_s y ++ rest))
       → IsField (both_at r s) (λ x. spell_r x.0 ++ spell_s x.1) (λ x. FitsR x.0 × FitsS x.1)
-  both_field first second apart = record { takes = both_takes first second; again = both_again first second apart }
+  both_field first second apart =
+      record { takes = both_takes first second; again = both_again first second apart }
 
 pub both_placed : {A B : Type 0} (r : Reader A) (s : Reader B) → PlacedReader r → PlacedReader s
     → PlacedReader (both_at r s)
-both_placed r s p q line at = bind (r line at) _ (p line at) (λ x. bind (s line x.1) _ (q line x.1) (λ y. tt))
+both_placed r s p q line at =
+    bind (r line at) _ (p line at) (λ x. bind (s line x.1) _ (q line x.1) (λ y. tt))
 
 -- ---- fields of calls
 
@@ -174,8 +170,10 @@ IsStepText text s = (text ≡ step_text s) × StepFits s
 
 module _ {A B : Type 0} (r : Reader A) (spell : A → List ℕ) (Fits : A → Type 0) (made : A → B) where
   -- what is read is made of a field that is the rest of the line
-  pub whole_says : IsField r spell Fits → PlacedReader r → (Says : B → Type 0) (line : List ℕ) (at : ℕ)
-      → ((x : A) → Fits x → drop at line ≡ spell x → Says (made x)) → Reads Says (whole_at r made line at)
+  pub whole_says : IsField r spell Fits → PlacedReader r
+      → (Says : B → Type 0) (line : List ℕ) (at : ℕ)
+      → ((x : A) → Fits x → drop at line ≡ spell x → Says (made x))
+      → Reads Says (whole_at r made line at)
   whole_says field placed Says line at says = by (r line at) (placed line at) refl
     where
       ended : (x : A × ℕ) → r line at ≡ Ok x → (b : Bool) → eqb x.1 (length line) ≡ b
@@ -185,21 +183,24 @@ module _ {A B : Type 0} (r : Reader A) (spell : A → List ℕ) (Fits : A → Ty
           (whole_rest line at (spell x.0) x.1 t.0 (eqb-true x.1 (length line) is))
       ended x e false is = tt
 
-      by : (o : Read A) → Placed o → r line at ≡ o → Reads Says (o >>= λ x. end_at (made x.0) line x.1)
+      by : (o : Read A) → Placed o → r line at ≡ o
+          → Reads Says (o >>= λ x. end_at (made x.0) line x.1)
       by (Ok x) p e = ended x e (eqb x.1 (length line)) refl
       by (Err (Grammar n)) p e = tt
       by (Err Unbuilt) p e = absurd p
       by (Err NoMemory) p e = absurd p
 
   -- a field that ends the line
-  pub whole_ends : IsField r spell Fits → (line : List ℕ) (at : ℕ) (x : A) → Fits x → drop at line ≡ spell x
+  pub whole_ends : IsField r spell Fits → (line : List ℕ) (at : ℕ) (x : A) → Fits x
+      → drop at line ≡ spell x
       → at + length (spell x) ≡ length line → whole_at r made line at ≡ Ok (made x)
   whole_ends field line at x fits e end =
       ap (λ (o : Read A). o >>= λ y. end_at (made y.0) line y.1)
       (field.again line at x [] fits tt (e ∙ sym (append-nil (spell x))))
       ∙ end_again (made x) line (at + length (spell x)) end
 
-  pub whole_again : IsField r spell Fits → (line : List ℕ) (at : ℕ) (x : A) → Fits x → drop at line ≡ spell x
+  pub whole_again : IsField r spell Fits → (line : List ℕ) (at : ℕ) (x : A) → Fits x
+      → drop at line ≡ spell x
       → 0 < length (spell x) → whole_at r made line at ≡ Ok (made x)
   whole_again field line at x fits e some =
       whole_ends field line at x fits e (ends_behind line at (spell x) e some)

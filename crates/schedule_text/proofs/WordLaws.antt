@@ -28,14 +28,17 @@ ends_here (b ∷ rest) = by (eqb b 32) refl (ends_here rest)
         → EndsWord (drop (cond (not space) (1 + prefix_len not_space rest) 0) (b ∷ rest))
     by true is more = eqb-true b 32 is
     by false is more =
-        subst (λ n. EndsWord (drop n (b ∷ rest))) {x = suc (prefix_len not_space rest)} (omega arith) more
+        subst (λ n. EndsWord (drop n (b ∷ rest))) {x = suc (prefix_len not_space rest)}
+        (omega arith) more
 
-pub word_spells : (line : List ℕ) (at : ℕ) → Spells line at (word_at line at) (at + length (word_at line at))
+pub word_spells : (line : List ℕ) (at : ℕ)
+    → Spells line at (word_at line at) (at + length (word_at line at))
 word_spells line at =
     let rest = drop at line in
     let n = prefix_len not_space rest in
     let len : length (word_at line at) ≡ n = length-prefix_len not_space rest in
-    let behind : drop (at + length (word_at line at)) line ≡ drop n rest = ap (λ k. drop (at + k) line) len
+    let behind : drop (at + length (word_at line at)) line ≡ drop n rest =
+    ap (λ k. drop (at + k) line) len
     ∙ sym (drop-drop n at line) in
     record {
       parts = sym (take-append-drop n rest)
@@ -67,26 +70,30 @@ is_name (b ∷ bytes) = nat_le 97 b && letters bytes
 none_left : (rest : List ℕ) → EndsWord rest → take_while not_space rest ≡ []
 none_left [] ends = refl
 none_left (b ∷ rest) ends =
-    take_while-cons not_space b rest ∙ ap (λ (c : Bool). cond (not c) (b ∷ take_while not_space rest) [])
+    take_while-cons not_space b rest
+    ∙ ap (λ (c : Bool). cond (not c) (b ∷ take_while not_space rest) [])
     (eq-eqb b 32 ends)
 
 letter : (b : ℕ) → nat_le 97 b ≡ true → 97 ≤ b
 letter b e = leb-true 97 b e
 
-letters_taken : (word rest : List ℕ) → letters word ≡ true → EndsWord rest → take_while not_space (word ++ rest) ≡ word
+letters_taken : (word rest : List ℕ) → letters word ≡ true → EndsWord rest
+    → take_while not_space (word ++ rest) ≡ word
 letters_taken [] rest all ends = none_left rest ends
 letters_taken (b ∷ word) rest all ends =
     let parts = and_parts (nat_le 97 b) (letters word) all in
     let above = letter b parts.0 in
     take_while-cons not_space b (word ++ rest)
-    ∙ ap (λ (c : Bool). cond (not c) (b ∷ take_while not_space (word ++ rest)) []) (ne_eqb b 32 (λ e. omega arith))
+    ∙ ap (λ (c : Bool). cond (not c) (b ∷ take_while not_space (word ++ rest)) [])
+    (ne_eqb b 32 (λ e. omega arith))
     ∙ ap (λ (l : List ℕ). b ∷ l) (letters_taken word rest parts.1 ends)
 
 name_letters : (word : List ℕ) → is_name word ≡ true → letters word ≡ true
 name_letters [] name = absurd cc
 name_letters (b ∷ word) name = name
 
-pub word_stands : (line : List ℕ) (at : ℕ) (word rest : List ℕ) → is_name word ≡ true → EndsWord rest
+pub word_stands : (line : List ℕ) (at : ℕ) (word rest : List ℕ) → is_name word ≡ true
+    → EndsWord rest
     → drop at line ≡ word ++ rest → word_at line at ≡ word
 word_stands line at word rest name ends e =
     ap (take_while not_space) e ∙ letters_taken word rest (name_letters word name) ends
@@ -101,11 +108,15 @@ name_first (b ∷ word) rest name = letter b (and_parts (nat_le 97 b) (letters w
 pub same_word : (x y : List ℕ) → bytes_eq x y ≡ true → x ≡ y
 same_word x y e = (bytes_eq-Decides x y).0 e
 
-pub listed : (names : List (List ℕ)) (word : List ℕ) → is_among names word ≡ true → Contains names word
+pub listed : (names : List (List ℕ)) (word : List ℕ) → is_among names word ≡ true
+    → Contains names word
 listed names word e = Contains-from_any same_word word names e
 
-pub among : (names : List (List ℕ)) (word : List ℕ) → Contains names word → is_among names word ≡ true
-among names word c = list_any-from_Any (bytes_eq word) names (c.0, word, c.1, c.2, (bytes_eq-Decides word word).1 refl)
+pub among : (names : List (List ℕ)) (word : List ℕ) → Contains names word
+    → is_among names word ≡ true
+among names word c =
+    list_any-from_Any (bytes_eq word) names
+    (c.0, word, c.1, c.2, (bytes_eq-Decides word word).1 refl)
 
 -- ---- the forms of steps
 
@@ -131,12 +142,15 @@ one_form false word f other is more = more
 pub form_names : (word : List ℕ) → NamedBy word (form_of word)
 form_names word =
     one_form (bytes_eq word (codes "ask")) word form.Ask _ (same_word word (codes "ask"))
-    (one_form (bytes_eq word (codes "deliver")) word form.Deliver _ (same_word word (codes "deliver"))
+    (one_form (bytes_eq word (codes "deliver")) word form.Deliver
+    _ (same_word word (codes "deliver"))
     (one_form (bytes_eq word (codes "pump")) word form.Pump _ (same_word word (codes "pump"))
     (one_form (bytes_eq word (codes "tick")) word form.Tick _ (same_word word (codes "tick"))
     (one_form (bytes_eq word (codes "clock")) word form.Clock _ (same_word word (codes "clock"))
-    (one_form (bytes_eq word (codes "advance")) word form.Advance _ (same_word word (codes "advance"))
-    (one_form (is_among unbuilt_steps word) word form.Later None (listed unbuilt_steps word) tt))))))
+    (one_form (bytes_eq word (codes "advance")) word form.Advance
+    _ (same_word word (codes "advance"))
+    (one_form (is_among unbuilt_steps word) word form.Later None (listed unbuilt_steps word)
+    tt))))))
 
 -- whether a form is that of a later stage
 abbrev is_later : Option Form → Bool
@@ -169,7 +183,8 @@ unbuilt_step name c =
 some_is : (n m : CallName) → Some n ≡ Some m → n ≡ m
 some_is n m e = cc
 
-named_step : (b : Bool) (word : List ℕ) (n m : CallName) (rest : Option CallName) → (b ≡ true → word ≡ name_text n)
+named_step : (b : Bool) (word : List ℕ) (n m : CallName) (rest : Option CallName)
+    → (b ≡ true → word ≡ name_text n)
     → (rest ≡ Some m → word ≡ name_text m) → cond b (Some n) rest ≡ Some m → word ≡ name_text m
 named_step true word n m rest is more e = is refl ∙ ap name_text (some_is n m e)
 named_step false word n m rest is more e = more e
@@ -178,7 +193,8 @@ named_among : (word : List ℕ) (names : List CallName) (m : CallName)
     → find (λ n. bytes_eq word (name_text n)) names ≡ Some m → word ≡ name_text m
 named_among word [] m e = absurd cc
 named_among word (n ∷ names) m e =
-    named_step (bytes_eq word (name_text n)) word n m (find (λ n. bytes_eq word (name_text n)) names)
+    named_step (bytes_eq word (name_text n)) word n m
+    (find (λ n. bytes_eq word (name_text n)) names)
     (same_word word (name_text n)) (named_among word names m) e
 
 -- a word that names a call is its name

@@ -1,14 +1,17 @@
 -- Reading a step of a schedule from left to right, with the place where no step goes on.
-use Rattle.std.specs.Prelude.{ℕ, ◌+◌, ◌==◌, Bool, ◌||◌, nat_lt, List, [], ◌∷◌, length, slice_index, find, codes, Option, Some, None, Result, Ok, Err, if◌then◌else◌}
-use Rattle.std.specs.List.{list_any}
+use Rattle.std.specs.Prelude.{ℕ, ◌+◌, ◌==◌, Bool, ◌||◌, nat_eq, nat_lt, List, [], ◌∷◌, length, drop, slice_index, find, codes, Option, Some, None, Result, Ok, Err, if◌then◌else◌}
+use Rattle.std.specs.List.{list_any, starts_with}
 use Rattle.std.specs.Str.{bytes_eq}
 use Rattle.harp_base.specs.Server.{number_of}
 use Rattle.harp_base.specs.declared.server.ServerId.{ServerId}
 use Rattle.harp_base.specs.declared.attr.SetAttr.{SetAttr}
 use Rattle.harp_base.specs.declared.call.Call.{Call}
 use Rattle.harp_base.specs.declared.call.Call.TheVariants as call
+use Rattle.harp_base.specs.declared.cred.Cred.{Cred}
+use Rattle.harp_base.specs.declared.cred.TheConstants.{SUPERUSER}
 use Rattle.trace_lines.specs.declared.step.Step.{Step}
 use Rattle.trace_lines.specs.declared.step.Step.TheVariants as step
+use Rattle.spelling.specs.Text.{is_implied}
 use Rattle.text_fields.specs.declared.fault.TextFault.{TextFault}
 use Rattle.text_fields.specs.declared.fault.TextFault.TheVariants.{Grammar, Unbuilt, NoMemory}
 use Rattle.text_fields.specs.Fields.{Reader, ◌>>=◌, space_at, spaced_at, word_at, number_at, u32_at, count_at, server_at, hex_at, set_attr_at}
@@ -39,8 +42,8 @@ whole_at r made line at = do
 -- the names of the steps that a later stage builds
 abbrev pub unbuilt_steps : List (List ℕ)
 unbuilt_steps =
-    codes "suspect" ∷ codes "flush" ∷ codes "list" ∷ codes "boot" ∷ codes "apply" ∷ codes "power" ∷ codes "crash"
-    ∷ codes "stop" ∷ codes "noise" ∷ []
+    codes "suspect" ∷ codes "flush" ∷ codes "list" ∷ codes "boot" ∷ codes "apply" ∷ codes "power"
+    ∷ codes "crash" ∷ codes "stop" ∷ codes "noise" ∷ []
 
 abbrev pub is_among : List (List ℕ) → List ℕ → Bool
 is_among names word = list_any (bytes_eq word) names
@@ -66,9 +69,9 @@ name_text names.StatFs = codes "statfs"
 
 abbrev pub call_names : List CallName
 call_names =
-    names.Null ∷ names.GetAttr ∷ names.SetAttr ∷ names.Lookup ∷ names.ReadLink ∷ names.Read ∷ names.Write ∷ names.Create
-    ∷ names.Remove ∷ names.Rename ∷ names.Link ∷ names.SymLink ∷ names.MkDir ∷ names.RmDir ∷ names.ReadDir ∷ names.StatFs
-    ∷ []
+    names.Null ∷ names.GetAttr ∷ names.SetAttr ∷ names.Lookup ∷ names.ReadLink ∷ names.Read
+    ∷ names.Write ∷ names.Create ∷ names.Remove ∷ names.Rename ∷ names.Link ∷ names.SymLink
+    ∷ names.MkDir ∷ names.RmDir ∷ names.ReadDir ∷ names.StatFs ∷ []
 
 -- the call of this name
 abbrev pub call_named : List ℕ → Option CallName
@@ -109,21 +112,27 @@ made_at r made line at = do
 unfoldable pub fields_at : CallName → Reader Call
 fields_at names.Null line at = Ok (call.Null, at)
 fields_at names.GetAttr line at = made_at spaced_u32_at call.GetAttr line at
-fields_at names.SetAttr line at = made_at (both_at spaced_u32_at spaced_attr_at) (λ x. call.SetAttr x.0 x.1) line at
+fields_at names.SetAttr line at =
+    made_at (both_at spaced_u32_at spaced_attr_at) (λ x. call.SetAttr x.0 x.1) line at
 fields_at names.Lookup line at = made_at entry_at (λ x. call.Lookup x.0 x.1) line at
 fields_at names.ReadLink line at = made_at spaced_u32_at call.ReadLink line at
-fields_at names.Read line at = made_at (both_at numbers_at spaced_u32_at) (λ x. call.Read x.0.0 x.0.1 x.1) line at
-fields_at names.Write line at = made_at (both_at numbers_at spaced_bytes_at) (λ x. call.Write x.0.0 x.0.1 x.1) line at
-fields_at names.Create line at = made_at (both_at entry_at spaced_attr_at) (λ x. call.Create x.0.0 x.0.1 x.1) line at
+fields_at names.Read line at =
+    made_at (both_at numbers_at spaced_u32_at) (λ x. call.Read x.0.0 x.0.1 x.1) line at
+fields_at names.Write line at =
+    made_at (both_at numbers_at spaced_bytes_at) (λ x. call.Write x.0.0 x.0.1 x.1) line at
+fields_at names.Create line at =
+    made_at (both_at entry_at spaced_attr_at) (λ x. call.Create x.0.0 x.0.1 x.1) line at
 fields_at names.Remove line at = made_at entry_at (λ x. call.Remove x.0 x.1) line at
 fields_at names.Rename line at =
-    made_at (both_at (both_at entry_at spaced_u32_at) spaced_name_at) (λ x. call.Rename x.0.0.0 x.0.0.1 x.0.1 x.1)
-    line at
-fields_at names.Link line at = made_at (both_at numbers_at spaced_name_at) (λ x. call.Link x.0.0 x.0.1 x.1) line at
+    made_at (both_at (both_at entry_at spaced_u32_at) spaced_name_at)
+    (λ x. call.Rename x.0.0.0 x.0.0.1 x.0.1 x.1) line at
+fields_at names.Link line at =
+    made_at (both_at numbers_at spaced_name_at) (λ x. call.Link x.0.0 x.0.1 x.1) line at
 fields_at names.SymLink line at =
-    made_at (both_at (both_at entry_at spaced_name_at) spaced_attr_at) (λ x. call.SymLink x.0.0.0 x.0.0.1 x.0.1 x.1)
-    line at
-fields_at names.MkDir line at = made_at (both_at entry_at spaced_attr_at) (λ x. call.MkDir x.0.0 x.0.1 x.1) line at
+    made_at (both_at (both_at entry_at spaced_name_at) spaced_attr_at)
+    (λ x. call.SymLink x.0.0.0 x.0.0.1 x.0.1 x.1) line at
+fields_at names.MkDir line at =
+    made_at (both_at entry_at spaced_attr_at) (λ x. call.MkDir x.0.0 x.0.1 x.1) line at
 fields_at names.RmDir line at = made_at entry_at (λ x. call.RmDir x.0 x.1) line at
 fields_at names.ReadDir line at =
     made_at (both_at numbers_at spaced_u32_at) (λ x. call.ReadDir x.0.0 x.0.1 x.1) line at
@@ -137,6 +146,29 @@ call_of line at next (Some name) = whole_at (fields_at name) (λ c. c) line next
 -- a call, and the end
 unfoldable pub call_at : List ℕ → ℕ → Result Call TextFault
 call_at line at = call_of line at (at + length (word_at line at)) (call_named (word_at line at))
+
+-- ---- credentials
+
+-- whether a credential is told here; no call's name begins so
+abbrev pub is_told_at : List ℕ → ℕ → Bool
+is_told_at line at = starts_with nat_eq (drop at line) (codes " as")
+
+abbrev pub cred_of : ℕ → ℕ → Cred
+cred_of uid gid = record { uid = uid; gid = gid }
+
+-- the user and the group behind ` as`, not both 0: where they are, the group's 0 is the fault
+unfoldable pub told_at : Reader Cred
+told_at line at = do
+  uid ← spaced_u32_at line at
+  from ← space_at line uid.1
+  gid ← u32_at line from
+  if is_implied (cred_of uid.0 gid.0)
+      then Err (Grammar from)
+      else Ok (cred_of uid.0 gid.0, gid.1)
+
+-- the credential that is told, or the superuser's own
+unfoldable pub cred_at : Reader Cred
+cred_at line at = if is_told_at line at then told_at line (at + 3) else Ok (SUPERUSER, at)
 
 -- ---- steps
 
@@ -152,9 +184,10 @@ asker_at line at = do
 unfoldable pub ask_at : List ℕ → ℕ → Result Step TextFault
 ask_at line at = do
   who ← asker_at line at
-  from ← space_at line who.1
+  cred ← cred_at line who.1
+  from ← space_at line cred.1
   asked ← call_at line from
-  Ok (step.Ask who.0.0 who.0.1 who.0.2 asked)
+  Ok (step.Ask who.0.0 who.0.1 who.0.2 cred.0 asked)
 
 unfoldable pub deliver_at : List ℕ → ℕ → Result Step TextFault
 deliver_at = whole_at (spaced_at count_at) step.Deliver

@@ -1,6 +1,7 @@
 //! The steps of a schedule, read from its lines.
 #![tactic(auto)]
 
+mod ask;
 mod call;
 mod call_name;
 mod field;

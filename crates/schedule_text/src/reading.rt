@@ -48,7 +48,8 @@ fn meaning_of(alloc: Global, line: &[u8]) -> Result<Option<Step>, TextFault>
 
 /// The step of a line of a schedule, without its line end. None is an empty line or a comment.
 ///
-/// Unbuilt is a step of a later stage, whatever follows. Every other line that is no step is Grammar.
+/// Unbuilt is a step of a later stage, whatever follows. Every other line that is no step is
+/// Grammar.
 pub fn read_step(alloc: Global, line: &[u8]) -> Result<Option<Step>, TextFault>
     // A line means one thing, and that is answered unless memory runs out.
     ensures exact { Gives (λ x. x) result (meaning_of line.now) }

@@ -1,46 +1,16 @@
 //! Steps that are read, behind their names.
 
-ghost use Rattle.std.specs.Prelude.{◌≡◌, ◌+◌, ◌<◌, ◌≤◌, length, IfOk, Err};
+ghost use Rattle.std.specs.Prelude.{◌≡◌, ◌<◌, Err};
 ghost use Rattle.text_fields.specs.Fields.{Gives};
-ghost use Rattle.schedule_text.specs.Reading.{asker_at, ask_at, deliver_at, pair_at, pump_at, tick_at, clock_at, advance_at, step_of};
+ghost use Rattle.schedule_text.specs.Reading.{deliver_at, pair_at, pump_at, tick_at, clock_at, advance_at, step_of};
 
-use crate::call::call_at;
+use crate::ask::ask_at;
 use crate::field::end_at;
 use crate::form::Form;
 use harp_base::ServerId;
 use std::alloc::Global;
-use text_fields::{TextFault, count_at, number_at, server_at, space_at, u32_at};
+use text_fields::{TextFault, count_at, number_at, server_at, space_at};
 use trace_lines::Step;
-
-/// The server, the client and its number.
-fn asker_at(line: &[u8], at: usize) -> Result<((ServerId, u32, u64), usize), TextFault>
-    ensures step { Gives (λ x. x) result (asker_at line.now at) }
-    ensures within { IfOk result (λ x. x.1 ≤ length line.now) }
-{
-    let at = space_at(line, at)?;
-    let (server, at) = server_at(line, at)?;
-    let at = space_at(line, at)?;
-    let (client, at) = u32_at(line, at)?;
-    let at = space_at(line, at)?;
-    let (number, at) = count_at(line, at)?;
-    Ok(((server, client, number), at))
-}
-
-/// An ask behind its name.
-#[tactic(auto, unfolding(crate::specs::Reading::ask_at))]
-fn ask_at(alloc: Global, line: &[u8], at: usize) -> Result<Step, TextFault>
-    ensures { Gives (λ x. x) result (ask_at line.now at) }
-{
-    let ((server, client, number), at) = asker_at(line, at)?;
-    let at = space_at(line, at)?;
-    let call = call_at(alloc, line, at)?;
-    Ok(Step::Ask {
-        server,
-        client,
-        number,
-        call,
-    })
-}
 
 /// A packet's number, and the end.
 #[tactic(auto, unfolding(crate::specs::Reading::deliver_at))]

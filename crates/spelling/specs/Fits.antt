@@ -6,6 +6,7 @@ use Rattle.harp_base.specs.declared.attr.Time.{Time}
 use Rattle.harp_base.specs.declared.attr.SetAttr.{SetAttr}
 use Rattle.harp_base.specs.declared.call.Call.{Call}
 use Rattle.harp_base.specs.declared.call.Call.TheVariants as call
+use Rattle.harp_base.specs.declared.cred.Cred.{Cred}
 use Rattle.trace_lines.specs.declared.step.Step.{Step}
 use Rattle.trace_lines.specs.declared.step.Step.TheVariants as step
 use Rattle.spelling.specs.Text.{left}
@@ -34,17 +35,22 @@ CallFits (call.SetAttr handle attr) = (handle < 2 ^ 32) × SetAttrFits attr
 CallFits (call.Lookup dir name) = (dir < 2 ^ 32) × AreBytes 4096 name
 CallFits (call.ReadLink handle) = handle < 2 ^ 32
 CallFits (call.Read handle offset count) = (handle < 2 ^ 32) × (offset < 2 ^ 32) × (count < 2 ^ 32)
-CallFits (call.Write handle offset bytes) = (handle < 2 ^ 32) × (offset < 2 ^ 32) × AreBytes 8192 bytes
+CallFits (call.Write handle offset bytes) =
+    (handle < 2 ^ 32) × (offset < 2 ^ 32) × AreBytes 8192 bytes
 CallFits (call.Create dir name attr) = (dir < 2 ^ 32) × AreBytes 4096 name × SetAttrFits attr
 CallFits (call.Remove dir name) = (dir < 2 ^ 32) × AreBytes 4096 name
 CallFits (call.Rename dir name to_dir to_name) =
     (dir < 2 ^ 32) × AreBytes 4096 name × (to_dir < 2 ^ 32) × AreBytes 4096 to_name
 CallFits (call.Link handle dir name) = (handle < 2 ^ 32) × (dir < 2 ^ 32) × AreBytes 4096 name
-CallFits (call.SymLink dir name text attr) = (dir < 2 ^ 32) × AreBytes 4096 name × AreBytes 4096 text × SetAttrFits attr
+CallFits (call.SymLink dir name text attr) =
+    (dir < 2 ^ 32) × AreBytes 4096 name × AreBytes 4096 text × SetAttrFits attr
 CallFits (call.MkDir dir name attr) = (dir < 2 ^ 32) × AreBytes 4096 name × SetAttrFits attr
 CallFits (call.RmDir dir name) = (dir < 2 ^ 32) × AreBytes 4096 name
 CallFits (call.ReadDir dir cookie count) = (dir < 2 ^ 32) × (cookie < 2 ^ 32) × (count < 2 ^ 32)
 CallFits (call.StatFs handle) = handle < 2 ^ 32
+
+abbrev pub CredFits : Cred → Type 0
+CredFits cred = (cred.uid < 2 ^ 32) × (cred.gid < 2 ^ 32)
 
 -- two servers, in the order of their numbers
 abbrev pub PairFits : ServerId × ServerId → Type 0
@@ -55,7 +61,8 @@ AmongFits None = Unit {0}
 AmongFits (Some pair) = PairFits pair
 
 abbrev pub StepFits : Step → Type 0
-StepFits (step.Ask server client number call) = (client < 2 ^ 32) × (number < 10 ^ 18) × CallFits call
+StepFits (step.Ask server client number cred call) =
+    (client < 2 ^ 32) × (number < 10 ^ 18) × CredFits cred × CallFits call
 StepFits (step.Deliver packet) = packet < 10 ^ 18
 StepFits (step.Pump among) = AmongFits among
 StepFits (step.Tick server) = Unit {0}

@@ -20,7 +20,7 @@ use Rattle.trace_lines.specs.declared.line.ShownMessage.{ShownMessage}
 use Rattle.trace_lines.specs.declared.line.ShownMessage.TheVariants as message
 use Rattle.trace_lines.specs.declared.line.Line.{Line}
 use Rattle.trace_lines.specs.declared.line.Line.TheVariants as line
-use Rattle.spelling.specs.Text.{spaced, call_text, reply_text, step_text}
+use Rattle.spelling.specs.Text.{spaced, call_text, cred_text, reply_text, step_text}
 
 -- the server that leads, or a dash for none
 abbrev pub hint_text : Option ServerId → List ℕ
@@ -52,12 +52,13 @@ view_text v = decimal v.count ++ 46 ∷ decimal (number_of v.coordinator)
 
 unfoldable pub message_text : ShownMessage → List ℕ
 message_text (message.Event view index cp base client number) =
-    codes "event" ++ spaced (view_text view) ++ spaced (decimal index) ++ spaced (decimal cp) ++ spaced (decimal base)
-    ++ spaced (decimal client) ++ spaced (decimal number)
+    codes "event" ++ spaced (view_text view) ++ spaced (decimal index) ++ spaced (decimal cp)
+    ++ spaced (decimal base) ++ spaced (decimal client) ++ spaced (decimal number)
 message_text (message.Beat view cp base) =
     codes "beat" ++ spaced (view_text view) ++ spaced (decimal cp) ++ spaced (decimal base)
 message_text (message.Ack view top lb until) =
-    codes "ack" ++ spaced (view_text view) ++ spaced (decimal top) ++ spaced (decimal lb) ++ spaced (decimal until)
+    codes "ack" ++ spaced (view_text view) ++ spaced (decimal top) ++ spaced (decimal lb)
+    ++ spaced (decimal until)
 
 abbrev pub mode_text : Mode → List ℕ
 mode_text mode.Rests = codes "rests"
@@ -82,33 +83,36 @@ held_text held.Lost = codes "lost"
 -- mode, promised and accepted view, role, what is held, and then the base, LB, AP, CP and top
 unfoldable pub state_text : StateLine → List ℕ
 state_text s =
-    mode_text s.mode ++ spaced (view_text s.promised) ++ spaced (view_text s.accepted) ++ spaced (role_text s.role)
-    ++ spaced (held_text s.held)
-    ++ (spaced (decimal s.base) ++ spaced (decimal s.lb) ++ spaced (decimal s.ap) ++ spaced (decimal s.cp)
-    ++ spaced (decimal s.top))
+    mode_text s.mode ++ spaced (view_text s.promised) ++ spaced (view_text s.accepted)
+    ++ spaced (role_text s.role) ++ spaced (held_text s.held)
+    ++ (spaced (decimal s.base) ++ spaced (decimal s.lb) ++ spaced (decimal s.ap)
+    ++ spaced (decimal s.cp) ++ spaced (decimal s.top))
 
 -- ---- lines
 
--- index, client, number, stamp and call, and behind `=` the reply
+-- index, client, number, stamp, credential and call, and behind `=` the reply
 unfoldable pub entry_line : BookEntry → List ℕ
 entry_line e =
-    spaced (decimal e.index) ++ spaced (decimal e.client) ++ spaced (decimal e.number) ++ spaced (decimal e.stamp)
-    ++ spaced (call_text e.call) ++ spaced (codes "=") ++ spaced (reply_text e.reply)
+    spaced (decimal e.index) ++ spaced (decimal e.client) ++ spaced (decimal e.number)
+    ++ spaced (decimal e.stamp) ++ cred_text e.cred ++ spaced (call_text e.call)
+    ++ spaced (codes "=") ++ spaced (reply_text e.reply)
 
 unfoldable pub line_text : Line → List ℕ
 line_text (line.Event step) = codes ">" ++ spaced (step_text step)
 line_text (line.Entered place entry) = codes "entered" ++ spaced (decimal place) ++ entry_line entry
 line_text (line.Answered server client number index reply) =
-    codes "answered" ++ spaced (decimal (number_of server)) ++ spaced (decimal client) ++ spaced (decimal number)
-    ++ spaced (decimal index) ++ spaced (reply_text reply)
+    codes "answered" ++ spaced (decimal (number_of server)) ++ spaced (decimal client)
+    ++ spaced (decimal number) ++ spaced (decimal index) ++ spaced (reply_text reply)
 line_text (line.Refused server client number cause) =
-    codes "refused" ++ spaced (decimal (number_of server)) ++ spaced (decimal client) ++ spaced (decimal number)
-    ++ spaced (cause_text cause)
+    codes "refused" ++ spaced (decimal (number_of server)) ++ spaced (decimal client)
+    ++ spaced (decimal number) ++ spaced (cause_text cause)
 line_text (line.Sent packet from to message) =
-    codes "send" ++ spaced (decimal packet) ++ spaced (decimal (number_of from)) ++ spaced (decimal (number_of to))
-    ++ spaced (message_text message)
-line_text (line.State server state) = codes "state" ++ spaced (decimal (number_of server)) ++ spaced (state_text state)
-line_text (line.Bad place fault) = codes "bad" ++ spaced (decimal place) ++ spaced (fault_text fault)
+    codes "send" ++ spaced (decimal packet) ++ spaced (decimal (number_of from))
+    ++ spaced (decimal (number_of to)) ++ spaced (message_text message)
+line_text (line.State server state) =
+    codes "state" ++ spaced (decimal (number_of server)) ++ spaced (state_text state)
+line_text (line.Bad place fault) =
+    codes "bad" ++ spaced (decimal place) ++ spaced (fault_text fault)
 line_text (line.End entered) = codes "end" ++ spaced (decimal entered)
 
 -- no byte ends a line

@@ -12,6 +12,7 @@ use Rattle.harp_base.specs.declared.attr.Kind.{Kind}
 use Rattle.harp_base.specs.declared.attr.Kind.TheVariants as kind
 use Rattle.harp_base.specs.declared.call.Call.{Call}
 use Rattle.harp_base.specs.declared.call.Call.TheVariants as call
+use Rattle.harp_base.specs.declared.cred.Cred.{Cred}
 use Rattle.harp_base.specs.declared.reply.DirEntry.{DirEntry}
 use Rattle.harp_base.specs.declared.reply.Status.{Status}
 use Rattle.harp_base.specs.declared.reply.Status.TheVariants as status
@@ -80,7 +81,8 @@ later given field = if given then comma field else []
 -- six fields, up to the last one that isn't left
 unfoldable pub set_attr_text : SetAttr → List ℕ
 set_attr_text a =
-    mode_field a.mode ++ later (uid_on a) (number_field a.uid) ++ later (gid_on a) (number_field a.gid) ++ later (size_on a) (number_field a.size)
+    mode_field a.mode ++ later (uid_on a) (number_field a.uid)
+    ++ later (gid_on a) (number_field a.gid) ++ later (size_on a) (number_field a.size)
     ++ later (atime_on a) (time_field a.atime) ++ later (mtime_on a) (time_field a.mtime)
 
 -- ---- calls
@@ -89,22 +91,45 @@ set_attr_text a =
 unfoldable pub call_text : Call → List ℕ
 call_text call.Null = codes "null"
 call_text (call.GetAttr handle) = codes "getattr" ++ spaced (decimal handle)
-call_text (call.SetAttr handle attr) = codes "setattr" ++ spaced (decimal handle) ++ spaced (set_attr_text attr)
+call_text (call.SetAttr handle attr) =
+    codes "setattr" ++ spaced (decimal handle) ++ spaced (set_attr_text attr)
 call_text (call.Lookup dir name) = codes "lookup" ++ spaced (decimal dir) ++ spaced (hex_text name)
 call_text (call.ReadLink handle) = codes "readlink" ++ spaced (decimal handle)
-call_text (call.Read handle offset count) = codes "read" ++ spaced (decimal handle) ++ spaced (decimal offset) ++ spaced (decimal count)
-call_text (call.Write handle offset bytes) = codes "write" ++ spaced (decimal handle) ++ spaced (decimal offset) ++ spaced (hex_text bytes)
-call_text (call.Create dir name attr) = codes "create" ++ spaced (decimal dir) ++ spaced (hex_text name) ++ spaced (set_attr_text attr)
+call_text (call.Read handle offset count) =
+    codes "read" ++ spaced (decimal handle) ++ spaced (decimal offset) ++ spaced (decimal count)
+call_text (call.Write handle offset bytes) =
+    codes "write" ++ spaced (decimal handle) ++ spaced (decimal offset) ++ spaced (hex_text bytes)
+call_text (call.Create dir name attr) =
+    codes "create" ++ spaced (decimal dir) ++ spaced (hex_text name) ++ spaced (set_attr_text attr)
 call_text (call.Remove dir name) = codes "remove" ++ spaced (decimal dir) ++ spaced (hex_text name)
 call_text (call.Rename dir name to_dir to_name) =
-    codes "rename" ++ spaced (decimal dir) ++ spaced (hex_text name) ++ spaced (decimal to_dir) ++ spaced (hex_text to_name)
-call_text (call.Link handle dir name) = codes "link" ++ spaced (decimal handle) ++ spaced (decimal dir) ++ spaced (hex_text name)
+    codes "rename" ++ spaced (decimal dir) ++ spaced (hex_text name) ++ spaced (decimal to_dir)
+    ++ spaced (hex_text to_name)
+call_text (call.Link handle dir name) =
+    codes "link" ++ spaced (decimal handle) ++ spaced (decimal dir) ++ spaced (hex_text name)
 call_text (call.SymLink dir name text attr) =
-    codes "symlink" ++ spaced (decimal dir) ++ spaced (hex_text name) ++ spaced (hex_text text) ++ spaced (set_attr_text attr)
-call_text (call.MkDir dir name attr) = codes "mkdir" ++ spaced (decimal dir) ++ spaced (hex_text name) ++ spaced (set_attr_text attr)
+    codes "symlink" ++ spaced (decimal dir) ++ spaced (hex_text name) ++ spaced (hex_text text)
+    ++ spaced (set_attr_text attr)
+call_text (call.MkDir dir name attr) =
+    codes "mkdir" ++ spaced (decimal dir) ++ spaced (hex_text name) ++ spaced (set_attr_text attr)
 call_text (call.RmDir dir name) = codes "rmdir" ++ spaced (decimal dir) ++ spaced (hex_text name)
-call_text (call.ReadDir dir cookie count) = codes "readdir" ++ spaced (decimal dir) ++ spaced (decimal cookie) ++ spaced (decimal count)
+call_text (call.ReadDir dir cookie count) =
+    codes "readdir" ++ spaced (decimal dir) ++ spaced (decimal cookie) ++ spaced (decimal count)
 call_text (call.StatFs handle) = codes "statfs" ++ spaced (decimal handle)
+
+-- ---- credentials
+
+-- whether a call that tells no credential is made under this one: user 0 and group 0
+abbrev pub is_implied : Cred → Bool
+is_implied cred = (cred.uid == 0) && (cred.gid == 0)
+
+-- the user and the group
+abbrev pub told_text : Cred → List ℕ
+told_text cred = codes " as" ++ spaced (decimal cred.uid) ++ spaced (decimal cred.gid)
+
+-- what stands before the space and the call
+unfoldable pub cred_text : Cred → List ℕ
+cred_text cred = if is_implied cred then [] else told_text cred
 
 -- ---- replies
 
@@ -131,7 +156,9 @@ status_number status.Stale = 70
 
 -- kind, mode, links and owners
 unfoldable pub attr_owner : Attr → List ℕ
-attr_owner a = decimal (kind_number a.kind) ++ comma (octal a.mode) ++ comma (decimal a.links) ++ comma (decimal a.uid) ++ comma (decimal a.gid)
+attr_owner a =
+    decimal (kind_number a.kind) ++ comma (octal a.mode) ++ comma (decimal a.links)
+    ++ comma (decimal a.uid) ++ comma (decimal a.gid)
 
 unfoldable pub attr_extent : Attr → List ℕ
 attr_extent a = comma (decimal a.size) ++ comma (decimal a.blocks) ++ comma (decimal a.fileid)
@@ -154,18 +181,24 @@ unfoldable pub reply_text : Reply → List ℕ
 reply_text (reply.Refused status) = codes "no" ++ spaced (decimal (status_number status))
 reply_text reply.Done = codes "done"
 reply_text (reply.Attr attr) = codes "attr" ++ spaced (attr_text attr)
-reply_text (reply.Node handle attr) = codes "node" ++ spaced (decimal handle) ++ spaced (attr_text attr)
+reply_text (reply.Node handle attr) =
+    codes "node" ++ spaced (decimal handle) ++ spaced (attr_text attr)
 reply_text (reply.Path text) = codes "path" ++ spaced (hex_text text)
-reply_text (reply.Bytes attr bytes) = codes "data" ++ spaced (attr_text attr) ++ spaced (hex_text bytes)
-reply_text (reply.Page entries eof) = codes "dir" ++ flat_map (λ e. spaced (entry_text e)) entries ++ spaced (page_end eof)
+reply_text (reply.Bytes attr bytes) =
+    codes "data" ++ spaced (attr_text attr) ++ spaced (hex_text bytes)
+reply_text (reply.Page entries eof) =
+    codes "dir" ++ flat_map (λ e. spaced (entry_text e)) entries ++ spaced (page_end eof)
 reply_text (reply.Space transfer block blocks free available) =
-    codes "fs" ++ spaced (decimal transfer) ++ spaced (decimal block) ++ spaced (decimal blocks) ++ spaced (decimal free) ++ spaced (decimal available)
+    codes "fs" ++ spaced (decimal transfer) ++ spaced (decimal block) ++ spaced (decimal blocks)
+    ++ spaced (decimal free) ++ spaced (decimal available)
 
 -- ---- steps
 
 -- `ask`, the server, the client and its number
 unfoldable pub ask_head : ServerId → ℕ → ℕ → List ℕ
-ask_head server client number = codes "ask" ++ spaced (decimal (number_of server)) ++ spaced (decimal client) ++ spaced (decimal number)
+ask_head server client number =
+    codes "ask" ++ spaced (decimal (number_of server)) ++ spaced (decimal client)
+    ++ spaced (decimal number)
 
 -- two servers as two digits
 abbrev pub pair_text : ServerId × ServerId → List ℕ
@@ -177,9 +210,11 @@ among_text None = []
 among_text (Some pair) = spaced (pair_text pair)
 
 unfoldable pub step_text : Step → List ℕ
-step_text (step.Ask server client number call) = ask_head server client number ++ spaced (call_text call)
+step_text (step.Ask server client number cred call) =
+    ask_head server client number ++ cred_text cred ++ spaced (call_text call)
 step_text (step.Deliver packet) = codes "deliver" ++ spaced (decimal packet)
 step_text (step.Pump among) = codes "pump" ++ among_text among
 step_text (step.Tick server) = codes "tick" ++ spaced (decimal (number_of server))
-step_text (step.Clock server reading) = codes "clock" ++ spaced (decimal (number_of server)) ++ spaced (decimal reading)
+step_text (step.Clock server reading) =
+    codes "clock" ++ spaced (decimal (number_of server)) ++ spaced (decimal reading)
 step_text (step.Advance millis) = codes "advance" ++ spaced (decimal millis)

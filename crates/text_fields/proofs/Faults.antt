@@ -11,17 +11,20 @@ Placed (Err (Grammar n)) = Unit {0}
 Placed (Err Unbuilt) = ⊥
 Placed (Err NoMemory) = ⊥
 
-pub bind : {A B : Type 0} (r : Result A TextFault) (f : A → Result B TextFault) → Placed r → ((x : A) → Placed (f x)) → Placed (r >>= f)
+pub bind : {A B : Type 0} (r : Result A TextFault) (f : A → Result B TextFault) → Placed r
+    → ((x : A) → Placed (f x)) → Placed (r >>= f)
 bind (Ok x) f p q = q x
 bind (Err (Grammar n)) f p q = tt
 bind (Err Unbuilt) f p q = absurd p
 bind (Err NoMemory) f p q = absurd p
 
-pub choice : {A : Type 0} (b : Bool) (x y : Result A TextFault) → Placed x → Placed y → Placed (cond b x y)
+pub choice : {A : Type 0} (b : Bool) (x y : Result A TextFault) → Placed x → Placed y
+    → Placed (cond b x y)
 choice true x y p q = p
 choice false x y p q = q
 
-pub option : {A B : Type 0} (o : Option A) (at : ℕ) (f : A → B) → Placed (elim o [ None ↦ Err (Grammar at) | Some x ↦ Ok (f x) ])
+pub option : {A B : Type 0} (o : Option A) (at : ℕ) (f : A → B)
+    → Placed (elim o [ None ↦ Err (Grammar at) | Some x ↦ Ok (f x) ])
 option None at f = tt
 option (Some x) at f = tt
 
@@ -32,11 +35,15 @@ pub space : (line : List ℕ) (at : ℕ) → Placed (space_at line at)
 space line at = choice (eqb (get_or line at 0) 32) _ _ tt tt
 
 pub spaced : {A : Type 0} (r : Reader A) → PlacedReader r → PlacedReader (spaced_at r)
-spaced r p line at = bind (space_at line at) (λ from. r line from) (space line at) (λ from. p line from)
+spaced r p line at =
+    bind (space_at line at) (λ from. r line from) (space line at) (λ from. p line from)
 
 pub number : (base most : ℕ) → PlacedReader (number_at base most)
 unfolding number_at
-number base most line at = choice (eqb (get_or line at 0) 48) _ _ tt (option (longer base most 0 (get_or line at 0)) at (λ n. number_from base most (drop (at + 1) line) n (at + 1)))
+number base most line at =
+    choice (eqb (get_or line at 0) 48) _ _ tt
+    (option (longer base most 0 (get_or line at 0)) at
+    (λ n. number_from base most (drop (at + 1) line) n (at + 1)))
 
 pub server : PlacedReader server_at
 server line at = option (server_of (get_or line at 0)) at (λ s. (s, at + 1))
@@ -44,18 +51,25 @@ server line at = option (server_of (get_or line at 0)) at (λ s. (s, at + 1))
 pub name : (most : ℕ) → PlacedReader (hex_at most)
 unfolding hex_at
 name most line at =
-    choice (eqb (get_or line at 0) 45) _ _ tt (choice (is_odd_at most line (pairs_from most line at)) _ _ tt (choice (eqb (pairs_from most line at).1 at) _ _ tt tt))
+    choice (eqb (get_or line at 0) 45) _ _ tt
+    (choice (is_odd_at most line (pairs_from most line at)) _ _ tt
+    (choice (eqb (pairs_from most line at).1 at) _ _ tt tt))
 
 pub time : PlacedReader time_at
 unfolding time_at
-time line at = bind (u32_at line at) _ (number 10 4294967295 line at) (λ s. choice (eqb (get_or line s.1 0) 58) _ _ (bind (number_at 10 _ line (s.1 + 1)) _ (number 10 _ line (s.1 + 1)) (λ m. tt)) tt)
+time line at =
+    bind (u32_at line at) _ (number 10 4294967295 line at)
+    (λ s. choice (eqb (get_or line s.1 0) 58)
+    _ _ (bind (number_at 10 _ line (s.1 + 1)) _ (number 10 _ line (s.1 + 1)) (λ m. tt)) tt)
 
 pub dash : {A : Type 0} (none : A) (r : Reader A) → PlacedReader r → PlacedReader (dash_or none r)
 dash none r p line at = choice (eqb (get_or line at 0) 45) _ _ tt (p line at)
 
-pub later : {A : Type 0} (r : Reader A) (is_left : A → Bool) (none : A) (due : Bool) → PlacedReader r → PlacedReader (later_at r is_left none due)
+pub later : {A : Type 0} (r : Reader A) (is_left : A → Bool) (none : A) (due : Bool)
+    → PlacedReader r → PlacedReader (later_at r is_left none due)
 later r is_left none due p line at =
-    bind (comma_at due line at) _ (choice (eqb (get_or line at 0) 44) _ _ tt (choice due _ _ tt tt)) (λ comma. choice comma _ _ (bind (r line (at + 1)) _ (p line (at + 1)) (λ x. tt)) tt)
+    bind (comma_at due line at) _ (choice (eqb (get_or line at 0) 44) _ _ tt (choice due _ _ tt tt))
+    (λ comma. choice comma _ _ (bind (r line (at + 1)) _ (p line (at + 1)) (λ x. tt)) tt)
 
 pub number_field : PlacedReader number_field_at
 unfolding number_field_at
@@ -79,5 +93,7 @@ set_attr line at =
     bind (later_number_at false line m.1) _ (later_number false line m.1) (λ u.
     bind (later_number_at u.0.1 line u.1) _ (later_number u.0.1 line u.1) (λ g.
     bind (later_number_at g.0.1 line g.1) _ (later_number g.0.1 line g.1) (λ s.
-    bind (later_at time_field_at is_left_time left_time s.0.1 line s.1) _ (later time_field_at is_left_time left_time s.0.1 time_field line s.1) (λ a.
-    bind (later_at time_at is_left_time left_time a.0.1 line a.1) _ (later time_at is_left_time left_time a.0.1 time line a.1) (λ t. tt))))))
+    bind (later_at time_field_at is_left_time left_time s.0.1 line s.1)
+    _ (later time_field_at is_left_time left_time s.0.1 time_field line s.1) (λ a.
+    bind (later_at time_at is_left_time left_time a.0.1 line a.1)
+    _ (later time_at is_left_time left_time a.0.1 time line a.1) (λ t. tt))))))

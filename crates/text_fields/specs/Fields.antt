@@ -10,7 +10,8 @@ use Rattle.text_fields.specs.declared.fault.TextFault.TheVariants.{Grammar, Unbu
 use Rattle.spelling.specs.Text.{left, is_left_time}
 
 infixl 10 ◌>>=◌
-abbrev pub ◌>>=◌ : {A B : Type 0} → Result A TextFault → (A → Result B TextFault) → Result B TextFault
+abbrev pub ◌>>=◌ : {A B : Type 0} → Result A TextFault → (A → Result B TextFault)
+    → Result B TextFault
 (Ok x) >>= f = f x
 (Err e) >>= f = Err e
 
@@ -60,12 +61,18 @@ EndsWord (b ∷ rest) = b ≡ 32
 -- the number with one more digit, where b is a digit and the number stays within most
 abbrev pub longer : ℕ → ℕ → ℕ → ℕ → Option ℕ
 longer base most n b =
-    if nat_le 48 b && nat_lt b (48 + base) then (if nat_le (n * base + (b - 48)) most then Some (n * base + (b - 48)) else None) else None
+    if nat_le 48 b && nat_lt b (48 + base)
+    then (if nat_le (n * base + (b - 48)) most then Some (n * base + (b - 48)) else None)
+    else None
 
 -- digits while the number stays within most
 unfoldable pub number_from : ℕ → ℕ → List ℕ → ℕ → ℕ → ℕ × ℕ
 number_from base most [] n at = (n, at)
-number_from base most (b ∷ rest) n at = elim (longer base most n b) [ None ↦ (n, at) | Some m ↦ number_from base most rest m (at + 1) ]
+number_from base most (b ∷ rest) n at =
+    elim (longer base most n b) [
+      | None ↦ (n, at)
+      | Some m ↦ number_from base most rest m (at + 1)
+    ]
 
 -- a number without a leading zero
 unfoldable pub number_at : ℕ → ℕ → Reader ℕ
@@ -85,17 +92,22 @@ abbrev pub count_at : Reader ℕ
 count_at = number_at 10 999999999999999999
 
 abbrev pub server_of : ℕ → Option ServerId
-server_of b = if b == 48 then Some server.Zero else (if b == 49 then Some server.One else (if b == 50 then Some server.Two else None))
+server_of b =
+    if b == 48 then Some server.Zero
+    else (if b == 49 then Some server.One
+    else (if b == 50 then Some server.Two else None))
 
 abbrev pub server_at : Reader ServerId
-server_at bytes at = elim (server_of (slice_index bytes at)) [ None ↦ Err (Grammar at) | Some s ↦ Ok (s, at + 1) ]
+server_at bytes at =
+    elim (server_of (slice_index bytes at)) [ None ↦ Err (Grammar at) | Some s ↦ Ok (s, at + 1) ]
 
 -- ---- names
 
 -- the value of a lower-case hexadecimal digit
 abbrev pub hex_value : ℕ → Option ℕ
 hex_value b =
-    if nat_le 48 b && nat_le b 57 then Some (b - 48) else (if nat_le 97 b && nat_le b 102 then Some (b - 87) else None)
+    if nat_le 48 b && nat_le b 57 then Some (b - 48)
+    else (if nat_le 97 b && nat_le b 102 then Some (b - 87) else None)
 
 -- the byte of two digits
 abbrev pub pair_of : Option ℕ → Option ℕ → Option ℕ
@@ -104,13 +116,17 @@ pair_of (Some high) None = None
 pair_of None low = None
 
 abbrev pub pair_at : List ℕ → ℕ → Option ℕ
-pair_at bytes at = pair_of (hex_value (slice_index bytes at)) (hex_value (slice_index bytes (at + 1)))
+pair_at bytes at =
+    pair_of (hex_value (slice_index bytes at)) (hex_value (slice_index bytes (at + 1)))
 
 -- pairs of digits from a place on, at most so many, and the place after them
 unfoldable pub pairs_from : ℕ → List ℕ → ℕ → List ℕ × ℕ
 pairs_from zero bytes at = ([], at)
 pairs_from (suc room) bytes at =
-    elim (pair_at bytes at) [ None ↦ ([], at) | Some b ↦ (b ∷ (pairs_from room bytes (at + 2)).0, (pairs_from room bytes (at + 2)).1) ]
+    elim (pair_at bytes at) [
+      | None ↦ ([], at)
+      | Some b ↦ (b ∷ (pairs_from room bytes (at + 2)).0, (pairs_from room bytes (at + 2)).1)
+    ]
 
 -- whether one digit is left over
 abbrev pub is_odd_at : ℕ → List ℕ → List ℕ × ℕ → Bool
@@ -121,7 +137,8 @@ unfoldable pub hex_at : ℕ → Reader (List ℕ)
 hex_at most bytes at =
     let x = pairs_from most bytes at in
     if slice_index bytes at == 45 then Ok ([], at + 1)
-    else (if is_odd_at most bytes x then Err (Grammar (x.1 + 1)) else (if x.1 == at then Err (Grammar at) else Ok x))
+    else (if is_odd_at most bytes x then Err (Grammar (x.1 + 1))
+    else (if x.1 == at then Err (Grammar at) else Ok x))
 
 -- ---- the fields of SETATTR
 
@@ -153,9 +170,12 @@ time_field_at = dash_or left_time time_at
 
 -- whether a comma stands, where one has to stand if a field is due
 abbrev pub comma_at : Bool → List ℕ → ℕ → Result Bool TextFault
-comma_at due bytes at = if slice_index bytes at == 44 then Ok true else (if due then Err (Grammar at) else Ok false)
+comma_at due bytes at =
+    if slice_index bytes at == 44 then Ok true
+    else (if due then Err (Grammar at) else Ok false)
 
--- a field behind a comma, and whether it is left, so that a further one is due; or no field, where none is due
+-- a field behind a comma, and whether it is left, so that a further one is due; or no field, where
+-- none is due
 abbrev pub later_at : {A : Type 0} → Reader A → (A → Bool) → A → Bool → Reader (A × Bool)
 later_at r is_left none due bytes at = do
   comma ← comma_at due bytes at
@@ -176,4 +196,14 @@ set_attr_at bytes at = do
   size ← later_number_at gid.0.1 bytes gid.1
   atime ← later_at time_field_at is_left_time left_time size.0.1 bytes size.1
   mtime ← later_at time_at is_left_time left_time atime.0.1 bytes atime.1
-  Ok (record { mode = mode.0; uid = uid.0.0; gid = gid.0.0; size = size.0.0; atime = atime.0.0; mtime = mtime.0.0 }, mtime.1)
+  Ok (
+    record {
+      mode = mode.0;
+      uid = uid.0.0;
+      gid = gid.0.0;
+      size = size.0.0;
+      atime = atime.0.0;
+      mtime = mtime.0.0;
+    },
+    mtime.1,
+  )

@@ -86,7 +86,8 @@ fn comma_at(bytes: &[u8], due: bool, at: usize) -> Result<bool, TextFault>
     Ok(false)
 }
 
-/// A number behind a comma, and whether it is left, so that a further field is due. No field where none is due.
+/// A number behind a comma, and whether it is left, so that a further field is due. No field where
+/// none is due.
 fn later_number_at(bytes: &[u8], due: bool, at: usize) -> Result<((u32, bool), usize), TextFault>
     requires { at ≤ length bytes.now }
     ensures step { Gives (λ x. x) result (later_number_at due bytes.now at) }
@@ -102,7 +103,8 @@ fn later_number_at(bytes: &[u8], due: bool, at: usize) -> Result<((u32, bool), u
 /// The time of the last access, as a field like these.
 fn later_atime_at(bytes: &[u8], due: bool, at: usize) -> Result<((Time, bool), usize), TextFault>
     requires { at ≤ length bytes.now }
-    ensures step { Gives (λ x. x) result (later_at time_field_at is_left_time left_time due bytes.now at) }
+    ensures step { Gives (λ x. x) result
+        (later_at time_field_at is_left_time left_time due bytes.now at) }
     ensures within { IfOk result (λ x. x.1 ≤ length bytes.now) }
 {
     if comma_at(bytes, due, at)? {
@@ -115,7 +117,8 @@ fn later_atime_at(bytes: &[u8], due: bool, at: usize) -> Result<((Time, bool), u
 /// The time of the last change, which is the last field and so no dash.
 fn later_mtime_at(bytes: &[u8], due: bool, at: usize) -> Result<((Time, bool), usize), TextFault>
     requires { at ≤ length bytes.now }
-    ensures step { Gives (λ x. x) result (later_at time_at is_left_time left_time due bytes.now at) }
+    ensures step { Gives (λ x. x) result
+        (later_at time_at is_left_time left_time due bytes.now at) }
     ensures within { IfOk result (λ x. x.1 ≤ length bytes.now) }
 {
     if comma_at(bytes, due, at)? {

@@ -1,4 +1,5 @@
-//! The fields of a schedule's lines: words, numbers, names and the fields of SETATTR, read from places of a line.
+//! The fields of a schedule's lines: words, numbers, names and the fields of SETATTR, read from
+//! places of a line.
 #![tactic(auto)]
 
 mod fault;

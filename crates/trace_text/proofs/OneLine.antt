@@ -20,6 +20,7 @@ use Rattle.harp_base.specs.declared.attr.SetAttr.{SetAttr}
 use Rattle.harp_base.specs.declared.attr.Attr.{Attr}
 use Rattle.harp_base.specs.declared.call.Call.{Call}
 use Rattle.harp_base.specs.declared.call.Call.TheVariants as call
+use Rattle.harp_base.specs.declared.cred.Cred.{Cred}
 use Rattle.harp_base.specs.declared.reply.DirEntry.{DirEntry}
 use Rattle.harp_base.specs.declared.reply.Reply.{Reply}
 use Rattle.harp_base.specs.declared.reply.Reply.TheVariants as reply
@@ -34,7 +35,7 @@ use Rattle.trace_lines.specs.declared.line.ShownMessage.{ShownMessage}
 use Rattle.trace_lines.specs.declared.line.ShownMessage.TheVariants as message
 use Rattle.trace_lines.specs.declared.line.Line.{Line}
 use Rattle.trace_lines.specs.declared.line.Line.TheVariants as line
-use Rattle.spelling.specs.Text.{left, is_left_time, hex_text, octal, time_text, number_field, mode_field, time_field, later, mtime_on, atime_on, size_on, gid_on, uid_on, set_attr_text, call_text, kind_number, status_number, attr_owner, attr_extent, attr_times, attr_text, entry_text, page_end, reply_text, spaced, comma, ask_head, pair_text, among_text, step_text}
+use Rattle.spelling.specs.Text.{left, is_left_time, hex_text, octal, time_text, number_field, mode_field, time_field, later, mtime_on, atime_on, size_on, gid_on, uid_on, set_attr_text, call_text, kind_number, status_number, attr_owner, attr_extent, attr_times, attr_text, entry_text, page_end, reply_text, spaced, comma, is_implied, told_text, cred_text, ask_head, pair_text, among_text, step_text}
 use Rattle.spelling.specs.Lines.{IsOneLine, hint_text, cause_text, fault_text, view_text, message_text, mode_text, role_text, held_text, state_text, entry_line, line_text}
 
 append : (x y : List ℕ) → IsOneLine x → IsOneLine y → IsOneLine (x ++ y)
@@ -54,7 +55,9 @@ glyph d e = by (ltb d 10) e
 
 onto : (k base n : ℕ) (text : List ℕ) → IsOneLine text → IsOneLine (digits_onto k base false n text)
 onto zero base n text p = p
-onto (suc k) base n text p = choice (eqb (n / base) 0) _ _ (glyph (n % base), p) (onto k base (n / base) (digit_glyph false (n % base) ∷ text) (glyph (n % base), p))
+onto (suc k) base n text p =
+    choice (eqb (n / base) 0) _ _ (glyph (n % base), p)
+    (onto k base (n / base) (digit_glyph false (n % base) ∷ text) (glyph (n % base), p))
 
 numeral : (base n : ℕ) → IsOneLine (digits base false n)
 unfolding digits
@@ -75,7 +78,8 @@ feeds (b ∷ text) = (b == 10) || feeds text
 -- a text whose bytes are known
 known : (text : List ℕ) → feeds text ≡ false → IsOneLine text
 known [] e = tt
-known (b ∷ text) e = let p = or_parts (b == 10) (feeds text) e in (eqb-false b 10 p.0, known text p.1)
+known (b ∷ text) e = let p =
+    or_parts (b == 10) (feeds text) e in (eqb-false b 10 p.0, known text p.1)
 
 -- a byte of a text
 byte : (text : List ℕ) (v : ℕ) → IsOneLine text → get_or text v 0 ≡ 10 → ⊥
@@ -110,22 +114,27 @@ abbrev worded : List ℕ → List (List ℕ) → List ℕ
 worded text [] = text
 worded text (w ∷ ws) = worded (text ++ spaced w) ws
 
-words : (text : List ℕ) (ws : List (List ℕ)) → IsOneLine text → AllByRecursion IsOneLine ws → IsOneLine (worded text ws)
+words : (text : List ℕ) (ws : List (List ℕ)) → IsOneLine text → AllByRecursion IsOneLine ws
+    → IsOneLine (worded text ws)
 words text [] p all = p
-words text (w ∷ ws) p all = words (text ++ spaced w) ws (append text (spaced w) p (space w all.0)) all.1
+words text (w ∷ ws) p all =
+    words (text ++ spaced w) ws (append text (spaced w) p (space w all.0)) all.1
 
 -- fields behind a text
 abbrev fielded : List ℕ → List (List ℕ) → List ℕ
 fielded text [] = text
 fielded text (f ∷ fs) = fielded (text ++ comma f) fs
 
-fields : (text : List ℕ) (fs : List (List ℕ)) → IsOneLine text → AllByRecursion IsOneLine fs → IsOneLine (fielded text fs)
+fields : (text : List ℕ) (fs : List (List ℕ)) → IsOneLine text → AllByRecursion IsOneLine fs
+    → IsOneLine (fielded text fs)
 fields text [] p all = p
-fields text (f ∷ fs) p all = fields (text ++ comma f) fs (append text (comma f) p (comma_line f all.0)) all.1
+fields text (f ∷ fs) p all =
+    fields (text ++ comma f) fs (append text (comma f) p (comma_line f all.0)) all.1
 
 time : (t : Time) → IsOneLine (time_text t)
 unfolding time_text
-time t = append (decimal t.seconds) (58 ∷ decimal t.micros) (number t.seconds) (colon (decimal t.micros) (number t.micros))
+time t = append (decimal t.seconds) (58 ∷ decimal t.micros) (number t.seconds)
+    (colon (decimal t.micros) (number t.micros))
 
 dash : IsOneLine (45 ∷ [])
 dash = (λ e. absurd (omega arith), tt)
@@ -154,52 +163,90 @@ set_attr a =
     let size = later (size_on a) (number_field a.size) in
     let atime = later (atime_on a) (time_field a.atime) in
     let mtime = later (mtime_on a) (time_field a.mtime) in
-    let one = append (mode_field a.mode) uid (set_mode a.mode) (later_line (uid_on a) (number_field a.uid) (set_number a.uid)) in
-    let two = append (mode_field a.mode ++ uid) gid one (later_line (gid_on a) (number_field a.gid) (set_number a.gid)) in
-    let three = append ((mode_field a.mode ++ uid) ++ gid) size two (later_line (size_on a) (number_field a.size) (set_number a.size)) in
-    let four = append (((mode_field a.mode ++ uid) ++ gid) ++ size) atime three (later_line (atime_on a) (time_field a.atime) (set_time a.atime)) in
-    append ((((mode_field a.mode ++ uid) ++ gid) ++ size) ++ atime) mtime four (later_line (mtime_on a) (time_field a.mtime) (set_time a.mtime))
+    let one = append (mode_field a.mode) uid (set_mode a.mode)
+    (later_line (uid_on a) (number_field a.uid) (set_number a.uid)) in
+    let two = append (mode_field a.mode ++ uid) gid one
+    (later_line (gid_on a) (number_field a.gid) (set_number a.gid)) in
+    let three = append ((mode_field a.mode ++ uid) ++ gid) size two
+    (later_line (size_on a) (number_field a.size) (set_number a.size)) in
+    let four = append (((mode_field a.mode ++ uid) ++ gid) ++ size) atime three
+    (later_line (atime_on a) (time_field a.atime) (set_time a.atime)) in
+    append ((((mode_field a.mode ++ uid) ++ gid) ++ size) ++ atime) mtime four
+    (later_line (mtime_on a) (time_field a.mtime) (set_time a.mtime))
 
 call_line : (c : Call) → IsOneLine (call_text c)
 unfolding call_text
 call_line call.Null = known (codes "null") refl
-call_line (call.GetAttr handle) = words (codes "getattr") (decimal handle ∷ []) (known (codes "getattr") refl) (number handle, tt)
-call_line (call.SetAttr handle attr) = words (codes "setattr") (decimal handle ∷ set_attr_text attr ∷ []) (known (codes "setattr") refl) (number handle, (set_attr attr, tt))
-call_line (call.Lookup dir n) = words (codes "lookup") (decimal dir ∷ hex_text n ∷ []) (known (codes "lookup") refl) (number dir, (name n, tt))
-call_line (call.ReadLink handle) = words (codes "readlink") (decimal handle ∷ []) (known (codes "readlink") refl) (number handle, tt)
+call_line (call.GetAttr handle) =
+    words (codes "getattr") (decimal handle ∷ []) (known (codes "getattr") refl) (number handle, tt)
+call_line (call.SetAttr handle attr) =
+    words (codes "setattr") (decimal handle ∷ set_attr_text attr ∷ [])
+    (known (codes "setattr") refl) (number handle, (set_attr attr, tt))
+call_line (call.Lookup dir n) =
+    words (codes "lookup") (decimal dir ∷ hex_text n ∷ []) (known (codes "lookup") refl)
+    (number dir, (name n, tt))
+call_line (call.ReadLink handle) =
+    words (codes "readlink") (decimal handle ∷ []) (known (codes "readlink") refl)
+    (number handle, tt)
 call_line (call.Read handle offset count) =
-    words (codes "read") (decimal handle ∷ decimal offset ∷ decimal count ∷ []) (known (codes "read") refl) (number handle, (number offset, (number count, tt)))
+    words (codes "read") (decimal handle ∷ decimal offset ∷ decimal count ∷ [])
+    (known (codes "read") refl) (number handle, (number offset, (number count, tt)))
 call_line (call.Write handle offset bytes) =
-    words (codes "write") (decimal handle ∷ decimal offset ∷ hex_text bytes ∷ []) (known (codes "write") refl) (number handle, (number offset, (name bytes, tt)))
-call_line (call.Create dir n attr) = words (codes "create") (decimal dir ∷ hex_text n ∷ set_attr_text attr ∷ []) (known (codes "create") refl) (number dir, (name n, (set_attr attr, tt)))
-call_line (call.Remove dir n) = words (codes "remove") (decimal dir ∷ hex_text n ∷ []) (known (codes "remove") refl) (number dir, (name n, tt))
+    words (codes "write") (decimal handle ∷ decimal offset ∷ hex_text bytes ∷ [])
+    (known (codes "write") refl) (number handle, (number offset, (name bytes, tt)))
+call_line (call.Create dir n attr) =
+    words (codes "create") (decimal dir ∷ hex_text n ∷ set_attr_text attr ∷ [])
+    (known (codes "create") refl) (number dir, (name n, (set_attr attr, tt)))
+call_line (call.Remove dir n) =
+    words (codes "remove") (decimal dir ∷ hex_text n ∷ []) (known (codes "remove") refl)
+    (number dir, (name n, tt))
 call_line (call.Rename dir n to_dir to_name) =
-    words (codes "rename") (decimal dir ∷ hex_text n ∷ decimal to_dir ∷ hex_text to_name ∷ []) (known (codes "rename") refl) (number dir, (name n, (number to_dir, (name to_name, tt))))
-call_line (call.Link handle dir n) = words (codes "link") (decimal handle ∷ decimal dir ∷ hex_text n ∷ []) (known (codes "link") refl) (number handle, (number dir, (name n, tt)))
+    words (codes "rename") (decimal dir ∷ hex_text n ∷ decimal to_dir ∷ hex_text to_name ∷ [])
+    (known (codes "rename") refl) (number dir, (name n, (number to_dir, (name to_name, tt))))
+call_line (call.Link handle dir n) =
+    words (codes "link") (decimal handle ∷ decimal dir ∷ hex_text n ∷ [])
+    (known (codes "link") refl) (number handle, (number dir, (name n, tt)))
 call_line (call.SymLink dir n text attr) =
-    words (codes "symlink") (decimal dir ∷ hex_text n ∷ hex_text text ∷ set_attr_text attr ∷ []) (known (codes "symlink") refl) (number dir, (name n, (name text, (set_attr attr, tt))))
-call_line (call.MkDir dir n attr) = words (codes "mkdir") (decimal dir ∷ hex_text n ∷ set_attr_text attr ∷ []) (known (codes "mkdir") refl) (number dir, (name n, (set_attr attr, tt)))
-call_line (call.RmDir dir n) = words (codes "rmdir") (decimal dir ∷ hex_text n ∷ []) (known (codes "rmdir") refl) (number dir, (name n, tt))
+    words (codes "symlink") (decimal dir ∷ hex_text n ∷ hex_text text ∷ set_attr_text attr ∷ [])
+    (known (codes "symlink") refl) (number dir, (name n, (name text, (set_attr attr, tt))))
+call_line (call.MkDir dir n attr) =
+    words (codes "mkdir") (decimal dir ∷ hex_text n ∷ set_attr_text attr ∷ [])
+    (known (codes "mkdir") refl) (number dir, (name n, (set_attr attr, tt)))
+call_line (call.RmDir dir n) =
+    words (codes "rmdir") (decimal dir ∷ hex_text n ∷ []) (known (codes "rmdir") refl)
+    (number dir, (name n, tt))
 call_line (call.ReadDir dir cookie count) =
-    words (codes "readdir") (decimal dir ∷ decimal cookie ∷ decimal count ∷ []) (known (codes "readdir") refl) (number dir, (number cookie, (number count, tt)))
-call_line (call.StatFs handle) = words (codes "statfs") (decimal handle ∷ []) (known (codes "statfs") refl) (number handle, tt)
+    words (codes "readdir") (decimal dir ∷ decimal cookie ∷ decimal count ∷ [])
+    (known (codes "readdir") refl) (number dir, (number cookie, (number count, tt)))
+call_line (call.StatFs handle) =
+    words (codes "statfs") (decimal handle ∷ []) (known (codes "statfs") refl) (number handle, tt)
 
 attr : (a : Attr) → IsOneLine (attr_text a)
 unfolding attr_text attr_owner attr_extent attr_times
 attr a =
-    let owner = fields (decimal (kind_number a.kind)) (octal a.mode ∷ decimal a.links ∷ decimal a.uid ∷ decimal a.gid ∷ []) (number (kind_number a.kind)) (octals a.mode, (number a.links, (number a.uid, (number a.gid, tt)))) in
-    let extent = fields (comma (decimal a.size)) (decimal a.blocks ∷ decimal a.fileid ∷ []) (comma_line (decimal a.size) (number a.size)) (number a.blocks, (number a.fileid, tt)) in
-    let times = fields (comma (time_text a.atime)) (time_text a.mtime ∷ time_text a.ctime ∷ []) (comma_line (time_text a.atime) (time a.atime)) (time a.mtime, (time a.ctime, tt)) in
-    append (attr_owner a ++ attr_extent a) (attr_times a) (append (attr_owner a) (attr_extent a) owner extent) times
+    let owner = fields (decimal (kind_number a.kind))
+    (octal a.mode ∷ decimal a.links ∷ decimal a.uid ∷ decimal a.gid ∷ [])
+    (number (kind_number a.kind))
+    (octals a.mode, (number a.links, (number a.uid, (number a.gid, tt)))) in
+    let extent = fields (comma (decimal a.size)) (decimal a.blocks ∷ decimal a.fileid ∷ [])
+    (comma_line (decimal a.size) (number a.size)) (number a.blocks, (number a.fileid, tt)) in
+    let times = fields (comma (time_text a.atime)) (time_text a.mtime ∷ time_text a.ctime ∷ [])
+    (comma_line (time_text a.atime) (time a.atime)) (time a.mtime, (time a.ctime, tt)) in
+    append (attr_owner a ++ attr_extent a) (attr_times a)
+    (append (attr_owner a) (attr_extent a) owner extent) times
 
 entry : (e : DirEntry) → IsOneLine (entry_text e)
 unfolding entry_text
 entry e =
-    append (decimal e.fileid ++ 58 ∷ hex_text e.name) (58 ∷ decimal e.cookie) (append (decimal e.fileid) (58 ∷ hex_text e.name) (number e.fileid) (colon (hex_text e.name) (name e.name))) (colon (decimal e.cookie) (number e.cookie))
+    append (decimal e.fileid ++ 58 ∷ hex_text e.name) (58 ∷ decimal e.cookie)
+    (append (decimal e.fileid) (58 ∷ hex_text e.name) (number e.fileid)
+    (colon (hex_text e.name) (name e.name))) (colon (decimal e.cookie) (number e.cookie))
 
 entries : (es : List DirEntry) → IsOneLine (flat_map (λ e. spaced (entry_text e)) es)
 entries [] = tt
-entries (e ∷ es) = append (spaced (entry_text e)) (flat_map (λ e. spaced (entry_text e)) es) (space (entry_text e) (entry e)) (entries es)
+entries (e ∷ es) =
+    append (spaced (entry_text e)) (flat_map (λ e. spaced (entry_text e)) es)
+    (space (entry_text e) (entry e)) (entries es)
 
 last_page : (eof : Bool) → IsOneLine (page_end eof)
 last_page true = known (codes "eof") refl
@@ -207,36 +254,72 @@ last_page false = known (codes "more") refl
 
 reply_line : (r : Reply) → IsOneLine (reply_text r)
 unfolding reply_text
-reply_line (reply.Refused status) = words (codes "no") (decimal (status_number status) ∷ []) (known (codes "no") refl) (number (status_number status), tt)
+reply_line (reply.Refused status) =
+    words (codes "no") (decimal (status_number status) ∷ []) (known (codes "no") refl)
+    (number (status_number status), tt)
 reply_line reply.Done = known (codes "done") refl
-reply_line (reply.Attr a) = words (codes "attr") (attr_text a ∷ []) (known (codes "attr") refl) (attr a, tt)
-reply_line (reply.Node handle a) = words (codes "node") (decimal handle ∷ attr_text a ∷ []) (known (codes "node") refl) (number handle, (attr a, tt))
-reply_line (reply.Path text) = words (codes "path") (hex_text text ∷ []) (known (codes "path") refl) (name text, tt)
-reply_line (reply.Bytes a bytes) = words (codes "data") (attr_text a ∷ hex_text bytes ∷ []) (known (codes "data") refl) (attr a, (name bytes, tt))
+reply_line (reply.Attr a) =
+    words (codes "attr") (attr_text a ∷ []) (known (codes "attr") refl) (attr a, tt)
+reply_line (reply.Node handle a) =
+    words (codes "node") (decimal handle ∷ attr_text a ∷ []) (known (codes "node") refl)
+    (number handle, (attr a, tt))
+reply_line (reply.Path text) =
+    words (codes "path") (hex_text text ∷ []) (known (codes "path") refl) (name text, tt)
+reply_line (reply.Bytes a bytes) =
+    words (codes "data") (attr_text a ∷ hex_text bytes ∷ []) (known (codes "data") refl)
+    (attr a, (name bytes, tt))
 reply_line (reply.Page es eof) =
     let listed = flat_map (λ e. spaced (entry_text e)) es in
-    words (codes "dir" ++ listed) (page_end eof ∷ []) (append (codes "dir") listed (known (codes "dir") refl) (entries es)) (last_page eof, tt)
+    words (codes "dir" ++ listed) (page_end eof ∷ [])
+    (append (codes "dir") listed (known (codes "dir") refl) (entries es)) (last_page eof, tt)
 reply_line (reply.Space transfer block blocks free available) =
-    words (codes "fs") (decimal transfer ∷ decimal block ∷ decimal blocks ∷ decimal free ∷ decimal available ∷ []) (known (codes "fs") refl)
+    words (codes "fs") (decimal transfer ∷ decimal block ∷ decimal blocks ∷ decimal free
+    ∷ decimal available ∷ []) (known (codes "fs") refl)
     (number transfer, (number block, (number blocks, (number free, (number available, tt)))))
 
 among_line : (among : Option (ServerId × ServerId)) → IsOneLine (codes "pump" ++ among_text among)
 unfolding among_text
 among_line None = known (codes "pump") refl
 among_line (Some pair) =
-    words (codes "pump") (pair_text pair ∷ []) (known (codes "pump") refl)
-    (append (decimal (number_of pair.0)) (decimal (number_of pair.1)) (number (number_of pair.0)) (number (number_of pair.1)), tt)
+    words (codes "pump") (pair_text pair ∷ []) (known (codes "pump") refl) (
+      append (decimal (number_of pair.0)) (decimal (number_of pair.1)) (number (number_of pair.0))
+          (number (number_of pair.1)),
+      tt,
+    )
+
+cred_line : (c : Cred) → IsOneLine (cred_text c)
+unfolding cred_text
+cred_line c =
+    choice (is_implied c) [] (told_text c) tt
+    (words (codes " as") (decimal c.uid ∷ decimal c.gid ∷ []) (known (codes " as") refl)
+    (number c.uid, (number c.gid, tt)))
+
+-- a text, a credential, and a call
+called : (text : List ℕ) (cred : Cred) (c : Call) → IsOneLine text
+    → IsOneLine (text ++ cred_text cred ++ spaced (call_text c))
+called text cred c p =
+    append (text ++ cred_text cred) (spaced (call_text c))
+    (append text (cred_text cred) p (cred_line cred))
+    (space (call_text c) (call_line c))
 
 pub step_line : (s : Step) → IsOneLine (step_text s)
 unfolding step_text ask_head
-step_line (step.Deliver packet) = words (codes "deliver") (decimal packet ∷ []) (known (codes "deliver") refl) (number packet, tt)
+step_line (step.Deliver packet) =
+    words (codes "deliver") (decimal packet ∷ []) (known (codes "deliver") refl) (number packet, tt)
 step_line (step.Pump among) = among_line among
-step_line (step.Tick server) = words (codes "tick") (decimal (number_of server) ∷ []) (known (codes "tick") refl) (number (number_of server), tt)
+step_line (step.Tick server) =
+    words (codes "tick") (decimal (number_of server) ∷ []) (known (codes "tick") refl)
+    (number (number_of server), tt)
 step_line (step.Clock server reading) =
-    words (codes "clock") (decimal (number_of server) ∷ decimal reading ∷ []) (known (codes "clock") refl) (number (number_of server), (number reading, tt))
-step_line (step.Advance millis) = words (codes "advance") (decimal millis ∷ []) (known (codes "advance") refl) (number millis, tt)
-step_line (step.Ask server c q asked) =
-    words (codes "ask") (decimal (number_of server) ∷ decimal c ∷ decimal q ∷ call_text asked ∷ []) (known (codes "ask") refl) (number (number_of server), (number c, (number q, (call_line asked, tt))))
+    words (codes "clock") (decimal (number_of server) ∷ decimal reading ∷ [])
+    (known (codes "clock") refl) (number (number_of server), (number reading, tt))
+step_line (step.Advance millis) =
+    words (codes "advance") (decimal millis ∷ []) (known (codes "advance") refl) (number millis, tt)
+step_line (step.Ask server c q cred asked) =
+    called (ask_head server c q) cred asked
+    (words (codes "ask") (decimal (number_of server) ∷ decimal c ∷ decimal q ∷ [])
+    (known (codes "ask") refl)
+    (number (number_of server), (number c, (number q, tt))))
 
 hint_line : (h : Option ServerId) → IsOneLine (hint_text h)
 hint_line None = dash
@@ -244,7 +327,9 @@ hint_line (Some server) = number (number_of server)
 
 cause_line : (c : Cause) → IsOneLine (cause_text c)
 cause_line cause.BadClient = known (codes "bad-client") refl
-cause_line (cause.NotLeader hint) = words (codes "not-leader") (hint_text hint ∷ []) (known (codes "not-leader") refl) (hint_line hint, tt)
+cause_line (cause.NotLeader hint) =
+    words (codes "not-leader") (hint_text hint ∷ []) (known (codes "not-leader") refl)
+    (hint_line hint, tt)
 cause_line cause.NotYetOpen = known (codes "not-yet-open") refl
 cause_line cause.NoPromise = known (codes "no-promise") refl
 cause_line cause.LogFull = known (codes "log-full") refl
@@ -262,17 +347,21 @@ fault_line fault.ClockApart = known (codes "clock-apart") refl
 view_line : (v : View) → IsOneLine (view_text v)
 unfolding view_text
 view_line v =
-    append (decimal v.count) (46 ∷ decimal (number_of v.coordinator)) (number v.count) (λ e. absurd (omega arith), number (number_of v.coordinator))
+    append (decimal v.count) (46 ∷ decimal (number_of v.coordinator)) (number v.count)
+    (λ e. absurd (omega arith), number (number_of v.coordinator))
 
 message_line : (m : ShownMessage) → IsOneLine (message_text m)
 unfolding message_text
 message_line (message.Event view index cp base client q) =
-    words (codes "event") (view_text view ∷ decimal index ∷ decimal cp ∷ decimal base ∷ decimal client ∷ decimal q ∷ []) (known (codes "event") refl)
+    words (codes "event") (view_text view ∷ decimal index ∷ decimal cp ∷ decimal base
+    ∷ decimal client ∷ decimal q ∷ []) (known (codes "event") refl)
     (view_line view, (number index, (number cp, (number base, (number client, (number q, tt))))))
 message_line (message.Beat view cp base) =
-    words (codes "beat") (view_text view ∷ decimal cp ∷ decimal base ∷ []) (known (codes "beat") refl) (view_line view, (number cp, (number base, tt)))
+    words (codes "beat") (view_text view ∷ decimal cp ∷ decimal base ∷ [])
+    (known (codes "beat") refl) (view_line view, (number cp, (number base, tt)))
 message_line (message.Ack view top lb until) =
-    words (codes "ack") (view_text view ∷ decimal top ∷ decimal lb ∷ decimal until ∷ []) (known (codes "ack") refl)
+    words (codes "ack") (view_text view ∷ decimal top ∷ decimal lb ∷ decimal until ∷ [])
+    (known (codes "ack") refl)
     (view_line view, (number top, (number lb, (number until, tt))))
 
 mode_line : (m : Mode) → IsOneLine (mode_text m)
@@ -285,8 +374,12 @@ mode_line mode.Open = known (codes "open") refl
 mode_line mode.Live = known (codes "live") refl
 
 role_line : (r : Role) → IsOneLine (role_text r)
-role_line (role.Leads partner) = words (codes "leads") (decimal (number_of partner) ∷ []) (known (codes "leads") refl) (number (number_of partner), tt)
-role_line (role.Follows leader) = words (codes "follows") (decimal (number_of leader) ∷ []) (known (codes "follows") refl) (number (number_of leader), tt)
+role_line (role.Leads partner) =
+    words (codes "leads") (decimal (number_of partner) ∷ []) (known (codes "leads") refl)
+    (number (number_of partner), tt)
+role_line (role.Follows leader) =
+    words (codes "follows") (decimal (number_of leader) ∷ []) (known (codes "follows") refl)
+    (number (number_of leader), tt)
 role_line role.Outside = known (codes "outside -") refl
 
 held_line : (h : Held) → IsOneLine (held_text h)
@@ -297,35 +390,63 @@ held_line held.Lost = known (codes "lost") refl
 state_line : (s : StateLine) → IsOneLine (state_text s)
 unfolding state_text
 state_line s =
-    append (front s) (totals s) (words (mode_text s.mode) (view_text s.promised ∷ view_text s.accepted ∷ role_text s.role ∷ held_text s.held ∷ []) (mode_line s.mode) (view_line s.promised, (view_line s.accepted, (role_line s.role, (held_line s.held, tt)))))
-    (words (spaced (decimal s.base)) (decimal s.lb ∷ decimal s.ap ∷ decimal s.cp ∷ decimal s.top ∷ []) (space (decimal s.base) (number s.base)) (number s.lb, (number s.ap, (number s.cp, (number s.top, tt)))))
+    append (front s) (totals s)
+    (words (mode_text s.mode) (view_text s.promised ∷ view_text s.accepted ∷ role_text s.role
+    ∷ held_text s.held ∷ []) (mode_line s.mode)
+    (view_line s.promised, (view_line s.accepted, (role_line s.role, (held_line s.held, tt)))))
+    (words (spaced (decimal s.base)) (decimal s.lb ∷ decimal s.ap ∷ decimal s.cp ∷ decimal s.top
+    ∷ []) (space (decimal s.base) (number s.base))
+    (number s.lb, (number s.ap, (number s.cp, (number s.top, tt)))))
   where
     front : StateLine → List ℕ
-    front s = mode_text s.mode ++ spaced (view_text s.promised) ++ spaced (view_text s.accepted) ++ spaced (role_text s.role) ++ spaced (held_text s.held)
+    front s = mode_text s.mode ++ spaced (view_text s.promised) ++ spaced (view_text s.accepted)
+        ++ spaced (role_text s.role) ++ spaced (held_text s.held)
 
     totals : StateLine → List ℕ
-    totals s = spaced (decimal s.base) ++ spaced (decimal s.lb) ++ spaced (decimal s.ap) ++ spaced (decimal s.cp) ++ spaced (decimal s.top)
+    totals s = spaced (decimal s.base) ++ spaced (decimal s.lb) ++ spaced (decimal s.ap)
+        ++ spaced (decimal s.cp) ++ spaced (decimal s.top)
 
 book_line : (e : BookEntry) → IsOneLine (entry_line e)
 unfolding entry_line
 book_line e =
-    words (spaced (decimal e.index)) (decimal e.client ∷ decimal e.number ∷ decimal e.stamp ∷ call_text e.call ∷ codes "=" ∷ reply_text e.reply ∷ []) (space (decimal e.index) (number e.index))
-    (number e.client, (number e.number, (number e.stamp, (call_line e.call, (known (codes "=") refl, (reply_line e.reply, tt))))))
+    words (front e ++ cred_text e.cred ++ spaced (call_text e.call))
+    (codes "=" ∷ reply_text e.reply ∷ [])
+    (called (front e) e.cred e.call
+    (words (spaced (decimal e.index)) (decimal e.client ∷ decimal e.number ∷ decimal e.stamp ∷ [])
+    (space (decimal e.index) (number e.index))
+    (number e.client, (number e.number, (number e.stamp, tt)))))
+    (known (codes "=") refl, (reply_line e.reply, tt))
+  where
+    front : BookEntry → List ℕ
+    front e =
+        spaced (decimal e.index) ++ spaced (decimal e.client) ++ spaced (decimal e.number)
+        ++ spaced (decimal e.stamp)
 
 pub trace_line : (l : Line) → IsOneLine (line_text l)
 unfolding line_text
-trace_line (line.Event step) = words (codes ">") (step_text step ∷ []) (known (codes ">") refl) (step_line step, tt)
+trace_line (line.Event step) =
+    words (codes ">") (step_text step ∷ []) (known (codes ">") refl) (step_line step, tt)
 trace_line (line.Entered place entry) =
-    append (codes "entered" ++ spaced (decimal place)) (entry_line entry) (words (codes "entered") (decimal place ∷ []) (known (codes "entered") refl) (number place, tt)) (book_line entry)
+    append (codes "entered" ++ spaced (decimal place)) (entry_line entry)
+    (words (codes "entered") (decimal place ∷ []) (known (codes "entered") refl)
+    (number place, tt)) (book_line entry)
 trace_line (line.Answered server c q index reply) =
-    words (codes "answered") (decimal (number_of server) ∷ decimal c ∷ decimal q ∷ decimal index ∷ reply_text reply ∷ []) (known (codes "answered") refl)
+    words (codes "answered") (decimal (number_of server) ∷ decimal c ∷ decimal q ∷ decimal index
+    ∷ reply_text reply ∷ []) (known (codes "answered") refl)
     (number (number_of server), (number c, (number q, (number index, (reply_line reply, tt)))))
 trace_line (line.Refused server c q cause) =
-    words (codes "refused") (decimal (number_of server) ∷ decimal c ∷ decimal q ∷ cause_text cause ∷ []) (known (codes "refused") refl) (number (number_of server), (number c, (number q, (cause_line cause, tt))))
+    words (codes "refused") (decimal (number_of server) ∷ decimal c ∷ decimal q ∷ cause_text cause
+    ∷ []) (known (codes "refused") refl)
+    (number (number_of server), (number c, (number q, (cause_line cause, tt))))
 trace_line (line.Sent packet from to message) =
-    words (codes "send") (decimal packet ∷ decimal (number_of from) ∷ decimal (number_of to) ∷ message_text message ∷ []) (known (codes "send") refl)
+    words (codes "send") (decimal packet ∷ decimal (number_of from) ∷ decimal (number_of to)
+    ∷ message_text message ∷ []) (known (codes "send") refl)
     (number packet, (number (number_of from), (number (number_of to), (message_line message, tt))))
 trace_line (line.State server state) =
-    words (codes "state") (decimal (number_of server) ∷ state_text state ∷ []) (known (codes "state") refl) (number (number_of server), (state_line state, tt))
-trace_line (line.Bad place fault) = words (codes "bad") (decimal place ∷ fault_text fault ∷ []) (known (codes "bad") refl) (number place, (fault_line fault, tt))
-trace_line (line.End entered) = words (codes "end") (decimal entered ∷ []) (known (codes "end") refl) (number entered, tt)
+    words (codes "state") (decimal (number_of server) ∷ state_text state ∷ [])
+    (known (codes "state") refl) (number (number_of server), (state_line state, tt))
+trace_line (line.Bad place fault) =
+    words (codes "bad") (decimal place ∷ fault_text fault ∷ []) (known (codes "bad") refl)
+    (number place, (fault_line fault, tt))
+trace_line (line.End entered) =
+    words (codes "end") (decimal entered ∷ []) (known (codes "end") refl) (number entered, tt)

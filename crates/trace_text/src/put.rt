@@ -2,10 +2,11 @@
 
 ghost use Rattle.std.specs.Prelude.{◌≡◌, ◌++◌, ◌∷◌, [], codes, decimal, OnOk};
 ghost use Rattle.harp_base.specs.Server.{number_of};
-ghost use Rattle.spelling.specs.Text.{spaced, hex_text, octal};
+ghost use Rattle.spelling.specs.Text.{spaced, cred_text, hex_text, octal};
 
-use harp_base::ServerId;
+use harp_base::{Cred, ServerId};
 use itoa::Buffer;
+use spelling::is_implied;
 use std::alloc::{AllocError, Global};
 
 pub fn put_decimal(out: &mut Vec<u8>, n: u64) -> Result<(), AllocError>
@@ -39,6 +40,15 @@ pub fn put_named(out: &mut Vec<u8>, word: &[u8], n: u64) -> Result<(), AllocErro
     put_number(out, n)
 }
 
+/// A word, and a server behind it.
+pub fn put_at(out: &mut Vec<u8>, word: &[u8], server: ServerId) -> Result<(), AllocError>
+    ensures { OnOk result (out.new.items ≡ out.old.items
+        ++ word.now ++ spaced (decimal (number_of server))) }
+{
+    out.extend_from_slice(word)?;
+    put_server(out, server)
+}
+
 /// Three numbers.
 pub fn put_three(out: &mut Vec<u8>, first: u64, second: u64, third: u64) -> Result<(), AllocError>
     ensures { OnOk result (out.new.items ≡ out.old.items
@@ -48,6 +58,22 @@ pub fn put_three(out: &mut Vec<u8>, first: u64, second: u64, third: u64) -> Resu
     put_number(out, second)?;
     put_number(out, third)?;
     Ok(())
+}
+
+/// A word, and behind it a server, a client and a number of it.
+pub fn put_client(
+    out: &mut Vec<u8>,
+    word: &[u8],
+    server: ServerId,
+    client: u32,
+    number: u64,
+) -> Result<(), AllocError>
+    ensures { OnOk result (out.new.items ≡ out.old.items ++ word.now
+        ++ spaced (decimal (number_of server)) ++ spaced (decimal client)
+        ++ spaced (decimal number)) }
+{
+    out.extend_from_slice(word)?;
+    put_three(out, u64::from(server.number()), u64::from(client), number)
 }
 
 #[tactic(auto, unfolding(spelling::specs::Text::octal))]
@@ -76,5 +102,19 @@ pub fn put_name(alloc: Global, out: &mut Vec<u8>, bytes: &[u8]) -> Result<(), Al
 {
     out.push(b' ')?;
     put_hex(alloc, out, bytes)?;
+    Ok(())
+}
+
+/// The user and the group behind `as`, where a call has to tell them.
+#[tactic(auto, unfolding(spelling::specs::Text::cred_text))]
+pub fn put_cred(out: &mut Vec<u8>, cred: Cred) -> Result<(), AllocError>
+    ensures { OnOk result (out.new.items ≡ out.old.items ++ cred_text cred) }
+{
+    if is_implied(cred) {
+        return Ok(());
+    }
+    out.extend_from_slice(b" as")?;
+    put_number(out, u64::from(cred.uid))?;
+    put_number(out, u64::from(cred.gid))?;
     Ok(())
 }

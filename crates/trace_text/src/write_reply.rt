@@ -2,9 +2,10 @@
 
 ghost use Rattle.std.specs.Prelude.{◌≡◌, ◌++◌, ◌∷◌, [], codes, decimal, OnOk};
 ghost use Rattle.std.specs.List.{flat_map};
+ghost use Rattle.harp_base.specs.declared.reply.Reply.TheVariants as replies;
 ghost use Rattle.spelling.specs.Text.{spaced, hex_text, status_number, entry_text, page_end, reply_text};
 
-use crate::put::{put_decimal, put_hex, put_name, put_number, put_three};
+use crate::put::{put_decimal, put_hex, put_name, put_named, put_number, put_three};
 use crate::write_attr::put_attr;
 use harp_base::{DirEntry, Reply, Status};
 use std::alloc::{AllocError, Global};
@@ -43,7 +44,8 @@ fn put_dir_entry(alloc: Global, out: &mut Vec<u8>, entry: &DirEntry) -> Result<(
 }
 
 fn put_entries(alloc: Global, out: &mut Vec<u8>, entries: &[DirEntry]) -> Result<(), AllocError>
-    ensures { OnOk result (out.new.items ≡ out.old.items ++ flat_map (λ e. spaced (entry_text e)) entries.now) }
+    ensures { OnOk result (out.new.items ≡ out.old.items
+        ++ flat_map (λ e. spaced (entry_text e)) entries.now) }
 {
     for entry in entries {
         put_dir_entry(alloc, out, entry)?;
@@ -62,22 +64,27 @@ fn put_page_end(out: &mut Vec<u8>, eof: bool) -> Result<(), AllocError>
     }
 }
 
-fn put_five(
+/// The sizes of the space for files: for a transfer and a block, then the numbers of blocks.
+#[tactic(auto, unfolding(spelling::specs::Text::reply_text))]
+fn put_space(
     out: &mut Vec<u8>,
-    first: u32,
-    second: u32,
-    third: u32,
-    fourth: u32,
-    fifth: u32,
+    transfer: u32,
+    block: u32,
+    blocks: u32,
+    free: u32,
+    available: u32,
 ) -> Result<(), AllocError>
     ensures { OnOk result (out.new.items ≡ out.old.items
-        ++ (spaced (decimal first) ++ spaced (decimal second) ++ spaced (decimal third)
-        ++ spaced (decimal fourth) ++ spaced (decimal fifth))) }
+        ++ reply_text (replies.Space transfer block blocks free available)) }
 {
-    put_three(out, u64::from(first), u64::from(second), u64::from(third))?;
-    put_number(out, u64::from(fourth))?;
-    put_number(out, u64::from(fifth))?;
-    Ok(())
+    put_named(out, b"fs".as_slice(), u64::from(transfer))?;
+    put_number(out, u64::from(block))?;
+    put_three(
+        out,
+        u64::from(blocks),
+        u64::from(free),
+        u64::from(available),
+    )
 }
 
 #[tactic(auto, unfolding(spelling::specs::Text::reply_text))]
@@ -85,18 +92,14 @@ fn put_reply_text(alloc: Global, out: &mut Vec<u8>, reply: &Reply) -> Result<(),
     ensures { OnOk result (out.new.items ≡ out.old.items ++ reply_text reply.now) }
 {
     match reply {
-        Reply::Refused { status } => {
-            out.extend_from_slice(b"no")?;
-            put_number(out, status_number(*status))
-        }
+        Reply::Refused { status } => put_named(out, b"no".as_slice(), status_number(*status)),
         Reply::Done => out.extend_from_slice(b"done"),
         Reply::Attr { attr } => {
             out.extend_from_slice(b"attr")?;
             put_attr(alloc, out, attr)
         }
         Reply::Node { handle, attr } => {
-            out.extend_from_slice(b"node")?;
-            put_number(out, u64::from(*handle))?;
+            put_named(out, b"node".as_slice(), u64::from(*handle))?;
             put_attr(alloc, out, attr)
         }
         Reply::Path { text } => {
@@ -119,10 +122,7 @@ fn put_reply_text(alloc: Global, out: &mut Vec<u8>, reply: &Reply) -> Result<(),
             blocks,
             free,
             available,
-        } => {
-            out.extend_from_slice(b"fs")?;
-            put_five(out, *transfer, *block, *blocks, *free, *available)
-        }
+        } => put_space(out, *transfer, *block, *blocks, *free, *available),
     }
 }
 

@@ -117,8 +117,9 @@ fn put_held(out: &mut Vec<u8>, held: Held) -> Result<(), AllocError>
 /// Five numbers.
 fn put_totals(out: &mut Vec<u8>, state: &StateLine) -> Result<(), AllocError>
     ensures { OnOk result (out.new.items ≡ out.old.items
-        ++ (spaced (decimal state.now.base) ++ spaced (decimal state.now.lb) ++ spaced (decimal state.now.ap)
-        ++ spaced (decimal state.now.cp) ++ spaced (decimal state.now.top))) }
+        ++ (spaced (decimal state.now.base) ++ spaced (decimal state.now.lb)
+        ++ spaced (decimal state.now.ap) ++ spaced (decimal state.now.cp)
+        ++ spaced (decimal state.now.top))) }
 {
     put_three(out, state.base, state.lb, state.ap)?;
     put_number(out, state.cp)?;
