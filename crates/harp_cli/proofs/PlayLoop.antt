@@ -3,7 +3,7 @@ use Rattle.std.proofs.Common.{◌≡◌, ℕ, ◌≤◌, List, [], append-nil, r
 use Rattle.std.proofs.Common.{None, arith}
 use Rattle.std.specs.Io.KnownBytes.{Appends}
 use Rattle.line_reader.specs.Reading.{text_left}
-use Rattle.group_model.specs.Places.{Zero, One, Two, Place, get}
+use Rattle.group_rules.specs.Places.{Zero, One, Two, Place, get}
 use Rattle.group_run.specs.Run.{first_scene, run, run_lines}
 use Rattle.world.specs.State.{IsLeftBy, LooksAs, WorldValue, first_world}
 use Rattle.world.proofs.Plays.{left_by}

@@ -8,7 +8,7 @@ use Rattle.trace_lines.specs.declared.step.Step.{Step}
 use Rattle.trace_lines.specs.declared.step.Step.TheVariants as step
 use Rattle.trace_lines.specs.declared.line.LineFault.{LineFault}
 use Rattle.file_tree.specs.Book.{Entry}
-use Rattle.group_model.specs.State.{Packet}
+use Rattle.group_rules.specs.State.{Packet}
 use Rattle.group_run.specs.Run.{AreTaken, Scene, deliveries, due, is_due, lowest_due}
 use Rattle.group_run.specs.Run.{most_deliveries, next, refusal, run, spelled_out}
 use Rattle.harp_cli.specs.Play.{given_by, read_on, reading_from, steps_given, unless}

@@ -7,7 +7,7 @@ use Rattle.harp_base.specs.declared.server.ServerId.{ServerId}
 use Rattle.trace_lines.specs.declared.line.LineFault.{LineFault}
 use Rattle.trace_lines.specs.declared.step.Step.{Step}
 use Rattle.line_reader.specs.Lines.{lines_of}
-use Rattle.group_model.specs.Places.{Trio}
+use Rattle.group_rules.specs.Places.{Trio}
 use Rattle.group_run.specs.Run.{Scene, deliveries, first_scene, next, refusal, run, run_lines}
 use Rattle.world.specs.State.{IsLeftBy, WorldValue}
 use Rattle.harp_cli.specs.declared.exit.Exit.TheVariants as exit

@@ -2,7 +2,7 @@
 
 use crate::ends::schedule;
 use crate::{callers, calls};
-use file_tree::PlainTree;
+use plain_tree::PlainTree;
 use harp_base::{Bytes, Call, Cred, Reply, SUPERUSER, is_update, write_reply};
 use harp_cells::{MemCells, Moment};
 use nfs_calls::{answer, prepare};

@@ -10,7 +10,7 @@ use Rattle.std.proofs.lemmas.Option.{slice_get_within}
 use Rattle.harp_base.specs.declared.server.ServerId.{ServerId}
 use Rattle.trace_lines.specs.declared.step.Step.{Step}
 use Rattle.file_tree.specs.Book.{Entry}
-use Rattle.group_model.specs.State.{Packet}
+use Rattle.group_rules.specs.State.{Packet}
 use Rattle.group_run.specs.Run.{due, first_scene, is_among, is_due, lowest_due, run}
 use Rattle.world.specs.Packets.{IsFirstDue}
 use Rattle.world.specs.State.{IsLeftBy, WorldValue}

@@ -8,9 +8,9 @@ use Rattle.harp_base.specs.declared.state.StateLine.{StateLine}
 use Rattle.trace_lines.specs.declared.line.Line.{Line}
 use Rattle.trace_lines.specs.declared.line.Line.TheVariants as line
 use Rattle.trace_lines.specs.declared.step.Step.{Step}
-use Rattle.group_model.specs.Names.{id_of, place_of}
+use Rattle.group_rules.specs.Names.{id_of, place_of}
 use Rattle.group_run.specs.Lines.{entered_lines, state_lines}
-use Rattle.group_run.specs.Shown.{same_state}
+use Rattle.group_rules.specs.Shown.{same_state}
 use Rattle.replica.specs.Said.{entered}
 use Rattle.replica.specs.declared.outputs.Outputs.{Outputs}
 use Rattle.replica.specs.declared.outputs.Sent.{Sent}
@@ -61,19 +61,10 @@ given_is w w' server outs packets packets' l p c h a b a' b' e book =
     ∙ ap (λ x. w.delivered ++ x) (posted_new server outs.sends.items) in
     rw (sym l, sym p, sym c, sym h, sym ps, sym ds, sym book) refl
 
--- the state's line, or none
-pub none_shown : (server : ServerId) (before now : StateLine) → same_state before now ≡ true
-    → [] ≡ state_lines (place_of server) before now
-none_shown server before now e = rw e refl
-
 pub id_back : (server : ServerId) → id_of (place_of server) ≡ server
 id_back server.Zero = refl
 id_back server.One = refl
 id_back server.Two = refl
-
-pub one_shown : (s : ServerId) (before now : StateLine) → same_state before now ≡ false
-    → line.State s now ∷ [] ≡ state_lines (place_of s) before now
-one_shown s before now e = rw (e, id_back s) refl
 
 pub four : (e a r s t : List Line) → (e ++ (a ++ (r ++ s))) ++ t ≡ e ++ (a ++ (r ++ (s ++ t)))
 four e a r s t = append_assoc e (a ++ (r ++ s)) t ∙ ap (λ x. e ++ x) (append_assoc a (r ++ s) t

@@ -4,15 +4,16 @@ use Rattle.std.proofs.Common.{map, refl, sym, ap, subst, arith, nat_lt}
 use Rattle.std.specs.List.{flat_map}
 use Rattle.harp_base.specs.declared.peer.Peer.{Peer}
 use Rattle.file_tree.specs.Book.{Entry}
-use Rattle.group_model.specs.FixedStart.{view_one}
-use Rattle.group_model.specs.Moves.{Move, Noting, Committing}
-use Rattle.group_model.specs.Names.{id_of}
-use Rattle.group_model.specs.Places.{Zero, One, Two, Place, all_of, get, partner, same}
-use Rattle.group_model.specs.Replicate.{ack_tests, answers, is_in_view, on_ack, on_event}
-use Rattle.group_model.specs.State.{Server}
-use Rattle.group_model.specs.Tick.{events, tick}
-use Rattle.group_model.proofs.Common.{by_if}
-use Rattle.replica.specs.Said.{Makes, answered_by, entered, refused_by, sent}
+use Rattle.group_rules.specs.FixedStart.{view_one}
+use Rattle.group_rules.specs.Moves.{Move, Noting, Committing}
+use Rattle.group_rules.specs.Names.{id_of}
+use Rattle.group_rules.specs.Places.{Zero, One, Two, Place, all_of, get, partner, same}
+use Rattle.group_rules.specs.Replicate.{ack_tests, answers, is_in_view, on_ack, on_event}
+use Rattle.group_rules.specs.Said.{answered_by, refused_by}
+use Rattle.group_rules.specs.State.{Server}
+use Rattle.group_rules.specs.Tick.{events, tick}
+use Rattle.group_rules.proofs.Tests.{by_if}
+use Rattle.replica.specs.Said.{Makes, entered, sent}
 use Rattle.replica.specs.Servers.{IsLeading}
 use Rattle.replica.specs.declared.outputs.Outputs.{Outputs}
 use Rattle.replica.proofs.Ticks.{tick_is}

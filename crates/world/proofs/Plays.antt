@@ -12,18 +12,18 @@ use Rattle.trace_lines.specs.declared.line.Line.TheVariants as line
 use Rattle.trace_lines.specs.declared.step.Step.{Step}
 use Rattle.trace_lines.specs.declared.step.Step.TheVariants as step
 use Rattle.file_tree.specs.Book.{Entry}
-use Rattle.group_model.specs.Laws.{Near, Whole}
-use Rattle.group_model.specs.Moves.{Move, acts}
-use Rattle.group_model.specs.Names.{place_of}
-use Rattle.group_model.specs.Places.{Zero, One, Two, Place, get}
-use Rattle.group_model.specs.State.{Packet, Server}
-use Rattle.group_model.specs.Step.{Ask, Comes, Does, Input, Tick, numbered}
+use Rattle.group_run.specs.Laws.{LogsAreWhole}
+use Rattle.group_rules.specs.Moves.{Move, acts}
+use Rattle.group_rules.specs.Names.{place_of}
+use Rattle.group_rules.specs.Places.{Zero, One, Two, Place, get}
+use Rattle.group_rules.specs.State.{Packet, Server}
+use Rattle.group_rules.specs.Step.{Ask, Comes, Does, Input, Tick, numbered}
 use Rattle.group_run.specs.Lines.{answered_lines, entered_lines, lines_of_moves, refused_lines}
 use Rattle.group_run.specs.Lines.{sent_lines, state_lines}
 use Rattle.group_run.specs.Run.{AreTaken, Scene, begins, delivered_after, first_scene, group_after}
 use Rattle.group_run.specs.Run.{is_elementary, lines_where, moves_of, next, run, run_lines}
 use Rattle.group_run.specs.Run.{step_lines, stepped, stepped_where}
-use Rattle.group_run.specs.Shown.{state_of}
+use Rattle.group_rules.specs.Shown.{state_of}
 use Rattle.group_run.proofs.Early.{Early, numbered_early}
 use Rattle.group_run.proofs.RunLaws.{first_stands, run_stands}
 use Rattle.group_run.proofs.Standing.{Stands}
@@ -33,6 +33,8 @@ use Rattle.world.specs.State.{IsLeftBy, LooksAs, Plays, WorldValue, clocks_after
 use Rattle.world.proofs.Scenes.{acts_there, allowed_is, as_many, at_with, flag_set, its_server}
 use Rattle.world.proofs.Scenes.{numbered_is, run_more, served_looks, taken_more}
 use Rattle.world.proofs.ServerBook.{book_is_entered}
+use Rattle.group_rules.specs.Step.{Near}
+use Rattle.group_run.proofs.Logs.{logs_whole}
 use Rattle.world.proofs.ServerMoves.{ask_is, message_is, tick_is}
 
 -- ---- the lines of a server's moves
@@ -57,7 +59,7 @@ dropped [] ys = refl
 dropped (x ∷ xs) ys = dropped xs ys
 
 -- the lines that a scene's step writes are those of the world
-moved_lines : (x : Scene) (w : WorldValue) → LooksAs x w → Whole x.group → Early x.group
+moved_lines : (x : Scene) (w : WorldValue) → LooksAs x w → LogsAreWhole x.group → Early x.group
     → (s : Step) (q : Place) (i : Input) → begins x.group s ≡ Some (q, i)
     → lines_of_moves x.group (stepped x.group (q, i)) q (moves_of x.group q i)
     ≡ lines_served w q (moves_of x.group q i)
@@ -82,7 +84,7 @@ record Leads (x : Scene) (new : WorldValue) (s : Step) (lines : List Line) : Typ
   looks : LooksAs (next x s) new
 
 -- a server made its moves
-serves_leads : (x : Scene) (old new : WorldValue) → LooksAs x old → Whole x.group → Early x.group
+serves_leads : (x : Scene) (old new : WorldValue) → LooksAs x old → LogsAreWhole x.group → Early x.group
     → (s : Step) (q : Place) (i : Input) (ms : List (Move Entry)) → begins x.group s ≡ Some (q, i)
     → group_after x.group s ≡ stepped_where x.group (begins x.group s) → moves_of x.group q i ≡ ms
     → (delivered : List Bool) (lines : List Line) → length delivered ≡ length old.delivered
@@ -104,7 +106,7 @@ serves_leads x old new l k e s q i ms b after is delivered lines size flags h =
     }
 
 -- a packet was delivered
-delivers_leads : (x : Scene) (old new : WorldValue) → LooksAs x old → Whole x.group → Early x.group
+delivers_leads : (x : Scene) (old new : WorldValue) → LooksAs x old → LogsAreWhole x.group → Early x.group
     → (n : ℕ) (lines : List Line) → Delivers old new n lines → Leads x new (step.Deliver n) lines
 delivers_leads x old new l k e n lines h =
     let g = x.group in
@@ -143,7 +145,7 @@ clock_leads x old new l s clock lines clocks after quiet h = record {
       }));
 }
 
-takes_leads : (x : Scene) (old new : WorldValue) → LooksAs x old → Whole x.group → Early x.group
+takes_leads : (x : Scene) (old new : WorldValue) → LooksAs x old → LogsAreWhole x.group → Early x.group
     → (s : Step) (lines : List Line) → Takes old new s lines → Leads x new s lines
 takes_leads x old new l k e (step.Ask server client number cred call) lines h =
     serves_leads x old new l k e (step.Ask server client number cred call) (place_of server)
@@ -229,7 +231,7 @@ leads_after : (old new : WorldValue) (s : Step) (lines : List Line) → Takes ol
     → (ss : List Step) → IsLeftBy ss old → Leads (run first_scene ss) new s lines
 leads_after old new s lines t ss h =
     let stands = left_stands ss old h in
-    takes_leads (run first_scene ss) old new h.looks stands.whole stands.early s lines t
+    takes_leads (run first_scene ss) old new h.looks (logs_whole _ stands.whole stands.early) stands.early s lines t
 
 -- a step that isn't refused, and that the world takes, is played
 pub takes_plays : (old new : WorldValue) (s : Step) (lines : List Line) → old.halted ≡ false

@@ -2,10 +2,10 @@
 use Rattle.std.proofs.Common.{◌≡◌, Option, Some, None, refl, length, nat_lt}
 use Rattle.trace_lines.specs.declared.step.Step.{Step}
 use Rattle.trace_lines.specs.declared.step.Step.TheVariants as step
-use Rattle.group_model.specs.Names.{place_of}
-use Rattle.group_model.specs.Places.{get, with_at}
-use Rattle.group_model.specs.Step.{near}
-use Rattle.group_model.proofs.Common.{by_if}
+use Rattle.group_rules.specs.Names.{place_of}
+use Rattle.group_rules.specs.Places.{get, with_at}
+use Rattle.group_rules.specs.Step.{near}
+use Rattle.group_rules.proofs.Tests.{by_if}
 use Rattle.world.specs.Served.{refusal_in}
 use Rattle.world.specs.State.{Refused, WorldValue}
 use Rattle.world.specs.declared.refusal.Refusal.{Refusal}

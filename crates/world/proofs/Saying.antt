@@ -10,24 +10,25 @@ use Rattle.harp_base.specs.Update.{is_update}
 use Rattle.trace_lines.specs.declared.line.Line.{Line}
 use Rattle.trace_lines.specs.declared.line.Line.TheVariants as line
 use Rattle.file_tree.specs.Book.{Entry, last_of}
-use Rattle.group_model.specs.Ask.{append, new_entry, read_entry, read_moves, refuse, update_moves}
-use Rattle.group_model.specs.FreeReads.{on_free_ask}
-use Rattle.group_model.specs.Limits.{is_active, is_open, limit, room}
-use Rattle.group_model.specs.Moves.{Move, Reading, Saying}
-use Rattle.group_model.specs.Names.{id_of}
-use Rattle.group_model.specs.Places.{Place, all_of, leader, same}
-use Rattle.group_model.specs.State.{Answers, BadClient, Cause, Lists, NotLeader, Refuses, Server}
-use Rattle.group_model.specs.State.{top}
-use Rattle.group_model.proofs.Common.{by_if}
-use Rattle.group_run.specs.Lines.{answered_lines, refused_lines}
-use Rattle.group_run.specs.Shown.{cause_of}
-use Rattle.replica.specs.Said.{Answer, Makes, Refusal, answered, answered_by, answers_of}
-use Rattle.replica.specs.Said.{committed_of, entered, in_turn, refusals_of, refused, refused_by}
-use Rattle.replica.specs.Said.{sends_of, sent}
+use Rattle.group_rules.specs.Ask.{append, new_entry, read_entry, read_moves, refuse, update_moves}
+use Rattle.group_rules.specs.FreeReads.{on_free_ask}
+use Rattle.group_rules.specs.Limits.{is_active, is_open, limit, room}
+use Rattle.group_rules.specs.Moves.{Move, Reading, Saying}
+use Rattle.group_rules.specs.Names.{id_of}
+use Rattle.group_rules.specs.Places.{Place, all_of, leader, same}
+use Rattle.group_rules.specs.Said.{Answer, Refusal, answered_by, committed_of, refused_by, sends_said, read_by, reads_said}
+use Rattle.group_rules.specs.State.{Answers, BadClient, Cause, Lists, NotLeader, Refuses, Server}
+use Rattle.group_rules.specs.State.{top}
+use Rattle.group_rules.proofs.Tests.{by_if}
+use Rattle.group_rules.specs.Shown.{cause_of}
+use Rattle.replica.specs.Said.{Makes, answered, answers_of}
+use Rattle.replica.specs.Said.{entered, in_turn, refusals_of, refused}
+use Rattle.replica.specs.Said.{sent}
 use Rattle.replica.specs.declared.outputs.Outputs.{Outputs}
-use Rattle.world.specs.Given.{answered_line, answered_lines as answered_lines_of, read_in, reads_in}
-use Rattle.world.specs.Given.{refused_line, refused_lines as refused_lines_of}
-use Rattle.world.specs.Served.{RefusesAsk, Says, cause_shown, read_by, reads_of, refuse_moves}
+use Rattle.world.specs.Given.{answered_line as answered_line_of, answered_lines as answered_lines_of, read_in, reads_in}
+use Rattle.world.specs.Given.{refused_line as refused_line_of, refused_lines as refused_lines_of}
+use Rattle.group_run.specs.Lines.{answered_line, refused_line}
+use Rattle.world.specs.Served.{RefusesAsk, Says, cause_shown, refuse_moves}
 use Rattle.trace_lines.specs.declared.line.Cause.TheVariants as causes
 
 -- ---- what is said goes to peers in turn
@@ -56,55 +57,24 @@ turn_flat say f g e (x ∷ xs) (p ∷ peers) h = rw (
       (omega (arith, h)),
 ) refl
 
-abbrev line_of : Place → Answer → Line
-line_of q a = line.Answered (id_of q) a.entry.client a.entry.number a.index a.entry.reply
-
 abbrev read_of : Answer → List Entry
-read_of a = elim a.asked [
-  | None ↦ []
-  | Some asked ↦ record {
-    index = 0;
-    client = a.entry.client;
-    number = a.entry.number;
-    cred =
-        asked.cred;
-    call = asked.call;
-    stamp = 0;
-    reply = a.entry.reply;
-  } ∷ []
-]
+read_of a = if a.reads then record (a.entry) { index = 0; stamp = 0 } ∷ [] else []
 
-abbrev refusal_line : Place → Refusal → Line
-refusal_line q r = line.Refused (id_of q) r.client r.number (cause_of r.cause)
+-- it is entered with its answer
+read_is : (peer : Peer) (a : Answer) → read_in (answered peer a) ≡ read_of a
+read_is peer a = by a.reads
+  where
+    by : (b : Bool) → read_in (answered peer (record a { reads = b })) ≡ read_of (record a { reads = b })
+    by true = refl
+    by false = refl
 
--- the lines of answers
-said_lines : (q : Place) (ms : List (Move Entry)) → map (line_of q) (flat_map answered_by ms)
-    ≡ answered_lines q ms
-said_lines q [] = refl
-said_lines q (Saying (Answers n e) ∷ ms) = ap (λ ls. line.Answered (id_of q) e.client e.number n
-    e.reply ∷ ls) (said_lines q ms)
-said_lines q (Saying (Refuses client number cause) ∷ ms) = said_lines q ms
-said_lines q (Saying (Lists n) ∷ ms) = said_lines q ms
-said_lines q (Reading n e ∷ ms) = ap (λ ls. line.Answered (id_of q) e.client e.number n e.reply ∷
-    ls) (said_lines q ms)
-said_lines q (m ∷ ms) = said_lines q ms
-
-said_reads : (ms : List (Move Entry)) → flat_map read_of (flat_map answered_by ms) ≡ reads_of ms
+said_reads : (ms : List (Move Entry)) → flat_map read_of (flat_map answered_by ms) ≡ reads_said ms
 said_reads [] = refl
 said_reads (Saying (Answers n e) ∷ ms) = said_reads ms
 said_reads (Saying (Refuses client number cause) ∷ ms) = said_reads ms
 said_reads (Saying (Lists n) ∷ ms) = said_reads ms
 said_reads (Reading n e ∷ ms) = ap (λ es. read_by (Reading n e) ++ es) (said_reads ms)
 said_reads (m ∷ ms) = said_reads ms
-
-said_refusals : (q : Place) (ms : List (Move Entry)) → map (refusal_line q) (flat_map refused_by ms)
-    ≡ refused_lines q ms
-said_refusals q [] = refl
-said_refusals q (Saying (Answers n e) ∷ ms) = said_refusals q ms
-said_refusals q (Saying (Refuses client number cause) ∷ ms) = ap (λ ls. line.Refused
-    (id_of q) client number (cause_of cause) ∷ ls) (said_refusals q ms)
-said_refusals q (Saying (Lists n) ∷ ms) = said_refusals q ms
-said_refusals q (m ∷ ms) = said_refusals q ms
 
 -- ---- a call that makes moves
 
@@ -131,15 +101,15 @@ makes_says q clock ms peers old new before after none has m =
     record {
       committed = m.committed ∙ ap (λ x. map entered x ++ committed_of q clock old ms)
           none.committed;
-      reads = ap reads_in answers ∙ turn_flat answered read_in read_of (λ p a. refl)
+      reads = ap reads_in answers ∙ turn_flat answered read_in read_of read_is
           (flat_map answered_by ms) peers has.answers ∙ said_reads ms;
       answers = ap (answered_lines_of (id_of q)) answers
-          ∙ turn_map answered (answered_line (id_of q)) (line_of q) (λ p a. refl)
-          (flat_map answered_by ms) peers has.answers ∙ said_lines q ms;
+          ∙ turn_map answered (answered_line_of (id_of q)) (answered_line q) (λ p a. refl)
+          (flat_map answered_by ms) peers has.answers;
       refusals = ap (refused_lines_of (id_of q)) refusals
-          ∙ turn_map refused (refused_line (id_of q)) (refusal_line q) (λ p r. refl)
-          (flat_map refused_by ms) peers has.refusals ∙ said_refusals q ms;
-      sends = m.sends ∙ ap (λ x. map sent x ++ sends_of ms) none.sends;
+          ∙ turn_map refused (refused_line_of (id_of q)) (refused_line q) (λ p r. refl)
+          (flat_map refused_by ms) peers has.refusals;
+      sends = m.sends ∙ ap (λ x. map sent x ++ sends_said ms) none.sends;
     }
 
 -- ---- an ask is answered once

@@ -15,20 +15,19 @@ use Rattle.trace_lines.specs.declared.line.LineFault.TheVariants as fault
 use Rattle.trace_lines.specs.declared.step.Step.{Step}
 use Rattle.trace_lines.specs.declared.step.Step.TheVariants as step
 use Rattle.file_tree.specs.Book.{Entry}
-use Rattle.group_model.specs.Laws.{Whole}
-use Rattle.group_model.specs.Moves.{Move, Sending, act, acts, moved, moved_by}
-use Rattle.group_model.specs.Names.{place_of}
-use Rattle.group_model.specs.Places.{Zero, One, Two, Place, Trio, at, get, with_at}
-use Rattle.group_model.specs.State.{Group, Packet, Server}
-use Rattle.group_model.specs.Step.{Input, near, numbered}
-use Rattle.group_model.proofs.Common.{by_if}
-use Rattle.group_model.proofs.Tests.{is_lt, not_lt}
+use Rattle.group_run.specs.Laws.{LogsAreWhole}
+use Rattle.group_rules.specs.Moves.{Move, Sending, act, acts, moved, moved_by}
+use Rattle.group_rules.specs.Names.{place_of}
+use Rattle.group_rules.specs.Places.{Zero, One, Two, Place, Trio, at, get, with_at}
+use Rattle.group_rules.specs.Said.{sends_said}
+use Rattle.group_rules.specs.State.{Group, Packet, Server}
+use Rattle.group_rules.specs.Step.{Input, near, numbered}
+use Rattle.group_rules.proofs.Tests.{by_if, is_lt, not_lt}
 use Rattle.group_run.specs.Run.{AreTaken, Scene, begins, first_scene, is_elementary, moves_of, next}
 use Rattle.group_run.specs.Run.{refusal, run, stepped}
 use Rattle.group_run.proofs.After.{moved_other, moved_packets, moved_server, packets_by}
 use Rattle.group_run.proofs.After.{stepped_early}
 use Rattle.group_run.proofs.Early.{Early}
-use Rattle.replica.specs.Said.{sends_of}
 use Rattle.world.specs.Served.{leader_after, partner_after, refusal_in, sent_from, served}
 use Rattle.world.specs.Served.{server_in}
 use Rattle.world.specs.State.{IsLeftBy, LooksAs, WorldValue, fault_of}
@@ -179,13 +178,13 @@ numbered_is ps n = by_if (λ o. o ≡ slice_get (reverse ps) n) (nat_lt n (lengt
 
 -- the packets that moves send
 pub packets_said : (ms : List (Move Entry)) (ps : List (Packet Entry)) (q : Place)
-    → reverse (packets_by ps q ms) ≡ reverse ps ++ map (sent_from q) (sends_of ms)
+    → reverse (packets_by ps q ms) ≡ reverse ps ++ map (sent_from q) (sends_said ms)
 packets_said [] ps q = sym (append-nil (reverse ps))
 packets_said (Sending to m ∷ ms) ps q =
     let p : Packet Entry = record { from = q; to = to; body = m } in
-    packets_said ms (p ∷ ps) q ∙ ap (λ xs. xs ++ map (sent_from q) (sends_of ms))
+    packets_said ms (p ∷ ps) q ∙ ap (λ xs. xs ++ map (sent_from q) (sends_said ms))
     (reverse-append (p ∷ []) ps) ∙ append_assoc (reverse ps) (p ∷ [])
-    (map (sent_from q) (sends_of ms))
+    (map (sent_from q) (sends_said ms))
 packets_said (m ∷ ms) ps q = packets_said ms ps q
 
 -- ---- which packets were delivered
@@ -252,7 +251,7 @@ moved_clock (m ∷ ms) g q s = moved_clock ms (moved g q s m) q (act q (g.clock 
 
 -- a server's moves in a scene leave what they leave in the world; these packets were delivered
 -- before
-pub served_looks : (x : Scene) (w : WorldValue) → LooksAs x w → Whole x.group → Early x.group
+pub served_looks : (x : Scene) (w : WorldValue) → LooksAs x w → LogsAreWhole x.group → Early x.group
     → (s : Step) (q : Place) (i : Input) → begins x.group s ≡ Some (q, i)
     → (numbers : List ℕ) (delivered : List Bool) → length delivered ≡ length w.delivered
     → ((n : ℕ) → list_any (λ m. m == n) numbers ≡ slice_index_or delivered n false)
@@ -261,7 +260,7 @@ pub served_looks : (x : Scene) (w : WorldValue) → LooksAs x w → Whole x.grou
 served_looks x w l k e s q i b numbers delivered size flags =
     let g = x.group in
     let ms = moves_of g q i in
-    let sends = sends_of ms in
+    let sends = sends_said ms in
     record {
       leader = leader_there x w l q ms;
       partner = partner_there x w l q ms;

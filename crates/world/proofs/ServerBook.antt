@@ -4,20 +4,20 @@ use Rattle.std.proofs.Common.{take, drop, Some, refl, sym, ap, ◌∙◌, subst,
 use Rattle.std.proofs.Math.Seq.{take-nil}
 use Rattle.file_tree.specs.Book.{Entry}
 use Rattle.trace_lines.specs.declared.step.Step.{Step}
-use Rattle.group_model.specs.Laws.{Whole}
-use Rattle.group_model.specs.Moves.{Committing, Move, Noting, Saying, Sending, act, moved, moved_by}
-use Rattle.group_model.specs.Moves.{new_entries}
-use Rattle.group_model.specs.Places.{Zero, Place, get}
-use Rattle.group_model.specs.Replicate.{answers}
-use Rattle.group_model.specs.State.{Group, Open, Server}
-use Rattle.group_model.specs.Step.{Input}
+use Rattle.group_run.specs.Laws.{LogsAreWhole}
+use Rattle.group_rules.specs.Moves.{Committing, Move, Noting, Saying, Sending, act, moved, moved_by}
+use Rattle.group_rules.specs.Moves.{new_entries}
+use Rattle.group_rules.specs.Places.{Zero, Place, get}
+use Rattle.group_rules.specs.Replicate.{answers}
+use Rattle.group_rules.specs.Said.{committed_of, reads_said}
+use Rattle.group_rules.specs.State.{Group, Open, Server}
+use Rattle.group_rules.specs.Step.{Input}
 use Rattle.group_run.specs.Run.{Scene, begins, moves_of, stepped}
 use Rattle.group_run.proofs.After.{none_above}
 use Rattle.group_run.proofs.Early.{AreLeaderSends, Early, Kind, appends, commits, heeds, kind_of}
 use Rattle.group_run.proofs.Early.{notes, quiet, reads, refuses, repeats, sends}
 use Rattle.group_run.proofs.Entering.{EnterNone}
-use Rattle.replica.specs.Said.{committed_of}
-use Rattle.world.specs.Served.{entered_by, reads_of}
+use Rattle.world.specs.Served.{entered_by}
 use Rattle.world.specs.State.{LooksAs, WorldValue}
 use Rattle.world.proofs.ServerMoves.{server_is}
 
@@ -41,7 +41,7 @@ none_committed (Saying say ∷ ms) q clock s h = none_committed ms q clock s h.1
 none_committed (Sending to m ∷ ms) q clock s h = none_committed ms q clock s h.1
 none_committed (m ∷ ms) q clock s h = absurd h.0
 
-none_read : (ms : List (Move Entry)) → EnterNone ms → reads_of ms ≡ []
+none_read : (ms : List (Move Entry)) → EnterNone ms → reads_said ms ≡ []
 none_read [] h = refl
 none_read (Saying say ∷ ms) h = none_read ms h.1
 none_read (Sending to m ∷ ms) h = none_read ms h.1
@@ -95,7 +95,7 @@ between (suc c) (suc t) (x ∷ xs) = let same : t - c ≡ suc t - suc c = omega 
 
 -- what a server enters: the committed updates, and then reads
 abbrev gives : Group Entry → Place → List (Move Entry) → List Entry
-gives g q ms = committed_of q (g.clock q) (g.server q) ms ++ reads_of ms
+gives g q ms = committed_of q (g.clock q) (g.server q) ms ++ reads_said ms
 
 -- the book after the moves of a step
 kind_book : (g : Group Entry) → (g.server Zero).cp ≡ length g.committed → (g.server Zero).base ≡ 0
@@ -154,14 +154,8 @@ kind_book g count base q i _ (commits t until es z is) =
 
 -- ---- each step
 
--- the leader has the whole book as committed
-pub leader_count : (g : Group Entry) → Whole g → Early g → (g.server Zero).cp ≡ length g.committed
-leader_count g k h =
-    let open' : (g.server Zero).mode ≡ Open = ap (λ (s : Server Entry). s.mode) h.leads.is in
-    (k.settled.server Zero).count open' (none_above g k h Zero)
-
 -- the book of the group after a step is that of the world with what it enters
-pub book_is_entered : (x : Scene) (w : WorldValue) → LooksAs x w → Whole x.group → Early x.group
+pub book_is_entered : (x : Scene) (w : WorldValue) → LooksAs x w → LogsAreWhole x.group → Early x.group
     → (s : Step) (q : Place) (i : Input) → begins x.group s ≡ Some (q, i)
     → (stepped x.group (q, i)).book ≡ w.book ++ entered_by w q (get w.clocks q)
     (moves_of x.group q i)
@@ -169,8 +163,8 @@ book_is_entered x w looks k h s q i begun =
     let g = x.group in
     let ms = moves_of g q i in
     let base : (g.server Zero).base ≡ 0 = ap (λ (s : Server Entry). s.base) h.leads.is in
-    kind_book g (leader_count g k h) base q i ms (kind_of g h s q i begun)
+    kind_book g k.committed base q i ms (kind_of g h s q i begun)
     ∙ ap (λ book. book ++ gives g q ms) looks.book
-    ∙ ap (λ clock. w.book ++ (committed_of q clock (g.server q) ms ++ reads_of ms)) (looks.clocks q)
-    ∙ ap (λ s. w.book ++ (committed_of q (get w.clocks q) s ms ++ reads_of ms))
+    ∙ ap (λ clock. w.book ++ (committed_of q clock (g.server q) ms ++ reads_said ms)) (looks.clocks q)
+    ∙ ap (λ s. w.book ++ (committed_of q (get w.clocks q) s ms ++ reads_said ms))
     (server_is x w looks q)

@@ -6,17 +6,16 @@ use Rattle.harp_base.specs.declared.call.Call.{Call}
 use Rattle.harp_base.specs.declared.cred.Cred.{Cred}
 use Rattle.harp_base.specs.Update.{is_update}
 use Rattle.file_tree.specs.Book.{Entry}
-use Rattle.group_model.specs.Ask.{on_ask}
-use Rattle.group_model.specs.FixedStart.{starting, view_one}
-use Rattle.group_model.specs.FreeReads.{on_free_ask, on_read}
-use Rattle.group_model.specs.Laws.{Whole}
-use Rattle.group_model.specs.Moves.{Move}
-use Rattle.group_model.specs.Open.{and_then, rebase}
-use Rattle.group_model.specs.Places.{Zero, One, Two, Place, all_of, get}
-use Rattle.group_model.specs.State.{Group, Log, Packet, Server}
-use Rattle.group_model.specs.Step.{Ask, Comes, Does, Tick, list_of, step}
-use Rattle.group_model.proofs.Common.{by_if}
-use Rattle.group_model.proofs.Lawful.{stands_for}
+use Rattle.group_rules.specs.Ask.{on_ask}
+use Rattle.group_rules.specs.FixedStart.{starting, view_one}
+use Rattle.group_rules.specs.FreeReads.{on_free_ask, on_read}
+use Rattle.group_run.specs.Laws.{LogsAreWhole}
+use Rattle.group_rules.specs.Moves.{Move}
+use Rattle.group_rules.specs.Open.{and_then, rebase}
+use Rattle.group_rules.specs.Places.{Zero, One, Two, Place, all_of, get}
+use Rattle.group_rules.specs.State.{Group, Log, Packet, Server}
+use Rattle.group_rules.specs.Step.{Ask, Comes, Does, Tick, list_of, step}
+use Rattle.group_rules.proofs.Tests.{by_if}
 use Rattle.group_run.specs.Run.{Scene, moves_of, no_size}
 use Rattle.group_run.proofs.Early.{Early, IsEarly, ack, beat, event, following, leading}
 use Rattle.replica.specs.Servers.{IsFollowing, IsLeading}
@@ -40,17 +39,6 @@ leads_so g h = subst IsLeading (sym h.leads.is) refl
 
 pub follows_so : (g : Group Entry) → Early g → IsFollowing (g.server One)
 follows_so g h = subst IsFollowing (sym h.follows.is) refl
-
--- the leader's log is its whole list
-pub list_is : (g : Group Entry) → Whole g → Early g → list_of g Zero ≡ (g.server Zero).items
-list_is g k h =
-    let held : (g.server Zero).held ≡ Log = ap (λ (s : Server Entry). s.held) h.leads.is in
-    let base : (g.server Zero).base ≡ 0 = ap (λ (s : Server Entry). s.base) h.leads.is in
-    let list = (g.page (g.server Zero).accepted).list in
-    let n = length (g.server Zero).items in
-    let records = ((stands_for g k Zero).log held).1 in
-    let whole : (g.server Zero).base + n ≡ n = omega (arith, base) in
-    ap (λ m. take m list) whole ∙ sym (records ∙ ap (λ b. take n (drop b list)) base)
 
 -- ---- asks
 
@@ -129,14 +117,14 @@ witness_refuses clock list client number cred call =
     ]
 
 -- the moves of an ask, by the group's own clock and server
-ask_of : (g : Group Entry) → Whole g → Early g
+ask_of : (g : Group Entry) → LogsAreWhole g → Early g
     → (q : Place) (client number : ℕ) (cred : Cred) (call : Call)
     → moves_of g q (Does (Ask client number cred call))
     ≡ ask_moves q (g.clock q) (g.server q) client number cred call
 ask_of g k h Zero client number cred call =
     leader_free g h (list_of g Zero) client number cred call
     ∙ ap (λ list. on_free_ask Zero (g.clock Zero) list (g.server Zero) client number cred call)
-    (list_is g k h)
+    (k.lists Zero)
 ask_of g k h One client number cred call =
     let f = h.follows in
     subst (λ s. and_then One (g.clock One) s (on_free_ask One (g.clock One)
@@ -150,7 +138,7 @@ ask_of g k h Two client number cred call =
     (witness_refuses (g.clock Two) (list_of g Two) client number cred call)
 
 -- the moves of an ask are those that the world's server makes
-pub ask_is : (x : Scene) (w : WorldValue) → LooksAs x w → Whole x.group → Early x.group
+pub ask_is : (x : Scene) (w : WorldValue) → LooksAs x w → LogsAreWhole x.group → Early x.group
     → (q : Place) (client number : ℕ) (cred : Cred) (call : Call)
     → moves_of x.group q (Does (Ask client number cred call)) ≡ ask_moves q (get w.clocks q)
     (server_in w q) client number cred call

@@ -8,16 +8,17 @@ use Rattle.trace_lines.specs.declared.line.Line.TheVariants as line
 use Rattle.trace_lines.specs.declared.step.Step.{Step}
 use Rattle.trace_lines.specs.declared.step.Step.TheVariants as step
 use Rattle.file_tree.specs.Book.{Entry}
-use Rattle.group_model.specs.Moves.{Move, Sending}
-use Rattle.group_model.specs.Names.{number_of_view, place_of, view_of}
-use Rattle.group_model.specs.Places.{Zero, One, Two, Place, get}
-use Rattle.group_model.specs.State.{Message}
-use Rattle.group_run.specs.Lines.{sent_line, sent_lines}
-use Rattle.group_run.specs.Shown.{state_of}
+use Rattle.group_rules.specs.Moves.{Move, Sending}
+use Rattle.group_rules.specs.Names.{number_of_view, place_of, view_of}
+use Rattle.group_rules.specs.Places.{Zero, One, Two, Place, get}
+use Rattle.group_rules.specs.Said.{sends_said}
+use Rattle.group_rules.specs.State.{Message}
+use Rattle.group_run.specs.Lines.{sent_line, sent_lines, packet_lines}
+use Rattle.group_rules.specs.Shown.{state_of}
 use Rattle.harp_base.specs.Server.{number_of}
 use Rattle.harp_base.specs.View.{View}
 use Rattle.harp_base.specs.declared.server.ServerId.TheVariants as server
-use Rattle.replica.specs.Said.{heard, sends_of, sent}
+use Rattle.replica.specs.Said.{heard, sent}
 use Rattle.replica.specs.declared.outputs.Outputs.{Outputs}
 use Rattle.replica.specs.declared.outputs.Sent.{Sent}
 use Rattle.wire.specs.declared.message.Message.{Message as Wire}
@@ -40,18 +41,6 @@ posted_are s (x ∷ sends) = ap (λ ps. sent_from (place_of s) (sent x) ∷ ps) 
 
 -- ---- lines of packets
 
--- messages, the first with n packets before it
-message_lines : ℕ → Place → List (Place × Message Entry) → List Line
-message_lines n q [] = []
-message_lines n q (x ∷ xs) = sent_line n q x.0 x.1 ++ message_lines (n + 1) q xs
-
-moves_lines : (n : ℕ) (q : Place) (ms : List (Move Entry))
-    → sent_lines n q ms ≡ message_lines n q (sends_of ms)
-unfolding sent_lines message_lines
-moves_lines n q [] = refl
-moves_lines n q (Sending to m ∷ ms) = ap (λ ls. sent_line n q to m ++ ls) (moves_lines (n + 1) q ms)
-moves_lines n q (m ∷ ms) = moves_lines n q ms
-
 -- a view has its number of the machine
 back : (count : ℕ) (s : ServerId) → view_of (3 * count + number_of s)
     ≡ record { count = count; coordinator = s }
@@ -72,17 +61,17 @@ one_line s n to (wire.Beat view cp base) = rw (id_back s, id_back to, view_back 
 one_line s n to (wire.Ack view top lb until) = rw (id_back s, id_back to, view_back view) refl
 
 sends_lines : (s : ServerId) (n : ℕ) (sends : List Sent)
-    → sent_lines_of s n sends ≡ message_lines n (place_of s) (map sent sends)
-unfolding sent_lines_of message_lines
+    → sent_lines_of s n sends ≡ packet_lines n (place_of s) (map sent sends)
+unfolding sent_lines_of packet_lines
 sends_lines s n [] = refl
 sends_lines s n (x ∷ sends) = ap (λ ls. ls ++ sent_lines_of s (n + 1) sends)
     (one_line s n x.to x.message) ∙ ap (λ ls. sent_line n (place_of s) (sent x).0 (sent x).1 ++ ls)
     (sends_lines s (n + 1) sends)
 
 lines_of_sends : (s : ServerId) (n : ℕ) (sends : List Sent) (ms : List (Move Entry))
-    → map sent sends ≡ sends_of ms → sent_lines_of s n sends ≡ sent_lines n (place_of s) ms
-lines_of_sends s n sends ms same = sends_lines s n sends ∙ ap (message_lines n (place_of s)) same
-    ∙ sym (moves_lines n (place_of s) ms)
+    → map sent sends ≡ sends_said ms → sent_lines_of s n sends ≡ sent_lines n (place_of s) ms
+lines_of_sends s n sends ms same = sends_lines s n sends ∙ ap (packet_lines n (place_of s)) same
+   
 
 -- ---- a server's step
 
@@ -112,7 +101,7 @@ serves_is old mid new made_for s ms outs lines made gives = record {
     shown : {X : Type 0} (x : X) {y : X} → x ≡ y → x ≡ y
     shown x e = e
 
-    counted : length outs.sends.items ≡ length (sends_of ms)
+    counted : length outs.sends.items ≡ length (sends_said ms)
     counted = sym (length-map outs.sends.items sent) ∙ ap length made.says.sends
 
     given_served : given (moved old q ms) s outs ≡ served old q ms old.delivered

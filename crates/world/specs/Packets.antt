@@ -2,8 +2,8 @@
 use Rattle.std.specs.Prelude.{◌≡◌, ℕ, ◌<◌, ◌++◌, Bool, true, false, List, length, map, Option, None}
 use Rattle.std.specs.Prelude.{Some, slice_get, slice_index_or}
 use Rattle.file_tree.specs.Book.{Entry}
-use Rattle.group_model.specs.Names.{place_of}
-use Rattle.group_model.specs.State.{Packet as Sent}
+use Rattle.group_rules.specs.Names.{place_of}
+use Rattle.group_rules.specs.State.{Packet as Sent}
 use Rattle.harp_base.specs.declared.server.ServerId.{ServerId}
 use Rattle.group_run.specs.Run.{is_among}
 use Rattle.replica.specs.Said.{heard}

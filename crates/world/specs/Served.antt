@@ -14,22 +14,23 @@ use Rattle.trace_lines.specs.declared.line.Cause.TheVariants as cause
 use Rattle.trace_lines.specs.declared.line.Line.{Line}
 use Rattle.trace_lines.specs.declared.line.Line.TheVariants as line
 use Rattle.file_tree.specs.Book.{Entry}
-use Rattle.group_model.specs.Effects.{taken}
-use Rattle.group_model.specs.FixedStart.{starting}
-use Rattle.group_model.specs.FreeReads.{on_free_ask}
-use Rattle.group_model.specs.Moves.{Move, Reading, Saying, acts}
-use Rattle.group_model.specs.Names.{id_of, place_of}
-use Rattle.group_model.specs.Places.{Zero, One, Two, Place, get, with_at}
-use Rattle.group_model.specs.Replicate.{on_ack, on_event}
-use Rattle.group_model.specs.State.{Ack, BadClient, Beat, Event, Message, NotLeader, Packet}
-use Rattle.group_model.specs.State.{Refuses, Server}
-use Rattle.group_model.specs.Step.{near}
-use Rattle.group_model.specs.Tick.{tick}
+use Rattle.group_rules.specs.Effects.{taken}
+use Rattle.group_rules.specs.FixedStart.{starting}
+use Rattle.group_rules.specs.FreeReads.{on_free_ask}
+use Rattle.group_rules.specs.Moves.{Move, Reading, Saying, acts}
+use Rattle.group_rules.specs.Names.{id_of, place_of}
+use Rattle.group_rules.specs.Places.{Zero, One, Two, Place, get, with_at}
+use Rattle.group_rules.specs.Replicate.{on_ack, on_event}
+use Rattle.group_rules.specs.Said.{committed_of, sends_said, reads_said}
+use Rattle.group_rules.specs.State.{Ack, BadClient, Beat, Event, Message, NotLeader, Packet}
+use Rattle.group_rules.specs.State.{Refuses, Server}
+use Rattle.group_rules.specs.Step.{near}
+use Rattle.group_rules.specs.Tick.{tick}
 use Rattle.group_run.specs.Lines.{answered_lines, entered_lines, refused_lines, sent_lines}
 use Rattle.group_run.specs.Lines.{state_lines}
-use Rattle.group_run.specs.Shown.{state_of}
+use Rattle.group_rules.specs.Shown.{state_of}
 use Rattle.replica.specs.Heeding.{heeds_ack, heeds_beat, heeds_event}
-use Rattle.replica.specs.Said.{committed_of, entered, sends_of, sent}
+use Rattle.replica.specs.Said.{entered, sent}
 use Rattle.replica.specs.declared.outputs.Outputs.{Outputs}
 use Rattle.world.specs.Given.{answered_lines as answered_lines_of, reads_in}
 use Rattle.world.specs.Given.{refused_lines as refused_lines_of, sent_lines as sent_lines_of}
@@ -76,32 +77,14 @@ message_moves q clock s from m = []
 
 -- ---- what they give
 
--- the entry of a read; it has no index and no stamp
-abbrev pub read_by : Move Entry → List Entry
-read_by (Reading n e) =
-    record {
-      index = 0;
-      client = e.client;
-      number = e.number;
-      cred = e.cred;
-      call = e.call;
-      stamp =
-          0;
-      reply = e.reply;
-    } ∷ []
-read_by m = []
-
-abbrev pub reads_of : List (Move Entry) → List Entry
-reads_of ms = flat_map read_by ms
-
 -- the outputs of a server are what its moves give
 pub record Says (q : Place) (clock : ℕ) (s : Server Entry) (ms : List (Move Entry))
     (outs : Outputs) : Type 0 where
   pub committed : map entered outs.committed.items ≡ committed_of q clock s ms
-  pub reads : reads_in outs.answers.items ≡ reads_of ms
+  pub reads : reads_in outs.answers.items ≡ reads_said ms
   pub answers : answered_lines_of (id_of q) outs.answers.items ≡ answered_lines q ms
   pub refusals : refused_lines_of (id_of q) outs.refusals.items ≡ refused_lines q ms
-  pub sends : map sent outs.sends.items ≡ sends_of ms
+  pub sends : map sent outs.sends.items ≡ sends_said ms
 
 -- the outputs of a server that leads nothing: one refusal
 abbrev pub cause_shown : ℕ → Option ServerId → Cause
@@ -129,15 +112,15 @@ partner_after w One clock ms = acts One clock w.partner ms
 partner_after w q clock ms = w.partner
 
 abbrev pub entered_by : WorldValue → Place → ℕ → List (Move Entry) → List Entry
-entered_by w q clock ms = committed_of q clock (server_in w q) ms ++ reads_of ms
+entered_by w q clock ms = committed_of q clock (server_in w q) ms ++ reads_said ms
 
 -- the world after the moves of a server, where these packets were delivered before
 abbrev pub served : WorldValue → Place → List (Move Entry) → List Bool → WorldValue
 served w q ms delivered = record {
   leader = leader_after w q (get w.clocks q) ms;
   partner = partner_after w q (get w.clocks q) ms;
-  packets = w.packets ++ map (sent_from q) (sends_of ms);
-  delivered = delivered ++ replicate (length (sends_of ms)) false;
+  packets = w.packets ++ map (sent_from q) (sends_said ms);
+  delivered = delivered ++ replicate (length (sends_said ms)) false;
   clocks = w.clocks;
   book = w.book ++ entered_by w q (get w.clocks q) ms;
   halted = w.halted;

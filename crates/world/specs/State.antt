@@ -6,14 +6,14 @@ use Rattle.trace_lines.specs.declared.step.Step.{Step}
 use Rattle.trace_lines.specs.declared.step.Step.TheVariants as step
 use Rattle.trace_lines.specs.declared.line.Line.{Line}
 use Rattle.file_tree.specs.Book.{Entry}
-use Rattle.group_model.specs.FixedStart.{starting}
-use Rattle.group_model.specs.Laws.{Near}
-use Rattle.group_model.specs.Names.{place_of}
-use Rattle.group_model.specs.Places.{Zero, One, Two, Place, Trio, get, with_at}
-use Rattle.group_model.specs.State.{Packet, Server}
+use Rattle.group_rules.specs.FixedStart.{starting}
+use Rattle.group_rules.specs.Names.{place_of}
+use Rattle.group_rules.specs.Places.{Zero, One, Two, Place, Trio, get, with_at}
+use Rattle.group_rules.specs.State.{Packet, Server}
 use Rattle.group_run.specs.Run.{AreTaken, Scene, first_scene, refusal, run, step_lines}
 use Rattle.world.specs.declared.refusal.Refusal.{Refusal}
 use Rattle.world.specs.declared.refusal.Refusal.TheVariants as refusals
+use Rattle.group_rules.specs.Step.{Near}
 use Rattle.trace_lines.specs.declared.line.LineFault.{LineFault}
 use Rattle.trace_lines.specs.declared.line.LineFault.TheVariants as fault
 

@@ -1,7 +1,7 @@
 //! The lines that a server's step gives, and what it puts into the book and among the packets.
 
 ghost use Rattle.std.specs.Prelude.{◌≡◌, ◌+◌, ◌++◌, ◌∷◌, [], length, map, IfOk, OnOk, false};
-ghost use Rattle.group_model.specs.Names.{place_of};
+ghost use Rattle.group_rules.specs.Names.{place_of};
 ghost use Rattle.group_run.specs.Lines.{entered_line, entered_lines, state_lines};
 ghost use Rattle.replica.specs.Said.{entered, heard};
 ghost use Rattle.world.specs.Given.{answered_line, answered_lines, read_in, reads_in, refused_line};
@@ -9,7 +9,6 @@ ghost use Rattle.world.specs.Given.{refused_lines, sent_line, sent_lines, shown_
 ghost use Rattle.world.specs.Packets.{HasMore, posted};
 
 use crate::packet::Packet;
-use crate::states::is_same_state;
 use harp_base::{ServerId, StateLine};
 use replica::{Answered, Outputs, Refused, Sent};
 use std::alloc::{AllocError, Global};
@@ -284,6 +283,7 @@ pub fn put(
 }
 
 /// The line of a server's state, where it isn't the one before.
+#[tactic(auto, unfolding(group_rules::specs::Shown::same_state))]
 pub fn show_state(
     server: ServerId,
     before: StateLine,
@@ -293,7 +293,7 @@ pub fn show_state(
     ensures { OnOk result (lines.new.items ≡ lines.old.items
         ++ state_lines (place_of server) before now) }
 {
-    if is_same_state(&before, &now) {
+    if before == now {
         return Ok(());
     }
     lines.push(Line::State { server, state: now })?;

@@ -5,7 +5,6 @@
 mod given;
 mod packet;
 mod refusal;
-mod states;
 mod world;
 
 pub use refusal::Refusal;

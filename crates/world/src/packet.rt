@@ -1,8 +1,8 @@
 //! Packets on their way.
 
 ghost use Rattle.std.specs.Prelude.{◌≡◌, ◌&&◌, map, not};
-ghost use Rattle.group_model.specs.Names.{place_of};
-ghost use Rattle.group_model.specs.Places.{same};
+ghost use Rattle.group_rules.specs.Names.{place_of};
+ghost use Rattle.group_rules.specs.Places.{same};
 ghost use Rattle.group_run.specs.Run.{is_among};
 ghost use Rattle.world.specs.Packets.{AreSettled, IsFirstDue, packet_of, was_delivered};
 

@@ -6,13 +6,13 @@ ghost use Rattle.std.specs.Prelude.{slice_set, None};
 ghost use Rattle.trace_lines.specs.declared.step.Step.{Step as Taken};
 ghost use Rattle.trace_lines.specs.declared.step.Step.TheVariants as step;
 ghost use Rattle.trace_lines.specs.declared.line.Line.TheVariants as line;
-ghost use Rattle.group_model.specs.Names.{place_of};
-ghost use Rattle.group_model.specs.Places.{Two, get};
-ghost use Rattle.group_model.specs.Step.{near};
+ghost use Rattle.group_rules.specs.Names.{place_of};
+ghost use Rattle.group_rules.specs.Places.{Two, get};
+ghost use Rattle.group_rules.specs.Step.{near};
 ghost use Rattle.harp_base.specs.declared.server.ServerId.TheVariants as server;
 ghost use Rattle.group_run.specs.Lines.{entered_lines, state_lines};
 ghost use Rattle.group_run.specs.Run.{due, first_scene, is_elementary, run};
-ghost use Rattle.group_run.specs.Shown.{state_of};
+ghost use Rattle.group_rules.specs.Shown.{state_of};
 ghost use Rattle.replica.specs.Said.{entered};
 ghost use Rattle.world.specs.Given.{answered_lines, reads_in, refused_lines, sent_lines};
 ghost use Rattle.world.specs.Packets.{AreSettled, packet_of, posted};
@@ -26,8 +26,8 @@ mod taking;
 use crate::given::{put, show_state};
 use crate::packet::{Packet, first_due};
 use crate::refusal::Refusal;
-use harp_base::{Held, Mode, Role, ServerId, StateLine, Trio, ViewNo};
-use replica::{Leader, Outputs, Partner};
+use harp_base::{Held, Mode, Role, ServerId, StateLine, Trio};
+use replica::{Leader, Outputs, Partner, view_one};
 use std::alloc::{AllocError, Global};
 use std::marker::Model;
 use trace_lines::{BookEntry, Line, Step};
@@ -256,7 +256,7 @@ impl World {
 }
 
 /// Whether each of three clocks is at most 50 milliseconds from a reading.
-#[tactic(auto, unfolding(group_model::specs::Places::all_of))]
+#[tactic(auto, unfolding(group_rules::specs::Places::all_of))]
 fn is_near(reading: u64, zero: u64, one: u64, two: u64) -> bool
     requires reading { reading < 2 ^ 62 }
     requires zero { zero < 2 ^ 62 }
@@ -274,16 +274,6 @@ fn is_near(reading: u64, zero: u64, one: u64, two: u64) -> bool
         && one <= reading + 50
         && reading <= two + 50
         && two <= reading + 50
-}
-
-/// The view that stands from the fixed start on.
-fn view_one() -> ViewNo
-    ensures { result ≡ record { count = 1; coordinator = server.Zero } }
-{
-    match ViewNo::of(1, ServerId::Zero) {
-        Some(view) => view,
-        None => unreachable!(),
-    }
 }
 
 /// What a trace shows of the witness outside.

@@ -2,9 +2,9 @@
 
 ghost use Rattle.std.specs.Prelude.{◌≡◌, ◌^◌, ◌<◌, ◌∷◌, [], IfOk};
 ghost use Rattle.event_record.specs.Record.{entry_of};
-ghost use Rattle.group_model.specs.Names.{number_of_view, place_of};
-ghost use Rattle.group_model.specs.Places.{Zero, One, get};
-ghost use Rattle.group_model.specs.State.{Ack, Beat, Event};
+ghost use Rattle.group_rules.specs.Names.{number_of_view, place_of};
+ghost use Rattle.group_rules.specs.Places.{Zero, One, get};
+ghost use Rattle.group_rules.specs.State.{Ack, Beat, Event};
 ghost use Rattle.replica.specs.Said.{heard};
 ghost use Rattle.world.specs.Served.{Made, RefusesAsk, ask_moves, cause_shown, message_moves};
 ghost use Rattle.world.specs.Served.{server_in, tick_moves};

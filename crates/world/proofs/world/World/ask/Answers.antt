@@ -1,8 +1,8 @@
 use Rattle.std.proofs.Common.{subst}
 use Rattle.std.proofs.lemmas.Result.{IfOk-weaker}
 use Rattle.trace_lines.specs.declared.step.Step.TheVariants as step
-use Rattle.group_model.specs.Names.{place_of}
-use Rattle.group_model.specs.Places.{get}
+use Rattle.group_rules.specs.Names.{place_of}
+use Rattle.group_rules.specs.Places.{get}
 use Rattle.world.specs.Served.{Gives, ask_moves, server_in}
 use Rattle.world.proofs.Serving.{serves_is}
 use Rattle.world.proofs.world.World.ask.Goals as goal

@@ -3,9 +3,9 @@ use Rattle.std.specs.Prelude.{slice_get, slice_set}
 use Rattle.std.proofs.lemmas.List.{length-map}
 use Rattle.std.proofs.lemmas.Result.{IfOk-weaker}
 use Rattle.trace_lines.specs.declared.step.Step.TheVariants as step
-use Rattle.group_model.specs.Names.{place_of}
-use Rattle.group_model.specs.Places.{get}
-use Rattle.group_run.specs.Shown.{state_of}
+use Rattle.group_rules.specs.Names.{place_of}
+use Rattle.group_rules.specs.Places.{get}
+use Rattle.group_rules.specs.Shown.{state_of}
 use Rattle.replica.specs.Said.{heard}
 use Rattle.world.specs.Packets.{packet_of}
 use Rattle.world.specs.Served.{Gives, Made, message_moves, server_in}

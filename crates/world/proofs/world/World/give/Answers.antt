@@ -1,7 +1,7 @@
 use Rattle.std.proofs.Common.{◌++◌, ◌∙◌, ap, subst, sym, refl, length, List}
 use Rattle.std.specs.Prelude.{map}
-use Rattle.group_model.specs.Names.{place_of}
-use Rattle.group_run.specs.Shown.{state_of}
+use Rattle.group_rules.specs.Names.{place_of}
+use Rattle.group_rules.specs.Shown.{state_of}
 use Rattle.replica.specs.Said.{entered}
 use Rattle.world.specs.Given.{reads_in}
 use Rattle.world.specs.Packets.{AreSettled, packet_of, was_delivered}

@@ -1,12 +1,12 @@
 use Rattle.std.proofs.Common.{◌≡◌, sym, ap, ◌∙◌, subst, [], true}
-use Rattle.group_model.specs.FixedStart.{view_one}
-use Rattle.group_model.specs.Names.{number_of_view, place_of}
-use Rattle.group_model.specs.Places.{Zero, One, get}
-use Rattle.group_model.specs.State.{Beat}
+use Rattle.group_rules.specs.FixedStart.{view_one}
+use Rattle.group_rules.specs.Names.{number_of_view, place_of}
+use Rattle.group_rules.specs.Places.{Zero, One, get}
+use Rattle.group_rules.specs.State.{Beat}
 use Rattle.world.specs.Served.{Made, message_moves, server_in}
 use Rattle.world.specs.State.{WorldValue}
 use Rattle.world.specs.contracts.world.World.{the_view}
-use Rattle.group_model.specs.Replicate.{on_event}
+use Rattle.group_rules.specs.Replicate.{on_event}
 use Rattle.replica.specs.Heeding.{heeds_beat}
 use Rattle.world.proofs.Making.{event_brief, nothing_made, partner_made}
 use Rattle.world.proofs.world.World.hear_beat.Goals as goal

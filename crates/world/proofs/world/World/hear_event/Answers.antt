@@ -1,14 +1,14 @@
 use Rattle.std.proofs.Common.{◌≡◌, sym, ap, ◌∙◌, subst, [], true}
-use Rattle.group_model.specs.FixedStart.{view_one}
-use Rattle.group_model.specs.Names.{number_of_view, place_of}
-use Rattle.group_model.specs.Places.{Zero, One, get}
-use Rattle.group_model.specs.State.{Event}
+use Rattle.group_rules.specs.FixedStart.{view_one}
+use Rattle.group_rules.specs.Names.{number_of_view, place_of}
+use Rattle.group_rules.specs.Places.{Zero, One, get}
+use Rattle.group_rules.specs.State.{Event}
 use Rattle.world.specs.Served.{Made, message_moves, server_in}
 use Rattle.world.specs.State.{WorldValue}
 use Rattle.world.specs.contracts.world.World.{the_view}
 use Rattle.event_record.specs.Record.{entry_of}
-use Rattle.group_model.specs.Effects.{taken}
-use Rattle.group_model.specs.Replicate.{on_event}
+use Rattle.group_rules.specs.Effects.{taken}
+use Rattle.group_rules.specs.Replicate.{on_event}
 use Rattle.replica.specs.Heeding.{heeds_event}
 use Rattle.replica.specs.Said.{Makes}
 use Rattle.event_record.specs.declared.record.Record.{Record}

@@ -1,6 +1,6 @@
 use Rattle.std.proofs.Common.{refl, Some, None}
 use Rattle.std.proofs.lemmas.Result.{IfOk-weaker}
-use Rattle.group_model.specs.Places.{Zero, One, Two, get}
+use Rattle.group_rules.specs.Places.{Zero, One, Two, get}
 use Rattle.world.proofs.Saying.{refuses_says}
 use Rattle.world.proofs.world.World.serve_ask.Goals as goal
 

@@ -1,5 +1,5 @@
 use Rattle.std.proofs.Common.{subst}
-use Rattle.group_model.specs.Places.{Zero, get}
+use Rattle.group_rules.specs.Places.{Zero, get}
 use Rattle.world.specs.Served.{Made, ask_moves, server_in}
 use Rattle.world.specs.State.{WorldValue}
 use Rattle.world.specs.contracts.world.World.{the_view}
