@@ -23,10 +23,12 @@ fn trace(alloc: Global) -> Result<Bytes, Fail> {
     let mut trace = Bytes::new(alloc);
     for before in 0..RECORDS {
         let n = before + 1;
-        let lines = format!(in alloc; "> ask 0 7 {n} rmdir 1 61
+        let lines = format!(in alloc;
+            "> ask 0 7 {n} rmdir 1 61
 send {before} 0 1 event 1.0 {n} 0 0 7 {n}
 state 0 open 1.0 1.0 leads 1 held 0 0 0 0 {n}
-")?;
+"
+        )?;
         trace.extend(lines.as_bytes())?;
     }
     trace.extend(b"> ask 0 7 32769 rmdir 1 61\nrefused 0 7 32769 log-full\nend 0\n")?;

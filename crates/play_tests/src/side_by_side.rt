@@ -1,9 +1,9 @@
 //! The asks of the worked rows over the plain tree and over cells, side by side.
 
-use crate::calls::ROWS;
 use crate::ends::schedule;
+use crate::{callers, calls};
 use plain_tree::PlainTree;
-use harp_base::{Bytes, Call, Reply, SUPERUSER, is_update, write_reply};
+use harp_base::{Bytes, Call, Cred, Reply, SUPERUSER, is_update, write_reply};
 use harp_cells::{MemCells, Moment};
 use nfs_calls::{answer, prepare};
 use schedule_text::read_step;
@@ -22,13 +22,14 @@ struct Trees {
 fn over_cells(
     alloc: Global,
     cells: &mut MemCells,
+    cred: Cred,
     call: &Call,
     stamp: Moment,
 ) -> Result<Reply, Fail> {
     if !is_update(call) {
-        return Ok(answer(alloc, cells, SUPERUSER, call)?);
+        return Ok(answer(alloc, cells, cred, call)?);
     }
-    let plan = prepare(alloc, cells, SUPERUSER, call, stamp)?;
+    let plan = prepare(alloc, cells, cred, call, stamp)?;
     cells.apply(alloc, plan.changes.as_slice())?;
     Ok(plan.reply)
 }
@@ -40,10 +41,16 @@ fn spelled(alloc: Global, reply: &Reply) -> Result<Bytes, Fail> {
 }
 
 /// Whether both give the same reply.
-fn agree(alloc: Global, trees: &mut Trees, call: &Call, millis: u64) -> Result<bool, Fail> {
+fn agree(
+    alloc: Global,
+    trees: &mut Trees,
+    cred: Cred,
+    call: &Call,
+    millis: u64,
+) -> Result<bool, Fail> {
     let stamp = Moment::of(millis).ok_or("no stamp")?;
-    let plain = trees.plain.apply(alloc, SUPERUSER, call, millis)?;
-    let other = over_cells(alloc, &mut trees.cells, call, stamp)?;
+    let plain = trees.plain.apply(alloc, cred, call, millis)?;
+    let other = over_cells(alloc, &mut trees.cells, cred, call, stamp)?;
     let wanted = spelled(alloc, &plain)?;
     let got = spelled(alloc, &other)?;
     Ok(got.as_slice() == wanted.as_slice())
@@ -53,9 +60,9 @@ fn agree(alloc: Global, trees: &mut Trees, call: &Call, millis: u64) -> Result<b
 fn agree_on(alloc: Global, trees: &mut Trees, schedule: &[u8]) -> Result<bool, Fail> {
     let mut millis = 0_u64;
     for line in schedule.split(|b| *b == b'\n') {
-        if let Some(Step::Ask { call, .. }) = read_step(alloc, line)? {
+        if let Some(Step::Ask { cred, call, .. }) = read_step(alloc, line)? {
             millis = millis.saturating_add(1000);
-            if !agree(alloc, trees, &call, millis)? {
+            if !agree(alloc, trees, cred, &call, millis)? {
                 return Ok(false);
             }
         }
@@ -65,20 +72,20 @@ fn agree_on(alloc: Global, trees: &mut Trees, schedule: &[u8]) -> Result<bool, F
 
 /// Whether both agree on what can be read of an object.
 fn agree_at(alloc: Global, trees: &mut Trees, handle: u32) -> Result<bool, Fail> {
-    let attributes = agree(alloc, trees, &Call::GetAttr { handle }, 0)?;
+    let attributes = agree(alloc, trees, SUPERUSER, &Call::GetAttr { handle }, 0)?;
     let page = Call::ReadDir {
         dir: handle,
         cookie: 0,
         count: 8192,
     };
-    let entries = agree(alloc, trees, &page, 0)?;
-    let text = agree(alloc, trees, &Call::ReadLink { handle }, 0)?;
+    let entries = agree(alloc, trees, SUPERUSER, &page, 0)?;
+    let text = agree(alloc, trees, SUPERUSER, &Call::ReadLink { handle }, 0)?;
     let whole = Call::Read {
         handle,
         offset: 0,
         count: 8192,
     };
-    let bytes = agree(alloc, trees, &whole, 0)?;
+    let bytes = agree(alloc, trees, SUPERUSER, &whole, 0)?;
     Ok(attributes && entries && text && bytes)
 }
 
@@ -98,7 +105,7 @@ fn agree_through(alloc: Global, schedule: &[u8]) -> Result<bool, Fail> {
 #[test]
 fn agrees_with_the_plain_tree(rt: HostRuntime) -> Result<(), Fail> {
     let alloc = rt.alloc();
-    for row in &ROWS {
+    for row in calls::ROWS.iter().chain(callers::ROWS[..1].iter()) {
         assert!(rt; agree_through(alloc, row.schedule)?);
     }
     let long = schedule(alloc)?;
