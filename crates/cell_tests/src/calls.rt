@@ -1,12 +1,12 @@
 //! Calls over cells: the reads of a small tree against the plain one, and repeats.
 
 use dedup::{Seen, keep, seen};
-use plain_tree::PlainTree;
 use harp_base::{
     Bounded, Bytes, Call, Kind, Reply, SUPERUSER, SetAttr, Time, is_update, write_reply,
 };
 use harp_cells::{Cell, Change, Inode, MemCells, Moment, NonEmpty, Value};
 use nfs_calls::answer;
+use plain_tree::PlainTree;
 use std::alloc::Global;
 use std::test::Fail;
 

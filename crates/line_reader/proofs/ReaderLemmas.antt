@@ -34,9 +34,13 @@ given : (text : Option (List ℕ)) (v : Vec ℕ Global) (rest : List ℕ) (left 
 given None v rest left h few k = tt
 given (Some t) v rest None h few k = absurd k
 given (Some t) v rest (Some x) h few k =
-    let whole = sym k ∙ append_assoc v.items (10 ∷ rest) x in
-    (ap lines_of whole ∙ lines_of-ended v.items (rest ++ x) h, few, v.items ++ 10 ∷ [], whole
-    ∙ sym (append_assoc v.items (10 ∷ []) (rest ++ x)))
+    let whole = sym k ∙ append_assoc v.items (10 ∷ rest) x in (
+      ap lines_of whole ∙ lines_of-ended v.items (rest ++ x) h,
+      few,
+      v.items ++ 10 ∷ [],
+      whole
+          ∙ sym (append_assoc v.items (10 ∷ []) (rest ++ x)),
+    )
 
 -- a line that is ended is given
 pub gives-ended : (text : Option (List ℕ)) (v : Vec ℕ Global) (ahead left_ahead : List ℕ) (left : Option (List ℕ)) (old : List ℕ) (old_left : Option (List ℕ)) (byte : Option ℕ)
@@ -64,9 +68,12 @@ last_given (Some t) v ahead ahead' None left' h few some k l e = absurd k
 last_given (Some t) v ahead ahead' (Some x) None h few some k l e = absurd l
 last_given (Some t) v ahead ahead' (Some x) (Some y) h few some k l e =
     let none : ahead' ++ y ≡ [] = rw (e.2, rests ahead ahead' x y e.0 e.1 e.2 l) refl in
-    let whole : t ≡ v.items = sym k ∙ rw (e.0, e.1, append-nil v.items, append-nil v.items) refl in
-    (ap lines_of whole ∙ last_lines v.items some h ∙ ap (λ ls. v.items ∷ lines_of ls) (sym none), few, v.items,
-    whole ∙ sym (ap (λ s. v.items ++ s) none ∙ append-nil v.items))
+    let whole : t ≡ v.items = sym k ∙ rw (e.0, e.1, append-nil v.items, append-nil v.items) refl in (
+      ap lines_of whole ∙ last_lines v.items some h ∙ ap (λ ls. v.items ∷ lines_of ls) (sym none),
+      few,
+      v.items,
+      whole ∙ sym (ap (λ s. v.items ++ s) none ∙ append-nil v.items),
+    )
 
 -- a last line that isn't ended is given
 pub gives-last : (text : Option (List ℕ)) (v : Vec ℕ Global) (ahead ahead' : List ℕ) (left left' : Option (List ℕ)) (byte : Option ℕ) → Feedless v.items

@@ -2,10 +2,10 @@
 
 use crate::ends::schedule;
 use crate::{callers, calls};
-use plain_tree::PlainTree;
 use harp_base::{Bytes, Call, Cred, Reply, SUPERUSER, is_update, write_reply};
 use harp_cells::{MemCells, Moment};
 use nfs_calls::{answer, prepare};
+use plain_tree::PlainTree;
 use schedule_text::read_step;
 use std::alloc::Global;
 use std::test::Fail;

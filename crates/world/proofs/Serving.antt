@@ -71,7 +71,6 @@ sends_lines s n (x ∷ sends) = ap (λ ls. ls ++ sent_lines_of s (n + 1) sends)
 lines_of_sends : (s : ServerId) (n : ℕ) (sends : List Sent) (ms : List (Move Entry))
     → map sent sends ≡ sends_said ms → sent_lines_of s n sends ≡ sent_lines n (place_of s) ms
 lines_of_sends s n sends ms same = sends_lines s n sends ∙ ap (packet_lines n (place_of s)) same
-   
 
 -- ---- a server's step
 
