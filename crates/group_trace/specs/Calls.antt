@@ -1,5 +1,5 @@
 -- The calls of a step that change a disk, and what a stop cuts.
-use Rattle.std.specs.Prelude.{ℕ, ◌+◌, ◌-◌, Bool, true, nat_le, List, [], ◌∷◌, ◌++◌, length, take, drop, Option, None, Some, if◌then◌else◌}
+use Rattle.std.specs.Prelude.{ℕ, ◌+◌, ◌-◌, Bool, true, nat_le, List, [], ◌∷◌, ◌++◌, length, replicate, take, drop, Option, None, Some, if◌then◌else◌}
 use Rattle.file_tree.specs.Book.{Entry}
 use Rattle.group_rules.specs.Moves.{Accepting, Applying, Demoting, Falling, Flushing, Joining, Move, Saving, act}
 use Rattle.group_rules.specs.Places.{Place}
@@ -14,28 +14,36 @@ unfoldable pub changes_of : (List Entry → Entry → ℕ) → List Entry → Li
 changes_of changes before [] = 0
 changes_of changes before (e ∷ es) = changes before e + changes_of changes (before ++ e ∷ []) es
 
--- the calls that change the disk in a move: a mark is one, an apply one for each change of its
--- records, a flush is a sync and a mark, a save one for each record, a sync and a mark
-abbrev pub calls_in : Measures → List Entry → Server Entry → Move Entry → ℕ
-calls_in m list s (Joining v duty) = 1
-calls_in m list s (Accepting plan role n) = 1
-calls_in m list s (Applying n) = changes_of m.changes (take s.ap list)
-    (take (n - s.ap) (drop s.ap list))
-calls_in m list s Flushing = 2
-calls_in m list s (Demoting v) = 1
-calls_in m list s Saving = if saves s.held s.saved then length s.items + 2 else 0
-calls_in m list s move = 0
+-- a call that changes a disk: a change of cells, a sync, or the writing of the mark
+pub data CallKind : Type 0 where
+  Changes : CallKind
+  Syncs : CallKind
+  Marks : CallKind
+
+-- the calls of a move, in their order: an apply makes each change of its records, a flush is a sync
+-- and a mark, a save a change for each record, a sync and a mark
+abbrev pub calls_in : Measures → List Entry → Server Entry → Move Entry → List CallKind
+calls_in m list s (Joining v duty) = Marks ∷ []
+calls_in m list s (Accepting plan role n) = Marks ∷ []
+calls_in m list s (Applying n) =
+    replicate (changes_of m.changes (take s.ap list) (take (n - s.ap) (drop s.ap list))) Changes
+calls_in m list s Flushing = Syncs ∷ Marks ∷ []
+calls_in m list s (Demoting v) = Marks ∷ []
+calls_in m list s Saving =
+    if saves s.held s.saved then replicate (length s.items) Changes ++ Syncs ∷ Marks ∷ [] else []
+calls_in m list s move = []
 
 -- the calls of a step's moves; `list` is the server's list of entries up to its top
-unfoldable pub calls_of : Measures → Place → ℕ → List Entry → Server Entry → List (Move Entry) → ℕ
-calls_of m q clock list s [] = 0
-calls_of m q clock list s (move ∷ ms) = calls_in m list s move + calls_of m q clock list
-    (act q clock s move) ms
+unfoldable pub calls_of : Measures → Place → ℕ → List Entry → Server Entry → List (Move Entry)
+    → List CallKind
+calls_of m q clock list s [] = []
+calls_of m q clock list s (move ∷ ms) =
+    calls_in m list s move ++ calls_of m q clock list (act q clock s move) ms
 
--- whether a step of so many calls passes a stop
-abbrev pub passes : Option ℕ → ℕ → Bool
+-- whether a step of these calls passes a stop
+abbrev pub passes : Option ℕ → List CallKind → Bool
 passes None calls = true
-passes (Some most) calls = nat_le calls most
+passes (Some most) calls = nat_le (length calls) most
 
 -- a step that a stop cuts does nothing but that the server falls
 abbrev pub cut_moves : Measures → Group Entry → Place → Option ℕ → List (Move Entry)

@@ -169,9 +169,11 @@ kind_answers q clock s i _ (repeats index e client number cred call after o is u
       readless = (tt, silents_readless after (milds_silent after (tails_mild after t)));
       each = λ n x j. record {
         open' = o;
-        reach = inl (⊎_elim (λ (same : Saying (Answers index e) ≡ Saying (Answers n x)). let z : index
+        reach = inl (⊎_elim (λ (same : Saying (Answers index e) ≡ Saying (Answers n x)). let z :
+            index
             ≡ n = cc in subst (λ k. k ≤ s.cp) z l)
-            (λ rest. absurd (silent_out after (milds_silent after (tails_mild after t)) n x rest)) j);
+            (λ rest. absurd (silent_out after (milds_silent after (tails_mild after t)) n x rest))
+            j);
         asks = λ c m d k same.
             let both : Does (Ask client number cred call) ≡ Does (Ask c m d k) = sym is ∙ same in
             let one : call ≡ k = cc in

@@ -57,7 +57,8 @@ asked_moved b g q s (Appending x) a h =
     (λ (y : x ≡ e). subst (AskedIn b) y a) (in_end (g.page s.accepted).list x e i)) h
 asked_moved b g q s m a h = h
 
-pub asked_moves : (ms : List (Move Entry)) (b : Trace) (g : Group Entry) (q : Place) (s : Server Entry)
+pub asked_moves : (ms : List (Move Entry)) (b : Trace) (g : Group Entry) (q : Place)
+    (s : Server Entry)
     → AllByRecursion (AskedMove b) ms → AllAsked b g.page → AllAsked b (moved_by g q s ms).page
 asked_moves [] b g q s a h = h
 asked_moves (m ∷ ms) b g q s a h = asked_moves ms b (moved g q s m) q (act q (g.clock q) s m) a.1

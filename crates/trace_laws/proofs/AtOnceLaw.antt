@@ -25,7 +25,7 @@ use Rattle.group_safety.specs.Words.{IsActive}
 use Rattle.group_rules.proofs.Tests.{if_is, le_is}
 use Rattle.group_safety.proofs.AtOnce.{answers_at_once}
 use Rattle.group_trace.specs.Lines.{answered_lines, entered_lines, lines_of_moves, listing_of, refused_lines, sent_lines, state_line, state_lines}
-use Rattle.group_trace.specs.Calls.{moves_of, passes}
+use Rattle.group_trace.specs.Calls.{CallKind, moves_of, passes}
 use Rattle.group_trace.specs.Run.{delivery, lines_where, moved_in, turn}
 use Rattle.group_trace.specs.Scene.{Measures, Scene}
 use Rattle.trace_laws.specs.Stops.{NeverCut}
@@ -122,9 +122,10 @@ answers_of_moves g g' q ms later h =
 
 -- ---- no stop cuts it
 
-passes_none : (stop : Option ℕ) (calls : ℕ) → calls ≡ 0 → passes stop calls ≡ true
+passes_none : (stop : Option ℕ) (calls : List CallKind) → calls ≡ [] → passes stop calls ≡ true
 passes_none None calls e = refl
-passes_none (Some most) calls e = le_is calls most (omega arith)
+passes_none (Some most) calls e = le_is (length calls) most
+    (let none : length calls ≡ 0 = ap length e in omega arith)
 
 -- ---- the delivery of an Ack
 

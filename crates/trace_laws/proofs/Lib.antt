@@ -1,6 +1,7 @@
 pub mod MoveKinds
 pub mod StepKinds
 pub mod StopLaws
+pub mod MarkLaws
 pub mod After
 pub mod LineParts
 pub mod StateLines

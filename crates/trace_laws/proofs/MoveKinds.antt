@@ -164,7 +164,8 @@ part_behind q front _ f (accepting_part plan n before rest h t) =
     (accepting_part plan n (front ++ before) rest (each-append IsFront front before f h) t)
 
 -- a step of a kind, and its end
-pub kind_then : (q : Place) (clock : ℕ) (s : Server Entry) (i : Input) (ms after : List (Move Entry))
+pub kind_then : (q : Place) (clock : ℕ) (s : Server Entry) (i : Input)
+    (ms after : List (Move Entry))
     → Kind q clock s i ms → AreTail after → Kind q clock s i (ms ++ after)
 kind_then q clock s i _ after (plain ms h) t = plain (ms ++ after) (plain_then q ms after h t)
 kind_then q clock s i _ after (appends e rest o a u t') t =

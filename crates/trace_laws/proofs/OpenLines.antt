@@ -94,7 +94,8 @@ stateless_sound page [] h = tt
 stateless_sound page (line.State server st ∷ ls) h = absurd h.0
 stateless_sound page (l ∷ ls) h = (tt, stateless_sound page ls h.1)
 
-pub sound_grows : (g g' : Group Entry) → Grows g.page g'.page g.committed g'.committed g.joins g'.joins
+pub sound_grows : (g g' : Group Entry)
+    → Grows g.page g'.page g.committed g'.committed g.joins g'.joins
     → (ls : List Line) → AllByRecursion (IsSound g.page) ls → AllByRecursion (IsSound g'.page) ls
 sound_grows g g' grow [] h = tt
 sound_grows g g' grow (line.State server st ∷ ls) h =

@@ -11,7 +11,7 @@ use Rattle.group_rules.specs.Disk.{settled_tests}
 use Rattle.group_rules.specs.Effects.{taken}
 use Rattle.group_rules.specs.Limits.{is_active, is_open, limit, room}
 use Rattle.group_rules.specs.Misfits.{misfits}
-use Rattle.group_rules.specs.Moves.{Appending, Basing, Committing, Hearing, Heeding, Move, Noting, Opening, Reading, Saying, Sending, act, acts}
+use Rattle.group_rules.specs.Moves.{Appending, Basing, Choosing, Collecting, Committing, Falling, Hearing, Heeding, Move, Noting, Opening, Pulling, Reading, Saying, Sending, Staging, act, acts}
 use Rattle.group_rules.specs.Open.{formed_tests, rebase, try_open}
 use Rattle.group_rules.specs.Places.{Place, all_of, leader, partner, same}
 use Rattle.group_rules.specs.Replicate.{ack_tests, answers, is_in_view, on_event}
@@ -28,6 +28,11 @@ use Rattle.trace_laws.proofs.StepKinds.{tail_base, tail_open, tick_tail}
 
 -- a move that makes no call to the disk
 abbrev pub IsFree : Move Entry → Type 0
+IsFree (Collecting reports) = ⊤
+IsFree (Choosing plan from) = ⊤
+IsFree (Pulling plan from) = ⊤
+IsFree (Staging items) = ⊤
+IsFree Falling = ⊤
 IsFree (Noting t lb until) = ⊤
 IsFree (Committing n) = ⊤
 IsFree (Saying say) = ⊤
@@ -44,7 +49,12 @@ abbrev pub AreFree : List (Move Entry) → Type 0
 AreFree ms = AllByRecursion IsFree ms
 
 free_move : (m : Measures) (list : List Entry) (s : Server Entry) (move : Move Entry) → IsFree move
-    → calls_in m list s move ≡ 0
+    → calls_in m list s move ≡ []
+free_move m list s (Collecting reports) f = refl
+free_move m list s (Choosing plan from) f = refl
+free_move m list s (Pulling plan from) f = refl
+free_move m list s (Staging items) f = refl
+free_move m list s Falling f = refl
 free_move m list s (Noting t lb until) f = refl
 free_move m list s (Committing n) f = refl
 free_move m list s (Saying say) f = refl
@@ -58,7 +68,7 @@ free_move m list s (Hearing x lb) f = refl
 free_move m list s move f = absurd f
 
 pub free_calls : (m : Measures) (q : Place) (clock : ℕ) (list : List Entry) (s : Server Entry)
-    (ms : List (Move Entry)) → AreFree ms → calls_of m q clock list s ms ≡ 0
+    (ms : List (Move Entry)) → AreFree ms → calls_of m q clock list s ms ≡ []
 unfolding calls_of
 free_calls m q clock list s [] f = refl
 free_calls m q clock list s (move ∷ ms) f = rw (
@@ -66,7 +76,7 @@ free_calls m q clock list s (move ∷ ms) f = rw (
   free_calls m q clock list (act q clock s move) ms f.1,
 ) refl
 
-tail_free : (ms : List (Move Entry)) → AreTail ms → AreFree ms
+pub tail_free : (ms : List (Move Entry)) → AreTail ms → AreFree ms
 tail_free [] h = tt
 tail_free (m ∷ ms) h = (one m h.0, tail_free ms h.1)
   where
@@ -80,7 +90,7 @@ answers_free : (n : ℕ) (es : List Entry) → AreFree (answers n es)
 answers_free n [] = tt
 answers_free n (e ∷ es) = (tt, answers_free (n + 1) es)
 
-free_if : (b : Bool) (x y : List (Move Entry)) → AreFree x → AreFree y
+pub free_if : (b : Bool) (x y : List (Move Entry)) → AreFree x → AreFree y
     → AreFree (if b then x else y)
 free_if b x y h k = by_if AreFree b x y (λ _. h) (λ _. k)
 
@@ -95,7 +105,7 @@ update_free s e None = append_free s e
 update_free s e (Some l) = free_if (e.number == l.number) _ _ (free_if (nat_le l.index s.cp) _ []
     (tt, tt) tt) (free_if (nat_lt e.number l.number) _ _ (tt, tt) (append_free s e))
 
-ask_free : (q : Place) (clock : ℕ) (list : List Entry) (s : Server Entry) (client number : ℕ)
+pub ask_free : (q : Place) (clock : ℕ) (list : List Entry) (s : Server Entry) (client number : ℕ)
     (cred : Cred) (c : Call) → AreFree (on_ask q clock list s client number cred c)
 ask_free q clock list s client number cred c =
     free_if (nat_lt 4095 client) _ _ (tt, tt)
@@ -111,7 +121,7 @@ event_free : (q : Place) (clock : ℕ) (s : Server Entry) (from : Place) (v cp b
 event_free q clock s from v cp base items =
     free_if (all_of (is_in_view s v ∷ same q (partner s.plan.storers) ∷ [])) _ [] (tt, (tt, tt)) tt
 
-message_free : (size : List Entry → Entry → ℕ) (q : Place) (clock : ℕ) (list : List Entry)
+pub message_free : (size : List Entry → Entry → ℕ) (q : Place) (clock : ℕ) (list : List Entry)
     (s : Server Entry) (from : Place) (m : Message Entry) → NeverCut (Comes from m)
     → AreFree (on_message size q clock list s from m)
 message_free size q clock list s from (Event v index cp base e) n =
@@ -128,7 +138,7 @@ message_free size q clock list s from (Fetch v index) n = free_if (all_of (servi
     (free_if (all_of (held_tests s index s.served)) _ [] (tt, tt) tt) tt)
 message_free size q clock list s from m n = absurd n
 
-rule_free : (size : List Entry → Entry → ℕ) (q : Place) (clock : ℕ) (list : List Entry)
+pub rule_free : (size : List Entry → Entry → ℕ) (q : Place) (clock : ℕ) (list : List Entry)
     (s : Server Entry) (i : Input) → NeverCut i → AreFree (rule size q clock list s i)
 rule_free size q clock list s (Does Tick) n = tail_free (tick q clock s) (tick_tail q clock s)
 rule_free size q clock list s (Does (Ask client number cred c)) n =

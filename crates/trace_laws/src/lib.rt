@@ -7,7 +7,7 @@ ghost use Rattle.group_trace.specs.Run.{AreTaken};
 ghost use Rattle.group_trace.specs.Scene.{Measures, first_scene};
 ghost use Rattle.trace_laws.specs.FirstParts.{FirstPartsAreRight};
 ghost use Rattle.trace_laws.specs.Laws.{RunIsRight};
-ghost use Rattle.trace_laws.specs.Stops.{MakesNoCall};
+ghost use Rattle.trace_laws.specs.Stops.{CutWritesNoMark, MakesNoCall, MarksOnce};
 
 /// Every run from the first group, whatever the bytes of records and messages: its event lines are
 /// its steps, its entered lines the book of the group that it leaves, and its lines are a right
@@ -22,4 +22,11 @@ pub fn every_run()
 /// Ack, a Formed or a Fetch.
 pub fn never_cut()
     ensures calls { MakesNoCall }
+{}
+
+/// A step writes the mark at most once, as its last call that changes the disk; so one that is cut
+/// has written no mark.
+pub fn one_mark()
+    ensures last { MarksOnce }
+    ensures cut { CutWritesNoMark }
 {}
