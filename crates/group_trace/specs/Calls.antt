@@ -20,8 +20,8 @@ pub data CallKind : Type 0 where
   Syncs : CallKind
   Marks : CallKind
 
--- the calls of a move, in their order: an apply makes each change of its records, a flush is a sync
--- and a mark, a save a change for each record, a sync and a mark
+-- the calls of a move, in their order: an apply makes each change of its records, a flush is a
+-- sync and a mark, a save a change for each record, a sync and a mark
 abbrev pub calls_in : Measures → List Entry → Server Entry → Move Entry → List CallKind
 calls_in m list s (Joining v duty) = Marks ∷ []
 calls_in m list s (Accepting plan role n) = Marks ∷ []

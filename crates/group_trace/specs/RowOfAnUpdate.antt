@@ -50,6 +50,22 @@ made = record {
   ctime = at_2050;
 }
 
+-- the root of the first tree
+abbrev pub first_root : Attr
+first_root = record {
+  kind = kind.Directory;
+  mode = 493;
+  links = 2;
+  uid = 0;
+  gid = 0;
+  size = 0;
+  blocks = 0;
+  fileid = 1;
+  atime = at_0;
+  mtime = at_0;
+  ctime = at_0;
+}
+
 -- the root with the directory in it
 abbrev pub root : Attr
 root = record {
@@ -82,6 +98,7 @@ worked_steps =
     step.Deliver 7 ∷
     step.Deliver 8 ∷
     step.Ask server.Zero 7 1 SUPERUSER make_a ∷
+    step.List server.Zero ∷
     step.Deliver 9 ∷
     step.Deliver 10 ∷
     step.List server.Zero ∷
@@ -135,6 +152,9 @@ worked_lines =
     line.Event (step.Ask server.Zero 7 1 SUPERUSER make_a) ∷
     line.Sent 9 server.Zero server.One (shown.Event view_one 1 0 0 7 1) ∷
     state server.Zero mode.Open view_one view_one (role.Leads server.One) held.Held 0 0 0 0 1 ∷
+    line.Event (step.List server.Zero) ∷
+    line.Listed server.Zero 0 1 ∷
+    line.Object first_root ∷
     line.Event (step.Deliver 9) ∷
     line.Sent 10 server.One server.Zero (shown.Ack view_one 1 0 4050) ∷
     state server.One mode.Live view_one view_one (role.Follows server.Zero) held.Held 0 0 0 0 1 ∷

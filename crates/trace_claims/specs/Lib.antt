@@ -5,3 +5,5 @@ pub mod Acknowledged
 pub mod Reading
 pub mod LaterViews
 pub mod Listing
+pub mod LocalSteps
+pub mod Right

@@ -62,6 +62,12 @@ BeginsWithEvent [] = Unit {0}
 BeginsWithEvent (line.Event step ∷ lines) = Unit {0}
 BeginsWithEvent (l ∷ lines) = ⊥
 
+-- a step begins among these lines
+abbrev pub HasStep : Trace → Type 0
+HasStep [] = ⊥
+HasStep (line.Event step ∷ lines) = Unit {0}
+HasStep (l ∷ lines) = HasStep lines
+
 -- `bad` of any line, or `end` with the number of entered lines
 abbrev pub Ends : ℕ → Line → Type 0
 Ends entered (line.Bad number fault) = Unit {0}

@@ -1,6 +1,7 @@
 pub mod MoveKinds
 pub mod StepKinds
 pub mod StopLaws
+pub mod StepCalls
 pub mod MarkLaws
 pub mod After
 pub mod LineParts
@@ -21,5 +22,11 @@ pub mod LeaderLaws
 pub mod AtOnceLaw
 pub mod LaterLaws
 pub mod ListLaws
+pub mod KeptRecords
+pub mod LocalLaws
+pub mod RecordLaws
+pub mod StateRecords
 pub mod RunLaws
+pub mod LocalRuns
+pub mod RightRuns
 pub mod FirstParts

@@ -22,6 +22,12 @@ IsTail (Basing n) = ⊤
 IsTail (Opening lb) = ⊤
 IsTail m = ⊥
 
+-- of these, those that keep the log
+abbrev pub IsEnd : Move Entry → Type 0
+IsEnd (Sending to m) = ⊤
+IsEnd (Opening lb) = ⊤
+IsEnd m = ⊥
+
 -- moves that answer, append and commit nothing, and take no part in a view
 abbrev pub IsMild : Move Entry → Type 0
 IsMild (Accepting plan role n) = ⊥
@@ -45,6 +51,9 @@ AreFront ms = AllByRecursion IsFront ms
 
 abbrev pub AreTail : List (Move Entry) → Type 0
 AreTail ms = AllByRecursion IsTail ms
+
+abbrev pub AreEnd : List (Move Entry) → Type 0
+AreEnd ms = AllByRecursion IsEnd ms
 
 abbrev pub AreMild : List (Move Entry) → Type 0
 AreMild ms = AllByRecursion IsMild ms
@@ -93,6 +102,22 @@ each-append P (x ∷ xs) ys p q = (p.0, each-append P xs ys p.1 q)
 pub tail_if : (b : Bool) (x y : List (Move Entry)) → AreTail x → AreTail y
     → AreTail (if b then x else y)
 tail_if b x y h k = by_if AreTail b x y (λ _. h) (λ _. k)
+
+pub end_if : (b : Bool) (x y : List (Move Entry)) → AreEnd x → AreEnd y
+    → AreEnd (if b then x else y)
+end_if b x y h k = by_if AreEnd b x y (λ _. h) (λ _. k)
+
+pub end_both : (a b : List (Move Entry)) → AreEnd a → AreEnd b → AreEnd (a ++ b)
+end_both a b = each-append IsEnd a b
+
+pub ends_tail : (ms : List (Move Entry)) → AreEnd ms → AreTail ms
+ends_tail [] h = tt
+ends_tail (m ∷ ms) h = (one m h.0, ends_tail ms h.1)
+  where
+    one : (m : Move Entry) → IsEnd m → IsTail m
+    one (Sending to x) h = tt
+    one (Opening lb) h = tt
+    one m h = absurd h
 
 pub tail_both : (a b : List (Move Entry)) → AreTail a → AreTail b → AreTail (a ++ b)
 tail_both a b = each-append IsTail a b

@@ -24,63 +24,63 @@ use Rattle.group_rules.specs.Step.{Apply, Ask, Comes, Crash, Deed, Does, Flush, 
 use Rattle.group_rules.specs.Tick.{again, again_tests, beats, duties, duty_tests, events, invite_again, tick}
 use Rattle.group_rules.proofs.Tests.{by_if, each_of, is_eq', is_le, is_lt, not_le}
 use Rattle.group_safety.proofs.Modes.{open_is}
-use Rattle.trace_laws.proofs.MoveKinds.{IsMild, AreFront, AreTail, AreMild, mild, accepts, heeds, IsAsked, Kind, plain, appends, reads, repeats, notes, commits, each-append, tail_if, tail_both, mild_if, tails_mild, fronts_mild, Parts, quiet_part, accepting_part, part_plain, part_if, part_behind, kind_then, kind_if}
+use Rattle.trace_laws.proofs.MoveKinds.{IsMild, AreFront, AreTail, AreEnd, AreMild, end_if, end_both, ends_tail, mild, accepts, heeds, IsAsked, Kind, plain, appends, reads, repeats, notes, commits, each-append, tail_if, mild_if, tails_mild, fronts_mild, Parts, quiet_part, accepting_part, part_plain, part_if, part_behind, kind_then, kind_if}
 
-pub tail_open : (q : Place) (clock : ℕ) (s : Server Entry) → AreTail (try_open q clock s)
-tail_open q clock s = tail_if (all_of (open_tests q s)) _ []
+pub end_open : (q : Place) (clock : ℕ) (s : Server Entry) → AreEnd (try_open q clock s)
+end_open q clock s = end_if (all_of (open_tests q s)) _ []
     (heard (get s.heard (partner s.plan.storers))) tt
   where
-    heard : (o : Option ℕ) → AreTail (open_heard clock s o)
+    heard : (o : Option ℕ) → AreEnd (open_heard clock s o)
     heard None = tt
-    heard (Some lb) = tail_if (nat_le (s.plan.horizon + 50) clock) _ [] (
+    heard (Some lb) = end_if (nat_le (s.plan.horizon + 50) clock) _ [] (
       tt,
-      tail_both _ _ (tail_if (is_s01 s.plan.storers) _ [] (tt, tt) tt) (tt, tt),
+      end_both _ _ (end_if (is_s01 s.plan.storers) _ [] (tt, tt) tt) (tt, tt),
     ) tt
+
+end_each : (m : Message Entry) (ps : List Place) → AreEnd (to_each m ps)
+end_each m [] = tt
+end_each m (p ∷ ps) = (tt, end_each m ps)
+
+end_events : (to : Place) (v cp base n : ℕ) (es : List Entry) → AreEnd (events to v cp base n es)
+end_events to v cp base n [] = tt
+end_events to v cp base n (e ∷ es) = (tt, end_events to v cp base (n + 1) es)
+
+end_invite : (v : ℕ) (p : Place) (o : Option Report) → AreEnd (invite_again v p o)
+end_invite v p None = (tt, tt)
+end_invite v p (Some t) = tt
+
+end_duties : (q : Place) (s : Server Entry) (d : Duty) → AreEnd (duties q s d)
+end_duties q s NoDuty = tt
+end_duties q s (Collects reports) = end_both _ _ (end_invite s.promised Zero (get reports Zero))
+    (end_both _ _ (end_invite s.promised One (get reports One)) (end_invite s.promised Two
+    (get reports Two)))
+end_duties q s (Chose v plan) = end_if (all_of (duty_tests q s v plan)) _ []
+    (end_each (Form v plan) (other_storers q plan.storers)) tt
+
+end_again : (q : Place) (s : Server Entry) → AreEnd (again q s)
+end_again q s = end_both _ _ (end_if (is_pulls s.mode) _ [] (tt, tt) tt)
+    (end_if (all_of (again_tests q s)) _ [] (tt, tt) tt)
+
+pub tick_end : (q : Place) (clock : ℕ) (s : Server Entry) → AreEnd (tick q clock s)
+tick_end q clock s =
+    let first = if is_open s.mode then beats s else try_open q clock s in
+    let s' = acts q clock s first in
+    end_both first (duties q s' s'.duty ++ again q s')
+    (end_if (is_open s.mode) (beats s) (try_open q clock s) (tt, end_events _ _ _ _ _ _)
+    (end_open q clock s))
+    (end_both (duties q s' s'.duty) (again q s') (end_duties q s' s'.duty) (end_again q s'))
 
 pub tail_base : (s : Server Entry) → AreTail (rebase s)
 tail_base s = tail_if (all_of (base_tests s)) _ [] (tt, tt) tt
-
-tail_each : (m : Message Entry) (ps : List Place) → AreTail (to_each m ps)
-tail_each m [] = tt
-tail_each m (p ∷ ps) = (tt, tail_each m ps)
-
-tail_events : (to : Place) (v cp base n : ℕ) (es : List Entry) → AreTail (events to v cp base n es)
-tail_events to v cp base n [] = tt
-tail_events to v cp base n (e ∷ es) = (tt, tail_events to v cp base (n + 1) es)
-
-tail_invite : (v : ℕ) (p : Place) (o : Option Report) → AreTail (invite_again v p o)
-tail_invite v p None = (tt, tt)
-tail_invite v p (Some t) = tt
-
-tail_duties : (q : Place) (s : Server Entry) (d : Duty) → AreTail (duties q s d)
-tail_duties q s NoDuty = tt
-tail_duties q s (Collects reports) = tail_both _ _ (tail_invite s.promised Zero (get reports Zero))
-    (tail_both _ _ (tail_invite s.promised One (get reports One)) (tail_invite s.promised Two
-    (get reports Two)))
-tail_duties q s (Chose v plan) = tail_if (all_of (duty_tests q s v plan)) _ []
-    (tail_each (Form v plan) (other_storers q plan.storers)) tt
-
-tail_again : (q : Place) (s : Server Entry) → AreTail (again q s)
-tail_again q s = tail_both _ _ (tail_if (is_pulls s.mode) _ [] (tt, tt) tt)
-    (tail_if (all_of (again_tests q s)) _ [] (tt, tt) tt)
 
 mild_plain : (q : Place) (clock : ℕ) (s : Server Entry) (i : Input) (ms : List (Move Entry))
     → AreMild ms → Kind q clock s i ms
 mild_plain q clock s i ms h = plain ms (mild ms h)
 
-pub tick_tail : (q : Place) (clock : ℕ) (s : Server Entry) → AreTail (tick q clock s)
-tick_tail q clock s =
-    let first = if is_open s.mode then beats s else try_open q clock s in
-    let s' = acts q clock s first in
-    tail_both first (duties q s' s'.duty ++ again q s')
-    (tail_if (is_open s.mode) (beats s) (try_open q clock s) (tt, tail_events _ _ _ _ _ _)
-    (tail_open q clock s))
-    (tail_both (duties q s' s'.duty) (again q s') (tail_duties q s' s'.duty) (tail_again q s'))
-
 suspect_mild : (q : Place) (s : Server Entry) → AreMild (suspect q s)
 suspect_mild q s = mild_if (nat_lt (s.promised / 3) limit) _ [] (
   tt,
-  tails_mild _ (tail_each _ _),
+  tails_mild _ (ends_tail _ (end_each _ _)),
 ) tt
 
 refused : (q : Place) (clock : ℕ) (s : Server Entry) (i : Input) (client number : ℕ)
@@ -130,7 +130,7 @@ ask_kind q clock list s client number cred c =
 does_kind : (q : Place) (clock : ℕ) (list : List Entry) (s : Server Entry) (d : Deed)
     → Kind q clock s (Does d) (does q clock list s d)
 does_kind q clock list s Tick = mild_plain q clock s (Does Tick) _
-    (tails_mild _ (tick_tail q clock s))
+    (tails_mild _ (ends_tail _ (tick_end q clock s)))
 does_kind q clock list s Suspect = mild_plain q clock s (Does Suspect) _ (suspect_mild q s)
 does_kind q clock list s (Ask client number cred c) = ask_kind q clock list s client number cred c
 does_kind q clock list s (Apply n) = mild_plain q clock s (Does (Apply n)) _
@@ -252,7 +252,7 @@ rule_kind size q clock list s (Comes from m) =
     let ms = on_message size q clock list s from m in
     kind_if q clock s (Comes from m) (misfits q s from m) [] _ (λ _. mild_plain q clock s _ [] tt)
     (λ _. kind_then q clock s (Comes from m) ms (try_open q clock (acts q clock s ms))
-    (message_kind size q clock list s from m) (tail_open q clock (acts q clock s ms)))
+    (message_kind size q clock list s from m) (ends_tail _ (end_open q clock (acts q clock s ms))))
 
 -- each step is of a kind
 pub step_kind : (size : List Entry → Entry → ℕ) (q : Place) (clock : ℕ) (list : List Entry)

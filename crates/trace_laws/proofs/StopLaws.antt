@@ -1,5 +1,5 @@
 -- Steps that make no call to the disk, which no stop cuts.
-use Rattle.std.proofs.Common.{◌≡◌, ℕ, ◌+◌, ◌||◌, ◌==◌, Bool, List, [], ◌∷◌, Option, Some, None, length, refl, nat_lt, nat_le, if◌then◌else◌}
+use Rattle.std.proofs.Common.{◌≡◌, ℕ, ◌+◌, ◌||◌, ◌==◌, Bool, List, [], ◌∷◌, ◌++◌, Option, Some, None, length, append_assoc, append-nil, refl, sym, ap, ◌∙◌, nat_lt, nat_le, if◌then◌else◌}
 use Rattle.std.specs.Prelude.{⊤}
 use Rattle.std.specs.List.{AllByRecursion}
 use Rattle.harp_base.specs.declared.call.Call.{Call}
@@ -11,20 +11,20 @@ use Rattle.group_rules.specs.Disk.{settled_tests}
 use Rattle.group_rules.specs.Effects.{taken}
 use Rattle.group_rules.specs.Limits.{is_active, is_open, limit, room}
 use Rattle.group_rules.specs.Misfits.{misfits}
-use Rattle.group_rules.specs.Moves.{Appending, Basing, Choosing, Collecting, Committing, Falling, Hearing, Heeding, Move, Noting, Opening, Pulling, Reading, Saying, Sending, Staging, act, acts}
-use Rattle.group_rules.specs.Open.{formed_tests, rebase, try_open}
+use Rattle.group_rules.specs.Moves.{Appending, Choosing, Collecting, Committing, Hearing, Heeding, Move, Noting, Opening, Pulling, Reading, Saying, Sending, Staging, act, acts}
+use Rattle.group_rules.specs.Open.{base_tests, formed_tests, rebase, try_open}
 use Rattle.group_rules.specs.Places.{Place, all_of, leader, partner, same}
 use Rattle.group_rules.specs.Replicate.{ack_tests, answers, is_in_view, on_event}
 use Rattle.group_rules.specs.Serving.{held_tests, serving_accepted, serving_joined}
 use Rattle.group_rules.specs.State.{Ack, Beat, Event, Fetch, Formed, Message, Server, top}
-use Rattle.group_rules.specs.Step.{Ask, Comes, Does, Input, ListTree, Tick, list_of, on_message, rule, step as step_moves, step_of}
+use Rattle.group_rules.specs.Step.{Ask, Comes, Does, Input, ListTree, Tick, list_of, on_message, rule, step as step_moves}
 use Rattle.group_rules.specs.Tick.{tick}
 use Rattle.group_rules.proofs.Tests.{by_if}
 use Rattle.group_trace.specs.Calls.{calls_in, calls_of}
 use Rattle.group_trace.specs.Scene.{Measures}
 use Rattle.trace_laws.specs.Stops.{MakesNoCall, NeverCut}
-use Rattle.trace_laws.proofs.MoveKinds.{AreTail, IsTail, each-append}
-use Rattle.trace_laws.proofs.StepKinds.{tail_base, tail_open, tick_tail}
+use Rattle.trace_laws.proofs.MoveKinds.{AreEnd, IsEnd, each-append}
+use Rattle.trace_laws.proofs.StepKinds.{end_open, tick_end}
 
 -- a move that makes no call to the disk
 abbrev pub IsFree : Move Entry → Type 0
@@ -32,12 +32,10 @@ IsFree (Collecting reports) = ⊤
 IsFree (Choosing plan from) = ⊤
 IsFree (Pulling plan from) = ⊤
 IsFree (Staging items) = ⊤
-IsFree Falling = ⊤
 IsFree (Noting t lb until) = ⊤
 IsFree (Committing n) = ⊤
 IsFree (Saying say) = ⊤
 IsFree (Sending to m) = ⊤
-IsFree (Basing n) = ⊤
 IsFree (Opening lb) = ⊤
 IsFree (Appending e) = ⊤
 IsFree (Reading n e) = ⊤
@@ -54,12 +52,10 @@ free_move m list s (Collecting reports) f = refl
 free_move m list s (Choosing plan from) f = refl
 free_move m list s (Pulling plan from) f = refl
 free_move m list s (Staging items) f = refl
-free_move m list s Falling f = refl
 free_move m list s (Noting t lb until) f = refl
 free_move m list s (Committing n) f = refl
 free_move m list s (Saying say) f = refl
 free_move m list s (Sending to x) f = refl
-free_move m list s (Basing n) f = refl
 free_move m list s (Opening lb) f = refl
 free_move m list s (Appending e) f = refl
 free_move m list s (Reading n e) f = refl
@@ -76,13 +72,12 @@ free_calls m q clock list s (move ∷ ms) f = rw (
   free_calls m q clock list (act q clock s move) ms f.1,
 ) refl
 
-pub tail_free : (ms : List (Move Entry)) → AreTail ms → AreFree ms
-tail_free [] h = tt
-tail_free (m ∷ ms) h = (one m h.0, tail_free ms h.1)
+pub ends_free : (ms : List (Move Entry)) → AreEnd ms → AreFree ms
+ends_free [] h = tt
+ends_free (m ∷ ms) h = (one m h.0, ends_free ms h.1)
   where
-    one : (m : Move Entry) → IsTail m → IsFree m
+    one : (m : Move Entry) → IsEnd m → IsFree m
     one (Sending to x) h = tt
-    one (Basing n) h = tt
     one (Opening lb) h = tt
     one m h = absurd h
 
@@ -140,7 +135,7 @@ message_free size q clock list s from m n = absurd n
 
 pub rule_free : (size : List Entry → Entry → ℕ) (q : Place) (clock : ℕ) (list : List Entry)
     (s : Server Entry) (i : Input) → NeverCut i → AreFree (rule size q clock list s i)
-rule_free size q clock list s (Does Tick) n = tail_free (tick q clock s) (tick_tail q clock s)
+rule_free size q clock list s (Does Tick) n = ends_free (tick q clock s) (tick_end q clock s)
 rule_free size q clock list s (Does (Ask client number cred c)) n =
     ask_free q clock list s client number cred c
 rule_free size q clock list s (Does ListTree) n = free_if (all_of (settled_tests q s)) _ [] (
@@ -153,15 +148,39 @@ rule_free size q clock list s (Comes from m) n =
     free_if (misfits q s from m) [] _ tt
     (each-append IsFree ms (try_open q clock (acts q clock s ms))
     (message_free size q clock list s from m n)
-    (tail_free _ (tail_open q clock (acts q clock s ms))))
+    (ends_free _ (end_open q clock (acts q clock s ms))))
 
-pub step_free : (size : List Entry → Entry → ℕ) (q : Place) (clock : ℕ) (list : List Entry)
-    (s : Server Entry) (i : Input) → NeverCut i → AreFree (step_moves size q clock list s i)
-step_free size q clock list s i n =
-    let ms = rule size q clock list s i in
-    each-append IsFree ms (rebase (acts q clock s ms)) (rule_free size q clock list s i n)
-    (tail_free _ (tail_base (acts q clock s ms)))
+-- ---- the calls of a step
+
+pub calls_append : (m : Measures) (q : Place) (clock : ℕ) (list : List Entry) (s : Server Entry)
+    (a b : List (Move Entry)) → calls_of m q clock list s (a ++ b)
+    ≡ calls_of m q clock list s a ++ calls_of m q clock list (acts q clock s a) b
+unfolding calls_of
+calls_append m q clock list s [] b = refl
+calls_append m q clock list s (x ∷ a) b =
+    ap (λ cs. calls_in m list s x ++ cs) (calls_append m q clock list (act q clock s x) a b)
+    ∙ sym (append_assoc (calls_in m list s x) _ _)
+
+base_calls : (m : Measures) (q : Place) (clock : ℕ) (list : List Entry) (s : Server Entry)
+    → calls_of m q clock list s (rebase s) ≡ []
+unfolding calls_of
+base_calls m q clock list s = by_if (λ ms. calls_of m q clock list s ms ≡ [])
+    (all_of (base_tests s)) _ [] (λ _. refl) (λ _. refl)
+
+-- the calls of a step are those of its rule
+pub step_calls : (m : Measures) (q : Place) (clock : ℕ) (list : List Entry) (s : Server Entry)
+    (i : Input) → calls_of m q clock list s (step_moves m.size q clock list s i)
+    ≡ calls_of m q clock list s (rule m.size q clock list s i)
+step_calls m q clock list s i =
+    let ms = rule m.size q clock list s i in
+    calls_append m q clock list s ms (rebase (acts q clock s ms))
+    ∙ ap (λ cs. calls_of m q clock list s ms ++ cs)
+    (base_calls m q clock list (acts q clock s ms))
+    ∙ append-nil (calls_of m q clock list s ms)
 
 pub makes_no_call : MakesNoCall
-makes_no_call m g q i n = free_calls m q (g.clock q) (list_of g q) (g.server q)
-    (step_of m.size g q i) (step_free m.size q (g.clock q) (list_of g q) (g.server q) i n)
+makes_no_call m g q i n =
+    let list = list_of g q in
+    step_calls m q (g.clock q) list (g.server q) i
+    ∙ free_calls m q (g.clock q) list (g.server q) (rule m.size q (g.clock q) list (g.server q) i)
+    (rule_free m.size q (g.clock q) list (g.server q) i n)

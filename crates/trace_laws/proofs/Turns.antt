@@ -100,40 +100,68 @@ pub data IsBegunBy (g : Group Entry) : Step → Place → Input → Type 0 where
       → IsBegunBy g (step.Deliver n) p.to (Comes p.from p.body)
   other : (s : Step) (q : Place) (d : Deed) → IsOther s → IsNoAsk d → IsBegunBy g s q (Does d)
 
--- A step of a server: how it begins, of which kind it is, that its moves keep the facts, and that
--- the server was up or boots
+-- the server of a step, other than a delivery
+abbrev pub IsAt : Step → Place → Type 0
+IsAt (step.Ask server client number cred call) q = q ≡ place_of server
+IsAt (step.Deliver n) q = ⊤
+IsAt (step.Tick server) q = q ≡ place_of server
+IsAt (step.Suspect server) q = q ≡ place_of server
+IsAt (step.Apply server most) q = q ≡ place_of server
+IsAt (step.Flush server) q = q ≡ place_of server
+IsAt (step.List server) q = q ≡ place_of server
+IsAt (step.Boot server) q = q ≡ place_of server
+IsAt (step.Power server) q = q ≡ place_of server
+IsAt (step.PowerCut server calls pick) q = q ≡ place_of server
+IsAt (step.Crash server pick) q = q ≡ place_of server
+IsAt s q = ⊥
+
+-- a step as its rule says, one that a stop cut, or a boot
+pub data Made (g : Group Entry) (q : Place) (i : Input) : List (Move Entry) → Type 0 where
+  whole : (size : List Entry → Entry → ℕ) → (g.server q).up ≡ true
+      → Made g q i (step_of size g q i)
+  fell : (g.server q).up ≡ true → Made g q i (Falling ∷ [])
+  boot : (g.server q).up ≡ false → Made g q i (Booting g.delta ∷ [])
+
+-- A step of a server: how and where it begins, of which kind it is, that its moves keep the facts,
+-- and that the server was up or boots
 pub record Turned (g : Group Entry) (s : Step) (q : Place) (i : Input)
     (ms : List (Move Entry)) : Type 0 where
   pub begun : IsBegunBy g s q i
+  pub at' : IsAt s q
+  pub made : Made g q i ms
   pub kind : Kind q (g.clock q) (g.server q) i ms
   pub goes : Goes g q (g.server q) ms
   pub up : ((g.server q).up ≡ true) ⊎ (ms ≡ Booting g.delta ∷ [])
 
 turned : (m : Measures) (g : Group Entry) → Whole g
     → (s : Step) (q : Place) (i : Input) (stop : Option ℕ) → (g.server q).up ≡ true
-    → IsBegunBy g s q i → Known g q i → Turned g s q i (moves_of m g stop q i)
-turned m g h s q i stop up b k =
+    → IsBegunBy g s q i → IsAt s q → Known g q i → Turned g s q i (moves_of m g stop q i)
+turned m g h s q i stop up b a k =
     by_if (Turned g s q i) (passes stop (calls_of m q (g.clock q) (list_of g q) (g.server q)
     (step_of m.size g q i))) (step_of m.size g q i) (Falling ∷ [])
     (λ _. record {
       begun = b;
-      kind = step_kind m.size q (g.clock q) (list_of g q)
-          (g.server q) i;
+      at' = a;
+      made = whole m.size up;
+      kind = step_kind m.size q (g.clock q) (list_of g q) (g.server q) i;
       goes = input_goes m.size g h q up i k;
       up = inl up;
     })
     (λ _. record {
       begun = b;
+      at' = a;
+      made = fell up;
       kind = plain (Falling ∷ []) (mild (Falling ∷ []) (tt, tt));
-      goes =
-          falls g q (g.server q) (good_of g h q);
+      goes = falls g q (g.server q) (good_of g h q);
       up = inl up;
     })
 
-boots : (g : Group Entry) → Whole g → (s : Step) (q : Place) → IsOther s
-    → Turned g s q (Does Crash) (Booting g.delta ∷ [])
-boots g h s q o = record {
+boots : (g : Group Entry) → Whole g → (s : Step) (q : Place) → IsOther s → IsAt s q
+    → (g.server q).up ≡ false → Turned g s q (Does Crash) (Booting g.delta ∷ [])
+boots g h s q o a down = record {
   begun = other s q Crash o tt;
+  at' = a;
+  made = boot down;
   kind = plain (Booting g.delta ∷ []) (mild (Booting g.delta ∷ []) (tt, tt));
   goes = boot_goes g h q;
   up = inr refl;
@@ -158,6 +186,27 @@ is_up g server e = by (g.server (place_of server)).up e
     by true e = refl
     by false e = absurd cc
 
+is_down : (g : Group Entry) (server : ServerId)
+    → (if (g.server (place_of server)).up then Some fault.ServerUp else None) ≡ None
+    → (g.server (place_of server)).up ≡ false
+is_down g server e = by (g.server (place_of server)).up e
+  where
+    by : (b : Bool) → (if b then Some fault.ServerUp else None) ≡ None → b ≡ false
+    by true e = absurd cc
+    by false e = refl
+
+-- a group as it was, whose clocks the event line leaves
+unchanged : (g : Group Entry) (s : Step)
+    → ((q : Place) → clock_next (id_of q) (g.clock q) (line.Event s) ≡ g.clock q) → SameBut g g s
+unchanged g s clocks = record {
+  server = refl;
+  page = refl;
+  packets = refl;
+  book = refl;
+  answered = refl;
+  clocks = clocks;
+}
+
 -- a delta that is set
 pub delta_set : (g : Group Entry) → Whole g → (millis : ℕ) → Whole (with_delta g millis)
     × SameBut g (with_delta g millis) (step.Delta millis)
@@ -172,23 +221,14 @@ delta_set g h millis = by_if (λ g'. Whole g' × SameBut g g' (step.Delta millis
         server = refl;
         page = refl;
         packets = refl;
-        book =
-            refl;
+        book = refl;
         answered = refl;
         clocks = λ q. refl;
       },
     ))
     (λ _. (
       h,
-      record {
-        server = refl;
-        page = refl;
-        packets = refl;
-        book = refl;
-        answered =
-            refl;
-        clocks = λ q. refl;
-      },
+      unchanged g (step.Delta millis) (λ q. refl),
     ))
 
 -- what is so of both is so of each step that is taken
@@ -203,41 +243,42 @@ take_step C m w h (step.Ask server client number cred call) r e quiet moved =
     let q = place_of server in
     moved q (Does (Ask client number cred call)) _ (turned m w.group h _ q
     (Does (Ask client number cred call)) (w.armed q) (is_up w.group server r)
-    (asked server client number cred call) tt)
+    (asked server client number cred call) refl tt)
 take_step C m w h (step.Tick server) r e quiet moved =
     let q = place_of server in
     moved q (Does Tick) _ (turned m w.group h _ q (Does Tick) (w.armed q) (is_up w.group server r)
-    (other (step.Tick server) q Tick tt tt) tt)
+    (other (step.Tick server) q Tick tt tt) refl tt)
 take_step C m w h (step.Suspect server) r e quiet moved =
     let q = place_of server in
     moved q (Does Suspect) _ (turned m w.group h _ q (Does Suspect) (w.armed q)
-    (is_up w.group server r) (other (step.Suspect server) q Suspect tt tt) tt)
+    (is_up w.group server r) (other (step.Suspect server) q Suspect tt tt) refl tt)
 take_step C m w h (step.Apply server most) r e quiet moved =
     let q = place_of server in
     moved q (Does (Apply most)) _ (turned m w.group h _ q (Does (Apply most)) (w.armed q)
-    (is_up w.group server r) (other (step.Apply server most) q (Apply most) tt tt) tt)
+    (is_up w.group server r) (other (step.Apply server most) q (Apply most) tt tt) refl tt)
 take_step C m w h (step.Flush server) r e quiet moved =
     let q = place_of server in
     moved q (Does Flush) _ (turned m w.group h _ q (Does Flush) (w.armed q)
-    (is_up w.group server r) (other (step.Flush server) q Flush tt tt) tt)
+    (is_up w.group server r) (other (step.Flush server) q Flush tt tt) refl tt)
 take_step C m w h (step.List server) r e quiet moved =
     let q = place_of server in
     moved q (Does ListTree) _ (turned m w.group h _ q (Does ListTree) (w.armed q)
-    (is_up w.group server r) (other (step.List server) q ListTree tt tt) tt)
+    (is_up w.group server r) (other (step.List server) q ListTree tt tt) refl tt)
 take_step C m w h (step.Boot server) r e quiet moved = moved (place_of server) (Does Crash)
-    (Booting w.group.delta ∷ []) (boots w.group h (step.Boot server) (place_of server) tt)
+    (Booting w.group.delta ∷ []) (boots w.group h (step.Boot server) (place_of server) tt refl
+    (is_down w.group server r))
 take_step C m w h (step.Power server) r e quiet moved =
     let q = place_of server in
     moved q (Does Power) _ (turned m w.group h _ q (Does Power) None (is_up w.group server r)
-    (other (step.Power server) q Power tt tt) tt)
+    (other (step.Power server) q Power tt tt) refl tt)
 take_step C m w h (step.PowerCut server calls pick) r e quiet moved =
     let q = place_of server in
     moved q (Does Power) _ (turned m w.group h _ q (Does Power) (Some calls)
-    (is_up w.group server r) (other (step.PowerCut server calls pick) q Power tt tt) tt)
+    (is_up w.group server r) (other (step.PowerCut server calls pick) q Power tt tt) refl tt)
 take_step C m w h (step.Crash server pick) r e quiet moved =
     let q = place_of server in
     moved q (Does Crash) _ (turned m w.group h _ q (Does Crash) None (is_up w.group server r)
-    (other (step.Crash server pick) q Crash tt tt) tt)
+    (other (step.Crash server pick) q Crash tt tt) refl tt)
 take_step C m w h (step.Deliver n) r e quiet moved = arrives (numbered w.group.packets n) refl
   where
     g : Group Entry
@@ -245,49 +286,17 @@ take_step C m w h (step.Deliver n) r e quiet moved = arrives (numbered w.group.p
 
     arrives : (o : Option (Packet Entry)) → numbered g.packets n ≡ o
         → C (moved_where g (delivery m w o)) (lines_where g (delivery m w o) [])
-    arrives None is = quiet g h (record {
-      server = refl;
-      page = refl;
-      packets = refl;
-      book =
-          refl;
-      answered = refl;
-      clocks = λ q. refl;
-    })
+    arrives None is = quiet g h (unchanged g (step.Deliver n) (λ q. refl))
     arrives (Some p) is = by_if (λ x. C (moved_where g x) (lines_where g x [])) (g.server p.to).up
         (Some (p.to, moves_of m g (w.armed p.to) p.to (Comes p.from p.body))) None
         (λ up. moved p.to (Comes p.from p.body) _ (turned m g h (step.Deliver n) p.to
-        (Comes p.from p.body) (w.armed p.to) up (came n p is) (sent_known g h n p is)))
-        (λ _. quiet g h (record {
-          server = refl;
-          page = refl;
-          packets = refl;
-          book =
-              refl;
-          answered = refl;
-          clocks = λ q. refl;
-        }))
+        (Comes p.from p.body) (w.armed p.to) up (came n p is) tt (sent_known g h n p is)))
+        (λ _. quiet g h (unchanged g (step.Deliver n) (λ q. refl)))
 take_step C m w h (step.Pump among) r e quiet moved = absurd (true≢false (sym e))
 take_step C m w h (step.Stop server calls pick) r e quiet moved =
-    quiet w.group h (record {
-      server = refl;
-      page = refl;
-      packets = refl;
-      book = refl;
-      answered =
-          refl;
-      clocks = λ q. refl;
-    })
+    quiet w.group h (unchanged w.group (step.Stop server calls pick) (λ q. refl))
 take_step C m w h (step.Noise server bytes) r e quiet moved =
-    quiet w.group h (record {
-      server = refl;
-      page = refl;
-      packets = refl;
-      book = refl;
-      answered =
-          refl;
-      clocks = λ q. refl;
-    })
+    quiet w.group h (unchanged w.group (step.Noise server bytes) (λ q. refl))
 take_step C m w h (step.Clock server reading) r e quiet moved =
     quiet (record w.group { clock = at w.group.clock (place_of server) reading })
     (clock_whole w.group h (place_of server) reading r)

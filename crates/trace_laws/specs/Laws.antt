@@ -2,26 +2,11 @@
 use Rattle.std.specs.Prelude.{◌≡◌, List, ◌∷◌, [], ◌++◌, length}
 use Rattle.trace_types.specs.declared.step.Step.{Step}
 use Rattle.trace_types.specs.declared.line.Line.{Line}
-use Rattle.trace_claims.specs.Acknowledged.{AreAcknowledged, AreAnsweredAtOnce}
-use Rattle.trace_claims.specs.Faithful.{IsFaithful}
-use Rattle.trace_claims.specs.LaterViews.{AllSurvive}
-use Rattle.trace_claims.specs.Listing.{AllListTheTree}
-use Rattle.trace_claims.specs.Reading.{AreExclusive, PromisesAreUsed}
-use Rattle.trace_claims.specs.Trace.{Ends, IsClosed, Trace, entries, steps}
+use Rattle.trace_claims.specs.Right.{IsRight}
+use Rattle.trace_claims.specs.Trace.{Ends, entries, steps}
 use Rattle.group_safety.specs.Laws.{Whole}
 use Rattle.group_trace.specs.Run.{run, run_lines}
 use Rattle.group_trace.specs.Scene.{Measures, first_scene}
-
--- of a run's lines and a last line
-pub record IsRight (trace : Trace) : Type 0 where
-  pub closed : IsClosed trace
-  pub faithful : IsFaithful trace
-  pub acknowledged : AreAcknowledged trace
-  pub answered_at_once : AreAnsweredAtOnce trace
-  pub promises : PromisesAreUsed trace
-  pub exclusive : AreExclusive trace
-  pub later_views : AllSurvive trace
-  pub listings : AllListTheTree trace
 
 -- Of each list of steps that are taken from the first scene on: the event lines are these steps,
 -- the entered lines are the group's book, the group meets the facts, and the lines with any right

@@ -1,4 +1,4 @@
-use Rattle.trace_laws.proofs.RunLaws.{run_right}
+use Rattle.trace_laws.proofs.RightRuns.{run_right}
 use Rattle.trace_laws.proofs.FirstParts.{first_parts_right}
 use Rattle.trace_laws.proofs.every_run.Goals as goal
 
