@@ -140,7 +140,7 @@ later_whole g h clock later near = record {
 }
 
 -- no fact speaks of the group's delta but that of its limits
-delta_whole : (g : Group Entry) → Whole g → (d : ℕ) → IsDelta d → Whole (record g { delta = d })
+pub delta_whole : (g : Group Entry) → Whole g → (d : ℕ) → IsDelta d → Whole (record g { delta = d })
 delta_whole g h d is = record {
   ok = record { server = h.ok.server; page = h.ok.page; pair = h.ok.pair; join = h.ok.join; packet = h.ok.packet; first_view = h.ok.first_view; late = h.ok.late; committed = h.ok.committed };
   settled = record { server = h.settled.server; packet = h.settled.packet };

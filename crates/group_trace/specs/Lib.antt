@@ -1,0 +1,14 @@
+pub mod Shown
+pub mod Lines
+pub mod Scene
+pub mod Calls
+pub mod Refusals
+pub mod Run
+pub mod Pump
+pub mod RowWords
+pub mod RowOfAnUpdate
+pub mod RowOfALateAck
+pub mod RowOfPromises
+pub mod RowOfAPowerFailure
+pub mod RowOfAnAbandonedView
+pub mod RowOfPromiseLengths

@@ -1,0 +1,181 @@
+-- A worked row over two views, in which an Ack comes late.
+use Rattle.std.specs.Prelude.{◌≡◌, List, [], ◌∷◌}
+use Rattle.harp_base.specs.declared.call.Call.TheVariants as call
+use Rattle.harp_base.specs.declared.cred.TheConstants.{SUPERUSER}
+use Rattle.harp_base.specs.declared.reply.Reply.TheVariants as reply
+use Rattle.harp_base.specs.declared.server.ServerId.TheVariants as server
+use Rattle.harp_base.specs.declared.state.Held.TheVariants as held
+use Rattle.harp_base.specs.declared.state.Mode.TheVariants as mode
+use Rattle.harp_base.specs.declared.state.Role.TheVariants as role
+use Rattle.trace_types.specs.declared.step.Step.{Step}
+use Rattle.trace_types.specs.declared.step.Step.TheVariants as step
+use Rattle.trace_types.specs.declared.line.Line.{Line}
+use Rattle.trace_types.specs.declared.line.Line.TheVariants as line
+use Rattle.trace_types.specs.declared.line.ShownMessage.TheVariants as shown
+use Rattle.group_trace.specs.Run.{AreTaken, run_lines}
+use Rattle.group_trace.specs.Scene.{first_scene}
+use Rattle.group_trace.specs.RowWords.{plain_measures, mode_755, view, time, directory, state}
+
+-- its steps
+abbrev pub late_acknowledgement_steps : List Step
+late_acknowledgement_steps =
+    step.Suspect server.Zero ∷
+    step.Deliver 0 ∷
+    step.Deliver 1 ∷
+    step.Deliver 2 ∷
+    step.Deliver 3 ∷
+    step.Deliver 4 ∷
+    step.Deliver 5 ∷
+    step.Advance 2050 ∷
+    step.Tick server.Zero ∷
+    step.Deliver 6 ∷
+    step.Deliver 7 ∷
+    step.Deliver 8 ∷
+    step.Ask server.Zero 7 1 SUPERUSER (call.MkDir 1 (0x61 ∷ []) mode_755) ∷
+    step.Deliver 9 ∷
+    step.Suspect server.One ∷
+    step.Deliver 12 ∷
+    step.Deliver 13 ∷
+    step.Deliver 14 ∷
+    step.Deliver 15 ∷
+    step.Deliver 16 ∷
+    step.Deliver 17 ∷
+    step.Advance 2050 ∷
+    step.Tick server.One ∷
+    step.Ask server.One 7 1 SUPERUSER (call.MkDir 1 (0x61 ∷ []) mode_755) ∷
+    step.Deliver 18 ∷
+    step.Deliver 19 ∷
+    step.Deliver 10 ∷
+    step.Ask server.One 9 1 SUPERUSER (call.GetAttr 2) ∷
+    step.List server.One ∷
+    []
+
+-- its lines
+abbrev pub late_acknowledgement_lines : List Line
+late_acknowledgement_lines =
+    line.Event (step.Suspect server.Zero) ∷
+    line.Sent 0 server.Zero server.One (shown.Invite (view 1 server.Zero)) ∷
+    line.Sent 1 server.Zero server.Two (shown.Invite (view 1 server.Zero)) ∷
+    state server.Zero mode.Calls (view 1 server.Zero) (view 0 server.Zero)
+    (role.Leads server.One) held.Held 0 0 0 0 0 ∷
+    line.Event (step.Deliver 0) ∷
+    line.Sent 2 server.One server.Zero (shown.Join (view 1 server.Zero) held.Held
+    (view 0 server.Zero) 0 0 0 0 2000) ∷
+    state server.One mode.Joined (view 1 server.Zero) (view 0 server.Zero)
+    (role.Follows server.Zero) held.Held 0 0 0 0 0 ∷
+    line.Event (step.Deliver 1) ∷
+    line.Sent 3 server.Two server.Zero (shown.Join (view 1 server.Zero) held.Empty
+    (view 0 server.Zero) 0 0 0 0 2000) ∷
+    state server.Two mode.Joined (view 1 server.Zero) (view 0 server.Zero) role.Outside held.Empty
+    0 0 0 0 0 ∷
+    line.Event (step.Deliver 2) ∷
+    line.Sent 4 server.Zero server.One (shown.Form (view 1 server.Zero) server.Zero server.One
+    server.Zero 0 0 0 2000) ∷
+    state server.Zero mode.Waits (view 1 server.Zero) (view 1 server.Zero)
+    (role.Leads server.One) held.Held 0 0 0 0 0 ∷
+    line.Event (step.Deliver 3) ∷
+    line.Event (step.Deliver 4) ∷
+    line.Sent 5 server.One server.Zero (shown.Formed (view 1 server.Zero) 0) ∷
+    state server.One mode.Waits (view 1 server.Zero) (view 1 server.Zero)
+    (role.Follows server.Zero) held.Held 0 0 0 0 0 ∷
+    line.Event (step.Deliver 5) ∷
+    line.Event (step.Advance 2050) ∷
+    line.Event (step.Tick server.Zero) ∷
+    line.Sent 6 server.Zero server.Two (shown.Demote (view 1 server.Zero)) ∷
+    line.Sent 7 server.Zero server.One (shown.Beat (view 1 server.Zero) 0 0) ∷
+    state server.Zero mode.Open (view 1 server.Zero) (view 1 server.Zero)
+    (role.Leads server.One) held.Held 0 0 0 0 0 ∷
+    line.Event (step.Deliver 6) ∷
+    state server.Two mode.Rests (view 1 server.Zero) (view 1 server.Zero) role.Outside held.Empty 0
+    0 0 0 0 ∷
+    line.Event (step.Deliver 7) ∷
+    line.Sent 8 server.One server.Zero (shown.Ack (view 1 server.Zero) 0 0 4050) ∷
+    state server.One mode.Live (view 1 server.Zero) (view 1 server.Zero)
+    (role.Follows server.Zero) held.Held 0 0 0 0 0 ∷
+    line.Event (step.Deliver 8) ∷
+    line.Event (step.Ask server.Zero 7 1 SUPERUSER (call.MkDir 1 (0x61 ∷ []) mode_755)) ∷
+    line.Sent 9 server.Zero server.One (shown.Event (view 1 server.Zero) 1 0 0 7 1) ∷
+    state server.Zero mode.Open (view 1 server.Zero) (view 1 server.Zero)
+    (role.Leads server.One) held.Held 0 0 0 0 1 ∷
+    line.Event (step.Deliver 9) ∷
+    line.Sent 10 server.One server.Zero (shown.Ack (view 1 server.Zero) 1 0 4050) ∷
+    state server.One mode.Live (view 1 server.Zero) (view 1 server.Zero)
+    (role.Follows server.Zero) held.Held 0 0 0 0 1 ∷
+    line.Event (step.Suspect server.One) ∷
+    line.Sent 11 server.One server.Zero (shown.Invite (view 2 server.One)) ∷
+    line.Sent 12 server.One server.Two (shown.Invite (view 2 server.One)) ∷
+    state server.One mode.Calls (view 2 server.One) (view 1 server.Zero)
+    (role.Follows server.Zero) held.Held 0 0 0 0 1 ∷
+    line.Event (step.Deliver 12) ∷
+    line.Sent 13 server.Two server.One (shown.Join (view 2 server.One) held.Empty
+    (view 1 server.Zero) 0 0 0 0 2000) ∷
+    state server.Two mode.Joined (view 2 server.One) (view 1 server.Zero) role.Outside held.Empty 0
+    0 0 0 0 ∷
+    line.Event (step.Deliver 13) ∷
+    line.Sent 14 server.One server.Two
+    (shown.Form (view 2 server.One) server.One server.Two server.One 0 0 1 4050) ∷
+    state server.One mode.Waits (view 2 server.One) (view 2 server.One)
+    (role.Leads server.Two) held.Held 0 0 0 0 1 ∷
+    line.Event (step.Deliver 14) ∷
+    line.Sent 15 server.Two server.One (shown.Fetch (view 2 server.One) 1) ∷
+    state server.Two mode.Pulls (view 2 server.One) (view 1 server.Zero) role.Outside held.Empty 0
+    0 0 0 0 ∷
+    line.Event (step.Deliver 15) ∷
+    line.Sent 16 server.One server.Two (shown.Give (view 2 server.One) 1 1) ∷
+    line.Event (step.Deliver 16) ∷
+    line.Sent 17 server.Two server.One (shown.Formed (view 2 server.One) 0) ∷
+    state server.Two mode.Waits (view 2 server.One) (view 2 server.One)
+    (role.Follows server.One) held.Held 0 0 0 0 1 ∷
+    line.Event (step.Deliver 17) ∷
+    line.Event (step.Advance 2050) ∷
+    line.Event (step.Tick server.One) ∷
+    line.Entered 1 (record {
+      index = 1;
+      client = 7;
+      number = 1;
+      cred = SUPERUSER;
+      stamp = 2050;
+      call = (call.MkDir 1 (0x61 ∷ []) mode_755);
+      reply = (reply.Node 2 (directory 493 2 0 0 2 (time 2 50000) (time 2 50000) (time 2 50000)));
+    }) ∷
+    line.Sent 18 server.One server.Two (shown.Beat (view 2 server.One) 1 0) ∷
+    state server.One mode.Open (view 2 server.One) (view 2 server.One)
+    (role.Leads server.Two) held.Held 0 0 0 1 1 ∷
+    line.Event (step.Ask server.One 7 1 SUPERUSER (call.MkDir 1 (0x61 ∷ []) mode_755)) ∷
+    line.Answered server.One 7 1 1 (reply.Node 2 (directory 493 2 0 0 2 (time 2 50000)
+    (time 2 50000) (time 2 50000))) ∷
+    line.Event (step.Deliver 18) ∷
+    line.Sent 19 server.Two server.One (shown.Ack (view 2 server.One) 1 0 6100) ∷
+    state server.Two mode.Live (view 2 server.One) (view 2 server.One)
+    (role.Follows server.One) held.Held 0 0 0 1 1 ∷
+    line.Event (step.Deliver 19) ∷
+    line.Event (step.Deliver 10) ∷
+    line.Answered server.Zero 7 1 1 (reply.Node 2 (directory 493 2 0 0 2 (time 2 50000)
+    (time 2 50000) (time 2 50000))) ∷
+    state server.Zero mode.Open (view 1 server.Zero) (view 1 server.Zero)
+    (role.Leads server.One) held.Held 0 0 0 1 1 ∷
+    line.Event (step.Ask server.One 9 1 SUPERUSER (call.GetAttr 2)) ∷
+    line.Entered 2 (record {
+      index = 0;
+      client = 9;
+      number = 1;
+      cred = SUPERUSER;
+      stamp = 0;
+      call = (call.GetAttr 2);
+      reply = (reply.Attr (directory 493 2 0 0 2 (time 2 50000) (time 2 50000) (time 2 50000)));
+    }) ∷
+    line.Answered server.One 9 1 1 (reply.Attr (directory 493 2 0 0 2 (time 2 50000) (time 2 50000)
+    (time 2 50000))) ∷
+    line.Event (step.List server.One) ∷
+    line.Listed server.One 1 2 ∷
+    line.Object (directory 493 3 264 1 1 (time 0 0) (time 2 50000) (time 2 50000)) ∷
+    line.Slot 1 0 2 (0x61 ∷ []) ∷
+    line.Object (directory 493 2 0 0 2 (time 2 50000) (time 2 50000) (time 2 50000)) ∷
+    []
+
+-- An update is committed by the next leader at its opening, answered there without an Ack of that
+-- view, and answered late by the old leader.
+abbrev pub LateAcknowledgement : Type 0
+LateAcknowledgement = AreTaken plain_measures first_scene late_acknowledgement_steps
+    × (run_lines plain_measures first_scene late_acknowledgement_steps ≡
+    late_acknowledgement_lines)

@@ -1,0 +1,239 @@
+//! What a line of a trace says.
+
+ghost use Rattle.std.specs.Prelude.{◌≡◌, IfOk};
+
+use crate::step::Step;
+use harp_base::{Attr, Bounded, Call, Cred, Held, Reply, ServerId, StateLine, ViewNo};
+use std::alloc::{AllocError, Global};
+
+/// A call that stands in the book, with its reply. A read has the index 0 and the stamp 0.
+#[derive(Debug, Drop)]
+pub struct BookEntry {
+    /// The place among the updates, from 1.
+    pub index: u64,
+    pub client: u32,
+    /// The client's own number of the call.
+    pub number: u64,
+    /// Who made the call.
+    pub cred: Cred,
+    /// Milliseconds of the clock at which the update was appended.
+    pub stamp: u64,
+    pub call: Call,
+    pub reply: Reply,
+}
+
+impl BookEntry {
+    /// An equal entry.
+    pub fn copy(&self, alloc: Global) -> Result<BookEntry, AllocError>
+        ensures { IfOk result (λ copy. copy ≡ self.now) }
+    {
+        Ok(BookEntry {
+            index: self.index,
+            client: self.client,
+            number: self.number,
+            cred: self.cred,
+            stamp: self.stamp,
+            call: self.call.copy(alloc)?,
+            reply: self.reply.copy(alloc)?,
+        })
+    }
+}
+
+/// Why an ask is refused.
+#[derive(Clone, Copy, Debug, PartialEq, Eq)]
+pub enum Cause {
+    /// The client's number is above 4095.
+    BadClient,
+    /// The server doesn't lead its view; the hint is the server that does.
+    NotLeader { hint: Option<ServerId> },
+    /// The server leads a view that isn't open.
+    NotYetOpen,
+    /// The partner's promise has run out, so a read can't be answered.
+    NoPromise,
+    /// The log has no room.
+    LogFull,
+    /// The client has asked an update with a greater number.
+    Old,
+}
+
+/// What a trace shows of a message from one server to another.
+#[derive(Clone, Copy, Debug, PartialEq, Eq)]
+pub enum ShownMessage {
+    Invite {
+        view: ViewNo,
+    },
+    /// What the sender has, the view that it accepted, its numbers and its horizon.
+    Join {
+        view: ViewNo,
+        held: Held,
+        accepted: ViewNo,
+        base: u64,
+        lb: u64,
+        cp: u64,
+        top: u64,
+        horizon: u64,
+    },
+    /// The choice of a view.
+    Form {
+        view: ViewNo,
+        leader: ServerId,
+        partner: ServerId,
+        source: ServerId,
+        base: u64,
+        cp: u64,
+        start: u64,
+        horizon: u64,
+    },
+    /// The first index that is wanted.
+    Fetch {
+        view: ViewNo,
+        first: u64,
+    },
+    /// So many records, the first with this index.
+    Give {
+        view: ViewNo,
+        first: u64,
+        records: u64,
+    },
+    /// The sender's LB.
+    Formed {
+        view: ViewNo,
+        lb: u64,
+    },
+    /// A record with this index, of this client and number; the leader's CP and base.
+    Event {
+        view: ViewNo,
+        index: u64,
+        cp: u64,
+        base: u64,
+        client: u32,
+        number: u64,
+    },
+    /// The leader's CP and base.
+    Beat {
+        view: ViewNo,
+        cp: u64,
+        base: u64,
+    },
+    /// The partner's top and LB, and the moment until which it promises to help no other view.
+    Ack {
+        view: ViewNo,
+        top: u64,
+        lb: u64,
+        until: u64,
+    },
+    Demote {
+        view: ViewNo,
+    },
+}
+
+/// Why a line of a schedule ends the run.
+#[derive(Clone, Copy, Debug, PartialEq, Eq)]
+pub enum LineFault {
+    /// No step is spelled so.
+    Grammar,
+    /// The line has more than 20,000 bytes.
+    TooLong,
+    /// It is a line past the 50,000th.
+    TooMany,
+    /// No packet has the number.
+    NoPacket,
+    /// The server is down.
+    ServerDown,
+    /// The server to boot is up.
+    ServerUp,
+    /// The clock would go back.
+    ClockBack,
+    /// Two clocks would be more than 50 milliseconds apart.
+    ClockApart,
+    /// The bytes of a noise are a message.
+    NoiseIsMessage,
+    /// The packets sent take too many bytes.
+    NetFull,
+}
+
+/// One line of a trace.
+#[derive(Debug, Drop)]
+pub enum Line {
+    /// A step begins. The lines up to the next event line are what it gave.
+    Event {
+        step: Step,
+    },
+    /// A call is entered in the book, as its entry of this place, from 1.
+    Entered {
+        place: u64,
+        entry: BookEntry,
+    },
+    /// A client is answered: for an update its index, for a read the number of updates committed.
+    Answered {
+        server: ServerId,
+        client: u32,
+        number: u64,
+        index: u64,
+        reply: Reply,
+    },
+    /// A client is refused.
+    Refused {
+        server: ServerId,
+        client: u32,
+        number: u64,
+        cause: Cause,
+    },
+    /// A packet is sent, with the next number from 0.
+    Sent {
+        packet: u64,
+        from: ServerId,
+        to: ServerId,
+        message: ShownMessage,
+    },
+    /// The server that stepped has another state than before.
+    State {
+        server: ServerId,
+        state: StateLine,
+    },
+    /// The server that stepped is down now.
+    Down {
+        server: ServerId,
+    },
+    /// A server lists its tree after its first `cp` updates. The objects follow, each with its
+    /// parts.
+    Listed {
+        server: ServerId,
+        cp: u64,
+        objects: u64,
+    },
+    /// A server that has no tree to list.
+    Unlisted {
+        server: ServerId,
+    },
+    Object {
+        attr: Attr,
+    },
+    /// A used slot of a directory, by its place from 0.
+    Slot {
+        dir: u32,
+        slot: u32,
+        number: u32,
+        name: Bounded<255>,
+    },
+    /// A block of a file, from 0, whose bytes aren't all zero.
+    Block {
+        file: u32,
+        block: u32,
+        bytes: Bounded<4096>,
+    },
+    /// A link's text.
+    Text {
+        link: u32,
+        text: Bounded<1024>,
+    },
+    /// The last line, where a line of the schedule (from 1) is refused.
+    Bad {
+        line: u64,
+        fault: LineFault,
+    },
+    /// The last line, with the number of entered lines.
+    End {
+        entered: u64,
+    },
+}
