@@ -287,6 +287,13 @@ fn writes_states(rt: HostRuntime) -> Result<(), Fail> {
             b"state 2 live 2.1 1.0 follows 0 held 1 2 3 4 5"
         )?
     );
+    Ok(())
+}
+
+#[test]
+fn writes_states_without_a_log(rt: HostRuntime) -> Result<(), Fail> {
+    let alloc = rt.alloc();
+    let follows = Role::Follows(ServerId::Zero);
     assert!(rt;
         is_state_written(
             alloc,

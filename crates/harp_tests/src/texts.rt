@@ -1,6 +1,8 @@
 //! Lines of schedules and traces.
 
-use harp_base::{Bounded, Bytes, Call, DirEntry, Entries, Reply, ServerId};
+use harp_base::{
+    Bounded, Bytes, Call, Cred, DirEntry, Entries, Reply, SUPERUSER, ServerId, Status,
+};
 use schedule_text::read_step;
 use std::alloc::Global;
 use std::test::Fail;
@@ -72,7 +74,11 @@ ask 0 7 1 symlink 1 6c 2f61 -
 ask 0 7 1 symlink 1 6c - 777
 ask 0 7 1 rmdir 1 61
 ask 0 7 1 readdir 1 0 8192
-ask 0 7 1 statfs 1";
+ask 0 7 1 statfs 1
+ask 0 7 1 as 100 100 mkdir 1 61 755
+ask 0 7 1 as 0 1 null
+ask 0 7 1 as 1 0 null
+ask 0 7 1 as 4294967295 4294967295 getattr 1";
 
 const UNBUILT: &[u8] = b"noise  x
 list";
@@ -119,7 +125,24 @@ ask 0 7 1 mkdir 1 61 755,4294967295
 ask 0 7 1 mkdir 1 61 0755
 ask 0 7 1 mkdir 1 61 10000
 ask 0 7 1 mkdir 1 61 758
-ask 0 7 1 mkdir 1 61 755,0,0,5,1:2,3:4,5";
+ask 0 7 1 mkdir 1 61 755,0,0,5,1:2,3:4,5
+ask 0 7 1 as 0 0 mkdir 1 61 755
+ask 0 7 1 as 01 100 null
+ask 0 7 1 as 100 00 null
+ask 0 7 1 as 4294967296 100 null
+ask 0 7 1 as 100 4294967296 null
+ask 0 7 1 as 100 null
+ask 0 7 1 as 100
+ask 0 7 1 as null
+ask 0 7 1 as
+ask 0 7 1 as 100  null
+ask 0 7 1 as 100 100  null
+ask 0 7 1 as 100 100
+ask 0 7 1 as100 100 null
+ask 0 7 1  as 100 100 null
+ask 0 7 1 as 1 1 as 1 1 null
+ask 0 7 1 asnull
+ask 0 7 1 null as 1 1";
 
 #[test]
 fn reads_lines(rt: HostRuntime) -> Result<(), Fail> {
@@ -183,21 +206,40 @@ fn is_fault_written(alloc: Global) -> Result<bool, Fail> {
     is_written(alloc, &line, b"bad 50001 too-many")
 }
 
-/// The call of an ask.
-fn asked(alloc: Global, line: &[u8]) -> Result<Call, Fail> {
+/// The credential and the call of an ask.
+fn asked(alloc: Global, line: &[u8]) -> Result<(Cred, Call), Fail> {
     match read_step(alloc, line) {
-        Ok(Some(Step::Ask { call, .. })) => Ok(call),
+        Ok(Some(Step::Ask { cred, call, .. })) => Ok((cred, call)),
         _ => Err("no ask".into()),
     }
 }
 
+/// Whether the ask of a line is made under this credential.
+fn is_asked_by(alloc: Global, line: &[u8], want: Cred) -> Result<bool, Fail> {
+    let (cred, _) = asked(alloc, line)?;
+    Ok(cred == want)
+}
+
+#[test]
+fn reads_credentials(rt: HostRuntime) -> Result<(), Fail> {
+    let alloc = rt.alloc();
+    let user = Cred { uid: 100, gid: 200 };
+    let other = Cred { uid: 0, gid: 1 };
+    assert!(rt; is_asked_by(alloc, b"ask 0 7 1 null", SUPERUSER)?);
+    assert!(rt; is_asked_by(alloc, b"ask 0 7 1 as 100 200 null", user)?);
+    assert!(rt; is_asked_by(alloc, b"ask 0 7 1 as 0 1 null", other)?);
+    Ok(())
+}
+
 fn is_entry_written(alloc: Global) -> Result<bool, Fail> {
+    let (cred, call) = asked(alloc, b"ask 1 3 8 symlink 1 73 7372632f62 -")?;
     let entry = BookEntry {
         index: 8,
         client: 3,
         number: 8,
+        cred,
         stamp: 4100,
-        call: asked(alloc, b"ask 1 3 8 symlink 1 73 7372632f62 -")?,
+        call,
         reply: Reply::Done,
     };
     let line = Line::Entered { place: 8, entry };
@@ -205,6 +247,27 @@ fn is_entry_written(alloc: Global) -> Result<bool, Fail> {
         alloc,
         &line,
         b"entered 8 8 3 8 4100 symlink 1 73 7372632f62 - = done",
+    )
+}
+
+fn is_entry_by_another_written(alloc: Global) -> Result<bool, Fail> {
+    let (cred, call) = asked(alloc, b"ask 0 7 1 as 100 100 mkdir 1 61 755")?;
+    let entry = BookEntry {
+        index: 1,
+        client: 7,
+        number: 1,
+        cred,
+        stamp: 2050,
+        call,
+        reply: Reply::Refused {
+            status: Status::Acces,
+        },
+    };
+    let line = Line::Entered { place: 1, entry };
+    is_written(
+        alloc,
+        &line,
+        b"entered 1 1 7 1 2050 as 100 100 mkdir 1 61 755 = no 13",
     )
 }
 
@@ -224,6 +287,7 @@ fn is_path_written(alloc: Global) -> Result<bool, Fail> {
 fn writes_calls_and_replies(rt: HostRuntime) -> Result<(), Fail> {
     let alloc = rt.alloc();
     assert!(rt; is_entry_written(alloc)?);
+    assert!(rt; is_entry_by_another_written(alloc)?);
     assert!(rt; is_path_written(alloc)?);
     Ok(())
 }
