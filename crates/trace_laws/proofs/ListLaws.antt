@@ -39,7 +39,7 @@ agree_less x y xs ys n h = (
   (λ k l. h (suc k) (omega arith)),
 )
 
-take_agree : (n : ℕ) (xs ys : List Entry) → n ≤ length xs → n ≤ length ys → Agree n xs ys
+pub take_agree : (n : ℕ) (xs ys : List Entry) → n ≤ length xs → n ≤ length ys → Agree n xs ys
     → take n xs ≡ take n ys
 take_agree zero xs ys a b h = refl
 take_agree (suc n) [] ys a b h = absurd (omega arith)

@@ -267,7 +267,7 @@ pub entered_none : (g : Group Entry) (q : Place) (ms : List (Move Entry))
 entered_none g q ms = entered_no (length g.book) _
 
 -- a law of answered lines alone, over all lines of a step
-answered_step : (P : Trace → Line → Type 0) → ((before : Trace) (l : Line) → IsNoAnswer l
+pub answered_step : (P : Trace → Line → Type 0) → ((before : Trace) (l : Line) → IsNoAnswer l
     → P before l)
     → (before : Trace) (s : Step) (g : Group Entry) (q : Place) (ms : List (Move Entry))
     → AtPlacesAfter P (up_to_answers before s g q ms) (answered_lines q ms)
@@ -408,7 +408,7 @@ law_step P before g s q i ms t law = answered_step P law.other_lines before s g 
         (law.of_read e after t o is u l tails, tt)
 
 -- an answer that was given in this step
-given_now : (g : Group Entry) (s : Step) (q : Place) (i : Input) (ms : List (Move Entry))
+pub given_now : (g : Group Entry) (s : Step) (q : Place) (i : Input) (ms : List (Move Entry))
     → Turned g s q i ms → AnswersUpdates (g.server q) i ms → (n : ℕ) (e : Entry)
     → In ms (Saying (Answers n e))
     → In (turn_group g q ms).answered (record {
