@@ -5,7 +5,7 @@ use Rattle.file_tree.specs.Outcome.{lost_entry, with_size, create_again, create_
 use Rattle.group_rules.specs.Places.{all_of}
 use Rattle.group_rules.specs.Limits.{limit, room, give_bytes}
 use Rattle.trace_claims.specs.Listing.{all_zero, block_lines, living, objects_from, slot_lines}
-use Rattle.group_trace.specs.Lines.{entered_lines, sent_lines}
+use Rattle.group_trace.specs.Lines.{entered_lines, packet_lines}
 use Rattle.group_trace.specs.RowOfAnUpdate.{WorkedRow, worked_steps}
 use Rattle.group_trace.specs.RowWords.{plain_measures}
 use Rattle.group_trace.specs.RowOfPromiseLengths.{PromiseLengths, promise_lengths_steps}
@@ -17,7 +17,7 @@ use Rattle.group_trace.specs.Calls.{calls_of, changes_of}
 use Rattle.group_trace.specs.Refusals.{net_limit, refusal}
 use Rattle.group_trace.specs.Run.{AreTaken, bytes_of, is_elementary, next, run_lines}
 use Rattle.group_trace.specs.Scene.{Measures, Scene, first_scene}
-use Rattle.group_trace.specs.Shown.{same_state}
+use Rattle.group_rules.specs.Shown.{same_state}
 use Rattle.trace_types.specs.declared.line.LineFault.{LineFault}
 use Rattle.trace_types.specs.declared.step.Step.{Step}
 use Rattle.group_rules.proofs.Tests.{left, right}
@@ -53,41 +53,41 @@ taken m w (s ∷ ss) e =
 pub worked_row : WorkedRow
 unfolding run_lines all_of limit room give_bytes attr_at used_blocks names_of links_of holder_from
     parent_of entry_from free_from with_entry lost_entry with_size set_fields set_attr create_again
-    create_new add_entry get_attr remove make_dir room_for entered_lines sent_lines same_state
+    create_new add_entry get_attr remove make_dir room_for entered_lines packet_lines same_state
     calls_of changes_of bytes_of net_limit objects_from slot_lines block_lines all_zero living
 worked_row = (taken plain_measures first_scene worked_steps refl, refl)
 
 pub late_acknowledgement : LateAcknowledgement
 unfolding run_lines all_of limit room give_bytes attr_at used_blocks names_of links_of holder_from
     parent_of entry_from free_from with_entry lost_entry with_size set_fields set_attr create_again
-    create_new add_entry get_attr remove make_dir room_for entered_lines sent_lines same_state
+    create_new add_entry get_attr remove make_dir room_for entered_lines packet_lines same_state
     calls_of changes_of bytes_of net_limit objects_from slot_lines block_lines all_zero living
 late_acknowledgement = (taken plain_measures first_scene late_acknowledgement_steps refl, refl)
 
 pub promises_at_the_skew : PromisesAtTheSkew
 unfolding run_lines all_of limit room give_bytes attr_at used_blocks names_of links_of holder_from
     parent_of entry_from free_from with_entry lost_entry with_size set_fields set_attr create_again
-    create_new add_entry get_attr remove make_dir room_for entered_lines sent_lines same_state
+    create_new add_entry get_attr remove make_dir room_for entered_lines packet_lines same_state
     calls_of changes_of bytes_of net_limit objects_from slot_lines block_lines all_zero living
 promises_at_the_skew = (taken plain_measures first_scene promises_at_the_skew_steps refl, refl)
 
 pub power_failure_cut_off : PowerFailureCutOff
 unfolding run_lines all_of limit room give_bytes attr_at used_blocks names_of links_of holder_from
     parent_of entry_from free_from with_entry lost_entry with_size set_fields set_attr create_again
-    create_new add_entry get_attr remove make_dir room_for entered_lines sent_lines same_state
+    create_new add_entry get_attr remove make_dir room_for entered_lines packet_lines same_state
     calls_of changes_of bytes_of net_limit objects_from slot_lines block_lines all_zero living
 power_failure_cut_off = (taken plain_measures first_scene power_failure_cut_off_steps refl, refl)
 
 pub abandoned_formation : AbandonedFormation
 unfolding run_lines all_of limit room give_bytes attr_at used_blocks names_of links_of holder_from
     parent_of entry_from free_from with_entry lost_entry with_size set_fields set_attr create_again
-    create_new add_entry get_attr remove make_dir room_for entered_lines sent_lines same_state
+    create_new add_entry get_attr remove make_dir room_for entered_lines packet_lines same_state
     calls_of changes_of bytes_of net_limit objects_from slot_lines block_lines all_zero living
 abandoned_formation = (taken plain_measures first_scene abandoned_formation_steps refl, refl)
 
 pub promise_lengths : PromiseLengths
 unfolding run_lines all_of limit room give_bytes attr_at used_blocks names_of links_of holder_from
     parent_of entry_from free_from with_entry lost_entry with_size set_fields set_attr create_again
-    create_new add_entry get_attr remove make_dir room_for entered_lines sent_lines same_state
+    create_new add_entry get_attr remove make_dir room_for entered_lines packet_lines same_state
     calls_of changes_of bytes_of net_limit objects_from slot_lines block_lines all_zero living
 promise_lengths = (taken plain_measures first_scene promise_lengths_steps refl, refl)

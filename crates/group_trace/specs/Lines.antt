@@ -1,6 +1,5 @@
 -- The lines that one step writes beside its event line.
-use Rattle.std.specs.Prelude.{ℕ, ◌+◌, List, [], ◌∷◌, ◌++◌, length, take, drop, Option, Some, None, if◌then◌else◌}
-use Rattle.std.specs.List.{flat_map}
+use Rattle.std.specs.Prelude.{ℕ, ◌+◌, List, [], ◌∷◌, ◌++◌, length, map, take, drop, Option, Some, None, if◌then◌else◌}
 use Rattle.harp_base.specs.declared.state.StateLine.{StateLine}
 use Rattle.trace_types.specs.declared.step.Step.{Step}
 use Rattle.trace_types.specs.declared.step.Step.TheVariants as step
@@ -10,12 +9,14 @@ use Rattle.trace_claims.specs.Listing.{living, tree_lines}
 use Rattle.file_tree.specs.Book.{Entry, tree_after}
 use Rattle.file_tree.specs.Tree.{Tree}
 use Rattle.group_rules.specs.Disk.{settled_tests}
-use Rattle.group_rules.specs.Moves.{Move, Reading, Saying, Sending}
+use Rattle.group_rules.specs.Moves.{Move}
 use Rattle.group_rules.specs.Names.{id_of, place_of}
 use Rattle.group_rules.specs.Places.{Place, all_of}
-use Rattle.group_rules.specs.State.{Answers, Group, Message, Refuses}
+use Rattle.group_rules.specs.Said.{Answer, Refusal, answers_said, refusals_said, sends_said}
+use Rattle.group_rules.specs.Shown.{cause_of}
+use Rattle.group_rules.specs.State.{Group, Message}
 use Rattle.group_rules.specs.Step.{list_of}
-use Rattle.group_trace.specs.Shown.{cause_of, message_shown, same_shown, shown_of}
+use Rattle.group_trace.specs.Shown.{message_shown, same_shown, shown_of}
 
 -- ---- the book
 
@@ -38,35 +39,34 @@ entered_lines n (e ∷ es) = entered_line (n + 1) e ∷ entered_lines (n + 1) es
 
 -- ---- what the moves of a server say
 
--- the answer that a move gives
-abbrev pub answered_by : Place → Move Entry → List Line
-answered_by q (Saying (Answers n e)) = line.Answered (id_of q) e.client e.number n e.reply ∷ []
-answered_by q (Reading n e) = line.Answered (id_of q) e.client e.number n e.reply ∷ []
-answered_by q m = []
+-- the line of an answer
+abbrev pub answered_line : Place → Answer → Line
+answered_line q a = line.Answered (id_of q) a.entry.client a.entry.number a.index a.entry.reply
 
 -- the answers of moves, in their order
 abbrev pub answered_lines : Place → List (Move Entry) → List Line
-answered_lines q ms = flat_map (answered_by q) ms
+answered_lines q ms = map (answered_line q) (answers_said ms)
 
--- the refusal that a move gives
-abbrev pub refused_by : Place → Move Entry → List Line
-refused_by q (Saying (Refuses client number cause)) = line.Refused (id_of q) client number
-    (cause_of cause) ∷ []
-refused_by q m = []
+-- the line of a refusal
+abbrev pub refused_line : Place → Refusal → Line
+refused_line q r = line.Refused (id_of q) r.client r.number (cause_of r.cause)
 
 -- the refusals of moves, in their order
 abbrev pub refused_lines : Place → List (Move Entry) → List Line
-refused_lines q ms = flat_map (refused_by q) ms
+refused_lines q ms = map (refused_line q) (refusals_said ms)
 
 -- the line of packet n
 abbrev pub sent_line : ℕ → Place → Place → Message Entry → Line
 sent_line n q to m = line.Sent n (id_of q) (id_of to) (message_shown m)
 
--- the packets that the moves send, the first with n before it
-unfoldable pub sent_lines : ℕ → Place → List (Move Entry) → List Line
-sent_lines n q [] = []
-sent_lines n q (Sending to m ∷ ms) = sent_line n q to m ∷ sent_lines (n + 1) q ms
-sent_lines n q (m ∷ ms) = sent_lines n q ms
+-- the lines of packets, the first with n before it
+unfoldable pub packet_lines : ℕ → Place → List (Place × Message Entry) → List Line
+packet_lines n q [] = []
+packet_lines n q (x ∷ xs) = sent_line n q x.0 x.1 ∷ packet_lines (n + 1) q xs
+
+-- the packets that moves send, the first with n before it
+abbrev pub sent_lines : ℕ → Place → List (Move Entry) → List Line
+sent_lines n q ms = packet_lines n q (sends_said ms)
 
 -- a server's state, or that it is down
 abbrev pub state_line : Place → Option StateLine → Line

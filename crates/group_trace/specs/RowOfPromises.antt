@@ -14,7 +14,7 @@ use Rattle.trace_types.specs.declared.line.Line.TheVariants as line
 use Rattle.trace_types.specs.declared.line.ShownMessage.TheVariants as shown
 use Rattle.group_trace.specs.Run.{AreTaken, run_lines}
 use Rattle.group_trace.specs.Scene.{first_scene}
-use Rattle.trace_types.specs.declared.line.Cause.TheVariants as cause
+use Rattle.trace_lines.specs.declared.line.Cause.TheVariants as cause
 use Rattle.group_trace.specs.RowWords.{plain_measures, view, time, directory, state}
 
 -- its steps

@@ -24,12 +24,15 @@ use Rattle.group_rules.specs.Step.{Comes, list_of, step_of}
 use Rattle.group_safety.specs.Words.{IsActive}
 use Rattle.group_rules.proofs.Tests.{if_is, le_is}
 use Rattle.group_safety.proofs.AtOnce.{answers_at_once}
-use Rattle.group_trace.specs.Lines.{answered_lines, entered_lines, lines_of_moves, listing_of, refused_lines, sent_lines, state_line, state_lines}
+use Rattle.group_rules.specs.Said.{refusals_said}
+use Rattle.group_trace.specs.Lines.{refused_line, answered_lines, entered_lines, lines_of_moves, listing_of, refused_lines, sent_lines, state_line, state_lines, packet_lines}
 use Rattle.group_trace.specs.Calls.{CallKind, moves_of, passes}
 use Rattle.group_trace.specs.Run.{delivery, lines_where, moved_in, turn}
 use Rattle.group_trace.specs.Scene.{Measures, Scene}
 use Rattle.trace_laws.specs.Stops.{NeverCut}
-use Rattle.group_trace.specs.Shown.{message_shown, same_shown, shown_of, state_of}
+use Rattle.group_rules.specs.Shown.{state_of}
+use Rattle.group_trace.specs.Shown.{message_shown, same_shown, shown_of}
+use Rattle.trace_laws.proofs.LineParts.{made_each}
 use Rattle.trace_laws.proofs.Answering.{Answering, AreReadless, kind_answers, reading, updating}
 use Rattle.trace_laws.proofs.OpenLines.{open_shown}
 use Rattle.trace_laws.proofs.Packets.{was_sent}
@@ -59,15 +62,11 @@ idle_entered n [] = tt
 idle_entered n (e ∷ es) = (tt, idle_entered (n + 1) es)
 
 refused_idle : (q : Place) (ms : List (Move Entry)) → AllByRecursion IsIdle (refused_lines q ms)
-refused_idle q [] = tt
-refused_idle q (Saying (Answers n e) ∷ ms) = refused_idle q ms
-refused_idle q (Saying (Refuses client number cause) ∷ ms) = (tt, refused_idle q ms)
-refused_idle q (Saying (Lists n) ∷ ms) = refused_idle q ms
-refused_idle q (m ∷ ms) = refused_idle q ms
+refused_idle q ms = made_each IsIdle (refused_line q) (λ r. tt) (refusals_said ms)
 
 sent_idle : (n : ℕ) (q : Place) (ms : List (Move Entry))
     → AllByRecursion IsIdle (sent_lines n q ms)
-unfolding sent_lines
+unfolding packet_lines
 sent_idle n q [] = tt
 sent_idle n q (Sending to m ∷ ms) = (tt, sent_idle (n + 1) q ms)
 sent_idle n q (m ∷ ms) = sent_idle n q ms

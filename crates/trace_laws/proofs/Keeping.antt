@@ -25,7 +25,8 @@ use Rattle.group_safety.specs.Words.{In, IsActive}
 use Rattle.group_safety.proofs.Moving.{goes_good, goes_grows}
 use Rattle.group_safety.proofs.Safe.{sent_known, whole_of}
 use Rattle.group_trace.specs.Lines.{lines_of_moves, listing_of}
-use Rattle.group_trace.specs.Shown.{shown_of, state_of}
+use Rattle.group_rules.specs.Shown.{state_of}
+use Rattle.group_trace.specs.Shown.{shown_of}
 use Rattle.trace_laws.proofs.After.{moved_clock, moved_other, moved_server}
 use Rattle.trace_laws.proofs.Amid.{AllShown, Amid, FirstOk, IsThere, OpenOk, PartnerShown, RoleOk, SomeShown, booted_idle, open_kept}
 use Rattle.trace_laws.proofs.Ends.{AcksCame, apart_some, kind_amid, kind_some}

@@ -20,7 +20,8 @@ use Rattle.group_rules.specs.Step.{Input}
 use Rattle.group_safety.specs.Words.{In, IsActive}
 use Rattle.group_safety.proofs.Lawful.{answers_grow, every_later_view}
 use Rattle.group_trace.specs.Lines.{answered_lines, listing_of, state_line, state_lines}
-use Rattle.group_trace.specs.Shown.{same_shown, shown_of, state_of}
+use Rattle.group_rules.specs.Shown.{state_of}
+use Rattle.group_trace.specs.Shown.{same_shown, shown_of}
 use Rattle.trace_laws.proofs.Answering.{Answering, AnswersUpdates, AreReadless, given, kind_answers, milds_silent, reading, silent_answers, updating}
 use Rattle.trace_laws.proofs.Asked.{with_event}
 use Rattle.trace_laws.proofs.Keeping.{turn_group, turn_lines, turn_stands, turn_whole}

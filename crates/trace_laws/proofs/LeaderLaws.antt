@@ -28,7 +28,7 @@ use Rattle.group_rules.specs.State.{Ack, Answers, Group, Leads, Message, Open, P
 use Rattle.group_rules.specs.Step.{Ask, Comes, Does, Input}
 use Rattle.group_safety.specs.Words.{In, IsActive}
 use Rattle.group_safety.proofs.Safe.{sent_known}
-use Rattle.group_trace.specs.Shown.{role_shown, state_of}
+use Rattle.group_rules.specs.Shown.{role_shown, state_of}
 use Rattle.trace_laws.proofs.Amid.{goes_later, goes_may}
 use Rattle.trace_laws.proofs.Answering.{AckUpTo, tails_enter}
 use Rattle.trace_laws.proofs.Asked.{with_event}

@@ -28,5 +28,6 @@ pub mod RecordLaws
 pub mod StateRecords
 pub mod RunLaws
 pub mod LocalRuns
+pub mod GroupViews
 pub mod RightRuns
 pub mod FirstParts

@@ -1,5 +1,5 @@
 -- What the parts of a step's lines add to a trace.
-use Rattle.std.proofs.Common.{◌≡◌, ℕ, ◌+◌, ◌≤◌, ◌==◌, Bool, true, false, List, [], ◌∷◌, ◌++◌, append_assoc, append-nil, length, Option, Some, None, refl, sym, ap, ◌∙◌, subst, inl, inr, arith, fold, if◌then◌else◌}
+use Rattle.std.proofs.Common.{◌≡◌, ℕ, ◌+◌, ◌≤◌, ◌==◌, Bool, true, false, List, [], ◌∷◌, ◌++◌, append_assoc, append-nil, length, map, Option, Some, None, refl, sym, ap, ◌∙◌, subst, inl, inr, arith, fold, if◌then◌else◌}
 use Rattle.std.specs.List.{AllByRecursion}
 use Rattle.std.proofs.lemmas.Bool.{cases_Bool, eqb-true, ne_eqb}
 use Rattle.harp_base.specs.declared.server.ServerId.{ServerId}
@@ -11,10 +11,11 @@ use Rattle.trace_claims.specs.Servers.{Packet as PacketShown, later_state, packe
 use Rattle.trace_claims.specs.Trace.{Trace, entered_by, entries, is_last, later_step, step_of_line, steps}
 use Rattle.trace_claims.proofs.Places.{all-append}
 use Rattle.file_tree.specs.Book.{Entry}
-use Rattle.group_rules.specs.Moves.{Move, Reading, Saying, Sending}
+use Rattle.group_rules.specs.Moves.{Move, Sending}
 use Rattle.group_rules.specs.Places.{Place}
-use Rattle.group_rules.specs.State.{Answers, Lists, Message, Packet, Refuses}
-use Rattle.group_trace.specs.Lines.{answered_by, answered_lines, entered_lines, refused_by, refused_lines, sent_line, sent_lines, state_line, state_lines}
+use Rattle.group_rules.specs.State.{Message, Packet}
+use Rattle.group_rules.specs.Said.{answers_said, refusals_said}
+use Rattle.group_trace.specs.Lines.{answered_line, answered_lines, entered_lines, packet_lines, refused_line, refused_lines, sent_line, sent_lines, state_line, state_lines}
 use Rattle.group_trace.specs.Shown.{packet_shown, same_shown}
 use Rattle.trace_laws.proofs.After.{packets_by}
 
@@ -33,31 +34,20 @@ AreSaid ls = AllByRecursion IsSaid ls
 pub said-append : (xs ys : List Line) → AreSaid xs → AreSaid ys → AreSaid (xs ++ ys)
 said-append xs ys = all-append IsSaid xs ys
 
-answered_said : (q : Place) (m : Move Entry) → AreSaid (answered_by q m)
-answered_said q (Saying (Answers n e)) = (tt, tt)
-answered_said q (Saying (Refuses client number cause)) = tt
-answered_said q (Saying (Lists n)) = tt
-answered_said q (Reading n e) = (tt, tt)
-answered_said q m = tt
+-- what holds of each line that is made so
+pub made_each : {A : Type 0} (P : Line → Type 0) (f : A → Line) → ((a : A) → P (f a))
+    → (xs : List A) → AllByRecursion P (map f xs)
+made_each P f h [] = tt
+made_each P f h (x ∷ xs) = (h x, made_each P f h xs)
 
 pub said-answered : (q : Place) (ms : List (Move Entry)) → AreSaid (answered_lines q ms)
-said-answered q [] = tt
-said-answered q (m ∷ ms) = said-append (answered_by q m) (answered_lines q ms) (answered_said q m)
-    (said-answered q ms)
-
-refused_said : (q : Place) (m : Move Entry) → AreSaid (refused_by q m)
-refused_said q (Saying (Answers n e)) = tt
-refused_said q (Saying (Refuses client number cause)) = (tt, tt)
-refused_said q (Saying (Lists n)) = tt
-refused_said q m = tt
+said-answered q ms = made_each IsSaid (answered_line q) (λ a. tt) (answers_said ms)
 
 pub said-refused : (q : Place) (ms : List (Move Entry)) → AreSaid (refused_lines q ms)
-said-refused q [] = tt
-said-refused q (m ∷ ms) = said-append (refused_by q m) (refused_lines q ms) (refused_said q m)
-    (said-refused q ms)
+said-refused q ms = made_each IsSaid (refused_line q) (λ r. tt) (refusals_said ms)
 
 pub said-sent : (n : ℕ) (q : Place) (ms : List (Move Entry)) → AreSaid (sent_lines n q ms)
-unfolding sent_lines
+unfolding packet_lines
 said-sent n q [] = tt
 said-sent n q (Sending to m ∷ ms) = (tt, said-sent (n + 1) q ms)
 said-sent n q (m ∷ ms) = said-sent n q ms
@@ -161,32 +151,16 @@ unfolding entered_lines
 stateless-entered n [] = tt
 stateless-entered n (e ∷ es) = (tt, stateless-entered (n + 1) es)
 
-answered_stateless : (q : Place) (m : Move Entry) → AreStateless (answered_by q m)
-answered_stateless q (Saying (Answers n e)) = (tt, tt)
-answered_stateless q (Saying (Refuses client number cause)) = tt
-answered_stateless q (Saying (Lists n)) = tt
-answered_stateless q (Reading n e) = (tt, tt)
-answered_stateless q m = tt
-
-pub stateless-answered : (q : Place) (ms : List (Move Entry)) → AreStateless (answered_lines q ms)
-stateless-answered q [] = tt
-stateless-answered q (m ∷ ms) = stateless-append (answered_by q m) (answered_lines q ms)
-    (answered_stateless q m) (stateless-answered q ms)
-
-refused_stateless : (q : Place) (m : Move Entry) → AreStateless (refused_by q m)
-refused_stateless q (Saying (Answers n e)) = tt
-refused_stateless q (Saying (Refuses client number cause)) = (tt, tt)
-refused_stateless q (Saying (Lists n)) = tt
-refused_stateless q m = tt
+pub stateless-answered : (q : Place) (ms : List (Move Entry))
+    → AreStateless (answered_lines q ms)
+stateless-answered q ms = made_each IsStateless (answered_line q) (λ a. tt) (answers_said ms)
 
 pub stateless-refused : (q : Place) (ms : List (Move Entry)) → AreStateless (refused_lines q ms)
-stateless-refused q [] = tt
-stateless-refused q (m ∷ ms) = stateless-append (refused_by q m) (refused_lines q ms)
-    (refused_stateless q m) (stateless-refused q ms)
+stateless-refused q ms = made_each IsStateless (refused_line q) (λ r. tt) (refusals_said ms)
 
 pub stateless-sent : (n : ℕ) (q : Place) (ms : List (Move Entry))
     → AreStateless (sent_lines n q ms)
-unfolding sent_lines
+unfolding packet_lines
 stateless-sent n q [] = tt
 stateless-sent n q (Sending to m ∷ ms) = (tt, stateless-sent (n + 1) q ms)
 stateless-sent n q (m ∷ ms) = stateless-sent n q ms
@@ -210,28 +184,11 @@ unfolding entered_lines
 sendless-entered n [] = tt
 sendless-entered n (e ∷ es) = (tt, sendless-entered (n + 1) es)
 
-answered_sendless : (q : Place) (m : Move Entry) → AreSendless (answered_by q m)
-answered_sendless q (Saying (Answers n e)) = (tt, tt)
-answered_sendless q (Saying (Refuses client number cause)) = tt
-answered_sendless q (Saying (Lists n)) = tt
-answered_sendless q (Reading n e) = (tt, tt)
-answered_sendless q m = tt
-
 pub sendless-answered : (q : Place) (ms : List (Move Entry)) → AreSendless (answered_lines q ms)
-sendless-answered q [] = tt
-sendless-answered q (m ∷ ms) = sendless-append (answered_by q m) (answered_lines q ms)
-    (answered_sendless q m) (sendless-answered q ms)
-
-refused_sendless : (q : Place) (m : Move Entry) → AreSendless (refused_by q m)
-refused_sendless q (Saying (Answers n e)) = tt
-refused_sendless q (Saying (Refuses client number cause)) = (tt, tt)
-refused_sendless q (Saying (Lists n)) = tt
-refused_sendless q m = tt
+sendless-answered q ms = made_each IsSendless (answered_line q) (λ a. tt) (answers_said ms)
 
 pub sendless-refused : (q : Place) (ms : List (Move Entry)) → AreSendless (refused_lines q ms)
-sendless-refused q [] = tt
-sendless-refused q (m ∷ ms) = sendless-append (refused_by q m) (refused_lines q ms)
-    (refused_sendless q m) (sendless-refused q ms)
+sendless-refused q ms = made_each IsSendless (refused_line q) (λ r. tt) (refusals_said ms)
 
 pub sendless-state : (q : Place) (before now : Option StateLine)
     → AreSendless (state_lines q before now)
@@ -313,7 +270,7 @@ shown_one before ps q to m h n =
 pub packets_shown : (ms : List (Move Entry)) (before : Trace) (ps : List (Packet Entry))
     (q : Place) → ShowsPackets before ps
     → ShowsPackets (before ++ sent_lines (length ps) q ms) (packets_by ps q ms)
-unfolding sent_lines
+unfolding packet_lines
 packets_shown [] before ps q h = subst (λ b. ShowsPackets b ps) (sym (append-nil before)) h
 packets_shown (Sending to m ∷ ms) before ps q h =
     subst (λ b. ShowsPackets b (packets_by (record { from = q; to = to; body = m } ∷ ps) q ms))

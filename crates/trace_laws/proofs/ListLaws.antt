@@ -21,7 +21,7 @@ use Rattle.group_safety.specs.Words.{Agree, IsActive}
 use Rattle.group_rules.proofs.Tests.{by_if, each_of}
 use Rattle.group_safety.proofs.Moving.{goes_grows}
 use Rattle.group_safety.proofs.Modes.{settled_is}
-use Rattle.group_trace.specs.Lines.{answered_lines, entered_lines, lines_of_moves, listed_lines, listing_of, refused_lines, sent_lines, state_line, state_lines}
+use Rattle.group_trace.specs.Lines.{answered_lines, entered_lines, lines_of_moves, listed_lines, listing_of, refused_lines, sent_lines, state_line, state_lines, packet_lines}
 use Rattle.group_trace.specs.Shown.{same_shown, shown_of}
 use Rattle.trace_laws.proofs.Asked.{with_event}
 use Rattle.trace_laws.proofs.Keeping.{turn_group, turn_lines, turn_whole}
@@ -39,7 +39,7 @@ agree_less x y xs ys n h = (
   (λ k l. h (suc k) (omega arith)),
 )
 
-take_agree : (n : ℕ) (xs ys : List Entry) → n ≤ length xs → n ≤ length ys → Agree n xs ys
+pub take_agree : (n : ℕ) (xs ys : List Entry) → n ≤ length xs → n ≤ length ys → Agree n xs ys
     → take n xs ≡ take n ys
 take_agree zero xs ys a b h = refl
 take_agree (suc n) [] ys a b h = absurd (omega arith)
@@ -140,7 +140,7 @@ refused_unlisted q (m ∷ ms) = refused_unlisted q ms
 
 sent_unlisted : (n : ℕ) (q : Place) (ms : List (Move Entry))
     → AllByRecursion IsUnlisted (sent_lines n q ms)
-unfolding sent_lines
+unfolding packet_lines
 sent_unlisted n q [] = tt
 sent_unlisted n q (Sending to m ∷ ms) = (tt, sent_unlisted (n + 1) q ms)
 sent_unlisted n q (m ∷ ms) = sent_unlisted n q ms

@@ -16,17 +16,18 @@ use Rattle.trace_claims.specs.Trace.{AtPlacesAfter, Trace, later_step, step_unde
 use Rattle.trace_claims.proofs.Places.{all-append, step_under_way-append, steps-append}
 use Rattle.file_tree.specs.Book.{Entry, tree_after}
 use Rattle.group_rules.specs.Disk.{settled_tests}
-use Rattle.group_rules.specs.Moves.{Move, Reading, Saying, Sending}
+use Rattle.group_rules.specs.Moves.{Move, Sending}
 use Rattle.group_rules.specs.Names.{id_of, place_of}
 use Rattle.group_rules.specs.Places.{Place, all_of}
-use Rattle.group_rules.specs.State.{Answers, Group, Lists, Packet, Refuses}
+use Rattle.group_rules.specs.Said.{answers_said, refusals_said}
+use Rattle.group_rules.specs.State.{Group, Packet}
 use Rattle.group_rules.specs.Step.{Input, list_of, numbered}
 use Rattle.group_rules.proofs.Tests.{by_if}
-use Rattle.group_trace.specs.Lines.{answered_lines, entered_lines, listed_lines, listing_of, lines_of_moves, refused_lines, sent_lines, state_line, state_lines}
+use Rattle.group_trace.specs.Lines.{answered_line, answered_lines, refused_line, entered_lines, listed_lines, listing_of, lines_of_moves, refused_lines, sent_lines, state_line, state_lines, packet_lines}
 use Rattle.group_trace.specs.Shown.{packet_shown, same_shown}
 use Rattle.trace_laws.proofs.Asked.{with_event}
 use Rattle.trace_laws.proofs.Keeping.{turn_group, turn_lines}
-use Rattle.trace_laws.proofs.LineParts.{AreSendless, IsSendless, or_else, packet_in-append}
+use Rattle.trace_laws.proofs.LineParts.{made_each, AreSendless, IsSendless, or_else, packet_in-append}
 use Rattle.trace_laws.proofs.Listings.{AreListing, tree_listing}
 use Rattle.trace_laws.proofs.Packets.{shown_where}
 use Rattle.trace_laws.proofs.Standing.{Stands, moves_begin, said-listing}
@@ -93,24 +94,15 @@ names_entered s n (e ∷ es) = (tt, names_entered s (n + 1) es)
 
 names_answered : (q : Place) (ms : List (Move Entry))
     → AllByRecursion (Names (id_of q)) (answered_lines q ms)
-names_answered q [] = tt
-names_answered q (Saying (Answers n e) ∷ ms) = (refl, names_answered q ms)
-names_answered q (Saying (Refuses client number cause) ∷ ms) = names_answered q ms
-names_answered q (Saying (Lists n) ∷ ms) = names_answered q ms
-names_answered q (Reading n e ∷ ms) = (refl, names_answered q ms)
-names_answered q (m ∷ ms) = names_answered q ms
+names_answered q ms = made_each (Names (id_of q)) (answered_line q) (λ a. refl) (answers_said ms)
 
 names_refused : (q : Place) (ms : List (Move Entry))
     → AllByRecursion (Names (id_of q)) (refused_lines q ms)
-names_refused q [] = tt
-names_refused q (Saying (Answers n e) ∷ ms) = names_refused q ms
-names_refused q (Saying (Refuses client number cause) ∷ ms) = (refl, names_refused q ms)
-names_refused q (Saying (Lists n) ∷ ms) = names_refused q ms
-names_refused q (m ∷ ms) = names_refused q ms
+names_refused q ms = made_each (Names (id_of q)) (refused_line q) (λ r. refl) (refusals_said ms)
 
 names_sent : (n : ℕ) (q : Place) (ms : List (Move Entry))
     → AllByRecursion (Names (id_of q)) (sent_lines n q ms)
-unfolding sent_lines
+unfolding packet_lines
 names_sent n q [] = tt
 names_sent n q (Sending to m ∷ ms) = (refl, names_sent (n + 1) q ms)
 names_sent n q (m ∷ ms) = names_sent n q ms
@@ -235,7 +227,7 @@ no_send before l h = tt
 
 pub next_sent : (ms : List (Move Entry)) (n : ℕ) (q : Place) (before : Trace) → sent_in before ≡ n
     → AtPlacesAfter IsNextPacket before (sent_lines n q ms)
-unfolding sent_lines
+unfolding packet_lines
 next_sent [] n q before e = tt
 next_sent (Sending to m ∷ ms) n q before e = (
   sym e,

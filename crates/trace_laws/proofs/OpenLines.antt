@@ -27,7 +27,8 @@ use Rattle.group_safety.specs.Words.{IsActive}
 use Rattle.group_safety.proofs.Moving.{goes_good}
 use Rattle.group_safety.proofs.Safe.{whole_of}
 use Rattle.group_trace.specs.Lines.{lines_of_moves, listing_of, state_line, state_lines}
-use Rattle.group_trace.specs.Shown.{held_shown, mode_joined, mode_shown, same_shown, shown_of, state_of}
+use Rattle.group_rules.specs.Shown.{held_shown, mode_joined, mode_shown, state_of}
+use Rattle.group_trace.specs.Shown.{same_shown, shown_of}
 use Rattle.trace_laws.proofs.LineParts.{AreStateless}
 use Rattle.trace_laws.proofs.Standing.{IsSound, SoundState, Stands, before_state, before_stateless, parts_are, stateless-listing}
 use Rattle.trace_laws.proofs.StateLines.{either_line, first_is, first_open-append, not_own, server_is, state_stands, which}

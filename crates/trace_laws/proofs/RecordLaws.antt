@@ -22,8 +22,9 @@ use Rattle.group_rules.specs.Step.{Ask, Comes, Deed, Does, Input, delivered, num
 use Rattle.group_rules.proofs.Tests.{by_if, if_is}
 use Rattle.group_safety.specs.Laws.{DeedGrows, DeliveryGrows, Whole, log_length}
 use Rattle.group_safety.proofs.Records.{deeds_grow, deliveries_grow}
-use Rattle.group_trace.specs.Lines.{answered_lines, entered_lines, listing_of, lines_of_moves, refused_lines, sent_lines, state_lines}
-use Rattle.group_trace.specs.Shown.{message_shown, same_shown, shown_of, state_of}
+use Rattle.group_trace.specs.Lines.{answered_lines, entered_lines, listing_of, lines_of_moves, refused_lines, sent_lines, state_lines, packet_lines}
+use Rattle.group_rules.specs.Shown.{state_of}
+use Rattle.group_trace.specs.Shown.{message_shown, same_shown, shown_of}
 use Rattle.trace_laws.proofs.After.{moved_other, moved_packets, moved_server, packets_by}
 use Rattle.trace_laws.proofs.Asked.{with_event}
 use Rattle.trace_laws.proofs.Keeping.{turn_group, turn_lines}
@@ -159,7 +160,7 @@ sends_apart g g' s q ms =
 
 sent_count : (ms : List (Move Entry)) (n : ℕ) (q : Place) (ps : List (Packet Entry))
     → length ps ≡ n → fold more_sent n (sent_lines n q ms) ≡ length (packets_by ps q ms)
-unfolding sent_lines
+unfolding packet_lines
 sent_count [] n q ps e = sym e
 sent_count (Sending to m ∷ ms) n q ps e =
     sent_count ms (n + 1) q (record { from = q; to = to; body = m } ∷ ps)

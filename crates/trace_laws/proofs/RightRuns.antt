@@ -22,7 +22,7 @@ use Rattle.group_rules.specs.Step.{first_group}
 use Rattle.group_safety.specs.Words.{In, IsActive}
 use Rattle.group_safety.proofs.Safe.{first_whole}
 use Rattle.trace_laws.specs.Laws.{RunIsRight}
-use Rattle.group_trace.specs.Run.{AreTaken, run_lines}
+use Rattle.group_trace.specs.Run.{AreTaken, run, run_lines}
 use Rattle.group_trace.specs.Scene.{Measures, first_scene}
 use Rattle.group_trace.specs.Shown.{shown_of}
 use Rattle.trace_laws.proofs.LaterLaws.{HaveBoth}
@@ -31,6 +31,7 @@ use Rattle.trace_laws.proofs.LineParts.{shown_at}
 use Rattle.trace_laws.proofs.Listings.{EndsListing}
 use Rattle.trace_laws.proofs.Amid.{PartnerShown}
 use Rattle.trace_laws.proofs.Standing.{AskedIn, Stands}
+use Rattle.trace_laws.proofs.GroupViews.{run_views}
 use Rattle.trace_laws.proofs.LocalLaws.{names_step}
 use Rattle.trace_laws.proofs.LocalRuns.{run_packets, run_records}
 use Rattle.trace_laws.proofs.StepLaws.{asked_step, numbered_step, replied_step}
@@ -131,6 +132,8 @@ run_right m ss t =
       events = run_begins m ss first_scene;
       book = h.entered;
       whole = h.whole;
+      views = run_views (run m first_scene ss).group h.whole m ss [] first_scene first_stands t
+          (λ a x. x);
       right = λ end ends.
           let last = last_line lines (length (entries lines)) end ends in
           record {

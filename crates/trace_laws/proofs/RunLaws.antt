@@ -197,7 +197,7 @@ run_at_once m (s ∷ ss) before w tail h t e k =
     )
 
 -- a step that is taken keeps what was answered, and its lines show it
-step_has : (m : Measures) (before : Trace) (w : Scene) → Stands before w.group → (s : Step)
+pub step_has : (m : Measures) (before : Trace) (w : Scene) → Stands before w.group → (s : Step)
     → refusal m w s ≡ None → is_elementary s ≡ true → (a : Answered Entry) → In w.group.answered a
     → In (group_after m w s).answered a × HaveBoth a (step_lines m w s)
 step_has m before w h s r e a x = take_step (λ g' ls. In g'.answered a × HaveBoth a (line.Event s

@@ -1,18 +1,19 @@
 -- State lines: when two states are one, and what the last state line says.
-use Rattle.std.proofs.Common.{◌≡◌, ℕ, zero, suc, ◌≤◌, ◌⊎◌, Bool, true, false, List, [], ◌∷◌, ◌++◌, Option, Some, None, refl, sym, ap, ◌∙◌, inl, inr, fold, if◌then◌else◌, append_assoc, le_trans, true≢false, ◌&&◌}
-use Rattle.std.proofs.lemmas.Slice.Eq.{bytes_eq-Decides}
+use Rattle.std.proofs.Common.{rules, ◌==◌, ◌≡◌, ℕ, ◌≤◌, ◌⊎◌, Bool, true, false, [], ◌∷◌, ◌++◌, Option, Some, None, refl, sym, ap, ◌∙◌, inl, inr, fold, if◌then◌else◌, append_assoc, le_trans, true≢false, ◌&&◌}
 use Rattle.std.proofs.lemmas.Bool.{cases_Bool, eqb-true}
+use Rattle.harp_base.specs.contracts.server.ViewNoPartialEq.TheImpl as view_equality
+use Rattle.harp_base.specs.contracts.state.HeldPartialEq.TheImpl as held_equality
+use Rattle.harp_base.specs.contracts.state.ModePartialEq.TheImpl as mode_equality
+use Rattle.harp_base.specs.contracts.state.RolePartialEq.TheImpl as role_equality
+use Rattle.group_rules.proofs.Tests.{is_eq', left, right}
 use Rattle.harp_base.specs.Server.{number_of}
 use Rattle.harp_base.specs.View.{View}
 use Rattle.harp_base.specs.declared.server.ServerId.{ServerId}
 use Rattle.harp_base.specs.declared.server.ServerId.TheVariants as server
 use Rattle.harp_base.specs.declared.state.StateLine.{StateLine}
 use Rattle.harp_base.specs.declared.state.Mode.{Mode}
-use Rattle.harp_base.specs.declared.state.Mode.TheVariants as mode
 use Rattle.harp_base.specs.declared.state.Role.{Role}
-use Rattle.harp_base.specs.declared.state.Role.TheVariants as role
 use Rattle.harp_base.specs.declared.state.Held.{Held}
-use Rattle.harp_base.specs.declared.state.Held.TheVariants as held
 use Rattle.trace_types.specs.declared.line.Line.{Line}
 use Rattle.trace_types.specs.declared.line.Line.TheVariants as line
 use Rattle.trace_claims.specs.Servers.{HasShown, first_open, first_state, first_view, last_state, later_state, opens, same_server}
@@ -20,116 +21,82 @@ use Rattle.trace_claims.specs.Trace.{Trace}
 use Rattle.group_rules.specs.Names.{id_of}
 use Rattle.group_rules.specs.Places.{Zero, One, Two, Place}
 use Rattle.group_trace.specs.Lines.{state_line, state_lines}
-use Rattle.group_trace.specs.Shown.{held_number, mode_number, role_number, same_shown, same_state, state_numbers}
+use Rattle.group_rules.specs.Shown.{same_state}
+use Rattle.group_trace.specs.Shown.{same_shown}
 
--- ---- two states with the same numbers are one
-
-server_at : ℕ → ServerId
-server_at zero = server.Zero
-server_at (suc zero) = server.One
-server_at (suc (suc n)) = server.Two
-
-server_back : (s : ServerId) → server_at (number_of s) ≡ s
-unfolding server_at
-server_back server.Zero = refl
-server_back server.One = refl
-server_back server.Two = refl
+-- ---- states that compare as equal are one
 
 pub server_is : (s t : ServerId) → number_of s ≡ number_of t → s ≡ t
-server_is s t e = sym (server_back s) ∙ ap server_at e ∙ server_back t
+server_is server.Zero server.Zero e = refl
+server_is server.Zero server.One e = cc
+server_is server.Zero server.Two e = cc
+server_is server.One server.Zero e = cc
+server_is server.One server.One e = refl
+server_is server.One server.Two e = cc
+server_is server.Two server.Zero e = cc
+server_is server.Two server.One e = cc
+server_is server.Two server.Two e = refl
 
-mode_at : ℕ → Mode
-mode_at zero = mode.Rests
-mode_at (suc zero) = mode.Calls
-mode_at (suc (suc zero)) = mode.Joined
-mode_at (suc (suc (suc zero))) = mode.Pulls
-mode_at (suc (suc (suc (suc zero)))) = mode.Waits
-mode_at (suc (suc (suc (suc (suc zero))))) = mode.Open
-mode_at (suc (suc (suc (suc (suc (suc n)))))) = mode.Live
+mode_is : (s t : Mode) → (mode_equality.ghosts).eq s t ≡ true → s ≡ t
+mode_is s t e = search rules
 
-mode_back : (m : Mode) → mode_at (mode_number m) ≡ m
-unfolding mode_at
-mode_back mode.Rests = refl
-mode_back mode.Calls = refl
-mode_back mode.Joined = refl
-mode_back mode.Pulls = refl
-mode_back mode.Waits = refl
-mode_back mode.Open = refl
-mode_back mode.Live = refl
+role_is : (s t : Role) → (role_equality.ghosts).eq s t ≡ true → s ≡ t
+role_is s t e = search rules
 
-role_at : ℕ → Role
-role_at zero = role.Outside
-role_at (suc zero) = role.Leads server.Zero
-role_at (suc (suc zero)) = role.Leads server.One
-role_at (suc (suc (suc zero))) = role.Leads server.Two
-role_at (suc (suc (suc (suc zero)))) = role.Follows server.Zero
-role_at (suc (suc (suc (suc (suc zero))))) = role.Follows server.One
-role_at (suc (suc (suc (suc (suc (suc n)))))) = role.Follows server.Two
+held_is : (s t : Held) → (held_equality.ghosts).eq s t ≡ true → s ≡ t
+held_is s t e = search rules
 
-role_back : (r : Role) → role_at (role_number r) ≡ r
-unfolding role_at
-role_back role.Outside = refl
-role_back (role.Leads server.Zero) = refl
-role_back (role.Leads server.One) = refl
-role_back (role.Leads server.Two) = refl
-role_back (role.Follows server.Zero) = refl
-role_back (role.Follows server.One) = refl
-role_back (role.Follows server.Two) = refl
+view_is : (v w : View) → (view_equality.ghosts).eq v w ≡ true → v ≡ w
+view_is v w e = search rules
 
-held_at : ℕ → Held
-held_at zero = held.Empty
-held_at (suc zero) = held.Held
-held_at (suc (suc n)) = held.Lost
-
-held_back : (h : Held) → held_at (held_number h) ≡ h
-unfolding held_at
-held_back held.Empty = refl
-held_back held.Held = refl
-held_back held.Lost = refl
-
--- a state from its fields
-abbrev state_with : Mode → ℕ → ServerId → ℕ → ServerId → Role → Held → ℕ → ℕ → ℕ → ℕ → ℕ
-    → StateLine
-state_with m pc ps ac as' r h base lb ap cp top = record {
-  mode = m;
-  promised = record { count = pc; coordinator = ps };
-  accepted = record { count = ac; coordinator = as' };
-  role = r;
-  held = h;
-  base = base;
-  lb = lb;
-  ap = ap;
-  cp = cp;
-  top = top;
-}
-
--- a state is told by its numbers
-from_numbers : List ℕ → StateLine
-from_numbers (m ∷ pc ∷ ps ∷ ac ∷ as' ∷ r ∷ h ∷ base ∷ lb ∷ ap ∷ cp ∷ top ∷ rest) =
-    state_with (mode_at m) pc (server_at ps) ac (server_at as') (role_at r)
-    (held_at h) base lb ap cp top
-from_numbers ns = state_with mode.Rests 0 server.Zero 0 server.Zero role.Outside held.Empty 0 0 0 0
-    0
-
-from_its_numbers : (s : StateLine) → from_numbers (state_numbers s) ≡ s
-unfolding from_numbers
-from_its_numbers s = rw (
-  mode_back s.mode,
-  server_back s.promised.coordinator,
-  server_back s.accepted.coordinator,
-  role_back s.role,
-  held_back s.held,
-) refl
+both : (a b : Bool) → (a && b) ≡ true → (a ≡ true) × (b ≡ true)
+both a b e = (left a b e, right a b e)
 
 pub same_is : (s t : StateLine) → same_state s t ≡ true → s ≡ t
 unfolding same_state
-same_is s t e = sym (from_its_numbers s)
-    ∙ ap from_numbers ((bytes_eq-Decides (state_numbers s) (state_numbers t)).0 e)
-    ∙ from_its_numbers t
-
-pub is_same : (s t : StateLine) → s ≡ t → same_state s t ≡ true
-unfolding same_state
-is_same s t e = (bytes_eq-Decides (state_numbers s) (state_numbers t)).1 (ap state_numbers e)
+same_is s t e =
+    let m = (mode_equality.ghosts).eq s.mode t.mode in
+    let p = (view_equality.ghosts).eq s.promised t.promised in
+    let a = (view_equality.ghosts).eq s.accepted t.accepted in
+    let r = (role_equality.ghosts).eq s.role t.role in
+    let h = (held_equality.ghosts).eq s.held t.held in
+    let top = s.top == t.top in
+    let cp = s.cp == t.cp in
+    let ap' = s.ap == t.ap in
+    let lb = s.lb == t.lb in
+    let base = s.base == t.base in
+    let e1 = both m (p && (a && (r && (h && (base && (lb && (ap' && (cp && top)))))))) e in
+    let e2 = both p (a && (r && (h && (base && (lb && (ap' && (cp && top))))))) e1.1 in
+    let e3 = both a (r && (h && (base && (lb && (ap' && (cp && top)))))) e2.1 in
+    let e4 = both r (h && (base && (lb && (ap' && (cp && top))))) e3.1 in
+    let e5 = both h (base && (lb && (ap' && (cp && top)))) e4.1 in
+    let e6 = both base (lb && (ap' && (cp && top))) e5.1 in
+    let e7 = both lb (ap' && (cp && top)) e6.1 in
+    let e8 = both ap' (cp && top) e7.1 in
+    let e9 = both cp top e8.1 in
+    fields s t (mode_is s.mode t.mode e1.0) (view_is s.promised t.promised e2.0)
+    (view_is s.accepted t.accepted e3.0) (role_is s.role t.role e4.0) (held_is s.held t.held e5.0)
+    (is_eq' s.base t.base e6.0) (is_eq' s.lb t.lb e7.0) (is_eq' s.ap t.ap e8.0)
+    (is_eq' s.cp t.cp e9.0)
+    (is_eq' s.top t.top e9.1)
+  where
+    fields : (s t : StateLine) → s.mode ≡ t.mode → s.promised ≡ t.promised
+        → s.accepted ≡ t.accepted
+        → s.role ≡ t.role → s.held ≡ t.held → s.base ≡ t.base → s.lb ≡ t.lb → s.ap ≡ t.ap
+        → s.cp ≡ t.cp
+        → s.top ≡ t.top → s ≡ t
+    fields s t m p a r h base lb ap' cp top = λ i. record {
+      mode = m i;
+      promised = p i;
+      accepted = a i;
+      role = r i;
+      held = h i;
+      base = base i;
+      lb = lb i;
+      ap = ap' i;
+      cp = cp i;
+      top = top i;
+    }
 
 -- ---- whose state line it is
 

@@ -17,7 +17,8 @@ use Rattle.group_rules.specs.State.{Group, Server}
 use Rattle.group_rules.specs.Step.{Ask, Comes, Does, Input, step_of}
 use Rattle.group_safety.specs.Laws.{DeliveryGrows}
 use Rattle.group_trace.specs.Lines.{answered_lines, entered_lines, listing_of, refused_lines, sent_lines, state_line, state_lines}
-use Rattle.group_trace.specs.Shown.{same_shown, shown_of, state_of}
+use Rattle.group_rules.specs.Shown.{state_of}
+use Rattle.group_trace.specs.Shown.{same_shown, shown_of}
 use Rattle.trace_laws.proofs.After.{moved_server}
 use Rattle.trace_laws.proofs.Asked.{with_event}
 use Rattle.trace_laws.proofs.Keeping.{turn_group, turn_lines, turn_whole}

@@ -22,16 +22,18 @@ use Rattle.file_tree.specs.Book.{Entry}
 use Rattle.group_rules.specs.Moves.{Move, Reading, Saying, Sending, moved}
 use Rattle.group_rules.specs.Names.{id_of}
 use Rattle.group_rules.specs.Places.{Place}
-use Rattle.group_rules.specs.State.{Answers, Group, Lists, Open, Refuses}
+use Rattle.group_rules.specs.State.{Answers, Group, Open}
 use Rattle.group_rules.specs.Step.{Ask, Does, Input}
 use Rattle.group_safety.specs.Words.{In}
-use Rattle.group_trace.specs.Lines.{answered_lines, entered_line, entered_lines, listing_of, refused_lines, sent_lines, state_line, state_lines}
-use Rattle.group_trace.specs.Shown.{same_shown, shown_of, state_of}
+use Rattle.group_rules.specs.Said.{refusals_said}
+use Rattle.group_trace.specs.Lines.{refused_line, answered_lines, entered_line, entered_lines, listing_of, refused_lines, sent_lines, state_line, state_lines, packet_lines}
+use Rattle.group_rules.specs.Shown.{state_of}
+use Rattle.group_trace.specs.Shown.{same_shown, shown_of}
 use Rattle.trace_laws.proofs.Amid.{goes_later}
 use Rattle.trace_laws.proofs.Answering.{Answering, AnswersUpdates, IsInBook, answered_in_book, answered_places, committed_listed, enters, given, in_back, kind_answers, milds_silent, reading, silent_answers, tails_enter, updating}
 use Rattle.trace_laws.proofs.Asked.{asked_now, asks_for, with_event}
 use Rattle.trace_laws.proofs.Keeping.{turn_asked, turn_group, turn_lines, turn_whole}
-use Rattle.trace_laws.proofs.LineParts.{AreSaid, AreStateless, IsSaid, entered_enter, entered_way, said_enter, stateless-entered, stateless_keep, way_said}
+use Rattle.trace_laws.proofs.LineParts.{made_each, AreSaid, AreStateless, IsSaid, entered_enter, entered_way, said_enter, stateless-entered, stateless_keep, way_said}
 use Rattle.trace_laws.proofs.Listings.{list_each}
 use Rattle.trace_laws.proofs.Standing.{AskedIn, Stands, asked_more, behind_book, behind_said, book_is, said-listing}
 use Rattle.trace_laws.proofs.MoveKinds.{AreTail, IsAsked, tails_mild}
@@ -221,15 +223,11 @@ entered_no n [] = tt
 entered_no n (e ∷ es) = (tt, entered_no (n + 1) es)
 
 refused_no : (q : Place) (ms : List (Move Entry)) → AllByRecursion IsNoAnswer (refused_lines q ms)
-refused_no q [] = tt
-refused_no q (Saying (Answers n e) ∷ ms) = refused_no q ms
-refused_no q (Saying (Refuses client number cause) ∷ ms) = (tt, refused_no q ms)
-refused_no q (Saying (Lists n) ∷ ms) = refused_no q ms
-refused_no q (m ∷ ms) = refused_no q ms
+refused_no q ms = made_each IsNoAnswer (refused_line q) (λ r. tt) (refusals_said ms)
 
 sent_no : (n : ℕ) (q : Place) (ms : List (Move Entry))
     → AllByRecursion IsNoAnswer (sent_lines n q ms)
-unfolding sent_lines
+unfolding packet_lines
 sent_no n q [] = tt
 sent_no n q (Sending to m ∷ ms) = (tt, sent_no (n + 1) q ms)
 sent_no n q (m ∷ ms) = sent_no n q ms
@@ -269,7 +267,7 @@ pub entered_none : (g : Group Entry) (q : Place) (ms : List (Move Entry))
 entered_none g q ms = entered_no (length g.book) _
 
 -- a law of answered lines alone, over all lines of a step
-answered_step : (P : Trace → Line → Type 0) → ((before : Trace) (l : Line) → IsNoAnswer l
+pub answered_step : (P : Trace → Line → Type 0) → ((before : Trace) (l : Line) → IsNoAnswer l
     → P before l)
     → (before : Trace) (s : Step) (g : Group Entry) (q : Place) (ms : List (Move Entry))
     → AtPlacesAfter P (up_to_answers before s g q ms) (answered_lines q ms)
@@ -410,7 +408,7 @@ law_step P before g s q i ms t law = answered_step P law.other_lines before s g 
         (law.of_read e after t o is u l tails, tt)
 
 -- an answer that was given in this step
-given_now : (g : Group Entry) (s : Step) (q : Place) (i : Input) (ms : List (Move Entry))
+pub given_now : (g : Group Entry) (s : Step) (q : Place) (i : Input) (ms : List (Move Entry))
     → Turned g s q i ms → AnswersUpdates (g.server q) i ms → (n : ℕ) (e : Entry)
     → In ms (Saying (Answers n e))
     → In (turn_group g q ms).answered (record {

@@ -5,6 +5,7 @@ mod line;
 mod pick;
 mod step;
 
-pub use line::{BookEntry, Cause, Line, LineFault, ShownMessage};
+pub use line::{BookEntry, Line, LineFault, ShownMessage};
 pub use pick::{Bits, Pick};
 pub use step::Step;
+pub use trace_lines::Cause;

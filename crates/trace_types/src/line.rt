@@ -5,6 +5,7 @@ ghost use Rattle.std.specs.Prelude.{◌≡◌, IfOk};
 use crate::step::Step;
 use harp_base::{Attr, Bounded, Call, Cred, Held, Reply, ServerId, StateLine, ViewNo};
 use std::alloc::{AllocError, Global};
+use trace_lines::Cause;
 
 /// A call that stands in the book, with its reply. A read has the index 0 and the stamp 0.
 #[derive(Debug, Drop)]
@@ -37,23 +38,6 @@ impl BookEntry {
             reply: self.reply.copy(alloc)?,
         })
     }
-}
-
-/// Why an ask is refused.
-#[derive(Clone, Copy, Debug, PartialEq, Eq)]
-pub enum Cause {
-    /// The client's number is above 4095.
-    BadClient,
-    /// The server doesn't lead its view; the hint is the server that does.
-    NotLeader { hint: Option<ServerId> },
-    /// The server leads a view that isn't open.
-    NotYetOpen,
-    /// The partner's promise has run out, so a read can't be answered.
-    NoPromise,
-    /// The log has no room.
-    LogFull,
-    /// The client has asked an update with a greater number.
-    Old,
 }
 
 /// What a trace shows of a message from one server to another.
