@@ -13,10 +13,10 @@ use Rattle.harp_cli.specs.Play.{Reading, last_of, reading, reading_of, trace_of,
 use Rattle.harp_cli.specs.Play.{trace_text, usage_text}
 
 -- the whole trace of what is read was written, and the world is that of all its steps
-pub record EndsWhole (all : Reading) (before after : Option (List ℕ)) (world : WorldValue) : Type 0
-  where
-    pub wrote : Appends before after (trace_text (trace_of_reading all))
-    pub left : IsLeftBy all.steps world
+pub record EndsWhole (all : Reading) (before after : Option (List ℕ)) (world : WorldValue)
+    : Type 0 where
+  pub wrote : Appends before after (trace_text (trace_of_reading all))
+  pub left : IsLeftBy all.steps world
 
 -- ---- a source that failed
 
@@ -47,8 +47,8 @@ BreaksOff before after whole others =
     (n : ℕ) × Appends before after (trace_text whole ++ take n (trace_text others))
 
 -- in the lines of a step that was taken: those of each step before it stand whole
-pub record BreaksInStep (all : Reading) (before after : Option (List ℕ)) (world : WorldValue) : Type
-    0 where
+pub record BreaksInStep (all : Reading) (before after : Option (List ℕ)) (world : WorldValue)
+    : Type 0 where
   pub done : List Step
   pub last : Step
   pub later : List Step
@@ -58,14 +58,14 @@ pub record BreaksInStep (all : Reading) (before after : Option (List ℕ)) (worl
   pub left : IsLeftBy (done ++ last ∷ []) world
 
 -- in the last line: those of all steps stand whole
-pub record BreaksInLast (all : Reading) (before after : Option (List ℕ)) (world : WorldValue) : Type
-    0 where
+pub record BreaksInLast (all : Reading) (before after : Option (List ℕ)) (world : WorldValue)
+    : Type 0 where
   pub wrote : BreaksOff before after (run_lines first_scene all.steps) (last_of all ∷ [])
   pub left : IsLeftBy all.steps world
 
 abbrev pub SinkFails : Reading → Option (List ℕ) → Option (List ℕ) → WorldValue → Type 0
-SinkFails all before after world = BreaksInStep all before after world ⊎ BreaksInLast all before
-    after world
+SinkFails all before after world =
+    BreaksInStep all before after world ⊎ BreaksInLast all before after world
 
 -- ---- the exits
 
@@ -79,12 +79,11 @@ PlayEnds text source before after world exit.Done =
     × EndsWhole (reading text) before after world
 PlayEnds text source before after world exit.RefusedLine =
     ((reading text).refused ≢ None) × EndsWhole (reading text) before after world
-PlayEnds text source before after world exit.SourceFailed = SourceFails text source before after
-    world
-PlayEnds text source before after world exit.SinkFailed = SinkFails (reading text) before after
-    world
-PlayEnds text source before after world exit.NoMemory = GrewByPart before after
-    (trace_text (trace_of text))
+PlayEnds text source before after world exit.SourceFailed =
+    SourceFails text source before after world
+PlayEnds text source before after world exit.SinkFailed = SinkFails (reading text) before after world
+PlayEnds text source before after world exit.NoMemory =
+    GrewByPart before after (trace_text (trace_of text))
 PlayEnds text source before after world exit.RefusedWords = ⊥
 
 -- the last line was written

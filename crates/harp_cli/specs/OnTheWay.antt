@@ -34,8 +34,8 @@ unless_refused number (Some fault) read = refused_at number fault
 
 -- an elementary step of the line with this number is still to be taken, and then the rest
 abbrev pub with_step : ℕ → Step → (Scene → Reading) → Scene → Reading
-with_step number s rest w = unless_refused number (refusal w.group s)
-    (then_read (s ∷ []) (rest (next w s)))
+with_step number s rest w =
+    unless_refused number (refusal w.group s) (then_read (s ∷ []) (rest (next w s)))
 
 -- what a line gave is still to be taken
 abbrev pub with_given : ℕ → Result (Option Step) LineFault → (Scene → Reading) → Scene → Reading
@@ -43,8 +43,8 @@ with_given number given rest w = read_on number (steps_given w given) (λ ss. re
 
 -- at most so many deliveries of a pump are still to come
 abbrev pub with_pump : ℕ → Option (ServerId × ServerId) → (Scene → Reading) → Scene → Reading
-with_pump most among rest w = then_read (deliveries most among w)
-    (rest (run w (deliveries most among w)))
+with_pump most among rest w =
+    then_read (deliveries most among w) (rest (run w (deliveries most among w)))
 
 -- ---- what a line leads to
 
@@ -53,23 +53,22 @@ abbrev pub TurnGives : Reading → (Scene → Reading) → Option (List ℕ) →
     → Turn → Type 0
 TurnGives all rest before after world turn.GoesOn = HasCome all rest before after world
 TurnGives all rest before after world turn.Ended = ⊥
-TurnGives all rest before after world turn.Refused = (all.refused ≢ None)
-    × EndsWhole all before after world
+TurnGives all rest before after world turn.Refused =
+    (all.refused ≢ None) × EndsWhole all before after world
 
 -- what stands after a stop that isn't the source's
 abbrev pub StopGives : Reading → Option (List ℕ) → Option (List ℕ) → WorldValue → Stop → Type 0
 StopGives all before after world stop.SourceFailed = ⊥
 StopGives all before after world stop.SinkFailed = SinkFails all before after world
-StopGives all before after world stop.NoMemory = GrewByPart before after
-    (trace_text (trace_of_reading all))
+StopGives all before after world stop.NoMemory =
+    GrewByPart before after (trace_text (trace_of_reading all))
 
 -- ---- the lines of a source
 
 -- the text is the bytes of some lines that were read and what is left; no line that was read is
 -- refused, and the play has taken their steps
 pub record GoesOn (text : List ℕ) (number : ℕ) (left before after : Option (List ℕ))
-    (world : WorldValue)
-    : Type 0 where
+    (world : WorldValue) : Type 0 where
   pub read : List (List ℕ)
   pub bytes : List ℕ
   pub rest : List ℕ
@@ -80,12 +79,11 @@ pub record GoesOn (text : List ℕ) (number : ℕ) (left before after : Option (
   pub come : HasCome (reading_of read) (λ w. all_read) before after world
 
 abbrev pub LineGives : List ℕ → ℕ → Option (List ℕ) → Option (List ℕ) → Option (List ℕ)
-    → Option (List ℕ)
-    → WorldValue → Turn → Type 0
-LineGives text number source left before after world turn.GoesOn = GoesOn text
-    (number + 1) left before after world
-LineGives text number source left before after world turn.Ended = PlayEnds text source before after
-    world exit.Done
+    → Option (List ℕ) → WorldValue → Turn → Type 0
+LineGives text number source left before after world turn.GoesOn =
+    GoesOn text (number + 1) left before after world
+LineGives text number source left before after world turn.Ended =
+    PlayEnds text source before after world exit.Done
 LineGives text number source left before after world turn.Refused =
     PlayEnds text source before after world exit.RefusedLine
 
