@@ -22,7 +22,7 @@ use Rattle.group_rules.specs.Step.{Ask, Comes, Does, Tick, step}
 use Rattle.group_rules.specs.Tick.{events, tick}
 use Rattle.replica.specs.Heeding.{heeds_ack, heeds_beat, heeds_event, is_partner}
 use Rattle.replica.specs.Servers.{IsLeading, following, leading}
-use Rattle.replica.specs.Steps.{LeaderHearsAck, LeaderIgnores, LeaderIsAsked, LeaderTicks, PartnerHearsBeat, PartnerHearsEvent, PartnerIgnores, PartnerIsAsked, PartnerTicks}
+use Rattle.replica.specs.Steps.{LeaderHearsAck, LeaderIgnores, LeaderIsAsked, LeaderTicks, PartnerHearsBeat, PartnerHearsEvent, PartnerIgnores, PartnerTicks}
 use Rattle.replica.proofs.Ticks.{tick_is}
 
 apart : true ≡ false → ⊥
@@ -249,17 +249,6 @@ unfolding all_of
 partner_ticks s is size clock list =
     let P : Server Entry → Type 0 = λ s. step size One clock list s (Does Tick) ≡ [] in
     subst P (sym is) refl
-
-pub partner_is_asked : PartnerIsAsked
-unfolding all_of
-partner_is_asked s client number cred call is size clock list =
-    let P : Server Entry → Type 0 =
-    λ s. step size One clock list s (Does (Ask client number cred call))
-    ≡ on_free_ask One clock list s client number cred call in
-    subst P (sym is) (elim (cases_Bool (nat_lt 4095 client)) [
-      | inl u ↦ elim (cases_Bool (is_update call)) [ inl w ↦ rw (u, w) refl | inr w ↦ rw (u, w) refl ]
-      | inr u ↦ elim (cases_Bool (is_update call)) [ inl w ↦ rw (u, w) refl | inr w ↦ rw (u, w) refl ]
-    ])
 
 partner_hears : (clock cp horizon v c base : ℕ) (items xs : List Entry) (from : Place) (misfit heeded : Bool)
     → let s = following items cp horizon in

@@ -39,10 +39,6 @@ LeaderHearsAck = (s : Server Entry) (from : Place) (v t lb until : ℕ) → IsLe
 abbrev pub PartnerTicks : Type 0
 PartnerTicks = (s : Server Entry) → IsFollowing s → IsStep One s (λ clock list. []) Tick
 
-abbrev pub PartnerIsAsked : Type 0
-PartnerIsAsked = (s : Server Entry) (client number : ℕ) (cred : Cred) (call : Call) → IsFollowing s
-    → IsStep One s (λ clock list. on_free_ask One clock list s client number cred call) (Ask client number cred call)
-
 abbrev pub PartnerHearsEvent : Type 0
 PartnerHearsEvent = (s : Server Entry) (from : Place) (v index cp base : ℕ) (e : Entry) → IsFollowing s
     → IsStepOf One s (λ clock. if heeds_event One s from v index cp base e

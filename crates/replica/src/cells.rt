@@ -13,9 +13,19 @@ ghost use Rattle.cell_changes.specs.Short.{AreShort};
 use dedup::{Seen, seen};
 use event_record::Moment;
 use harp_base::{Call, Cred, Reply};
-use harp_cells::{Change, MemCells};
+use harp_cells::{CellFault, Change, MemCells};
 use nfs_calls::{Prepared, answer, prepare};
 use std::alloc::{AllocError, Global};
+
+/// The fault of cells in memory, which fail by want of memory alone.
+fn want_of_memory(fault: CellFault) -> AllocError
+    requires { fault ≡ CellFault.StoreFailed → ⊥ }
+{
+    match fault {
+        CellFault::NoMemory => AllocError,
+        CellFault::StoreFailed => unreachable!(),
+    }
+}
 
 /// The reply to a read, which changes no cell.
 pub(crate) fn reply_to_read(
@@ -33,7 +43,7 @@ pub(crate) fn reply_to_read(
         None => Err(AllocError),
         Some(cells) => match answer(alloc, cells, cred, call) {
             Ok(reply) => Ok(reply),
-            Err(_) => Err(AllocError),
+            Err(fault) => Err(want_of_memory(fault)),
         },
     }
 }
@@ -54,7 +64,7 @@ pub(crate) fn seen_among(
         None => Err(AllocError),
         Some(cells) => match seen(alloc, cells, client, number, cp) {
             Ok(seen) => Ok(seen),
-            Err(_) => Err(AllocError),
+            Err(fault) => Err(want_of_memory(fault)),
         },
     }
 }
@@ -78,7 +88,7 @@ pub(crate) fn plan(
         None => Err(AllocError),
         Some(cells) => match prepare(alloc, cells, cred, call, stamp) {
             Ok(prepared) => Ok(prepared),
-            Err(_) => Err(AllocError),
+            Err(fault) => Err(want_of_memory(fault)),
         },
     }
 }

@@ -1,11 +1,10 @@
 //! The partner of an open view.
 
-ghost use Rattle.std.specs.Prelude.{◌≡◌, ℕ, ◌+◌, ◌<◌, ◌≤◌, ◌^◌, ◌∷◌, [], length, IfOk, OnOk, IsTrue};
+ghost use Rattle.std.specs.Prelude.{◌≡◌, ℕ, ◌+◌, ◌<◌, ◌≤◌, ◌^◌, [], length, IfOk, OnOk, IsTrue};
 ghost use Rattle.event_record.specs.Record.{entry_of};
 ghost use Rattle.file_tree.specs.Book.{Entry};
 ghost use Rattle.group_rules.specs.Effects.{taken};
 ghost use Rattle.group_rules.specs.FixedStart.{starting, view_one};
-ghost use Rattle.group_rules.specs.FreeReads.{on_free_ask};
 ghost use Rattle.group_rules.specs.Limits.{room};
 ghost use Rattle.group_rules.specs.Names.{number_of_view, place_of};
 ghost use Rattle.group_rules.specs.Misfits.{room_tests};
@@ -16,14 +15,13 @@ ghost use Rattle.replica.specs.Said.{Makes};
 ghost use Rattle.replica.specs.Servers.{IsFollowing};
 ghost use Rattle.group_rules.specs.Shown.{state_of};
 
-use crate::outputs::{Asker, Outputs};
+use crate::outputs::Outputs;
 use crate::records::ROOM;
 use crate::view::{is_view_one, view_one};
 use event_record::{Moment, Record};
-use harp_base::{Call, Cred, Held, Mode, Peer, Role, ServerId, StateLine, ViewNo};
+use harp_base::{Held, Mode, Role, ServerId, StateLine, ViewNo};
 use std::alloc::{AllocError, Global};
 use std::marker::Model;
-use trace_lines::Cause;
 use volatile_log::ActiveLog;
 use wire::Message;
 
@@ -80,40 +78,6 @@ impl Partner {
             cp: self.log.cp(),
             top: self.log.top(),
         }
-    }
-
-    /// Refuses a client's call: its client's number is above 4095, or else this server doesn't lead its view.
-    #[tactic(auto, unfolding(group_rules::specs::Places::all_of))]
-    pub fn ask(
-        &self,
-        peer: Peer,
-        client: u32,
-        number: u64,
-        cred: Cred,
-        call: &Call,
-        outs: &mut Outputs,
-    ) -> Result<(), AllocError>
-        ensures makes { OnOk result ((clock : ℕ) → Makes One clock
-            (on_free_ask One clock self.now.items self.now client number cred call.now) (peer ∷ [])
-            self.now self.now outs.old outs.new) }
-        ensures follows { IsFollowing self.now }
-    {
-        // The contract speaks of the whole server, so its model is opened here.
-        let _ = &self.log;
-        let asker = Asker {
-            peer,
-            client,
-            number,
-            cred,
-        };
-        let hint = Some(ServerId::Zero);
-        let cause = if client > 4095 {
-            Cause::BadClient
-        } else {
-            Cause::NotLeader { hint }
-        };
-        outs.refuse(asker, cause)?;
-        Ok(())
     }
 
     /// Whether a Beat is heeded: it comes from the leader, in view 1.0, and its base isn't above LB.

@@ -30,8 +30,7 @@ updates_made = record { first = λ n x xs. refl; none = λ n. refl }
 abbrev pub makes_update_lines : Makes BookEntry Line
 makes_update_lines = record {
   all = λ n xs. entered_lines n (map entered xs);
-  one = λ n x.
-      entered_line (n + 1) (entered x) ∷ [];
+  one = λ n x. entered_line (n + 1) (entered x) ∷ [];
   next = λ n x. n + 1;
 }
 
@@ -48,8 +47,7 @@ reads_made = record { first = λ n x xs. refl; none = λ n. refl }
 abbrev pub makes_read_lines : Makes Answered Line
 makes_read_lines = record {
   all = λ n xs. entered_lines n (reads_in xs);
-  one = λ n x. entered_lines
-      n (read_in x);
+  one = λ n x. entered_lines n (read_in x);
   next = λ n x. n + length (read_in x);
 }
 
@@ -64,15 +62,13 @@ pub read_lines_made : IsMade makes_read_lines
 unfolding entered_lines
 read_lines_made = record {
   first = λ n x xs. entered-append n (read_in x) (reads_in xs);
-  none = λ n.
-      refl;
+  none = λ n. refl;
 }
 
 abbrev pub makes_answer_lines : ServerId → Makes Answered Line
 makes_answer_lines s = record {
   all = λ n xs. answered_lines s xs;
-  one = λ n x. answered_line s x ∷
-      [];
+  one = λ n x. answered_line s x ∷ [];
   next = λ n x. n;
 }
 
@@ -82,8 +78,7 @@ answer_lines_made s = record { first = λ n x xs. refl; none = λ n. refl }
 abbrev pub makes_refusal_lines : ServerId → Makes Refused Line
 makes_refusal_lines s = record {
   all = λ n xs. refused_lines s xs;
-  one = λ n x. refused_line s x ∷
-      [];
+  one = λ n x. refused_line s x ∷ [];
   next = λ n x. n;
 }
 
@@ -94,8 +89,7 @@ abbrev pub makes_packets : ServerId → Makes Sent Packet
 makes_packets s = record {
   all = λ n xs. posted s xs;
   one = λ n x. posted_one s x ∷ [];
-  next =
-      λ n x. n;
+  next = λ n x. n;
 }
 
 pub packets_made : (s : ServerId) → IsMade (makes_packets s)

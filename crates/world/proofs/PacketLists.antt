@@ -1,5 +1,5 @@
 -- Packets that come to others.
-use Rattle.std.proofs.Common.{◌≡◌, ℕ, zero, suc, ◌+◌, ◌<◌, ◌&&◌, ◌||◌, ◌==◌, Bool, true, false, not}
+use Rattle.std.proofs.Common.{◌≡◌, ℕ, zero, suc, ◌+◌, ◌<◌, ◌≤◌, ◌&&◌, ◌||◌, ◌==◌, Bool, true, false, not}
 use Rattle.std.proofs.Common.{List, [], ◌∷◌, ◌++◌, append_assoc, append-nil, length, map, slice_get}
 use Rattle.std.proofs.Common.{slice_index_or, slice_set, Option, Some, refl, sym, ap, ◌∙◌, subst}
 use Rattle.std.proofs.Common.{arith, inl, inr}
@@ -31,6 +31,17 @@ pub got : (ps : List Packet) (n : ℕ) (x : Packet) → n < length ps → x ≡ 
 got [] n x h is = absurd (omega (arith, h))
 got (y ∷ ps) zero x h is = ap (λ x. Some (packet_of x)) (sym is)
 got (y ∷ ps) (suc n) x h is = got ps n x (omega (arith, h)) is
+
+-- a packet waits
+pub waits_at : (ps : List Packet) (n : ℕ) (x : Packet) → n < length ps → x ≡ slice_index_or ps n x
+    → was_delivered x ≡ false → slice_index_or (map was_delivered ps) n false ≡ false
+waits_at ps n x h is waits = mapped ps n x h is ∙ waits
+
+-- no packet stands past all
+pub none_past : (bs : List Bool) (n : ℕ) → length bs ≤ n → slice_index_or bs n false ≡ false
+none_past [] n past = refl
+none_past (b ∷ bs) zero past = absurd (omega (arith, past))
+none_past (b ∷ bs) (suc n) past = none_past bs n (omega (arith, past))
 
 -- one more is settled
 pub settled_next : (ps : List Packet) (n : ℕ) (x : Packet) → n < length ps

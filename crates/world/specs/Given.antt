@@ -22,8 +22,7 @@ read_in a = elim a.asked [
     client = a.client;
     number = a.number;
     cred = asked.cred;
-    call =
-        asked.call;
+    call = asked.call;
     stamp = 0;
     reply = a.reply;
   } ∷ []

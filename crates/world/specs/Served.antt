@@ -53,8 +53,8 @@ refuse_moves client number hint =
 
 -- the moves of an ask, and those of a tick; only the leader has something due
 abbrev pub ask_moves : Place → ℕ → Server Entry → ℕ → ℕ → Cred → Call → List (Move Entry)
-ask_moves Zero clock s client number cred call = on_free_ask Zero clock s.items s client number cred
-    call
+ask_moves Zero clock s client number cred call =
+    on_free_ask Zero clock s.items s client number cred call
 ask_moves One clock s client number cred call = refuse_moves client number (Some Zero)
 ask_moves Two clock s client number cred call = refuse_moves client number None
 
@@ -69,8 +69,8 @@ abbrev pub message_moves : Place → ℕ → Server Entry → Place → Message 
 message_moves Zero clock s from (Ack v t lb until) =
     if heeds_ack Zero s from v t lb until then on_ack s v t lb until else []
 message_moves One clock s from (Event v index cp base e) =
-    if heeds_event One s from v index cp base e then on_event One clock s from v cp base
-    (taken s index e) else []
+    if heeds_event One s from v index cp base e
+    then on_event One clock s from v cp base (taken s index e) else []
 message_moves One clock s from (Beat v cp base) =
     if heeds_beat One s from v cp base then on_event One clock s from v cp base s.items else []
 message_moves q clock s from m = []
@@ -136,8 +136,7 @@ lines_served w q ms =
 
 -- a server's moves were made for a step
 pub record Serves (old new : WorldValue) (s : Step) (q : Place) (ms : List (Move Entry))
-    (delivered : List Bool)
-    (lines : List Line) : Type 0 where
+    (delivered : List Bool) (lines : List Line) : Type 0 where
   pub world : new ≡ served old q ms delivered
   pub lines_are : lines ≡ line.Event s ∷ lines_served old q ms
 
@@ -151,8 +150,7 @@ given w server outs = record w {
 
 -- the outputs of a server's step were put into the world, and these are the step's lines
 pub record Gives (old new : WorldValue) (s : Step) (server : ServerId) (before : StateLine)
-    (outs : Outputs)
-    (lines : List Line) : Type 0 where
+    (outs : Outputs) (lines : List Line) : Type 0 where
   pub world : new ≡ given old server outs
   pub lines_are : lines ≡ line.Event s
       ∷ (entered_lines (length old.book) (map entered outs.committed.items
@@ -168,8 +166,8 @@ abbrev pub refusal_in : WorldValue → Step → Option Refusal
 refusal_in w (step.Deliver n) = if nat_lt n (length w.packets) then None else Some refusals.NoPacket
 refusal_in w (step.Clock server reading) =
     if nat_lt reading (get w.clocks (place_of server)) then Some refusals.ClockBack
-    else (if near reading (λ q. get (with_at w.clocks (place_of server) reading) q) then None else
-    Some refusals.ClockApart)
+    else (if near reading (λ q. get (with_at w.clocks (place_of server) reading) q) then None
+    else Some refusals.ClockApart)
 refusal_in w s = None
 
 -- ---- a step

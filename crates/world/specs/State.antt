@@ -56,8 +56,7 @@ clocks_after clocks (step.Advance millis) =
     record {
       zero_th = clocks.zero_th + millis;
       one_th = clocks.one_th + millis;
-      two_th =
-          clocks.two_th + millis;
+      two_th = clocks.two_th + millis;
     }
 clocks_after clocks s = clocks
 

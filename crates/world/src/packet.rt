@@ -1,6 +1,6 @@
 //! Packets on their way.
 
-ghost use Rattle.std.specs.Prelude.{◌≡◌, ◌&&◌, map, not};
+ghost use Rattle.std.specs.Prelude.{◌≡◌, ◌&&◌, false, map, not, slice_index_or};
 ghost use Rattle.group_rules.specs.Names.{place_of};
 ghost use Rattle.group_rules.specs.Places.{same};
 ghost use Rattle.group_run.specs.Run.{is_among};
@@ -22,7 +22,8 @@ pub struct Packet {
 /// The least number from `settled` on of a packet that was never delivered, or how many there are.
 pub fn settled_after(packets: &[Packet], settled: usize) -> usize
     requires { AreSettled settled (map was_delivered packets.now) }
-    ensures { AreSettled result (map was_delivered packets.now) }
+    ensures settled { AreSettled result (map was_delivered packets.now) }
+    ensures least { slice_index_or (map was_delivered packets.now) result false ≡ false }
 {
     for n in settled..packets.len() {
         if !packets[n].delivered {

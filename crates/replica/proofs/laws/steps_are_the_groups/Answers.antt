@@ -1,4 +1,4 @@
-use Rattle.replica.proofs.MachineSteps.{leader_hears_ack, leader_ignores, leader_is_asked, leader_ticks, partner_hears_beat, partner_hears_event, partner_ignores, partner_is_asked, partner_ticks}
+use Rattle.replica.proofs.MachineSteps.{leader_hears_ack, leader_ignores, leader_is_asked, leader_ticks, partner_hears_beat, partner_hears_event, partner_ignores, partner_ticks}
 use Rattle.replica.proofs.laws.steps_are_the_groups.Goals as goal
 
 pub returns : goal.returns
@@ -7,7 +7,6 @@ returns c = record {
   leader_is_asked = leader_is_asked;
   leader_hears_ack = leader_hears_ack;
   partner_ticks = partner_ticks;
-  partner_is_asked = partner_is_asked;
   partner_hears_event = partner_hears_event;
   partner_hears_beat = partner_hears_beat;
   leader_ignores = leader_ignores;

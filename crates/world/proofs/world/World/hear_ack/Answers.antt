@@ -22,8 +22,7 @@ returns-then-not-heeds_ack c =
     (rw (sym (c.heeds_ack.ensures.tests a.until) ∙ c.if-not-heeds_ack.true)
     (nothing_made w Zero c.new.result (record {
       committed = fresh.committed;
-      answers =
-          fresh.answers;
+      answers = fresh.answers;
       refusals = fresh.refusals;
       sends = fresh.sends;
     })))

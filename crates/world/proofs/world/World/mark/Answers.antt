@@ -28,8 +28,7 @@ returns c =
     let qs = slice_set ps n (done_with x) in
     subst (λ (v : WorldValue). record w {
       packets = map packet_of qs;
-      delivered = map was_delivered
-          qs;
+      delivered = map was_delivered qs;
     } ≡ record v { delivered = slice_set v.delivered n true }) c.self.view_is
     (ap (λ ys. record w { packets = ys; delivered = map was_delivered qs })
     (marked_packets ps n x within c.index_mut.ensures.value)
