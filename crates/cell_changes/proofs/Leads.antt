@@ -1,4 +1,5 @@
--- The changes of each update lead to the tree of its outcome, and those of the tree leave other cells.
+-- The changes of each update lead to the tree of its outcome, and those of the tree leave other
+-- cells.
 use Rattle.std.proofs.Common.{◌≡◌, ℕ, Bool, true, false, List, [], ◌∷◌, ◌++◌, Option, Some, None, Ok, Err, refl, sym, ap, ◌∙◌}
 use Rattle.std.specs.Bool.{if◌then◌else◌}
 use Rattle.std.specs.Prelude.{fold}
@@ -34,41 +35,51 @@ use Rattle.cell_changes.proofs.Renames.{rename_leads}
 
 -- ---- the tree of the outcome
 
--- where the changes of a call that isn't refused lead to its tree, so do those of the call with the totals; a refused one leaves the tree
+-- where the changes of a call that isn't refused lead to its tree, so do those of the call with the
+-- totals; a refused one leaves the tree
 leads : (t : TreeCells) (c : Call) (stamp : ℕ) (r : Outcome)
     → ((reply : Reply) (new : Tree) → r ≡ Ok (reply, new)
     → AllStand (after (tree_changes t.cells t.tree new c) t.cells) new)
-    → StandForTree (after (changes_by t.cells t.tree c r ++ meta_put (settled t.tree r).1 stamp ∷ []) t.cells)
+    → StandForTree (after (changes_by t.cells t.tree c r ++ meta_put (settled t.tree r).1 stamp
+    ∷ []) t.cells)
     (settled t.tree r).1 stamp
-leads t c stamp (Ok x) h = with_totals (tree_changes t.cells t.tree x.1 c) t.cells x.1 stamp (h x.0 x.1 refl)
-leads t c stamp (Err status) h = with_totals [] t.cells t.tree stamp (each_stands t.cells t.tree t.stamp t.stand)
+leads t c stamp (Ok x) h =
+    with_totals (tree_changes t.cells t.tree x.1 c) t.cells x.1 stamp (h x.0 x.1 refl)
+leads t c stamp (Err status) h =
+    with_totals [] t.cells t.tree stamp (each_stands t.cells t.tree t.stamp t.stand)
 
 pub updates_lead : UpdatesLead
 updates_lead t cred (call.SetAttr handle attr) stamp is =
-    leads t (call.SetAttr handle attr) stamp (answered t.tree cred (call.SetAttr handle attr) (time_of stamp))
+    leads t (call.SetAttr handle attr) stamp
+    (answered t.tree cred (call.SetAttr handle attr) (time_of stamp))
     (set_attr_leads t cred handle attr (time_of stamp))
 updates_lead t cred (call.Write handle offset bytes) stamp is =
-    leads t (call.Write handle offset bytes) stamp (answered t.tree cred (call.Write handle offset bytes) (time_of stamp))
+    leads t (call.Write handle offset bytes) stamp
+    (answered t.tree cred (call.Write handle offset bytes) (time_of stamp))
     (write_leads t cred handle offset bytes (time_of stamp))
 updates_lead t cred (call.Create dir name attr) stamp is =
-    leads t (call.Create dir name attr) stamp (answered t.tree cred (call.Create dir name attr) (time_of stamp))
+    leads t (call.Create dir name attr) stamp
+    (answered t.tree cred (call.Create dir name attr) (time_of stamp))
     (create_leads t cred dir name attr (time_of stamp))
 updates_lead t cred (call.Remove dir name) stamp is =
-    leads t (call.Remove dir name) stamp (answered t.tree cred (call.Remove dir name) (time_of stamp))
+    leads t (call.Remove dir name) stamp
+    (answered t.tree cred (call.Remove dir name) (time_of stamp))
     (remove_leads t cred dir name (time_of stamp))
 updates_lead t cred (call.Rename dir name to_dir to_name) stamp is =
     leads t (call.Rename dir name to_dir to_name) stamp
     (answered t.tree cred (call.Rename dir name to_dir to_name) (time_of stamp))
     (rename_leads t cred dir name to_dir to_name (time_of stamp))
 updates_lead t cred (call.Link handle dir name) stamp is =
-    leads t (call.Link handle dir name) stamp (answered t.tree cred (call.Link handle dir name) (time_of stamp))
+    leads t (call.Link handle dir name) stamp
+    (answered t.tree cred (call.Link handle dir name) (time_of stamp))
     (link_leads t cred handle dir name (time_of stamp))
 updates_lead t cred (call.SymLink dir name text attr) stamp is =
     leads t (call.SymLink dir name text attr) stamp
     (answered t.tree cred (call.SymLink dir name text attr) (time_of stamp))
     (make_link_leads t cred dir name text attr (time_of stamp))
 updates_lead t cred (call.MkDir dir name attr) stamp is =
-    leads t (call.MkDir dir name attr) stamp (answered t.tree cred (call.MkDir dir name attr) (time_of stamp))
+    leads t (call.MkDir dir name attr) stamp
+    (answered t.tree cred (call.MkDir dir name attr) (time_of stamp))
     (make_dir_leads t cred dir name attr (time_of stamp))
 updates_lead t cred (call.RmDir dir name) stamp is =
     leads t (call.RmDir dir name) stamp (answered t.tree cred (call.RmDir dir name) (time_of stamp))
@@ -88,7 +99,8 @@ other_cell d c of other =
     false_from_ne_true (is_cell d c)
     (λ e. both_ways (is_of_tree c) other (ap is_of_tree (sym (is_cell_true d c e)) ∙ of))
 
-no_block : (object first : ℕ) (c : Cell) → is_of_tree c ≡ false → is_block_from object first c ≡ false
+no_block : (object first : ℕ) (c : Cell) → is_of_tree c ≡ false
+    → is_block_from object first c ≡ false
 unfolding is_block_from
 no_block object first cell.Meta other = refl
 no_block object first (cell.Object o) other = refl
@@ -97,16 +109,20 @@ no_block object first (cell.Slot o s) other = refl
 no_block object first (cell.Client n) other = refl
 no_block object first (cell.Saved p) other = refl
 
-one_stays : (x : Change) (c : Cell) (held : Option Value) → changes_tree x ≡ true → is_of_tree c ≡ false
+one_stays : (x : Change) (c : Cell) (held : Option Value) → changes_tree x ≡ true
+    → is_of_tree c ≡ false
     → changed c held x ≡ held
-one_stays (change.Put d v) c held of other = ap (λ (t : Bool). if◌then◌else◌ {A = Option Value} t (Some v) held)
+one_stays (change.Put d v) c held of other =
+    ap (λ (t : Bool). if◌then◌else◌ {A = Option Value} t (Some v) held)
     (other_cell d c of other)
-one_stays (change.Erase d) c held of other = ap (λ (t : Bool). if◌then◌else◌ {A = Option Value} t None held)
+one_stays (change.Erase d) c held of other =
+    ap (λ (t : Bool). if◌then◌else◌ {A = Option Value} t None held)
     (other_cell d c of other)
 one_stays (change.EraseFrom object first) c held of other =
     ap (λ (t : Bool). if◌then◌else◌ {A = Option Value} t None held) (no_block object first c other)
 
-all_stay : (changes : List Change) (c : Cell) (held : Option Value) → list_all changes_tree changes ≡ true
+all_stay : (changes : List Change) (c : Cell) (held : Option Value)
+    → list_all changes_tree changes ≡ true
     → is_of_tree c ≡ false
     → fold (changed c) held changes ≡ held
 all_stay [] c held of other = refl

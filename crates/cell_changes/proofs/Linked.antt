@@ -37,7 +37,8 @@ use Rattle.cell_changes.proofs.Touched.{among_first, among_later, blocks_stay, t
 abbrev link_cells : ℕ → ℕ → ℕ → List Cell
 link_cells dir i handle = cell.Slot dir i ∷ cell.Object dir ∷ cell.Object handle ∷ []
 
-no_block : (dir i handle number block : ℕ) → is_among (link_cells dir i handle) (cell.Block number block) ≡ false
+no_block : (dir i handle number block : ℕ)
+    → is_among (link_cells dir i handle) (cell.Block number block) ≡ false
 unfolding is_cell
 no_block dir i handle number block = refl
 
@@ -79,7 +80,8 @@ apart tree handle dir new m e =
 
 linking_reslots : (tree : Tree) (handle dir : ℕ) (new : Tree)
     → (m : IsLinking tree handle dir new)
-    → Reslots tree (between tree handle dir m.slots m.name m.now) dir m.slots (entered m.slots m.name handle)
+    → Reslots tree (between tree handle dir m.slots m.name m.now) dir m.slots
+    (entered m.slots m.name handle)
 linking_reslots tree handle dir new m = reslots_reslotted tree dir m.of.object m.slots
     (entered m.slots m.name handle) m.now m.of.at m.of.body
 
@@ -87,14 +89,16 @@ between_place : (tree : Tree) (handle dir : ℕ) (new : Tree)
     (m : IsLinking tree handle dir new)
     → place (between tree handle dir m.slots m.name m.now) handle ≡ Some m.object
 between_place tree handle dir new m =
-    other_place tree (between tree handle dir m.slots m.name m.now) dir m.slots (entered m.slots m.name handle)
+    other_place tree (between tree handle dir m.slots m.name m.now) dir m.slots
+    (entered m.slots m.name handle)
     (linking_reslots tree handle dir new m) handle
     (apart tree handle dir new m)
     ∙ m.lives
 
 set_again : (tree : Tree) (handle dir : ℕ) (new : Tree)
     (m : IsLinking tree handle dir new)
-    → new ≡ set (between tree handle dir m.slots m.name m.now) handle (Some (set_ctime m.now m.object))
+    → new ≡ set (between tree handle dir m.slots m.name m.now) handle
+    (Some (set_ctime m.now m.object))
 set_again tree handle dir new m =
     m.becomes
     ∙ change_is (between tree handle dir m.slots m.name m.now) handle (set_ctime m.now) m.object
@@ -116,16 +120,20 @@ linked_dir t handle dir new m =
     let becomes = r.body_after in
     let content : content_of (place new dir) ≡ content_of (place t.tree dir) =
     ap content_of here ∙ ap (λ (b : Body). content_of (Some (record m.object { body = b }))) becomes
-    ∙ sym (ap content_of m.of.at ∙ ap (λ (b : Body). content_of (Some (record m.object { body = b }))) m.of.body) in
+    ∙ sym (ap content_of m.of.at ∙ ap
+    (λ (b : Body). content_of (Some (record m.object { body = b }))) m.of.body) in
     let kind : is_regular_at (place new dir) ≡ is_regular_at (place t.tree dir) =
-    ap is_regular_at here ∙ ap (λ (b : Body). is_regular_at (Some (record m.object { body = b }))) becomes
+    ap is_regular_at here ∙ ap (λ (b : Body). is_regular_at
+    (Some (record m.object { body = b }))) becomes
     ∙ sym (ap is_regular_at m.of.at
     ∙ ap (λ (b : Body). is_regular_at (Some (record m.object { body = b }))) m.of.body) in
-    let old_slots : slots_of (place t.tree dir) ≡ m.slots = ap slots_of m.of.at ∙ ap slots_within m.of.body in
+    let old_slots : slots_of (place t.tree dir) ≡ m.slots = ap slots_of m.of.at
+    ∙ ap slots_within m.of.body in
     let new_slots : slots_of (place new dir) ≡ entered m.slots m.name handle = ap slots_of here
     ∙ ap slots_within becomes in
     touched t.cells new (link_cells dir (free_slot t.tree dir) handle) dir
-    (among_later (cell.Slot dir (free_slot t.tree dir)) (cell.Object dir) (cell.Object dir ∷ cell.Object handle ∷ [])
+    (among_later (cell.Slot dir (free_slot t.tree dir)) (cell.Object dir)
+    (cell.Object dir ∷ cell.Object handle ∷ [])
     (among_first (cell.Object dir) (cell.Object handle ∷ [])))
     (λ block. no_block dir (free_slot t.tree dir) handle dir block)
     (blocks_stay t.cells t.tree new dir content kind stand)
@@ -140,17 +148,21 @@ linked_dir t handle dir new m =
 -- the file or the link
 linked_object : (t : TreeCells) (handle dir : ℕ) (new : Tree)
     → IsLinking t.tree handle dir new
-    → StandsAt (after (set_by new (link_cells dir (free_slot t.tree dir) handle)) t.cells) new handle
+    → StandsAt (after (set_by new (link_cells dir (free_slot t.tree dir) handle)) t.cells) new
+    handle
 linked_object t handle dir new m =
     let stand = each_stands t.cells t.tree t.stamp t.stand handle in
     let mid = between t.tree handle dir m.slots m.name m.now in
     let set = link_cells dir (free_slot t.tree dir) handle in
     let here : place new handle ≡ Some (set_ctime m.now m.object) =
     ap (λ (x : Tree). place x handle) (set_again t.tree handle dir new m)
-    ∙ place_set mid handle m.object (set_ctime m.now m.object) (between_place t.tree handle dir new m) in
-    let content : content_of (place new handle) ≡ content_of (place t.tree handle) = ap content_of here
+    ∙ place_set mid handle m.object (set_ctime m.now m.object)
+    (between_place t.tree handle dir new m) in
+    let content : content_of (place new handle) ≡ content_of (place t.tree handle) =
+    ap content_of here
     ∙ sym (ap content_of m.lives) in
-    let kind : is_regular_at (place new handle) ≡ is_regular_at (place t.tree handle) = ap is_regular_at here
+    let kind : is_regular_at (place new handle) ≡ is_regular_at (place t.tree handle) =
+    ap is_regular_at here
     ∙ sym (ap is_regular_at m.lives) in
     let same : slots_of (place new handle) ≡ slots_of (place t.tree handle) = ap slots_of here
     ∙ sym (ap slots_of m.lives) in
@@ -167,7 +179,8 @@ linked_object t handle dir new m =
 -- every other number
 linked_other : (t : TreeCells) (handle dir : ℕ) (new : Tree) (number : ℕ)
     → IsLinking t.tree handle dir new → (number ≡ dir → ⊥) → (number ≡ handle → ⊥)
-    → StandsAt (after (set_by new (link_cells dir (free_slot t.tree dir) handle)) t.cells) new number
+    → StandsAt (after (set_by new (link_cells dir (free_slot t.tree dir) handle)) t.cells) new
+    number
 linked_other t handle dir new number m not_dir not_handle =
     let mid = between t.tree handle dir m.slots m.name m.now in
     let s : Slot = record { name = m.name; number = handle } in
@@ -189,10 +202,14 @@ linked : (t : TreeCells) (handle dir : ℕ) (new : Tree)
     → IsLinking t.tree handle dir new
     → AllStand (after (set_by new (link_cells dir (free_slot t.tree dir) handle)) t.cells) new
 linked t handle dir new m number = elim (cases_eq number dir) [
-  | inl e ↦ subst (StandsAt (after (set_by new (link_cells dir (free_slot t.tree dir) handle)) t.cells) new) (sym e)
+  | inl e ↦
+      subst (StandsAt (after (set_by new (link_cells dir (free_slot t.tree dir) handle)) t.cells)
+      new) (sym e)
       (linked_dir t handle dir new m)
   | inr not_dir ↦ elim (cases_eq number handle) [
-    | inl e ↦ subst (StandsAt (after (set_by new (link_cells dir (free_slot t.tree dir) handle)) t.cells) new) (sym e)
+    | inl e ↦
+        subst (StandsAt (after (set_by new (link_cells dir (free_slot t.tree dir) handle)) t.cells)
+        new) (sym e)
         (linked_object t handle dir new m)
     | inr not_handle ↦ linked_other t handle dir new number m not_dir not_handle
   ]
@@ -200,7 +217,8 @@ linked t handle dir new m number = elim (cases_eq number dir) [
 
 -- what a link leads to
 abbrev LinkLeads : TreeCells → ℕ → ℕ → Reply × Tree → Type 0
-LinkLeads t handle dir x = AllStand (after (set_by x.1 (link_cells dir (free_slot t.tree dir) handle)) t.cells) x.1
+LinkLeads t handle dir x =
+    AllStand (after (set_by x.1 (link_cells dir (free_slot t.tree dir) handle)) t.cells) x.1
 
 added : (tree : Tree) (dir : ℕ) (slots : Slots) (s : Slot) (now : Time) (new : Tree)
     → add_entry tree dir slots s now ≡ Ok new
@@ -211,9 +229,11 @@ added tree dir slots s now new e =
     (λ (x : Tree). x ≡ change tree dir (reslotted now (with_entry slots s))) new
     (step (room tree dir (264 * length (with_entry slots s))) _
     (λ (x : Tree). x ≡ change tree dir (reslotted now (with_entry slots s)))
-    (λ u enough. done _ (λ (x : Tree). x ≡ change tree dir (reslotted now (with_entry slots s))) refl)) e
+    (λ u enough. done _ (λ (x : Tree). x
+    ≡ change tree dir (reslotted now (with_entry slots s))) refl)) e
 
-pub link_leads : (t : TreeCells) (cred : Cred) (handle dir : ℕ) (name : List ℕ) (now : Time) (reply : Reply) (new : Tree)
+pub link_leads : (t : TreeCells) (cred : Cred) (handle dir : ℕ) (name : List ℕ) (now : Time)
+    (reply : Reply) (new : Tree)
     → link t.tree cred handle dir name now ≡ Ok (reply, new)
     → AllStand (after (tree_changes t.cells t.tree new (call.Link handle dir name)) t.cells) new
 unfolding link tree_changes
@@ -224,7 +244,8 @@ link_leads t cred handle dir name now reply new e =
     unless Perm (is_directory o.body) _ (LinkLeads t handle dir) (λ file.
     step (free_name slots name) _ (LinkLeads t handle dir) (λ u f.
     step (allowed t.tree cred dir writing) _ (LinkLeads t handle dir) (λ v may.
-    step (add_entry t.tree dir slots (record { name = name; number = handle }) now) _ (LinkLeads t handle dir)
+    step (add_entry t.tree dir slots (record { name = name; number = handle }) now) _
+    (LinkLeads t handle dir)
     (λ mid g.
     done _ (LinkLeads t handle dir)
     (linked t handle dir (change mid handle (set_ctime now)) (record {

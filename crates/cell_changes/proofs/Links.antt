@@ -27,7 +27,8 @@ named_here s slots =
     let it : share s.number (Some s) ≡ 1 = rw (eq-eqb s.number s.number refl) refl in
     omega (arith, it, sum_by-cons (share s.number) (Some s) slots)
 
-named_behind : (k : ℕ) (s : Option Slot) (slots : Slots) → 1 ≤ names_in k slots → 1 ≤ names_in k (s ∷ slots)
+named_behind : (k : ℕ) (s : Option Slot) (slots : Slots) → 1 ≤ names_in k slots
+    → 1 ≤ names_in k (s ∷ slots)
 named_behind k s slots h = omega (arith, h, sum_by-cons (share k) s slots)
 
 pub same_subdirectories : (old new : Tree) (slots : Slots) → NameSameKinds old new slots
@@ -35,9 +36,15 @@ pub same_subdirectories : (old new : Tree) (slots : Slots) → NameSameKinds old
 same_subdirectories old new [] kinds = refl
 same_subdirectories old new (None ∷ slots) kinds =
     let rest = same_subdirectories old new slots (λ k h. kinds k (named_behind k None slots h)) in
-    omega (arith, rest, sum_by-cons (directory_share new) None slots, sum_by-cons (directory_share old) None slots)
+    omega (
+      arith,
+      rest,
+      sum_by-cons (directory_share new) None slots,
+      sum_by-cons (directory_share old) None slots,
+    )
 same_subdirectories old new (Some s ∷ slots) kinds =
-    let rest = same_subdirectories old new slots (λ k h. kinds k (named_behind k (Some s) slots h)) in
+    let rest =
+    same_subdirectories old new slots (λ k h. kinds k (named_behind k (Some s) slots h)) in
     let here : directory_share new (Some s) ≡ directory_share old (Some s) =
     ap (λ (b : Bool). cond b 1 0) (kinds s.number (named_here s slots)) in
     let now = sum_by-cons (directory_share new) (Some s) slots in
@@ -51,33 +58,24 @@ unfolding links_of
 links_kept old new dir slots kinds = ap (λ (n : ℕ). 2 + n) (same_subdirectories old new slots kinds)
 
 -- one more where a new entry names a directory
-pub links_entered : (old new : Tree) (dir : ℕ) (slots : Slots) (s : Slot) → NameSameKinds old new slots
+pub links_entered : (old new : Tree) (dir : ℕ) (slots : Slots) (s : Slot)
+    → NameSameKinds old new slots
     → links_of new dir (body.Directory (with_entry slots s))
     ≡ links_of old dir (body.Directory slots) + directory_share new (Some s)
 unfolding links_of
 links_entered old new dir slots s kinds =
-    omega (arith, sum_by-with_entry (directory_share new) slots s refl, same_subdirectories old new slots kinds)
-
--- a slot that gets another entry, or none: one less where it named a directory, and one more where it does now
-pub links_replaced : (old new : Tree) (dir : ℕ) (slots : Slots) (i : ℕ) (s : Option Slot) → i < length slots
-    → NameSameKinds old new slots
-    → links_of new dir (body.Directory (set slots i s)) + directory_share new (get_or slots i None)
-    ≡ links_of old dir (body.Directory slots) + directory_share new s
-unfolding links_of
-links_replaced old new dir slots i s lt kinds =
-    omega (arith, sum_by-set (directory_share new) slots i s None lt, same_subdirectories old new slots kinds)
-
-pub links_cleared : (old new : Tree) (dir : ℕ) (slots : Slots) (i : ℕ) → i < length slots
-    → NameSameKinds old new slots
-    → links_of new dir (body.Directory (set slots i None)) + directory_share new (get_or slots i None)
-    ≡ links_of old dir (body.Directory slots)
-links_cleared old new dir slots i lt kinds = omega (arith, links_replaced old new dir slots i None lt kinds)
+    omega (
+      arith,
+      sum_by-with_entry (directory_share new) slots s refl,
+      same_subdirectories old new slots kinds,
+    )
 
 -- ---- entries and parents
 
 -- as many slots of each directory name a number in both trees
 abbrev pub IsNamedAlike : Tree → Tree → ℕ → Type 0
-IsNamedAlike old new number = (dir : ℕ) → names_at number (place new dir) ≡ names_at number (place old dir)
+IsNamedAlike old new number = (dir : ℕ)
+    → names_at number (place new dir) ≡ names_at number (place old dir)
 
 same_sum : (f : Option Object → ℕ) (xs ys : Tree) → f None ≡ 0
     → ((i : ℕ) → f (get_or xs i None) ≡ f (get_or ys i None)) → sum_by f xs ≡ sum_by f ys
@@ -87,7 +85,13 @@ same_sum f [] (y ∷ ys) none same =
 same_sum f (x ∷ xs) [] none same =
     omega (arith, none, same 0, same_sum f xs [] none (λ i. same (suc i)), sum_by-cons f x xs)
 same_sum f (x ∷ xs) (y ∷ ys) none same =
-    omega (arith, same 0, same_sum f xs ys none (λ i. same (suc i)), sum_by-cons f x xs, sum_by-cons f y ys)
+    omega (
+      arith,
+      same 0,
+      same_sum f xs ys none (λ i. same (suc i)),
+      sum_by-cons f x xs,
+      sum_by-cons f y ys,
+    )
 
 pub names_alike : (old new : Tree) (number : ℕ) → IsNamedAlike old new number
     → names_of new number ≡ names_of old number
@@ -110,7 +114,8 @@ same_holder i (x ∷ xs) (y ∷ ys) number found same =
     rw z (same_holder (i + 1) xs ys number _ (λ j. same (suc j)))
 
 -- a number that is named alike, and is of the same kind, has the same parent
-pub parent_kept : (old new : Tree) (number : ℕ) → IsSameKind old new number → IsNamedAlike old new number
+pub parent_kept : (old new : Tree) (number : ℕ) → IsSameKind old new number
+    → IsNamedAlike old new number
     → parent_of new number ≡ parent_of old number
 unfolding parent_of
 parent_kept old new number kind same =

@@ -31,12 +31,15 @@ use Rattle.cell_changes.proofs.Touched.{among_first, among_later, among_others, 
 
 -- ---- which cells are set
 
-slot_no_block : (dir i number block : ℕ) → is_among (cell.Slot dir i ∷ []) (cell.Block number block) ≡ false
+slot_no_block : (dir i number block : ℕ)
+    → is_among (cell.Slot dir i ∷ []) (cell.Block number block) ≡ false
 unfolding is_cell
 slot_no_block dir i number block = refl
 
-slot_not_of : (number dir i : ℕ) → (number ≡ dir → ⊥) → list_any (is_cell_of number) (cell.Slot dir i ∷ []) ≡ false
-slot_not_of number dir i other = or_from (dir == number) false (ne_eqb dir number (λ e. other (sym e))) refl
+slot_not_of : (number dir i : ℕ) → (number ≡ dir → ⊥)
+    → list_any (is_cell_of number) (cell.Slot dir i ∷ []) ≡ false
+slot_not_of number dir i other =
+    or_from (dir == number) false (ne_eqb dir number (λ e. other (sym e))) refl
 
 objects_no_block : (a b number block : ℕ) → is_among (cell.Object a ∷ cell.Object b ∷ [])
     (cell.Block number block) ≡ false
@@ -60,7 +63,8 @@ pub record IsMaking (tree : Tree) (dir : ℕ) (o : Object) (new : Tree) : Type 0
   pub at : place tree dir ≡ Some directory
   pub body : directory.body ≡ body.Directory slots
   pub bare : slots_within o.body ≡ []
-  pub becomes : new ≡ with_object tree dir (with_entry slots (record { name = name; number = length tree })) o now
+  pub becomes : new ≡ with_object tree dir
+      (with_entry slots (record { name = name; number = length tree })) o now
 
 -- the tree with the object alone
 abbrev pushed : Tree → Object → Tree
@@ -75,7 +79,8 @@ making_reslots : (tree : Tree) (dir : ℕ) (o : Object) (new : Tree)
     → Reslots (pushed tree o) new dir m.slots (entered tree m.slots m.name)
 making_reslots tree dir o new m =
     let at = place_push tree (Some o) dir (place_within tree dir m.directory m.at) ∙ m.at in
-    rw m.becomes (reslots_reslotted (pushed tree o) dir m.directory m.slots (entered tree m.slots m.name) m.now at m.body)
+    rw m.becomes (reslots_reslotted (pushed tree o) dir m.directory m.slots
+    (entered tree m.slots m.name) m.now at m.body)
 
 new_is_other : (tree : Tree) (dir : ℕ) (o : Object) (new : Tree)
     → IsMaking tree dir o new
@@ -116,9 +121,11 @@ with_text t dir new text = after (text_put (length t.tree) text) (with_slot t di
 -- no block of a new object is there before its text
 none_yet : (t : TreeCells) (dir : ℕ) (new : Tree) → EndsAt (with_slot t dir new) (length t.tree) 0
 none_yet t dir new block past =
-    set_leaves new (cell.Slot dir (free_slot t.tree dir) ∷ []) t.cells (cell.Block (length t.tree) block)
+    set_leaves new (cell.Slot dir (free_slot t.tree dir) ∷ []) t.cells
+    (cell.Block (length t.tree) block)
     (slot_no_block dir (free_slot t.tree dir) (length t.tree) block)
-    ∙ t.stand.ends (length t.tree) block (rw (get_or_past t.tree (length t.tree) None (omega arith)) (omega arith))
+    ∙ t.stand.ends (length t.tree) block
+    (rw (get_or_past t.tree (length t.tree) None (omega arith)) (omega arith))
 
 -- nor a slot
 no_slots : (t : TreeCells) → HoldsSlots t.cells (length t.tree) []
@@ -134,11 +141,13 @@ TextStands number text new = (cells : Cells) → EndsAt cells number 0
 
 -- ---- each number
 
-entry_others : (t : TreeCells) (dir : ℕ) (new : Tree) (text : List ℕ) (number : ℕ) (c : Cell) → (number ≡ dir → ⊥)
+entry_others : (t : TreeCells) (dir : ℕ) (new : Tree) (text : List ℕ) (number : ℕ) (c : Cell)
+    → (number ≡ dir → ⊥)
     → (number ≡ length t.tree → ⊥)
     → is_cell_of number c ≡ true → with_text t dir new text c ≡ t.cells c
 entry_others t dir new text number c not_dir not_new of =
-    text_apart (with_slot t dir new) (length t.tree) text c (other_blocks number (length t.tree) c not_new of)
+    text_apart (with_slot t dir new) (length t.tree) text c
+    (other_blocks number (length t.tree) c not_new of)
     ∙ set_leaves new (cell.Slot dir (free_slot t.tree dir) ∷ []) t.cells c
     (among_others (cell.Slot dir (free_slot t.tree dir) ∷ []) number c
     (slot_not_of number dir (free_slot t.tree dir) not_dir) of)
@@ -154,7 +163,8 @@ made_dir t dir o new text m =
     let r = making_reslots t.tree dir o new m in
     let here = own_place (pushed t.tree o) new dir m.slots (entered t.tree m.slots m.name) r in
     let becomes = r.body_after in
-    let same_block : (block : ℕ) → with_text t dir new text (cell.Block dir block) ≡ t.cells (cell.Block dir block) =
+    let same_block : (block : ℕ) → with_text t dir new text (cell.Block dir block)
+    ≡ t.cells (cell.Block dir block) =
     λ (block : ℕ).
     text_apart (with_slot t dir new) (length t.tree) text (cell.Block dir block)
     (ne_eqb dir (length t.tree) (λ e. new_is_other t.tree dir o new m (sym e)))
@@ -162,11 +172,14 @@ made_dir t dir o new text m =
     (slot_no_block dir (free_slot t.tree dir) dir block) in
     let content : content_of (place new dir) ≡ content_of (place t.tree dir) =
     ap content_of here ∙ ap (λ (b : Body). content_of (Some (record o { body = b }))) becomes
-    ∙ sym (ap content_of m.at ∙ ap (λ (b : Body). content_of (Some (record o { body = b }))) m.body) in
+    ∙ sym (ap content_of m.at ∙ ap (λ (b : Body). content_of
+    (Some (record o { body = b }))) m.body) in
     let kind : is_regular_at (place new dir) ≡ is_regular_at (place t.tree dir) =
     ap is_regular_at here ∙ ap (λ (b : Body). is_regular_at (Some (record o { body = b }))) becomes
-    ∙ sym (ap is_regular_at m.at ∙ ap (λ (b : Body). is_regular_at (Some (record o { body = b }))) m.body) in
-    let old_slots : slots_of (place t.tree dir) ≡ m.slots = ap slots_of m.at ∙ ap slots_within m.body in
+    ∙ sym (ap is_regular_at m.at ∙ ap
+    (λ (b : Body). is_regular_at (Some (record o { body = b }))) m.body) in
+    let old_slots : slots_of (place t.tree dir) ≡ m.slots = ap slots_of m.at
+    ∙ ap slots_within m.body in
     let new_slots : slots_of (place new dir) ≡ entered t.tree m.slots m.name = ap slots_of here
     ∙ ap slots_within becomes in
     let entry : HoldsSlots (with_slot t dir new) dir (slots_of (place new dir)) =
@@ -181,9 +194,11 @@ made_dir t dir o new text m =
     (λ block. objects_no_block dir (length t.tree) dir block)
     (blocks_by t.cells (with_text t dir new text) new dir same_block
     (blocks_stay t.cells t.tree new dir content kind stand))
-    (slots_set (with_text t dir new text) new (cell.Object dir ∷ cell.Object (length t.tree) ∷ []) dir
+    (slots_set (with_text t dir new text) new
+    (cell.Object dir ∷ cell.Object (length t.tree) ∷ []) dir
     (slots_of (place new dir))
-    (λ slot. text_apart (with_slot t dir new) (length t.tree) text (cell.Slot dir slot) refl ∙ entry slot)
+    (λ slot. text_apart (with_slot t dir new) (length t.tree) text (cell.Slot dir slot) refl
+    ∙ entry slot)
     (λ slot other. refl))
 
 -- the new object
@@ -195,15 +210,20 @@ made_new : (t : TreeCells) (dir : ℕ) (o : Object) (new : Tree)
 made_new t dir o new text m stands =
     let no_slot : slots_of (place new (length t.tree)) ≡ [] =
     ap slots_of (new_place t.tree dir o new m) ∙ m.bare in
-    touched (with_text t dir new text) new (cell.Object dir ∷ cell.Object (length t.tree) ∷ []) (length t.tree)
+    touched (with_text t dir new text) new (cell.Object dir ∷ cell.Object (length t.tree) ∷ [])
+    (length t.tree)
     (among_later (cell.Object dir) (cell.Object (length t.tree)) (cell.Object (length t.tree) ∷ [])
     (among_first (cell.Object (length t.tree)) []))
     (λ block. objects_no_block dir (length t.tree) (length t.tree) block)
     (stands (with_slot t dir new) (none_yet t dir new))
-    (slots_set (with_text t dir new text) new (cell.Object dir ∷ cell.Object (length t.tree) ∷ []) (length t.tree) []
-    (λ slot. text_apart (with_slot t dir new) (length t.tree) text (cell.Slot (length t.tree) slot) refl
-    ∙ set_leaves new (cell.Slot dir (free_slot t.tree dir) ∷ []) t.cells (cell.Slot (length t.tree) slot)
-    (among_others (cell.Slot dir (free_slot t.tree dir) ∷ []) (length t.tree) (cell.Slot (length t.tree) slot)
+    (slots_set (with_text t dir new text) new (cell.Object dir ∷ cell.Object (length t.tree) ∷ [])
+    (length t.tree) []
+    (λ slot. text_apart (with_slot t dir new) (length t.tree) text
+    (cell.Slot (length t.tree) slot) refl
+    ∙ set_leaves new (cell.Slot dir (free_slot t.tree dir) ∷ []) t.cells
+    (cell.Slot (length t.tree) slot)
+    (among_others (cell.Slot dir (free_slot t.tree dir) ∷ []) (length t.tree)
+    (cell.Slot (length t.tree) slot)
     (slot_not_of (length t.tree) dir (free_slot t.tree dir) (new_is_other t.tree dir o new m))
     (eq-eqb (length t.tree) (length t.tree) refl))
     ∙ no_slots t slot)
@@ -216,7 +236,8 @@ made_other : (t : TreeCells) (dir : ℕ) (o : Object) (new : Tree)
     → StandsAt (after (set_by new (cell.Object dir ∷ cell.Object (length t.tree) ∷ []))
     (with_text t dir new text)) new number
 made_other t dir o new text number m not_dir not_new =
-    untouched (with_text t dir new text) new (cell.Object dir ∷ cell.Object (length t.tree) ∷ []) number
+    untouched (with_text t dir new text) new
+    (cell.Object dir ∷ cell.Object (length t.tree) ∷ []) number
     (objects_not_of number dir (length t.tree) not_dir not_new)
     (stands_by t.cells (with_text t dir new text) new number
     (λ c of. entry_others t dir new text number c not_dir not_new of)
@@ -232,14 +253,17 @@ makes_lead t dir o new text m stands number =
     in_a_row (set_by new (cell.Slot dir (free_slot t.tree dir) ∷ []))
     (text_put (length t.tree) text ++ set_by new
     (cell.Object dir ∷ cell.Object (length t.tree) ∷ [])) t.cells new number
-    (in_a_row (text_put (length t.tree) text) (set_by new (cell.Object dir ∷ cell.Object (length t.tree) ∷ []))
+    (in_a_row (text_put (length t.tree) text)
+    (set_by new (cell.Object dir ∷ cell.Object (length t.tree) ∷ []))
     (with_slot t dir new) new number
     (elim (cases_eq number dir) [
-      | inl e ↦ subst (StandsAt (after (set_by new (cell.Object dir ∷ cell.Object (length t.tree) ∷ []))
+      | inl e ↦
+          subst (StandsAt (after (set_by new (cell.Object dir ∷ cell.Object (length t.tree) ∷ []))
           (with_text t dir new text)) new) (sym e)
           (made_dir t dir o new text m)
       | inr not_dir ↦ elim (cases_eq number (length t.tree)) [
-        | inl e ↦ subst (StandsAt (after (set_by new (cell.Object dir ∷ cell.Object (length t.tree) ∷ []))
+        | inl e ↦
+            subst (StandsAt (after (set_by new (cell.Object dir ∷ cell.Object (length t.tree) ∷ []))
             (with_text t dir new text)) new) (sym e)
             (made_new t dir o new text m stands)
         | inr not_new ↦ made_other t dir o new text number m not_dir not_new

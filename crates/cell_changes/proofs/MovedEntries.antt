@@ -21,7 +21,8 @@ use Rattle.cell_changes.specs.Stands.{IsUnmoved}
 
 -- ---- what changes
 
--- two slots, which may be one, the object that an entry moves to the second one, and the object that loses an entry
+-- two slots, which may be one, the object that an entry moves to the second one, and the object
+-- that loses an entry
 pub record Move : Type 0 where
   pub dir : ℕ
   pub slot : ℕ
@@ -90,7 +91,8 @@ keeps_then m a b c x y = record {
 
 -- ---- other slots of a directory
 
-alike_directories : (o p : Object) (slots after : Slots) → o.body ≡ body.Directory slots → p.body ≡ body.Directory after
+alike_directories : (o p : Object) (slots after : Slots) → o.body ≡ body.Directory slots
+    → p.body ≡ body.Directory after
     → AreAlike (Some o) (Some p)
 alike_directories o p slots after was is = record {
   content = rw (was, is) refl;
@@ -98,7 +100,8 @@ alike_directories o p slots after was is = record {
   directory = rw (was, is) refl;
 }
 
-alike_reslots : (old new : Tree) (dir : ℕ) (slots after : Slots) → Reslots old new dir slots after → (n : ℕ)
+alike_reslots : (old new : Tree) (dir : ℕ) (slots after : Slots) → Reslots old new dir slots after
+    → (n : ℕ)
     → AreAlike (place old n) (place new n)
 alike_reslots old new dir slots after r n = elim (cases_eq n dir) [
   | inl e ↦
@@ -106,12 +109,14 @@ alike_reslots old new dir slots after r n = elim (cases_eq n dir) [
       let there : AreAlike (place old dir) (Some r.becomes) =
       subst (λ (p : Option Object). AreAlike p (Some r.becomes)) (sym r.at) here in
       let both : AreAlike (place old dir) (place new dir) =
-      subst (λ (q : Option Object). AreAlike (place old dir) q) (sym (own_place old new dir slots after r)) there in
+      subst (λ (q : Option Object). AreAlike (place old dir) q)
+      (sym (own_place old new dir slots after r)) there in
       subst (λ (k : ℕ). AreAlike (place old k) (place new k)) (sym e) both
   | inr ne ↦ alike_itself (place old n) (place new n) (other_place old new dir slots after r n ne)
 ]
 
-own_slots : (x : Option Object) (o : Object) (slots : Slots) → x ≡ Some o → o.body ≡ body.Directory slots
+own_slots : (x : Option Object) (o : Object) (slots : Slots) → x ≡ Some o
+    → o.body ≡ body.Directory slots
     → slots_of x ≡ slots
 own_slots x o slots at is = ap slots_of at ∙ ap slots_within is
 
@@ -121,32 +126,41 @@ pub record IsSlotOf (m : Move) (dir : ℕ) (slots after : Slots) : Type 0 where
   pub others : (slot : ℕ) → IsOtherSlot m dir slot → get_or after slot None ≡ get_or slots slot None
   pub names : (k : ℕ) → (k ≡ m.moved → ⊥) → (k ≡ m.target → ⊥) → names_in k after ≡ names_in k slots
 
-alters_reslots : (m : Move) (old new : Tree) (dir : ℕ) (slots after : Slots) → Reslots old new dir slots after
+alters_reslots : (m : Move) (old new : Tree) (dir : ℕ) (slots after : Slots)
+    → Reslots old new dir slots after
     → IsSlotOf m dir slots after → Alters m old new
 alters_reslots m old new dir slots after r is = record {
   stays = λ number aside. other_place old new dir slots after r number (is.aside number aside);
   slot = λ n slot other. elim (cases_eq n dir) [
     | inl e ↦
-        let here : get_or (slots_of (place new dir)) slot None ≡ get_or (slots_of (place old dir)) slot None =
+        let here : get_or (slots_of (place new dir)) slot None
+        ≡ get_or (slots_of (place old dir)) slot None =
         ap (λ (ss : Slots). get_or ss slot None)
-        (own_slots (place new dir) r.becomes after (own_place old new dir slots after r) r.body_after)
+        (own_slots (place new dir) r.becomes after
+        (own_place old new dir slots after r) r.body_after)
         ∙ is.others slot (subst (λ (k : ℕ). IsOtherSlot m k slot) e other)
-        ∙ ap (λ (ss : Slots). get_or ss slot None) (sym (own_slots (place old dir) r.was slots r.at r.body)) in
+        ∙ ap (λ (ss : Slots). get_or ss slot None)
+        (sym (own_slots (place old dir) r.was slots r.at r.body)) in
         subst
-        (λ (k : ℕ). get_or (slots_of (place new k)) slot None ≡ get_or (slots_of (place old k)) slot None)
+        (λ (k : ℕ). get_or (slots_of (place new k)) slot None
+        ≡ get_or (slots_of (place old k)) slot None)
         (sym e) here
-    | inr ne ↦ ap (λ (p : Option Object). get_or (slots_of p) slot None) (other_place old new dir slots after r n ne)
+    | inr ne ↦
+        ap (λ (p : Option Object). get_or (slots_of p) slot None)
+        (other_place old new dir slots after r n ne)
   ];
   names = λ n k nm nt. elim (cases_eq n dir) [
     | inl e ↦
         let here : names_at k (place new dir) ≡ names_at k (place old dir) =
-        own_names_after old new dir slots after r k ∙ is.names k nm nt ∙ sym (own_names old new dir slots after r k) in
+        own_names_after old new dir slots after r k ∙ is.names k nm nt
+        ∙ sym (own_names old new dir slots after r k) in
         subst (λ (d : ℕ). names_at k (place new d) ≡ names_at k (place old d)) (sym e) here
     | inr ne ↦ ap (names_at k) (other_place old new dir slots after r n ne)
   ];
 }
 
-pub keeps_reslots : (m : Move) (old new : Tree) (dir : ℕ) (slots after : Slots) → Reslots old new dir slots after
+pub keeps_reslots : (m : Move) (old new : Tree) (dir : ℕ) (slots after : Slots)
+    → Reslots old new dir slots after
     → IsSlotOf m dir slots after → KeepsAlike m old new
 keeps_reslots m old new dir slots after r is = record {
   alters = alters_reslots m old new dir slots after r is;
@@ -162,7 +176,8 @@ entered_other slots s k ne =
 
 -- ---- the time of an object
 
-placed : (tree : Tree) (number : ℕ) (x : Option Object) → number < length tree → place (set tree number x) number ≡ x
+placed : (tree : Tree) (number : ℕ) (x : Option Object) → number < length tree
+    → place (set tree number x) number ≡ x
 placed tree number x lt = get_or-set_same tree number x None lt
 
 place_change : (tree : Tree) (number : ℕ) (f : Object → Object)
@@ -177,13 +192,15 @@ place_change tree number f = elim (cases_lt number (length tree)) [
 
 other_change : (tree : Tree) (number : ℕ) (f : Object → Object) (n : ℕ) → (n ≡ number → ⊥)
     → place (change tree number f) n ≡ place tree n
-other_change tree number f n ne = get_or-set_other tree number n (changed_at f (place tree number)) None ne
+other_change tree number f n ne =
+    get_or-set_other tree number n (changed_at f (place tree number)) None ne
 
 alike_timed : (p : Option Object) (now : Time) → AreAlike p (changed_at (set_ctime now) p)
 alike_timed None now = alike_itself None None refl
 alike_timed (Some o) now = record { content = refl; regular = refl; directory = refl }
 
-slots_timed : (p : Option Object) (now : Time) → slots_of (changed_at (set_ctime now) p) ≡ slots_of p
+slots_timed : (p : Option Object) (now : Time)
+    → slots_of (changed_at (set_ctime now) p) ≡ slots_of p
 slots_timed None now = refl
 slots_timed (Some o) now = refl
 
@@ -192,9 +209,11 @@ alike_ctime : (tree : Tree) (number : ℕ) (now : Time) (n : ℕ)
 alike_ctime tree number now n = elim (cases_eq n number) [
   | inl e ↦
       let here : AreAlike (place tree number) (place (change tree number (set_ctime now)) number) =
-      subst (λ (q : Option Object). AreAlike (place tree number) q) (sym (place_change tree number (set_ctime now)))
+      subst (λ (q : Option Object). AreAlike (place tree number) q)
+      (sym (place_change tree number (set_ctime now)))
       (alike_timed (place tree number) now) in
-      subst (λ (k : ℕ). AreAlike (place tree k) (place (change tree number (set_ctime now)) k)) (sym e) here
+      subst (λ (k : ℕ). AreAlike (place tree k) (place (change tree number (set_ctime now)) k))
+      (sym e) here
   | inr ne ↦ alike_itself _ _ (other_change tree number (set_ctime now) n ne)
 ]
 
@@ -202,8 +221,10 @@ slots_ctime : (tree : Tree) (number : ℕ) (now : Time) (n : ℕ)
     → slots_of (place (change tree number (set_ctime now)) n) ≡ slots_of (place tree n)
 slots_ctime tree number now n = elim (cases_eq n number) [
   | inl e ↦
-      let here = ap slots_of (place_change tree number (set_ctime now)) ∙ slots_timed (place tree number) now in
-      subst (λ (k : ℕ). slots_of (place (change tree number (set_ctime now)) k) ≡ slots_of (place tree k)) (sym e) here
+      let here = ap slots_of (place_change tree number (set_ctime now))
+      ∙ slots_timed (place tree number) now in
+      subst (λ (k : ℕ). slots_of (place (change tree number (set_ctime now)) k)
+      ≡ slots_of (place tree k)) (sym e) here
   | inr ne ↦ ap slots_of (other_change tree number (set_ctime now) n ne)
 ]
 
@@ -215,7 +236,8 @@ alters_ctime m tree number now aside = record {
   names = λ n k nm nt. ap (names_in k) (slots_ctime tree number now n);
 }
 
-keeps_ctime : (m : Move) (tree : Tree) (number : ℕ) (now : Time) → ((n : ℕ) → IsAside m n → n ≡ number → ⊥)
+keeps_ctime : (m : Move) (tree : Tree) (number : ℕ) (now : Time)
+    → ((n : ℕ) → IsAside m n → n ≡ number → ⊥)
     → KeepsAlike m tree (change tree number (set_ctime now))
 keeps_ctime m tree number now aside = record {
   alters = alters_ctime m tree number now aside;
@@ -231,24 +253,33 @@ bare_slot slots slot (Some s) e bare = elim (cases_lt slot (length slots)) [
   | inl lt ↦
       let named : share s.number (get_or slots slot None) ≡ 1 =
       ap (share s.number) e ∙ (rw (eq-eqb s.number s.number refl) refl) in
-      absurd (omega (arith, named, bare s.number, get_or-le-sum_by (share s.number) slots slot None lt))
+      absurd (omega (
+        arith,
+        named,
+        bare s.number,
+        get_or-le-sum_by (share s.number) slots slot None lt,
+      ))
   | inr le ↦ let none = get_or_past slots slot None le in absurd cc
 ]
 
 place_gone : (tree : Tree) (number : ℕ) → place (set tree number None) number ≡ None
 place_gone tree number = elim (cases_lt number (length tree)) [
   | inl lt ↦ placed tree number None lt
-  | inr le ↦ ap (λ (t : Tree). place t number) (set_past tree number None le) ∙ get_or_past tree number None le
+  | inr le ↦ ap (λ (t : Tree). place t number) (set_past tree number None le)
+      ∙ get_or_past tree number None le
 ]
 
-other_gone : (tree : Tree) (number n : ℕ) → (n ≡ number → ⊥) → place (set tree number None) n ≡ place tree n
+other_gone : (tree : Tree) (number n : ℕ) → (n ≡ number → ⊥)
+    → place (set tree number None) n ≡ place tree n
 other_gone tree number n ne = get_or-set_other tree number n None None ne
 
 slots_gone : (tree : Tree) (number n slot : ℕ) → IsBare tree number
-    → get_or (slots_of (place (set tree number None) n)) slot None ≡ get_or (slots_of (place tree n)) slot None
+    → get_or (slots_of (place (set tree number None) n)) slot None
+    ≡ get_or (slots_of (place tree n)) slot None
 slots_gone tree number n slot bare = elim (cases_eq n number) [
   | inl e ↦
-      let gone = ap (λ (p : Option Object). get_or (slots_of p) slot None) (place_gone tree number) in
+      let gone =
+      ap (λ (p : Option Object). get_or (slots_of p) slot None) (place_gone tree number) in
       let none = bare_slot (slots_of (place tree number)) slot _ refl bare in
       ap (λ (k : ℕ). get_or (slots_of (place (set tree number None) k)) slot None) e
       ∙ gone ∙ sym none ∙ ap (λ (k : ℕ). get_or (slots_of (place tree k)) slot None) (sym e)
@@ -266,7 +297,8 @@ names_gone tree number n k bare = elim (cases_eq n number) [
   | inr ne ↦ ap (names_at k) (other_gone tree number n ne)
 ]
 
-alters_gone : (m : Move) (tree : Tree) → IsBare tree m.target → Alters m tree (set tree m.target None)
+alters_gone : (m : Move) (tree : Tree) → IsBare tree m.target
+    → Alters m tree (set tree m.target None)
 alters_gone m tree bare = record {
   stays = λ n aside. other_gone tree m.target n aside.target;
   slot = λ n slot other. slots_gone tree m.target n slot bare;
@@ -278,7 +310,8 @@ alters_gone m tree bare = record {
 -- the target is gone, and no other directory had an entry of it
 pub record IsGone (m : Move) (old new : Tree) : Type 0 where
   pub none : place new m.target ≡ None
-  pub unnamed : (dir : ℕ) → (dir ≡ m.dir → ⊥) → (dir ≡ m.to_dir → ⊥) → names_at m.target (place old dir) ≡ 0
+  pub unnamed : (dir : ℕ) → (dir ≡ m.dir → ⊥) → (dir ≡ m.to_dir → ⊥)
+      → names_at m.target (place old dir) ≡ 0
 
 -- the tree after a move: each object keeps its kind and its content, and the target does or is gone
 pub record MovesTo (m : Move) (old new : Tree) : Type 0 where
@@ -295,7 +328,8 @@ unmoved m old new moves number aside = record {
   names = λ k some. elim (cases_eq k m.target) [
     | inl e ↦ elim moves.target [
       | inl alike ↦
-          subst (λ (n : ℕ). is_directory_at (place new n) ≡ is_directory_at (place old n)) (sym e) alike.directory
+          subst (λ (n : ℕ). is_directory_at (place new n) ≡ is_directory_at (place old n))
+          (sym e) alike.directory
       | inr gone ↦
           let none = gone.unnamed number aside.dir aside.to_dir in
           let one = ap (λ (n : ℕ). names_at n (place old number)) e in
@@ -306,19 +340,23 @@ unmoved m old new moves number aside = record {
 }
 
 pub moves_alike : (m : Move) (old new : Tree) → KeepsAlike m old new → MovesTo m old new
-moves_alike m old new is = record { alters = is.alters; alike = λ n ne. is.alike n; target = inl (is.alike m.target) }
+moves_alike m old new is =
+    record { alters = is.alters; alike = λ n ne. is.alike n; target = inl (is.alike m.target) }
 
 -- a tree before its target loses the entry
 pub record IsBefore (m : Move) (old before : Tree) : Type 0 where
   pub keeps : KeepsAlike m old before
-  pub others : (dir : ℕ) → (dir ≡ m.dir → ⊥) → (dir ≡ m.to_dir → ⊥) → place before dir ≡ place old dir
+  pub others : (dir : ℕ) → (dir ≡ m.dir → ⊥) → (dir ≡ m.to_dir → ⊥)
+      → place before dir ≡ place old dir
   pub bare : IsBare before m.target
 
 loses_last : (m : Move) (old before : Tree) → IsBefore m old before → names_of before m.target ≡ 0
     → MovesTo m old (set before m.target None)
 loses_last m old before is last = record {
-  alters = alters_then m old before (set before m.target None) is.keeps.alters (alters_gone m before is.bare);
-  alike = λ n ne. alike_then (place old n) (place before n) (place (set before m.target None) n) (is.keeps.alike n)
+  alters = alters_then m old before (set before m.target None) is.keeps.alters
+      (alters_gone m before is.bare);
+  alike = λ n ne. alike_then (place old n) (place before n) (place (set before m.target None) n)
+      (is.keeps.alike n)
       (alike_itself _ _ (other_gone before m.target n ne));
   target = inr (record {
     none = place_gone before m.target;
@@ -333,14 +371,16 @@ stays_alike : (m : Move) (old before : Tree) (now : Time) → IsBefore m old bef
 stays_alike m old before now is =
     let after = change before m.target (set_ctime now) in
     moves_alike m old after
-    (keeps_then m old before after is.keeps (keeps_ctime m before m.target now (λ n aside. aside.target)))
+    (keeps_then m old before after is.keeps
+    (keeps_ctime m before m.target now (λ n aside. aside.target)))
 
 -- the target loses an entry, and goes where it was the last
 pub moves_lost : (m : Move) (old before : Tree) (now : Time) → IsBefore m old before
     → MovesTo m old (lost_entry before m.target now)
 unfolding lost_entry
 moves_lost m old before now is =
-    cond_both (names_of before m.target == 0) (set before m.target None) (change before m.target (set_ctime now))
+    cond_both (names_of before m.target == 0) (set before m.target None)
+    (change before m.target (set_ctime now))
     (MovesTo m old)
     (λ e. loses_last m old before is (eqb-true (names_of before m.target) 0 e))
     (λ e. stays_alike m old before now is)
@@ -367,7 +407,8 @@ pub moves_timed : (m : Move) (old before : Tree) (now : Time) → MovesTo m old 
 moves_timed m old before now is =
     let after = change before m.moved (set_ctime now) in
     let timed = keeps_ctime m before m.moved now (λ n aside. aside.moved) in
-    let also : (n : ℕ) → AreAlike (place old n) (place before n) → AreAlike (place old n) (place after n) =
+    let also : (n : ℕ) → AreAlike (place old n) (place before n)
+    → AreAlike (place old n) (place after n) =
     λ (n : ℕ) (alike : AreAlike (place old n) (place before n)).
     alike_then (place old n) (place before n) (place after n) alike (timed.alike n) in
     record {

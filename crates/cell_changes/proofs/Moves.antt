@@ -47,9 +47,14 @@ enters_slot : (m : Move) (slots : Slots) (name : List ℕ) → m.to_slot ≡ fre
     → IsSlotOf m m.to_dir slots (with_entry slots (record { name = name; number = m.moved }))
 enters_slot m slots name first = record {
   aside = λ n a. a.to_dir;
-  others = λ s o. entered_other slots (record { name = name; number = m.moved }) s (λ e. o.to refl (e ∙ sym first));
+  others = λ s o. entered_other slots (record { name = name; number = m.moved }) s
+      (λ e. o.to refl (e ∙ sym first));
   names = λ k nm nt.
-      omega (arith, names_entered slots (record { name = name; number = m.moved }) k, one_other m.moved k nm);
+      omega (
+        arith,
+        names_entered slots (record { name = name; number = m.moved }) k,
+        one_other m.moved k nm,
+      );
 }
 
 -- the slots with the moved entry, and the tree with them
@@ -62,7 +67,8 @@ tree_with tree dir x to_dir to_slots to_name now =
     change (change tree dir (slot_changed now x.0 None)) to_dir
     (reslotted now (slots_with dir x to_dir to_slots to_name))
 
-pub entered : (tree : Tree) (dir to_dir : ℕ) (slots to_slots : Slots) (name to_name : List ℕ) (x : ℕ × ℕ) (now : Time)
+pub entered : (tree : Tree) (dir to_dir : ℕ) (slots to_slots : Slots) (name to_name : List ℕ)
+    (x : ℕ × ℕ) (now : Time)
     → IsDirectoryOf tree dir slots → IsDirectoryOf tree to_dir to_slots → IsFound slots name x
     → KeepsAlike (entering dir x to_dir (new_slot dir to_dir x.0 to_slots)) tree
     (change (tree_with tree dir x to_dir to_slots to_name now) x.1 (set_ctime now))
@@ -76,7 +82,8 @@ entered tree dir to_dir slots to_slots name to_name x now from to f =
     let r : Reslots tree cleared dir slots left =
     reslots_changed tree dir from.object slots x.0 None now from.at from.body in
     let between =
-    freed_at tree dir to_dir slots to_slots x.0 from.object to.object now from.at from.body to.at to.body in
+    freed_at tree dir to_dir slots to_slots x.0 from.object to.object now from.at from.body to.at
+    to.body in
     let s : Reslots cleared moved to_dir free full =
     reslots_reslotted cleared to_dir between.0 free full now between.1 between.2 in
     keeps_timed m tree moved now
@@ -91,8 +98,10 @@ abbrev pub replacing : ℕ → ℕ × ℕ → ℕ → ℕ × ℕ → Move
 replacing dir x to_dir y =
     record { dir = dir; slot = x.0; to_dir = to_dir; to_slot = y.0; moved = x.1; target = y.1 }
 
-replaces_slot : (m : Move) (slots : Slots) (name : List ℕ) → IsFound slots name (m.to_slot, m.target)
-    → IsSlotOf m m.to_dir slots (set slots m.to_slot (Some (record { name = name; number = m.moved })))
+replaces_slot : (m : Move) (slots : Slots) (name : List ℕ)
+    → IsFound slots name (m.to_slot, m.target)
+    → IsSlotOf m m.to_dir slots (set slots m.to_slot
+    (Some (record { name = name; number = m.moved })))
 replaces_slot m slots name f =
     let slot : Slot = record { name = name; number = m.moved } in
     record {
@@ -107,8 +116,10 @@ replaces_slot m slots name f =
       );
     }
 
-pub replaced : (tree : Tree) (dir to_dir : ℕ) (slots to_slots : Slots) (name to_name : List ℕ) (x y : ℕ × ℕ)
-    (now : Time) → IsDirectoryOf tree dir slots → IsDirectoryOf tree to_dir to_slots → IsFound slots name x
+pub replaced : (tree : Tree) (dir to_dir : ℕ) (slots to_slots : Slots) (name to_name : List ℕ)
+    (x y : ℕ × ℕ)
+    (now : Time) → IsDirectoryOf tree dir slots → IsDirectoryOf tree to_dir to_slots
+    → IsFound slots name x
     → IsFound to_slots to_name y → (y.1 ≡ x.1 → ⊥) → IsBare tree y.1
     → MovesTo (replacing dir x to_dir y) tree (moved_over tree dir x to_dir to_name y now)
 unfolding moved_over
@@ -120,7 +131,8 @@ replaced tree dir to_dir slots to_slots name to_name x y now from to f g ne bare
     let r : Reslots tree swapped to_dir to_slots over =
     reslots_changed tree to_dir to.object to_slots y.0 (Some slot) now to.at to.body in
     let still =
-    still_found tree dir to_dir from.object to.object slots to_slots name to_name x y slot now from.at from.body
+    still_found tree dir to_dir from.object to.object slots to_slots name to_name x y slot now
+    from.at from.body
     to.at to.body f g ne in
     let left = set still.1 x.0 None in
     let cleared = change swapped dir (slot_changed now x.0 None) in
@@ -128,10 +140,13 @@ replaced tree dir to_dir slots to_slots name to_name x y now from to f g ne bare
     reslots_changed swapped dir still.0 still.1 x.0 None now still.2 still.3 in
     let others : (n : ℕ) → (n ≡ dir → ⊥) → (n ≡ to_dir → ⊥) → place cleared n ≡ place tree n =
     λ (n : ℕ) (nd : n ≡ dir → ⊥) (nt : n ≡ to_dir → ⊥).
-    other_place swapped cleared dir still.1 left s n nd ∙ other_place tree swapped to_dir to_slots over r n nt in
+    other_place swapped cleared dir still.1 left s n nd
+    ∙ other_place tree swapped to_dir to_slots over r n nt in
     let held = found_held tree dir from.object slots name x from.at from.body f in
     let to_held = found_held tree to_dir to.object to_slots to_name y to.at to.body g in
-    let apart = others y.1 (bare_apart tree y.1 dir x.1 bare held) (bare_apart tree y.1 to_dir y.1 bare to_held) in
+    let apart =
+    others y.1 (bare_apart tree y.1 dir x.1 bare held)
+    (bare_apart tree y.1 to_dir y.1 bare to_held) in
     moves_timed m tree (lost_entry cleared y.1 now) now
     (moves_lost m tree cleared now (record {
       keeps = keeps_then m tree swapped cleared
@@ -145,7 +160,8 @@ replaced tree dir to_dir slots to_slots name to_name x y now from to f g ne bare
 
 -- those of the slots and of the directories
 abbrev pair_changes : Tree → ℕ → ℕ → ℕ → ℕ → List Change
-pair_changes new dir i to_dir j = set_by new (slot_pair dir i to_dir j) ++ set_by new (dir_pair dir to_dir)
+pair_changes new dir i to_dir j =
+    set_by new (slot_pair dir i to_dir j) ++ set_by new (dir_pair dir to_dir)
 
 by_pairs : (new : Tree) (dir i to_dir j : ℕ) → All (IsBy new) (pair_changes new dir i to_dir j)
 by_pairs new dir i to_dir j =
@@ -153,29 +169,40 @@ by_pairs new dir i to_dir j =
     (by_set new (slot_pair dir i to_dir j)) (by_set new (dir_pair dir to_dir))
 
 -- a cell that they leave, and that isn't one of the objects'
-left_by : (m : Move) (new : Tree) (c : Cell) → Spares c (pair_changes new m.dir m.slot m.to_dir m.to_slot)
+left_by : (m : Move) (new : Tree) (c : Cell)
+    → Spares c (pair_changes new m.dir m.slot m.to_dir m.to_slot)
     → (cell.Object m.moved ≡ c → ⊥) → (cell.Object m.target ≡ c → ⊥) → IsLeft m c
 left_by m new c spares moved target =
     let pair = set_by new (slot_pair m.dir m.slot m.to_dir m.to_slot) in
     let parts = spared_both c pair (set_by new (dir_pair m.dir m.to_dir)) spares in
     let slots = spared_slots new c m.dir m.slot m.to_dir m.to_slot parts.0 in
     let dirs = spared_dirs new c m.dir m.to_dir parts.1 in
-    record { slot = slots.0; to_slot = slots.1; dir = dirs.0; to_dir = dirs.1; moved = moved; target = target }
+    record {
+      slot = slots.0;
+      to_slot = slots.1;
+      dir = dirs.0;
+      to_dir = dirs.1;
+      moved = moved;
+      target = target;
+    }
 
 enters_cover : (new : Tree) (dir to_dir j : ℕ) (x : ℕ × ℕ)
-    → Covers (entering dir x to_dir j) new (pair_changes new dir x.0 to_dir j ++ set_by new (cell.Object x.1 ∷ []))
+    → Covers (entering dir x to_dir j) new
+    (pair_changes new dir x.0 to_dir j ++ set_by new (cell.Object x.1 ∷ []))
 enters_cover new dir to_dir j x =
     let pairs = pair_changes new dir x.0 to_dir j in
     let last = set_by new (cell.Object x.1 ∷ []) in
     record {
-      by = All-append (IsBy new) pairs last (by_pairs new dir x.0 to_dir j) (by_set new (cell.Object x.1 ∷ []));
+      by = All-append (IsBy new) pairs last (by_pairs new dir x.0 to_dir j)
+          (by_set new (cell.Object x.1 ∷ []));
       others = λ c spares.
           let parts = spared_both c pairs last spares in
           let moved = first_other new c (cell.Object x.1) [] parts.1 in
           left_by (entering dir x to_dir j) new c parts.0 moved moved;
     }
 
-pub enters_lead : (cells : Cells) (old new : Tree) (stamp dir to_dir : ℕ) (x : ℕ × ℕ) (to_slots : Slots)
+pub enters_lead : (cells : Cells) (old new : Tree) (stamp dir to_dir : ℕ) (x : ℕ × ℕ)
+    (to_slots : Slots)
     → StandForTree cells old stamp → slots_of (place old to_dir) ≡ to_slots
     → KeepsAlike (entering dir x to_dir (new_slot dir to_dir x.0 to_slots)) old new
     → AllStand (after (moves old new dir to_dir x None) cells) new
@@ -183,12 +210,15 @@ unfolding moves
 enters_lead cells old new stamp dir to_dir x to_slots stand are is =
     let j = new_slot dir to_dir x.0 (slots_of (place old to_dir)) in
     let keeps : KeepsAlike (entering dir x to_dir j) old new =
-    subst (λ (ss : Slots). KeepsAlike (entering dir x to_dir (new_slot dir to_dir x.0 ss)) old new) (sym are) is in
+    subst (λ (ss : Slots). KeepsAlike (entering dir x to_dir (new_slot dir to_dir x.0 ss)) old new)
+    (sym are) is in
     move_leads cells old new stamp (entering dir x to_dir j)
     (pair_changes new dir x.0 to_dir j ++ set_by new (cell.Object x.1 ∷ [])) stand
-    (moves_alike (entering dir x to_dir j) old new keeps) (enters_cover new dir to_dir j x) (inl (keeps.alike x.1))
+    (moves_alike (entering dir x to_dir j) old new keeps) (enters_cover new dir to_dir j x)
+    (inl (keeps.alike x.1))
 
-replaces_cover : (old new : Tree) (dir to_dir : ℕ) (x y : ℕ × ℕ) → Covers (replacing dir x to_dir y) new
+replaces_cover : (old new : Tree) (dir to_dir : ℕ) (x y : ℕ × ℕ)
+    → Covers (replacing dir x to_dir y) new
     (pair_changes new dir x.0 to_dir y.0 ++ loses old new y.1 ++ set_by new (cell.Object x.1 ∷ []))
 replaces_cover old new dir to_dir x y =
     let pairs = pair_changes new dir x.0 to_dir y.0 in
@@ -218,4 +248,5 @@ replaces_lead cells old new stamp dir to_dir x y stand ne is =
     (λ c spares. (spared_both c pairs lost (spared_both c (pairs ++ lost) last spares).0).1) in
     subst (λ (same : Bool). AllStand (after (if same then [] else pairs ++ lost ++ last) cells) new)
     (sym (ne_eqb y.1 x.1 ne))
-    (move_leads cells old new stamp m (pairs ++ lost ++ last) stand is (replaces_cover old new dir to_dir x y) ends)
+    (move_leads cells old new stamp m (pairs ++ lost ++ last) stand is
+    (replaces_cover old new dir to_dir x y) ends)

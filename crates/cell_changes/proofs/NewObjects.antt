@@ -41,17 +41,20 @@ no_text new number content cells ends =
     exact_stands cells new number [] content (λ block. ends block (omega arith)
     ∙ sym (past_end [] block (omega arith)))
 
-a_text : (new : Tree) (number : ℕ) (text : List ℕ) → content_of (place new number) ≡ text → length text ≤ 4096
+a_text : (new : Tree) (number : ℕ) (text : List ℕ) → content_of (place new number) ≡ text
+    → length text ≤ 4096
     → TextStands number text new
 a_text new number text content short cells ends =
     exact_stands (after (text_put number text) cells) new number text content
     (texts_lead cells number text ends short).0
 
-holes : (cells : Cells) (number count : ℕ) → EndsAt cells number 0 → HoldsBytes cells number (replicate count 0)
+holes : (cells : Cells) (number count : ℕ) → EndsAt cells number 0
+    → HoldsBytes cells number (replicate count 0)
 holes cells number count ends = record {
   blocks = λ block. subst IsBlock (sym (ends block (omega arith))) tt;
   byte = λ block at within.
-      ap (λ (v : Option Value). get_or (stored v) at 0) (ends block (omega arith)) ∙ get_or_past [] at 0 (omega arith)
+      ap (λ (v : Option Value). get_or (stored v) at 0) (ends block (omega arith))
+      ∙ get_or_past [] at 0 (omega arith)
       ∙ sym (zero_at count (4096 * block + at));
 }
 
@@ -69,7 +72,8 @@ zeros new number count o at is cells ends =
 abbrev MakesLead : TreeCells → ℕ → List ℕ → Reply × Tree → Type 0
 MakesLead t dir text x = AllStand (after (makes t.tree x.1 dir text) t.cells) x.1
 
-making : (t : TreeCells) (dir : ℕ) (slots full : Slots) (name : List ℕ) (size : ℕ) (o : Object) (now : Time)
+making : (t : TreeCells) (dir : ℕ) (slots full : Slots) (name : List ℕ) (size : ℕ) (o : Object)
+    (now : Time)
     → IsDirectoryOf t.tree dir slots
     → room_for t.tree dir slots name size ≡ Ok full → slots_within o.body ≡ []
     → IsMaking t.tree dir o (with_object t.tree dir full o now)
@@ -85,10 +89,12 @@ making t dir slots full name size o now d room bare = record {
       (room_for_is t.tree dir slots name size full room).slots_are;
 }
 
-new_dir : (t : TreeCells) (cred : Cred) (dir : ℕ) (slots full : Slots) (name : List ℕ) (a : SetAttr) (now : Time)
+new_dir : (t : TreeCells) (cred : Cred) (dir : ℕ) (slots full : Slots) (name : List ℕ) (a : SetAttr)
+    (now : Time)
     → IsDirectoryOf t.tree dir slots
     → room_for t.tree dir slots name 0 ≡ Ok full
-    → AllStand (after (makes t.tree (with_object t.tree dir full (made cred a (body.Directory []) now) now) dir
+    → AllStand (after (makes t.tree
+    (with_object t.tree dir full (made cred a (body.Directory []) now) now) dir
     []) t.cells) (with_object t.tree dir full (made cred a (body.Directory []) now) now)
 new_dir t cred dir slots full name a now d room =
     let o = made cred a (body.Directory []) now in
@@ -97,7 +103,8 @@ new_dir t cred dir slots full name a now d room =
     makes_lead t dir o new [] m
     (no_text new (length t.tree) (ap content_of (new_place t.tree dir o new m)))
 
-pub make_dir_leads : (t : TreeCells) (cred : Cred) (dir : ℕ) (name : List ℕ) (a : SetAttr) (now : Time) (reply : Reply) (new : Tree)
+pub make_dir_leads : (t : TreeCells) (cred : Cred) (dir : ℕ) (name : List ℕ) (a : SetAttr)
+    (now : Time) (reply : Reply) (new : Tree)
     → make_dir t.tree cred dir name a now ≡ Ok (reply, new)
     → AllStand (after (tree_changes t.cells t.tree new (call.MkDir dir name a)) t.cells) new
 unfolding make_dir tree_changes
@@ -107,12 +114,15 @@ make_dir_leads t cred dir name a now reply new e =
     step (free_name slots name) _ (MakesLead t dir []) (λ u f.
     step (may_make t.tree cred dir a) _ (MakesLead t dir []) (λ v may.
     step (room_for t.tree dir slots name 0) _ (MakesLead t dir []) (λ full room.
-    done _ (MakesLead t dir []) (new_dir t cred dir slots full name a now (searched_is t.tree cred dir slots d) room)))))) e
+    done _ (MakesLead t dir []) (new_dir t cred dir slots full name a now
+    (searched_is t.tree cred dir slots d) room)))))) e
 
-new_link : (t : TreeCells) (cred : Cred) (dir : ℕ) (slots full : Slots) (name text : List ℕ) (a : SetAttr) (now : Time)
+new_link : (t : TreeCells) (cred : Cred) (dir : ℕ) (slots full : Slots) (name text : List ℕ)
+    (a : SetAttr) (now : Time)
     → IsDirectoryOf t.tree dir slots
     → room_for t.tree dir slots name (length text) ≡ Ok full → length text ≤ 1024
-    → AllStand (after (makes t.tree (with_object t.tree dir full (made cred a (body.Link text) now) now) dir text) t.cells)
+    → AllStand (after (makes t.tree
+    (with_object t.tree dir full (made cred a (body.Link text) now) now) dir text) t.cells)
     (with_object t.tree dir full (made cred a (body.Link text) now) now)
 new_link t cred dir slots full name text a now d room short =
     let o = made cred a (body.Link text) now in
@@ -122,7 +132,8 @@ new_link t cred dir slots full name text a now d room short =
     (a_text new (length t.tree) text (ap content_of (new_place t.tree dir o new m))
     (omega (arith, short)))
 
-pub make_link_leads : (t : TreeCells) (cred : Cred) (dir : ℕ) (name text : List ℕ) (a : SetAttr) (now : Time) (reply : Reply)
+pub make_link_leads : (t : TreeCells) (cred : Cred) (dir : ℕ) (name text : List ℕ) (a : SetAttr)
+    (now : Time) (reply : Reply)
     (new : Tree)
     → make_link t.tree cred dir name text a now ≡ Ok (reply, new)
     → AllStand (after (tree_changes t.cells t.tree new (call.SymLink dir name text a)) t.cells) new
@@ -135,16 +146,19 @@ make_link_leads t cred dir name text a now reply new e =
     unless Exist (has_entry slots name) _ (MakesLead t dir text) (λ none.
     step (may_make t.tree cred dir a) _ (MakesLead t dir text) (λ v may.
     step (room_for t.tree dir slots name (length text)) _ (MakesLead t dir text) (λ full room.
-    done _ (MakesLead t dir text) (new_link t cred dir slots full name text a now (searched_is t.tree cred dir slots d) room
+    done _ (MakesLead t dir text) (new_link t cred dir slots full name text a now
+    (searched_is t.tree cred dir slots d) room
     (ltb-false _ _ short))))))))) e
 
 -- ---- CREATE
 
-new_file : (t : TreeCells) (cred : Cred) (dir : ℕ) (slots full : Slots) (name : List ℕ) (a : SetAttr) (now : Time) (size : ℕ)
+new_file : (t : TreeCells) (cred : Cred) (dir : ℕ) (slots full : Slots) (name : List ℕ)
+    (a : SetAttr) (now : Time) (size : ℕ)
     → IsDirectoryOf t.tree dir slots
     → room_for t.tree dir slots name size ≡ Ok full
     → AllStand (after (makes t.tree
-    (with_object t.tree dir full (made cred a (body.Regular (replicate size 0)) now) now) dir []) t.cells)
+    (with_object t.tree dir full (made cred a (body.Regular (replicate size 0)) now) now) dir
+    []) t.cells)
     (with_object t.tree dir full (made cred a (body.Regular (replicate size 0)) now) now)
 new_file t cred dir slots full name a now size d room =
     let o = made cred a (body.Regular (replicate size 0)) now in
@@ -153,7 +167,8 @@ new_file t cred dir slots full name a now size d room =
     makes_lead t dir o new [] m
     (zeros new (length t.tree) size o (new_place t.tree dir o new m) refl)
 
-create_new_leads : (t : TreeCells) (cred : Cred) (dir : ℕ) (slots : Slots) (name : List ℕ) (a : SetAttr) (now : Time)
+create_new_leads : (t : TreeCells) (cred : Cred) (dir : ℕ) (slots : Slots) (name : List ℕ)
+    (a : SetAttr) (now : Time)
     → IsDirectoryOf t.tree dir slots
     → Given (create_new t.tree cred dir slots name a now) (MakesLead t dir [])
 unfolding create_new
@@ -161,35 +176,46 @@ create_new_leads t cred dir slots name a now d =
     step (may_make t.tree cred dir a) _ (MakesLead t dir []) (λ v may.
     unless FBig (nat_lt largest_file (given a.size 0)) _ (MakesLead t dir []) (λ small.
     step (room_for t.tree dir slots name (given a.size 0)) _ (MakesLead t dir []) (λ full room.
-    done _ (MakesLead t dir []) (new_file t cred dir slots full name a now (given a.size 0) d room))))
+    done _ (MakesLead t dir []) (new_file t cred dir slots full name a now
+    (given a.size 0) d room))))
 
 -- what a call leads to where a name stands for this
 abbrev CreateLeads : TreeCells → ℕ → ℕ → Option (ℕ × ℕ) → Reply × Tree → Type 0
-CreateLeads t dir size found x = AllStand (after (creates t.cells t.tree x.1 dir size found) t.cells) x.1
+CreateLeads t dir size found x =
+    AllStand (after (creates t.cells t.tree x.1 dir size found) t.cells) x.1
 
-create_at_leads : (t : TreeCells) (cred : Cred) (dir : ℕ) (slots : Slots) (name : List ℕ) (found : Option (ℕ × ℕ)) (a : SetAttr)
+create_at_leads : (t : TreeCells) (cred : Cred) (dir : ℕ) (slots : Slots) (name : List ℕ)
+    (found : Option (ℕ × ℕ)) (a : SetAttr)
     (now : Time) → IsDirectoryOf t.tree dir slots
     → Given (create_at t.tree cred dir slots name found a now) (CreateLeads t dir a.size found)
 unfolding create_again
 create_at_leads t cred dir slots name None a now d = create_new_leads t cred dir slots name a now d
 create_at_leads t cred dir slots name (Some x) a now d =
-    unless Exist (not (is_regular_at (place t.tree x.1))) _ (CreateLeads t dir a.size (Some x)) (λ regular.
+    unless Exist (not (is_regular_at (place t.tree x.1))) _ (CreateLeads t dir a.size (Some x))
+    (λ regular.
     step (live t.tree x.1) _ (CreateLeads t dir a.size (Some x)) (λ o lives.
     let fields = heeded cred o.uid a in
     step (set_fields t.tree cred x.1 fields now) _ (CreateLeads t dir a.size (Some x)) (λ new e.
     done _ (CreateLeads t dir a.size (Some x))
-    (subst (λ (size : ℕ). CreateLeads t dir size (Some x) (Node x.1 (attr_at new x.1), new)) (heeded_size cred o.uid a)
+    (subst (λ (size : ℕ). CreateLeads t dir size (Some x) (Node x.1 (attr_at new x.1), new))
+    (heeded_size cred o.uid a)
     (set_fields_leads t cred x.1 fields now new e)))))
 
-pub create_leads : (t : TreeCells) (cred : Cred) (dir : ℕ) (name : List ℕ) (a : SetAttr) (now : Time) (reply : Reply) (new : Tree)
+pub create_leads : (t : TreeCells) (cred : Cred) (dir : ℕ) (name : List ℕ) (a : SetAttr)
+    (now : Time) (reply : Reply) (new : Tree)
     → create t.tree cred dir name a now ≡ Ok (reply, new)
     → AllStand (after (tree_changes t.cells t.tree new (call.Create dir name a)) t.cells) new
 unfolding create tree_changes
 create_leads t cred dir name a now reply new e =
-    given_at (create t.tree cred dir name a now) (CreateLeads t dir a.size (entry_in t.tree dir name)) (reply, new)
-    (step (searched t.tree cred dir) _ (CreateLeads t dir a.size (entry_in t.tree dir name)) (λ slots d.
+    given_at (create t.tree cred dir name a now)
+    (CreateLeads t dir a.size (entry_in t.tree dir name)) (reply, new)
+    (step (searched t.tree cred dir) _ (CreateLeads t dir a.size (entry_in t.tree dir name))
+    (λ slots d.
     step (entry_name name) _ (CreateLeads t dir a.size (entry_in t.tree dir name)) (λ u right.
-    subst (λ (found : Option (ℕ × ℕ)). Given (create_at t.tree cred dir slots name (entry slots name) a now)
+    subst (λ (found : Option (ℕ × ℕ)). Given
+    (create_at t.tree cred dir slots name (entry slots name) a now)
     (CreateLeads t dir a.size found))
-    (ap (λ (ss : Slots). entry ss name) (sym (slots_placed t.tree dir slots (searched_slots t.tree cred dir slots d))))
-    (create_at_leads t cred dir slots name (entry slots name) a now (searched_is t.tree cred dir slots d))))) e
+    (ap (λ (ss : Slots). entry ss name)
+    (sym (slots_placed t.tree dir slots (searched_slots t.tree cred dir slots d))))
+    (create_at_leads t cred dir slots name (entry slots name) a now
+    (searched_is t.tree cred dir slots d))))) e

@@ -1,4 +1,5 @@
--- Changes that set cells to their values by a tree: each cell that none of them sets has to stand already.
+-- Changes that set cells to their values by a tree: each cell that none of them sets has to stand
+-- already.
 use Rattle.std.proofs.Common.{◌≡◌, ◌*◌, ◌≤◌, Bool, true, false, List, [], ◌∷◌, ◌++◌, length, get_or}
 use Rattle.std.proofs.Common.{Option, Some, None, refl, sym, ap, ◌∙◌, subst, inl, inr}
 use Rattle.std.specs.Bool.{if◌then◌else◌}
@@ -25,7 +26,8 @@ use Rattle.cell_changes.specs.Stands.{AllStand}
 
 -- a cell of the tree holds what stands for its value; no block is there past the end of its content
 abbrev pub IsRight : Tree → Cell → Option Value → Type 0
-IsRight tree (cell.Object n) v = StandForSame tree (cell.Object n) v (object_value tree n (place tree n))
+IsRight tree (cell.Object n) v =
+    StandForSame tree (cell.Object n) v (object_value tree n (place tree n))
 IsRight tree (cell.Block n b) v =
     StandForSame tree (cell.Block n b) v (block_value (block_of (content_of (place tree n)) b))
     × (length (content_of (place tree n)) ≤ 4096 * b → v ≡ None)
@@ -34,7 +36,8 @@ IsRight tree cell.Meta v = Unit {0}
 IsRight tree (cell.Client client) v = Unit {0}
 IsRight tree (cell.Saved at) v = Unit {0}
 
-all_from_right : (cells : Cells) (tree : Tree) → ((c : Cell) → IsRight tree c (cells c)) → AllStand cells tree
+all_from_right : (cells : Cells) (tree : Tree) → ((c : Cell) → IsRight tree c (cells c))
+    → AllStand cells tree
 all_from_right cells tree right number = record {
   object = right (cell.Object number);
   block = λ block. (right (cell.Block number block)).0;
@@ -61,16 +64,19 @@ sets_cell c (change.EraseFrom object first) = is_block_from object first c
 abbrev pub Spares : Cell → List Change → Type 0
 Spares c changes = list_any (sets_cell c) changes ≡ false
 
-spared : (c : Cell) (held : Option Value) (ch : Change) → sets_cell c ch ≡ false → changed c held ch ≡ held
+spared : (c : Cell) (held : Option Value) (ch : Change) → sets_cell c ch ≡ false
+    → changed c held ch ≡ held
 spared c held (change.Put d v) e = rw e refl
 spared c held (change.Erase d) e = rw e refl
 spared c held (change.EraseFrom object first) e = rw e refl
 
 -- what a change sets is right in a tree
 abbrev pub IsBy : Tree → Change → Type 0
-IsBy tree ch = (c : Cell) (held : Option Value) → sets_cell c ch ≡ true → IsRight tree c (changed c held ch)
+IsBy tree ch = (c : Cell) (held : Option Value) → sets_cell c ch ≡ true
+    → IsRight tree c (changed c held ch)
 
-right_after : (tree : Tree) (c : Cell) (changes : List Change) (held : Option Value) → All (IsBy tree) changes
+right_after : (tree : Tree) (c : Cell) (changes : List Change) (held : Option Value)
+    → All (IsBy tree) changes
     → (Spares c changes → IsRight tree c held) → IsRight tree c (fold (changed c) held changes)
 right_after tree c [] held by right = right refl
 right_after tree c (ch ∷ changes) held by right =
@@ -83,10 +89,13 @@ right_after tree c (ch ∷ changes) held by right =
     ])
 
 -- where each cell that isn't set is right, all stand
-pub all_stand_after : (cells : Cells) (tree : Tree) (changes : List Change) → All (IsBy tree) changes
-    → ((c : Cell) → Spares c changes → IsRight tree c (cells c)) → AllStand (after changes cells) tree
+pub all_stand_after : (cells : Cells) (tree : Tree) (changes : List Change)
+    → All (IsBy tree) changes
+    → ((c : Cell) → Spares c changes → IsRight tree c (cells c))
+    → AllStand (after changes cells) tree
 all_stand_after cells tree changes by right =
-    all_from_right (after changes cells) tree (λ c. right_after tree c changes (cells c) by (right c))
+    all_from_right (after changes cells) tree
+    (λ c. right_after tree c changes (cells c) by (right c))
 
 -- ---- cells that are set by a tree
 
@@ -103,7 +112,8 @@ by_one : (tree : Tree) (d : Cell) → IsBy tree (change_to d (cell_of_tree tree 
 by_one tree d c held sets =
     let same = sym (sets_to c d (cell_of_tree tree 0 no_updates d)) ∙ sets in
     let value = set_to tree d c (cell_of_tree tree 0 no_updates d) held same in
-    subst (IsRight tree c) (sym (value ∙ ap (cell_of_tree tree 0 no_updates) (is_cell_true d c same))) (right_by tree c)
+    subst (IsRight tree c) (sym (value
+    ∙ ap (cell_of_tree tree 0 no_updates) (is_cell_true d c same))) (right_by tree c)
 
 pub by_set : (tree : Tree) (cells : List Cell) → All (IsBy tree) (set_by tree cells)
 by_set tree [] = All-nil (IsBy tree)
@@ -116,7 +126,8 @@ spared_cells : (tree : Tree) (c : Cell) (cells : List Cell) → Spares c (set_by
 spared_cells tree c [] e = refl
 spared_cells tree c (d ∷ cells) e =
     let v = cell_of_tree tree 0 no_updates d in
-    let parts = or_parts (sets_cell c (change_to d v)) (list_any (sets_cell c) (set_by tree cells)) e in
+    let parts =
+    or_parts (sets_cell c (change_to d v)) (list_any (sets_cell c) (set_by tree cells)) e in
     or_from (is_cell d c) (list_any (λ x. is_cell x c) cells) (sym (sets_to c d v) ∙ parts.0)
     (spared_cells tree c cells parts.1)
 
@@ -126,19 +137,24 @@ spared_both c xs ys e = or_parts (list_any (sets_cell c) xs) (list_any (sets_cel
     (sym (list_any-append (sets_cell c) xs ys) ∙ e)
 
 -- the first of some cells isn't set
-pub first_other : (tree : Tree) (c d : Cell) (cells : List Cell) → Spares c (set_by tree (d ∷ cells)) → d ≡ c → ⊥
+pub first_other : (tree : Tree) (c d : Cell) (cells : List Cell)
+    → Spares c (set_by tree (d ∷ cells)) → d ≡ c → ⊥
 first_other tree c d cells e same =
-    let parts = or_parts (is_cell d c) (list_any (λ x. is_cell x c) cells) (spared_cells tree c (d ∷ cells) e) in
+    let parts =
+    or_parts (is_cell d c) (list_any (λ x. is_cell x c) cells)
+    (spared_cells tree c (d ∷ cells) e) in
     both_ways _ parts.0 (subst (λ (x : Cell). is_cell d x ≡ true) same (is_cell_itself d d refl))
 
-pub rest_spared : (tree : Tree) (c d : Cell) (cells : List Cell) → Spares c (set_by tree (d ∷ cells)) → Spares c
+pub rest_spared : (tree : Tree) (c d : Cell) (cells : List Cell)
+    → Spares c (set_by tree (d ∷ cells)) → Spares c
     (set_by tree cells)
 rest_spared tree c d cells e =
     let v = cell_of_tree tree 0 no_updates d in
     (or_parts (sets_cell c (change_to d v)) (list_any (sets_cell c) (set_by tree cells)) e).1
 
 -- two cells, or one that both are
-pub pair_other : (tree : Tree) (c : Cell) (same : Bool) (one d e : Cell) → (same ≡ true → d ≡ one) → (same ≡ true
+pub pair_other : (tree : Tree) (c : Cell) (same : Bool) (one d e : Cell) → (same ≡ true → d ≡ one)
+    → (same ≡ true
     → e ≡ one)
     → Spares c (set_by tree (if same then one ∷ [] else d ∷ e ∷ [])) → (d ≡ c → ⊥) × (e ≡ c → ⊥)
 pair_other tree c true one d e first second spares =

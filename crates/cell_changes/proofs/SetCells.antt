@@ -32,7 +32,8 @@ change_gives d c None held = refl
 change_gives d c (Some v) held = refl
 
 one_set : (tree : Tree) (d c : Cell) (held : Option Value)
-    → changed c held (change_to d (value_by tree d)) ≡ (if is_cell d c then value_by tree c else held)
+    → changed c held (change_to d (value_by tree d)) ≡ (if is_cell d c then value_by tree c
+    else held)
 one_set tree d c held = change_gives d c (value_by tree d) held ∙ elim (cases_Bool (is_cell d c)) [
   | inl t ↦ let e = is_cell_true d c t in rw t (ap (value_by tree) e)
   | inr t ↦ rw t refl
@@ -46,7 +47,8 @@ either_set false true v held = refl
 either_set false false v held = refl
 
 all_set : (tree : Tree) (cells : List Cell) (c : Cell) (held : Option Value)
-    → fold (changed c) held (set_by tree cells) ≡ (if is_among cells c then value_by tree c else held)
+    → fold (changed c) held (set_by tree cells) ≡ (if is_among cells c then value_by tree c
+    else held)
 all_set tree [] c held = refl
 all_set tree (d ∷ cells) c held =
     ap (λ (v : Option Value). fold (changed c) v (set_by tree cells)) (one_set tree d c held)
@@ -69,7 +71,8 @@ set_leaves tree set cells c other =
 
 -- what stands after changes made one after the other stands after both in a row
 pub in_a_row : (changes more : List Change) (cells : Cells) (tree : Tree) (number : ℕ)
-    → StandsAt (after more (after changes cells)) tree number → StandsAt (after (changes ++ more) cells) tree number
+    → StandsAt (after more (after changes cells)) tree number
+    → StandsAt (after (changes ++ more) cells) tree number
 in_a_row changes more cells tree number stand =
     stands_by (after more (after changes cells)) (after (changes ++ more) cells) tree number
     (λ c of. changes_append changes more cells c) stand
@@ -86,7 +89,8 @@ no_totals number (cell.Client n) of = refl
 no_totals number (cell.Saved p) of = refl
 
 totals_put : (totals : Option Value) (tree : Tree) (stamp : ℕ)
-    → changed cell.Meta totals (meta_put tree stamp) ≡ Some (value.Meta (length tree) (used_blocks tree) stamp)
+    → changed cell.Meta totals (meta_put tree stamp)
+    ≡ Some (value.Meta (length tree) (used_blocks tree) stamp)
 unfolding is_cell
 totals_put totals tree stamp = refl
 
@@ -97,9 +101,11 @@ pub with_totals : (changes : List Change) (cells : Cells) (tree : Tree) (stamp :
 with_totals changes cells tree stamp each =
     all_stand (after (changes ++ meta_put tree stamp ∷ []) cells) tree stamp
     (λ number. in_a_row changes (meta_put tree stamp ∷ []) cells tree number
-    (stands_by (after changes cells) (after (meta_put tree stamp ∷ []) (after changes cells)) tree number
+    (stands_by (after changes cells)
+    (after (meta_put tree stamp ∷ []) (after changes cells)) tree number
     (λ c of. ap (λ (t : Bool). if◌then◌else◌ {A = Option Value} t
-    (Some (value.Meta (length tree) (used_blocks tree) stamp)) (after changes cells c)) (no_totals number c of))
+    (Some (value.Meta (length tree) (used_blocks tree) stamp)) (after changes cells c))
+    (no_totals number c of))
     (each number)))
     (changes_append changes (meta_put tree stamp ∷ []) cells cell.Meta
     ∙ totals_put (after changes cells cell.Meta) tree stamp)

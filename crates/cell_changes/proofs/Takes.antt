@@ -32,12 +32,14 @@ use Rattle.cell_changes.proofs.MovedCells.{Covers, move_leads, by_loss, loss_set
 
 -- an entry goes, and its object loses it
 abbrev pub taking : ℕ → ℕ × ℕ → Move
-taking dir x = record { dir = dir; slot = x.0; to_dir = dir; to_slot = x.0; moved = x.1; target = x.1 }
+taking dir x =
+    record { dir = dir; slot = x.0; to_dir = dir; to_slot = x.0; moved = x.1; target = x.1 }
 
 -- ---- the tree
 
 -- an object with an entry isn't without any
-pub bare_apart : (tree : Tree) (number dir k : ℕ) → IsBare tree number → Holds tree dir k → number ≡ dir → ⊥
+pub bare_apart : (tree : Tree) (number dir k : ℕ) → IsBare tree number → Holds tree dir k
+    → number ≡ dir → ⊥
 bare_apart tree number dir k bare held e =
     let none = bare k in
     let some : Holds tree number k = subst (λ (n : ℕ). Holds tree n k) (sym e) held in
@@ -49,7 +51,11 @@ pub clears_slot : (m : Move) (slots : Slots) (name : List ℕ) → IsFound slots
 clears_slot m slots name f = record {
   aside = λ n a. a.dir;
   others = λ s o. get_or-set_other slots m.slot s None None (o.from refl);
-  names = λ k nm nt. omega (arith, cleared_names slots name (m.slot, m.moved) k f, one_other m.moved k nm);
+  names = λ k nm nt. omega (
+    arith,
+    cleared_names slots name (m.slot, m.moved) k f,
+    one_other m.moved k nm,
+  );
 }
 
 pub taken : (tree : Tree) (dir : ℕ) (slots : Slots) (name : List ℕ) (x : ℕ × ℕ) (now : Time)
@@ -58,18 +64,21 @@ pub taken : (tree : Tree) (dir : ℕ) (slots : Slots) (name : List ℕ) (x : ℕ
 taken tree dir slots name x now is f bare =
     let cleared = change tree dir (slot_changed now x.0 None) in
     let left = set slots x.0 None in
-    let r : Reslots tree cleared dir slots left = reslots_changed tree dir is.object slots x.0 None now is.at is.body in
+    let r : Reslots tree cleared dir slots left =
+    reslots_changed tree dir is.object slots x.0 None now is.at is.body in
     let held = found_held tree dir is.object slots name x is.at is.body f in
     let apart = bare_apart tree x.1 dir x.1 bare held in
     moves_lost (taking dir x) tree cleared now (record {
-      keeps = keeps_reslots (taking dir x) tree cleared dir slots left r (clears_slot (taking dir x) slots name f);
+      keeps = keeps_reslots (taking dir x) tree cleared dir slots left r
+          (clears_slot (taking dir x) slots name f);
       others = λ n nd nt. other_place tree cleared dir slots left r n nd;
       bare = λ k. ap (names_at k) (other_place tree cleared dir slots left r x.1 apart) ∙ bare k;
     })
 
 -- ---- the changes
 
-takes_cover : (old new : Tree) (dir : ℕ) (x : ℕ × ℕ) → Covers (taking dir x) new (takes old new dir (Some x))
+takes_cover : (old new : Tree) (dir : ℕ) (x : ℕ × ℕ)
+    → Covers (taking dir x) new (takes old new dir (Some x))
 takes_cover old new dir x =
     let first = set_by new (cell.Slot dir x.0 ∷ cell.Object dir ∷ []) in
     record {
@@ -81,50 +90,69 @@ takes_cover old new dir x =
           let rest = rest_spared new c (cell.Slot dir x.0) (cell.Object dir ∷ []) parts.0 in
           let object = first_other new c (cell.Object dir) [] rest in
           let lost = loss_sets old new x.1 c parts.1 in
-          record { slot = slot; to_slot = slot; dir = object; to_dir = object; moved = lost; target = lost };
+          record {
+            slot = slot;
+            to_slot = slot;
+            dir = object;
+            to_dir = object;
+            moved = lost;
+            target = lost;
+          };
     }
 
-takes_lead : (cells : Cells) (old new : Tree) (stamp dir : ℕ) (x : ℕ × ℕ) → StandForTree cells old stamp
+takes_lead : (cells : Cells) (old new : Tree) (stamp dir : ℕ) (x : ℕ × ℕ)
+    → StandForTree cells old stamp
     → MovesTo (taking dir x) old new → AllStand (after (takes old new dir (Some x)) cells) new
 takes_lead cells old new stamp dir x stand moves =
     let first = set_by new (cell.Slot dir x.0 ∷ cell.Object dir ∷ []) in
-    move_leads cells old new stamp (taking dir x) (takes old new dir (Some x)) stand moves (takes_cover old new dir x)
+    move_leads cells old new stamp (taking dir x) (takes old new dir (Some x)) stand moves
+    (takes_cover old new dir x)
     (loss_ends (taking dir x) old new (takes old new dir (Some x)) moves
     (λ c spares. (spared_both c first (loses old new x.1) spares).1))
 
 -- ---- the calls
 
 -- the entry that a directory has
-pub entry_is : (tree : Tree) (dir : ℕ) (slots : Slots) (name : List ℕ) → IsDirectoryOf tree dir slots
+pub entry_is : (tree : Tree) (dir : ℕ) (slots : Slots) (name : List ℕ)
+    → IsDirectoryOf tree dir slots
     → entry_in tree dir name ≡ entry slots name
-entry_is tree dir slots name is = ap (λ (ss : Slots). entry ss name) (ap slots_of is.at ∙ ap slots_within is.body)
+entry_is tree dir slots name is =
+    ap (λ (ss : Slots). entry ss name) (ap slots_of is.at ∙ ap slots_within is.body)
 
 some_given : (x : Option (ℕ × ℕ)) → Given (some_or NoEnt x) (λ y. x ≡ Some y)
 unfolding Given
 some_given None = tt
 some_given (Some y) = refl
 
-doomed_entry : (slots : Slots) (name : List ℕ) (x : ℕ × ℕ) → doomed slots name ≡ Ok x → entry slots name ≡ Some x
+doomed_entry : (slots : Slots) (name : List ℕ) (x : ℕ × ℕ) → doomed slots name ≡ Ok x
+    → entry slots name ≡ Some x
 doomed_entry slots name x e =
     given_at (doomed slots name) (λ y. entry slots name ≡ Some y) x
     (unless Perm (is_dots name) (λ u. find slots name) (λ y. entry slots name ≡ Some y)
-    (λ dots. step (check_name name) (λ u. some_or NoEnt (entry slots name)) (λ y. entry slots name ≡ Some y)
+    (λ dots. step (check_name name) (λ u. some_or NoEnt (entry slots name))
+    (λ y. entry slots name ≡ Some y)
     (λ u checked. some_given (entry slots name)))) e
 
-taken_leads : (cells : Cells) (tree : Tree) (stamp dir : ℕ) (slots : Slots) (name : List ℕ) (x : ℕ × ℕ) (now : Time)
-    → StandForTree cells tree stamp → IsDirectoryOf tree dir slots → entry slots name ≡ Some x → IsBare tree x.1
-    → AllStand (after (takes tree (removed tree dir x now) dir (entry_in tree dir name)) cells) (removed tree dir x now)
+taken_leads : (cells : Cells) (tree : Tree) (stamp dir : ℕ) (slots : Slots) (name : List ℕ)
+    (x : ℕ × ℕ) (now : Time)
+    → StandForTree cells tree stamp → IsDirectoryOf tree dir slots → entry slots name ≡ Some x
+    → IsBare tree x.1
+    → AllStand (after (takes tree (removed tree dir x now) dir (entry_in tree dir name)) cells)
+    (removed tree dir x now)
 taken_leads cells tree stamp dir slots name x now stand is e bare =
     let new = removed tree dir x now in
     subst (λ (y : Option (ℕ × ℕ)). AllStand (after (takes tree new dir y) cells) new)
     (sym (entry_is tree dir slots name is ∙ e))
-    (takes_lead cells tree new stamp dir x stand (taken tree dir slots name x now is (found slots name x e) bare))
+    (takes_lead cells tree new stamp dir x stand
+    (taken tree dir slots name x now is (found slots name x e) bare))
 
 -- the changes of a call that takes an entry lead to a tree
 abbrev LeadsTo : Cells → Tree → ℕ → List ℕ → Reply × Tree → Type 0
-LeadsTo cells tree dir name r = AllStand (after (takes tree r.1 dir (entry_in tree dir name)) cells) r.1
+LeadsTo cells tree dir name r =
+    AllStand (after (takes tree r.1 dir (entry_in tree dir name)) cells) r.1
 
-removes : (cells : Cells) (tree : Tree) (cred : Cred) (stamp dir : ℕ) (name : List ℕ) (now : Time) → StandForTree cells tree stamp
+removes : (cells : Cells) (tree : Tree) (cred : Cred) (stamp dir : ℕ) (name : List ℕ) (now : Time)
+    → StandForTree cells tree stamp
     → Given (remove tree cred dir name now) (LeadsTo cells tree dir name)
 unfolding remove
 removes cells tree cred stamp dir name now stand =
@@ -138,7 +166,8 @@ removes cells tree cred stamp dir name now stand =
     (doomed_entry slots name x f)
     (file_is_bare tree x.1 file))))))
 
-removes_dir : (cells : Cells) (tree : Tree) (cred : Cred) (stamp dir : ℕ) (name : List ℕ) (now : Time) → StandForTree cells tree stamp
+removes_dir : (cells : Cells) (tree : Tree) (cred : Cred) (stamp dir : ℕ) (name : List ℕ)
+    (now : Time) → StandForTree cells tree stamp
     → Given (remove_dir tree cred dir name now) (LeadsTo cells tree dir name)
 unfolding remove_dir
 removes_dir cells tree cred stamp dir name now stand =
@@ -154,7 +183,8 @@ removes_dir cells tree cred stamp dir name now stand =
     (empty_is_bare tree x.1 (not-false _ empty))))))))
 
 -- REMOVE
-pub remove_leads : (t : TreeCells) (cred : Cred) (dir : ℕ) (name : List ℕ) (now : Time) (reply : Reply) (new : Tree)
+pub remove_leads : (t : TreeCells) (cred : Cred) (dir : ℕ) (name : List ℕ) (now : Time)
+    (reply : Reply) (new : Tree)
     → remove t.tree cred dir name now ≡ Ok (reply, new)
     → AllStand (after (tree_changes t.cells t.tree new (call.Remove dir name)) t.cells) new
 unfolding tree_changes
@@ -163,7 +193,8 @@ remove_leads t cred dir name now reply new e =
     (removes t.cells t.tree cred t.stamp dir name now t.stand) e
 
 -- RMDIR
-pub remove_dir_leads : (t : TreeCells) (cred : Cred) (dir : ℕ) (name : List ℕ) (now : Time) (reply : Reply) (new : Tree)
+pub remove_dir_leads : (t : TreeCells) (cred : Cred) (dir : ℕ) (name : List ℕ) (now : Time)
+    (reply : Reply) (new : Tree)
     → remove_dir t.tree cred dir name now ≡ Ok (reply, new)
     → AllStand (after (tree_changes t.cells t.tree new (call.RmDir dir name)) t.cells) new
 unfolding tree_changes

@@ -24,11 +24,13 @@ use Rattle.cell_changes.proofs.SetCells.{is_among, set_gives, set_leaves}
 pub among_first : (c : Cell) (cells : List Cell) → is_among (c ∷ cells) c ≡ true
 among_first c cells = or_left (is_cell c c) (is_among cells c) (is_cell_itself c c refl)
 
-pub among_later : (d c : Cell) (cells : List Cell) → is_among cells c ≡ true → is_among (d ∷ cells) c ≡ true
+pub among_later : (d c : Cell) (cells : List Cell) → is_among cells c ≡ true
+    → is_among (d ∷ cells) c ≡ true
 among_later d c cells h = or_right (is_cell d c) (is_among cells c) h
 
 -- a number's cells are not among those of others
-pub among_others : (cells : List Cell) (number : ℕ) (c : Cell) → list_any (is_cell_of number) cells ≡ false
+pub among_others : (cells : List Cell) (number : ℕ) (c : Cell)
+    → list_any (is_cell_of number) cells ≡ false
     → is_cell_of number c ≡ true
     → is_among cells c ≡ false
 among_others [] number c other of = refl
@@ -42,7 +44,8 @@ pub other_blocks : (number of : ℕ) (c : Cell) → (number ≡ of → ⊥) → 
     → is_block_of of c ≡ false
 other_blocks number of cell.Meta other is = refl
 other_blocks number of (cell.Object o) other is = refl
-other_blocks number of (cell.Block o b) other is = ne_eqb o of (λ e. other (sym (eqb-true o number is) ∙ e))
+other_blocks number of (cell.Block o b) other is =
+    ne_eqb o of (λ e. other (sym (eqb-true o number is) ∙ e))
 other_blocks number of (cell.Slot o s) other is = refl
 other_blocks number of (cell.Client n) other is = refl
 other_blocks number of (cell.Saved p) other is = refl
@@ -51,7 +54,8 @@ other_blocks number of (cell.Saved p) other is = refl
 
 -- the blocks of a number stand, and end with its content
 pub record BlocksStand (cells : Cells) (tree : Tree) (number : ℕ) : Type 0 where
-  pub block : (block : ℕ) → StandForSame tree (cell.Block number block) (cells (cell.Block number block))
+  pub block : (block : ℕ) → StandForSame tree (cell.Block number block)
+      (cells (cell.Block number block))
       (block_value (block_of (content_of (place tree number)) block))
   pub ends : EndsAt cells number (content_size tree number)
 
@@ -64,19 +68,23 @@ blocks_by cells later tree number same stand = record {
 }
 
 -- a number keeps its content
-pub blocks_stay : (cells : Cells) (old new : Tree) (number : ℕ) → content_of (place new number) ≡ content_of
+pub blocks_stay : (cells : Cells) (old new : Tree) (number : ℕ)
+    → content_of (place new number) ≡ content_of
     (place old number)
-    → is_regular_at (place new number) ≡ is_regular_at (place old number) → StandsAt cells old number
+    → is_regular_at (place new number) ≡ is_regular_at (place old number)
+    → StandsAt cells old number
     → BlocksStand cells new number
 blocks_stay cells old new number content kind stand = record {
   block = blocks_kept cells old new number content kind stand;
-  ends = λ block past. stand.ends block (subst (λ (xs : List ℕ). length xs ≤ 4096 * block) content past);
+  ends = λ block past. stand.ends block
+      (subst (λ (xs : List ℕ). length xs ≤ 4096 * block) content past);
 }
 
 -- cells hold the bytes of a file
 pub file_stands : (cells : Cells) (tree : Tree) (number : ℕ) (bytes : List ℕ)
     → is_regular_at (place tree number) ≡ true
-    → content_of (place tree number) ≡ bytes → HoldsBytes cells number bytes → EndsAt cells number (length bytes)
+    → content_of (place tree number) ≡ bytes → HoldsBytes cells number bytes
+    → EndsAt cells number (length bytes)
     → BlocksStand cells tree number
 file_stands cells tree number bytes regular content holds ends = record {
   block = files_stand cells tree number regular (rw content holds);
@@ -96,7 +104,8 @@ exact_stands cells tree number bytes content exact = record {
 }
 
 -- a number whose object is set, and no block
-pub touched : (cells : Cells) (tree : Tree) (set : List Cell) (number : ℕ) → is_among set (cell.Object number) ≡ true
+pub touched : (cells : Cells) (tree : Tree) (set : List Cell) (number : ℕ)
+    → is_among set (cell.Object number) ≡ true
     → ((block : ℕ) → is_among set (cell.Block number block) ≡ false) → BlocksStand cells tree number
     → HoldsSlots (after (set_by tree set) cells) number (slots_of (place tree number))
     → StandsAt (after (set_by tree set) cells) tree number
@@ -104,7 +113,8 @@ touched cells tree set number is no_block blocks slots =
     let stand = blocks_by cells (after (set_by tree set) cells) tree number
     (λ block. set_leaves tree set cells (cell.Block number block) (no_block block)) blocks in
     record {
-      object = ap (stands_for tree (cell.Object number)) (set_gives tree set cells (cell.Object number) is);
+      object = ap (stands_for tree (cell.Object number))
+          (set_gives tree set cells (cell.Object number) is);
       block = stand.block;
       ends = stand.ends;
       slot = slots;
@@ -121,14 +131,17 @@ untouched cells tree set number other stand =
 -- ---- slots
 
 -- the slots of which the cells aren't set are as they were
-pub slots_set : (cells : Cells) (tree : Tree) (set : List Cell) (dir : ℕ) (slots : Slots) → HoldsSlots cells dir slots
+pub slots_set : (cells : Cells) (tree : Tree) (set : List Cell) (dir : ℕ) (slots : Slots)
+    → HoldsSlots cells dir slots
     → ((slot : ℕ) → is_among set (cell.Slot dir slot) ≡ false
     → get_or (slots_of (place tree dir)) slot None ≡ get_or slots slot None)
     → HoldsSlots (after (set_by tree set) cells) dir (slots_of (place tree dir))
-slots_set cells tree set dir slots holds same slot = elim (cases_Bool (is_among set (cell.Slot dir slot))) [
-  | inl t ↦ set_gives tree set cells (cell.Slot dir slot) t
-  | inr t ↦ set_leaves tree set cells (cell.Slot dir slot) t ∙ holds slot ∙ ap slot_value (sym (same slot t))
-]
+slots_set cells tree set dir slots holds same slot =
+    elim (cases_Bool (is_among set (cell.Slot dir slot))) [
+      | inl t ↦ set_gives tree set cells (cell.Slot dir slot) t
+      | inr t ↦ set_leaves tree set cells (cell.Slot dir slot) t ∙ holds slot
+          ∙ ap slot_value (sym (same slot t))
+    ]
 
 -- a new entry changes the first free slot alone
 pub entered_beside : (dir : ℕ) (slots : Slots) (s : Slot) (set : List Cell) (slot : ℕ)
@@ -137,5 +150,7 @@ pub entered_beside : (dir : ℕ) (slots : Slots) (s : Slot) (set : List Cell) (s
 entered_beside dir slots s set slot other =
     let parts = or_parts (is_cell (cell.Slot dir (free_from 0 slots)) (cell.Slot dir slot))
     (is_among set (cell.Slot dir slot)) other in
-    let beside : (free_from 0 slots == slot) ≡ false = sym (same_slot dir (free_from 0 slots) slot) ∙ parts.0 in
-    entry_differs slots s slot ∙ ap (λ (b : Bool). slot_if b (Some s) (get_or slots slot None)) beside
+    let beside : (free_from 0 slots == slot) ≡ false = sym (same_slot dir (free_from 0 slots) slot)
+    ∙ parts.0 in
+    entry_differs slots s slot ∙ ap
+    (λ (b : Bool). slot_if b (Some s) (get_or slots slot None)) beside

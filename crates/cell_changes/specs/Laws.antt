@@ -16,9 +16,11 @@ use Rattle.cell_changes.specs.Short.{changes_tree, is_of_tree}
 -- the changes of an update lead to the tree of its outcome
 abbrev pub UpdatesLead : Type 0
 UpdatesLead = (t : TreeCells) (cred : Cred) (c : Call) (stamp : ℕ) → is_update c ≡ true
-    → StandForTree (after (update_changes t.cells t.tree cred c stamp) t.cells) (outcome t.tree cred c stamp).1 stamp
+    → StandForTree (after (update_changes t.cells t.tree cred c stamp) t.cells)
+    (outcome t.tree cred c stamp).1 stamp
 
 -- changes of cells of the tree leave the cells of clients and of saved logs
 abbrev pub OthersStay : Type 0
-OthersStay = (changes : List Change) (cells : Cells) (c : Cell) → list_all changes_tree changes ≡ true → is_of_tree c ≡ false
+OthersStay = (changes : List Change) (cells : Cells) (c : Cell)
+    → list_all changes_tree changes ≡ true → is_of_tree c ≡ false
     → after changes cells c ≡ cells c

@@ -13,8 +13,10 @@ use Rattle.cell_changes.specs.Table.{content_size}
 
 -- the cells of one number stand for what a tree has there: the object, its blocks and its slots
 pub record StandsAt (cells : Cells) (tree : Tree) (number : ℕ) : Type 0 where
-  pub object : StandForSame tree (cell.Object number) (cells (cell.Object number)) (object_value tree number (place tree number))
-  pub block : (block : ℕ) → StandForSame tree (cell.Block number block) (cells (cell.Block number block))
+  pub object : StandForSame tree (cell.Object number) (cells (cell.Object number))
+      (object_value tree number (place tree number))
+  pub block : (block : ℕ) → StandForSame tree (cell.Block number block)
+      (cells (cell.Block number block))
       (block_value (block_of (content_of (place tree number)) block))
   pub ends : EndsAt cells number (content_size tree number)
   pub slot : HoldsSlots cells number (slots_of (place tree number))
@@ -23,11 +25,13 @@ pub record StandsAt (cells : Cells) (tree : Tree) (number : ℕ) : Type 0 where
 abbrev pub AllStand : Cells → Tree → Type 0
 AllStand cells tree = (number : ℕ) → StandsAt cells tree number
 
--- an update leaves what stands at a number, the entries that name it, and the kinds of what its own entries name
+-- an update leaves what stands at a number, the entries that name it, and the kinds of what its own
+-- entries name
 pub record IsUnmoved (old new : Tree) (number : ℕ) : Type 0 where
   pub stays : place new number ≡ place old number
   pub named : (dir : ℕ) → names_at number (place new dir) ≡ names_at number (place old dir)
-  pub names : (k : ℕ) → 1 ≤ names_at k (place old number) → is_directory_at (place new k) ≡ is_directory_at (place old k)
+  pub names : (k : ℕ) → 1 ≤ names_at k (place old number)
+      → is_directory_at (place new k) ≡ is_directory_at (place old k)
 
 -- the cell of an object, of its blocks or of its slots
 abbrev pub is_cell_of : ℕ → Cell → Bool

@@ -46,7 +46,8 @@ content_size tree number = length (content_of (place tree number))
 -- a file gets a size: what is kept of the block that is cut, and an erasure of those behind it
 abbrev pub resizes : Cells → Tree → ℕ → ℕ → List Change
 resizes cells old number size =
-    if size == field_left then [] else cuts number (content_size old number) size (kept_in cells number size)
+    if size == field_left then [] else cuts number (content_size old number) size
+    (kept_in cells number size)
 
 -- the first free slot of a directory, or the one behind its last one
 abbrev pub free_slot : Tree → ℕ → ℕ
@@ -60,7 +61,8 @@ makes old new dir text =
 
 -- a file gets attributes that are set
 abbrev pub sets : Cells → Tree → Tree → ℕ → ℕ → List Change
-sets cells old new number size = resizes cells old number size ++ set_by new (cell.Object number ∷ [])
+sets cells old new number size =
+    resizes cells old number size ++ set_by new (cell.Object number ∷ [])
 
 -- blocks that were used go
 abbrev pub erases : Tree → ℕ → List Change
@@ -69,30 +71,37 @@ erases old number = if content_size old number == 0 then [] else change.EraseFro
 -- an object that lost an entry stays, or goes with its blocks
 unfoldable pub loses : Tree → Tree → ℕ → List Change
 loses old new number =
-    elim (place new number) [ None ↦ erases old number | Some o ↦ [] ] ++ set_by new (cell.Object number ∷ [])
+    elim (place new number) [ None ↦ erases old number | Some o ↦ [] ]
+    ++ set_by new (cell.Object number ∷ [])
 
 -- an entry is taken away
 abbrev pub takes : Tree → Tree → ℕ → Option (ℕ × ℕ) → List Change
 takes old new dir None = []
-takes old new dir (Some x) = set_by new (cell.Slot dir x.0 ∷ cell.Object dir ∷ []) ++ loses old new x.1
+takes old new dir (Some x) =
+    set_by new (cell.Slot dir x.0 ∷ cell.Object dir ∷ []) ++ loses old new x.1
 
 -- two slots, which may be one
 abbrev pub slot_pair : ℕ → ℕ → ℕ → ℕ → List Cell
 slot_pair dir i to_dir j =
-    if (dir == to_dir) && (i == j) then cell.Slot to_dir j ∷ [] else cell.Slot dir i ∷ cell.Slot to_dir j ∷ []
+    if (dir == to_dir) && (i == j) then cell.Slot to_dir j ∷ []
+    else cell.Slot dir i ∷ cell.Slot to_dir j ∷ []
 
 -- two directories, which may be one
 abbrev pub dir_pair : ℕ → ℕ → List Cell
-dir_pair dir to_dir = if dir == to_dir then cell.Object dir ∷ [] else cell.Object dir ∷ cell.Object to_dir ∷ []
+dir_pair dir to_dir =
+    if dir == to_dir then cell.Object dir ∷ []
+    else cell.Object dir ∷ cell.Object to_dir ∷ []
 
 -- the slots, the directories, an object that loses its entry to the moved one, and the moved one
 unfoldable pub moves : Tree → Tree → ℕ → ℕ → ℕ × ℕ → Option (ℕ × ℕ) → List Change
 moves old new dir to_dir x None =
     let j = free_from 0 (freed dir to_dir x.0 (slots_of (place old to_dir))) in
-    set_by new (slot_pair dir x.0 to_dir j) ++ set_by new (dir_pair dir to_dir) ++ set_by new (cell.Object x.1 ∷ [])
+    set_by new (slot_pair dir x.0 to_dir j) ++ set_by new (dir_pair dir to_dir)
+    ++ set_by new (cell.Object x.1 ∷ [])
 moves old new dir to_dir x (Some y) =
     if y.1 == x.1 then []
-    else set_by new (slot_pair dir x.0 to_dir y.0) ++ set_by new (dir_pair dir to_dir) ++ loses old new y.1
+    else set_by new (slot_pair dir x.0 to_dir y.0) ++ set_by new (dir_pair dir to_dir)
+    ++ loses old new y.1
     ++ set_by new (cell.Object x.1 ∷ [])
 
 abbrev pub renames : Tree → Tree → ℕ → ℕ → Option (ℕ × ℕ) → Option (ℕ × ℕ) → List Change
@@ -113,8 +122,10 @@ unfoldable pub tree_changes : Cells → Tree → Tree → Call → List Change
 tree_changes cells old new (call.SetAttr handle attr) = sets cells old new handle attr.size
 tree_changes cells old new (call.Write handle offset bytes) =
     if length bytes == 0 then []
-    else puts cells handle (content_size old handle) offset bytes ++ set_by new (cell.Object handle ∷ [])
-tree_changes cells old new (call.Create dir name attr) = creates cells old new dir attr.size (entry_in old dir name)
+    else puts cells handle (content_size old handle) offset bytes
+    ++ set_by new (cell.Object handle ∷ [])
+tree_changes cells old new (call.Create dir name attr) =
+    creates cells old new dir attr.size (entry_in old dir name)
 tree_changes cells old new (call.MkDir dir name attr) = makes old new dir []
 tree_changes cells old new (call.SymLink dir name text attr) = makes old new dir text
 tree_changes cells old new (call.Link handle dir name) =
@@ -139,4 +150,5 @@ changes_by cells old c (Err status) = []
 -- the changes of a caller's update at a stamp
 abbrev pub update_changes : Cells → Tree → Cred → Call → ℕ → List Change
 update_changes cells tree cred c stamp =
-    changes_by cells tree c (answered tree cred c (time_of stamp)) ++ meta_put (outcome tree cred c stamp).1 stamp ∷ []
+    changes_by cells tree c (answered tree cred c (time_of stamp))
+    ++ meta_put (outcome tree cred c stamp).1 stamp ∷ []

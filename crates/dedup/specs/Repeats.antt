@@ -7,14 +7,16 @@ use Rattle.harp_cells.specs.declared.value.Value.TheVariants as value
 use Rattle.dedup.specs.declared.repeat.Seen.{Seen}
 use Rattle.dedup.specs.declared.repeat.Seen.TheVariants.{New, Kept, Pending, Old}
 
--- the last update again: its reply is kept where its index is at most the commit point, and else still to come
+-- the last update again: its reply is kept where its index is at most the commit point, and else
+-- still to come
 abbrev pub repeated : ℕ → Reply → ℕ → Seen
 repeated index reply commit_point = if nat_le index commit_point then Kept index reply else Pending
 
 -- a number beside the last one: the same, an older one, or a new one
 abbrev pub seen_beside : ℕ → ℕ → Reply → ℕ → ℕ → Seen
 seen_beside last index reply number commit_point =
-    if number == last then repeated index reply commit_point else (if nat_lt number last then Old else New)
+    if number == last then repeated index reply commit_point
+    else (if nat_lt number last then Old else New)
 
 -- any number is new of a client without an update
 abbrev pub seen_after : Option Entry → ℕ → ℕ → Seen
@@ -24,7 +26,8 @@ seen_after (Some e) number commit_point = seen_beside e.number e.index e.reply n
 -- the same by the client's cell; a value of another kind of cell is no update
 abbrev pub seen_in : Option Value → ℕ → ℕ → Seen
 seen_in None number commit_point = New
-seen_in (Some (value.Client last index reply)) number commit_point = seen_beside last index reply number commit_point
+seen_in (Some (value.Client last index reply)) number commit_point =
+    seen_beside last index reply number commit_point
 seen_in (Some (value.Meta next used stamp)) number commit_point = New
 seen_in (Some (value.Object inode)) number commit_point = New
 seen_in (Some (value.Block bytes)) number commit_point = New

@@ -78,8 +78,8 @@ fn seen_found<R: CellRead>(
     }
 }
 
-/// What an update with this number is beside the last one of its client, where updates up to the index `cp` are
-/// committed. It reads the client's cell alone.
+/// What an update with this number is beside the last one of its client, where updates up to the
+/// index `cp` are committed. It reads the client's cell alone.
 pub fn seen<R: CellRead>(
     alloc: Global,
     cells: &mut R,
@@ -93,7 +93,8 @@ pub fn seen<R: CellRead>(
         → held (cell.Client client) ≡ client_value (last_of client entries)
         → IfOk result (λ s. s ≡ seen_after (last_of client entries) number cp) }
     ensures kept { R.cells cells.new ≡ R.cells cells.old }
-    ensures rose { result ≡ Err CellFault.StoreFailed → Rose (R.faults cells.old) (R.faults cells.new) }
+    ensures rose { result ≡ Err CellFault.StoreFailed
+        → Rose (R.faults cells.old) (R.faults cells.new) }
     ensures count { R.faults cells.old ≤ R.faults cells.new }
 {
     cells.fetch(Cell::Client { client })?;
@@ -108,7 +109,8 @@ pub fn keep(
     index: u64,
     reply: &Reply,
 ) -> Result<Change, AllocError>
-    ensures { IfOk result (λ c. c ≡ change.Put (cell.Client client) (value.Client number index reply.now)) }
+    ensures { IfOk result (λ c. c ≡ change.Put (cell.Client client)
+        (value.Client number index reply.now)) }
 {
     Ok(Change::Put {
         cell: Cell::Client { client },

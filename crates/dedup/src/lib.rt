@@ -1,4 +1,5 @@
-//! Repeats: what an update's number says of it beside the last update of its client, and the cell that keeps that one.
+//! Repeats: what an update's number says of it beside the last update of its client, and the cell
+//! that keeps that one.
 #![tactic(auto)]
 
 mod client;

@@ -17,7 +17,8 @@ pub after_both : (changes more : List Change) (cells : Cells)
 after_both changes more cells = fun_ext (λ c. fold-append (changed c) (cells c) changes more)
 
 -- the changes of one more record
-pub changes_push : (rs : List Record) (r : Record) → changes_of (rs ++ r ∷ []) ≡ changes_of rs ++ r.changes
+pub changes_push : (rs : List Record) (r : Record)
+    → changes_of (rs ++ r ∷ []) ≡ changes_of rs ++ r.changes
 changes_push [] r = append-nil r.changes
 changes_push (x ∷ rs) r = ap (λ (cs : List Change). x.changes ++ cs) (changes_push rs r)
     ∙ sym (append_assoc x.changes (changes_of rs) r.changes)
@@ -28,20 +29,25 @@ cells_push rs r cells = ap (λ (cs : List Change). after cs cells) (changes_push
     ∙ after_both (changes_of rs) r.changes cells
 
 -- records that stand for their entries lead to cells that stand for the whole book
-pub all_lead : (cells : Cells) (earlier : List Entry) (rs : List Record) → AllStandFor cells earlier rs
+pub all_lead : (cells : Cells) (earlier : List Entry) (rs : List Record)
+    → AllStandFor cells earlier rs
     → StandForBook cells earlier
     → StandForBook (after (changes_of rs) cells) (earlier ++ map entry_of rs)
-all_lead cells earlier [] all stand = subst (λ (es : List Entry). StandForBook cells es) (sym (append-nil earlier))
+all_lead cells earlier [] all stand =
+    subst (λ (es : List Entry). StandForBook cells es) (sym (append-nil earlier))
     stand
 all_lead cells earlier (r ∷ rs) all stand =
-    subst (λ (made : Cells). StandForBook made (earlier ++ map entry_of (r ∷ rs))) (sym (after_both r.changes
+    subst (λ (made : Cells). StandForBook made (earlier ++ map entry_of (r ∷ rs)))
+    (sym (after_both r.changes
     (changes_of rs) cells))
-    (subst (λ (es : List Entry). StandForBook (after (changes_of rs) (after r.changes cells)) es) (append_assoc earlier
+    (subst (λ (es : List Entry). StandForBook (after (changes_of rs) (after r.changes cells)) es)
+    (append_assoc earlier
     (entry_of r ∷ []) (map entry_of rs))
     (all_lead (after r.changes cells) (earlier ++ entry_of r ∷ []) rs all.1 (all.0 stand)))
 
 -- a first part of them stands too
-pub front_stands : (cells : Cells) (earlier : List Entry) (n : ℕ) (rs : List Record) → AllStandFor cells earlier rs
+pub front_stands : (cells : Cells) (earlier : List Entry) (n : ℕ) (rs : List Record)
+    → AllStandFor cells earlier rs
     → AllStandFor cells earlier (take n rs)
 front_stands cells earlier zero rs all = tt
 front_stands cells earlier (suc n) [] all = tt
@@ -52,14 +58,19 @@ front_stands cells earlier (suc n) (r ∷ rs) all = (
 )
 
 -- one more of them
-pub all_push : (cells : Cells) (earlier : List Entry) (rs : List Record) (r : Record) → AllStandFor cells earlier rs
-    → StandsFor (after (changes_of rs) cells) (earlier ++ map entry_of rs) r → AllStandFor cells earlier (rs ++ r ∷ [])
-all_push cells earlier [] r all more = (subst (λ (es : List Entry). StandsFor cells es r) (append-nil earlier) more, tt)
+pub all_push : (cells : Cells) (earlier : List Entry) (rs : List Record) (r : Record)
+    → AllStandFor cells earlier rs
+    → StandsFor (after (changes_of rs) cells) (earlier ++ map entry_of rs) r
+    → AllStandFor cells earlier (rs ++ r ∷ [])
+all_push cells earlier [] r all more =
+    (subst (λ (es : List Entry). StandsFor cells es r) (append-nil earlier) more, tt)
 all_push cells earlier (x ∷ rs) r all more = (
   all.0,
   all_push (after x.changes cells) (earlier ++ entry_of x ∷ []) rs r all.1
-      (subst (λ (es : List Entry). StandsFor (after (changes_of rs) (after x.changes cells)) es r) (sym (append_assoc
+      (subst (λ (es : List Entry). StandsFor (after (changes_of rs) (after x.changes cells)) es r)
+      (sym (append_assoc
       earlier (entry_of x ∷ []) (map entry_of rs)))
-      (subst (λ (made : Cells). StandsFor made (earlier ++ map entry_of (x ∷ rs)) r) (after_both x.changes (changes_of
+      (subst (λ (made : Cells). StandsFor made (earlier ++ map entry_of (x ∷ rs)) r)
+      (after_both x.changes (changes_of
       rs) cells) more)),
 )

@@ -10,13 +10,17 @@ use Rattle.file_tree.proofs.BookLaws.{updates_push_update, updates_push_read}
 use Rattle.file_tree.proofs.BookOrder.{book_grows, order_of}
 
 abbrev pub AreInOrder : List Entry → Type 0
-AreInOrder entries = (i j : ℕ) (d : Entry) → i < j → j < length (updates entries) → IsBefore (get_or (updates entries) i d) (get_or (updates entries) j d)
+AreInOrder entries = (i j : ℕ) (d : Entry) → i < j → j < length (updates entries)
+    → IsBefore (get_or (updates entries) i d) (get_or (updates entries) j d)
 
-at_all : (P : Entry → Type 0) (xs : List Entry) (i : ℕ) (d : Entry) → i < length xs → AllByRecursion P xs → P (get_or xs i d)
+at_all : (P : Entry → Type 0) (xs : List Entry) (i : ℕ) (d : Entry) → i < length xs
+    → AllByRecursion P xs → P (get_or xs i d)
 at_all P xs i d lt all = All-get_or P xs i d lt (All-from_recursion P xs all)
 
-pushed_order : (xs : List Entry) (e : Entry) → IsNextUpdate xs e → ((i j : ℕ) (d : Entry) → i < j → j < length xs → IsBefore (get_or xs i d) (get_or xs j d))
-    → (i j : ℕ) (d : Entry) → i < j → j < length (xs ++ e ∷ []) → IsBefore (get_or (xs ++ e ∷ []) i d) (get_or (xs ++ e ∷ []) j d)
+pushed_order : (xs : List Entry) (e : Entry) → IsNextUpdate xs e
+    → ((i j : ℕ) (d : Entry) → i < j → j < length xs → IsBefore (get_or xs i d) (get_or xs j d))
+    → (i j : ℕ) (d : Entry) → i < j → j < length (xs ++ e ∷ [])
+    → IsBefore (get_or (xs ++ e ∷ []) i d) (get_or (xs ++ e ∷ []) j d)
 pushed_order xs e next h i j d lt within = elim (cases_lt j (length xs)) [
   | inl before ↦
       let first = get_or_append_left xs (e ∷ []) d i (omega (arith, lt, before)) in
@@ -33,17 +37,22 @@ pushed_order xs e next h i j d lt within = elim (cases_lt j (length xs)) [
       })
 ]
 
-order_more : (earlier : List Entry) (e : Entry) → AreInOrder earlier → MayFollow earlier e → AreInOrder (earlier ++ e ∷ [])
+order_more : (earlier : List Entry) (e : Entry) → AreInOrder earlier → MayFollow earlier e
+    → AreInOrder (earlier ++ e ∷ [])
 order_more earlier e h f = elim (cases_Bool (is_update e.call)) [
-  | inl u ↦ rw (updates_push_update earlier e u) (pushed_order (updates earlier) e (order_of earlier e u f) h)
+  | inl u ↦
+      rw (updates_push_update earlier e u)
+      (pushed_order (updates earlier) e (order_of earlier e u f) h)
   | inr u ↦ rw (updates_push_read earlier e u) h
 ]
 
 -- the stamps of the updates don't fall, and the numbers of a client's updates rise
 pub book_in_order : (entries : List Entry) → IsBook entries → AreInOrder entries
-book_in_order entries h = book_grows AreInOrder (λ i j d lt within. absurd (omega (arith, within))) order_more entries h
+book_in_order entries h =
+    book_grows AreInOrder (λ i j d lt within. absurd (omega (arith, within))) order_more entries h
 
-follow_first : (earlier entries more : List Entry) → MayFollowAll earlier (entries ++ more) → MayFollowAll earlier entries
+follow_first : (earlier entries more : List Entry) → MayFollowAll earlier (entries ++ more)
+    → MayFollowAll earlier entries
 follow_first earlier [] more h = tt
 follow_first earlier (e ∷ entries) more h = (h.0, follow_first (earlier ++ e ∷ []) entries more h.1)
 

@@ -12,7 +12,8 @@ use Rattle.file_tree.specs.Tries.{entry_name}
 use Rattle.file_tree.specs.Rename.{is_above}
 use Rattle.file_tree.specs.Within.{IsWithinLimits}
 
--- a free slot, or one with a name of 1 to 255 bytes, without a slash or a zero, and neither `.` nor `..`
+-- a free slot, or one with a name of 1 to 255 bytes, without a slash or a zero, and neither `.` nor
+-- `..`
 abbrev pub IsRightlyNamed : Option Slot → Type 0
 IsRightlyNamed None = Unit {0}
 IsRightlyNamed (Some s) = entry_name s.name ≡ Ok tt
@@ -35,7 +36,8 @@ abbrev pub IsSoundObject : Option Object → Type 0
 IsSoundObject None = Unit {0}
 IsSoundObject (Some o) = (o.mode < 4096) × IsSoundBody o.body
 
--- the entries of an object: none of the root, one of another directory, one or more of a file or a link
+-- the entries of an object: none of the root, one of another directory, one or more of a file or a
+-- link
 abbrev pub HasEntries : ℕ → Body → ℕ → Type 0
 HasEntries number (body.Directory slots) entries = entries ≡ (if number == 1 then 0 else 1)
 HasEntries number (body.Regular bytes) entries = 1 ≤ entries
@@ -46,12 +48,14 @@ abbrev pub IsNamed : ℕ → Option Object → ℕ → Type 0
 IsNamed number None entries = entries ≡ 0
 IsNamed number (Some o) entries = HasEntries number o.body entries
 
--- a tree that calls can make: the limits hold, number 0 is free, the root is a directory, each object is sound and
--- has its entries, entries name live objects, and each directory reaches the root going up
+-- a tree that calls can make: the limits hold, number 0 is free, the root is a directory, each
+-- object is sound and has its entries, entries name live objects, and each directory reaches the
+-- root going up
 pub record IsSound (tree : Tree) : Type 0 where
   pub limits : IsWithinLimits tree
   pub nothing_at_0 : place tree 0 ≡ None
   pub root : is_directory_at (place tree 1) ≡ true
   pub objects : (number : ℕ) → IsSoundObject (place tree number)
   pub entries : (number : ℕ) → IsNamed number (place tree number) (names_of tree number)
-  pub reaches : (number : ℕ) → is_directory_at (place tree number) ≡ true → is_above (length tree) tree 1 number ≡ true
+  pub reaches : (number : ℕ) → is_directory_at (place tree number) ≡ true
+      → is_above (length tree) tree 1 number ≡ true

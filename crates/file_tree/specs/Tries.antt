@@ -89,7 +89,10 @@ abbrev pub is_some : {A : Type 0} → Option A → Bool
 is_some None = false
 is_some (Some x) = true
 
--- the blocks stay within the limit where the object of a number gets a size. The blocks that it has go, and are added
--- to the limit in place of being taken from those used, since a difference of natural numbers stops at 0
+-- the blocks stay within the limit where the object of a number gets a size. The blocks that it has
+-- go, and are added to the limit in place of being taken from those used, since a difference of
+-- natural numbers stops at 0
 abbrev pub room : Tree → ℕ → ℕ → Tried (Unit {0})
-room tree number size = refuse NoSpc (nat_lt (tree_blocks + blocks_at (place tree number)) (used_blocks tree + blocks_of size))
+room tree number size =
+    refuse NoSpc (nat_lt (tree_blocks + blocks_at (place tree number))
+    (used_blocks tree + blocks_of size))

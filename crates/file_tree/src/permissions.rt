@@ -33,8 +33,9 @@ fn has_bits(bits: u16, want: u16) -> bool
     bits & want == want
 }
 
-/// Whether a caller may do all that is wanted with an object of this mode, user and group: 4 to read it, 2 to write it, 1 to
-/// search it. The owner's bits count for its user, else the group's for its group, else those of others.
+/// Whether a caller may do all that is wanted with an object of this mode, user and group: 4 to
+/// read it, 2 to write it, 1 to search it. The owner's bits count for its user, else the group's
+/// for its group, else those of others.
 pub fn may(cred: Cred, mode: u16, uid: u32, gid: u32, want: u8) -> bool
     ensures { result ≡ may cred mode uid gid want }
 {

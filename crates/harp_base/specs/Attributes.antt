@@ -22,7 +22,8 @@ time_at = field_as (λ x. record { seconds = x.0; micros = x.1 }) (u32_at ⊗ u3
 
 abbrev pub SetAttrFits : SetAttr → Type 0
 SetAttrFits a =
-    (a.mode < 2 ^ 32) × (a.uid < 2 ^ 32) × (a.gid < 2 ^ 32) × (a.size < 2 ^ 32) × TimeFits a.atime × TimeFits a.mtime
+    (a.mode < 2 ^ 32) × (a.uid < 2 ^ 32) × (a.gid < 2 ^ 32) × (a.size < 2 ^ 32) × TimeFits a.atime
+    × TimeFits a.mtime
 
 unfoldable pub set_attr_bytes : SetAttr → List ℕ
 set_attr_bytes a =
@@ -30,7 +31,8 @@ set_attr_bytes a =
     ++ time_bytes a.atime ++ time_bytes a.mtime
 
 abbrev pub set_attr_of : ((((ℕ × ℕ) × ℕ) × ℕ) × Time) × Time → SetAttr
-set_attr_of (((((m, u), g), s), a), t) = record { mode = m; uid = u; gid = g; size = s; atime = a; mtime = t }
+set_attr_of (((((m, u), g), s), a), t) =
+    record { mode = m; uid = u; gid = g; size = s; atime = a; mtime = t }
 
 unfoldable pub set_attr_at : Reader SetAttr
 set_attr_at = field_as set_attr_of (u32_at ⊗ u32_at ⊗ u32_at ⊗ u32_at ⊗ time_at ⊗ time_at)
@@ -47,16 +49,19 @@ kinds = Regular ∷ Directory ∷ Link ∷ []
 
 abbrev pub AttrFits : Attr → Type 0
 AttrFits a =
-    (a.mode < 2 ^ 16) × (a.links < 2 ^ 32) × (a.uid < 2 ^ 32) × (a.gid < 2 ^ 32) × (a.size < 2 ^ 32) × (a.blocks < 2 ^ 32)
+    (a.mode < 2 ^ 16) × (a.links < 2 ^ 32) × (a.uid < 2 ^ 32) × (a.gid < 2 ^ 32) × (a.size < 2 ^ 32)
+    × (a.blocks < 2 ^ 32)
     × (a.fileid < 2 ^ 32) × TimeFits a.atime × TimeFits a.mtime × TimeFits a.ctime
 
 unfoldable pub attr_bytes : Attr → List ℕ
 attr_bytes a =
-    kind_number a.kind ∷ [] ++ u16_bytes a.mode ++ u32_bytes a.links ++ u32_bytes a.uid ++ u32_bytes a.gid
+    kind_number a.kind ∷ [] ++ u16_bytes a.mode ++ u32_bytes a.links ++ u32_bytes a.uid
+    ++ u32_bytes a.gid
     ++ u32_bytes a.size ++ u32_bytes a.blocks ++ u32_bytes a.fileid
     ++ time_bytes a.atime ++ time_bytes a.mtime ++ time_bytes a.ctime
 
-abbrev pub attr_of : ((((((((((Kind × ℕ) × ℕ) × ℕ) × ℕ) × ℕ) × ℕ) × ℕ) × Time) × Time) × Time) → Attr
+abbrev pub attr_of : ((((((((((Kind × ℕ) × ℕ) × ℕ) × ℕ) × ℕ) × ℕ) × ℕ) × Time) × Time) × Time)
+    → Attr
 attr_of ((((((((((k, mode), l), u), g), s), b), f), a), m), c) = record {
   kind = k;
   mode = mode;
@@ -74,4 +79,5 @@ attr_of ((((((((((k, mode), l), u), g), s), b), f), a), m), c) = record {
 unfoldable pub attr_at : Reader Attr
 attr_at =
     field_as attr_of
-    (tag_at kind_number kinds ⊗ u16_at ⊗ u32_at ⊗ u32_at ⊗ u32_at ⊗ u32_at ⊗ u32_at ⊗ u32_at ⊗ time_at ⊗ time_at ⊗ time_at)
+    (tag_at kind_number kinds ⊗ u16_at ⊗ u32_at ⊗ u32_at ⊗ u32_at ⊗ u32_at ⊗ u32_at ⊗ u32_at
+    ⊗ time_at ⊗ time_at ⊗ time_at)

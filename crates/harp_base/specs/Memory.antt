@@ -1,7 +1,8 @@
 -- Sources and sinks in memory, some of whose calls fail.
 use Rattle.std.specs.Prelude.{◌≡◌, ℕ, ◌+◌, ◌-◌, ◌^◌, min, List, Any}
 
--- the numbers of the calls that fail, from 1; the calls and the failed ones so far, as far as a u64 counts
+-- the numbers of the calls that fail, from 1; the calls and the failed ones so far, as far as a u64
+-- counts
 pub record Failing : Type 0 where
   pub fails : List ℕ
   pub calls : ℕ

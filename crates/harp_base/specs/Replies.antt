@@ -31,7 +31,8 @@ status_number status.Stale = 70
 
 abbrev pub statuses : List Status
 statuses =
-    status.Perm ∷ status.NoEnt ∷ status.Io ∷ status.NxIo ∷ status.Acces ∷ status.Exist ∷ status.NotDir ∷ status.IsDir
+    status.Perm ∷ status.NoEnt ∷ status.Io ∷ status.NxIo ∷ status.Acces ∷ status.Exist
+    ∷ status.NotDir ∷ status.IsDir
     ∷ status.FBig ∷ status.NoSpc ∷ status.NameTooLong ∷ status.NotEmpty ∷ status.Stale ∷ []
 
 -- ---- pages
@@ -43,7 +44,9 @@ unfoldable pub entry_bytes : DirEntry → List ℕ
 entry_bytes e = u32_bytes e.fileid ++ counted_bytes e.name ++ u32_bytes e.cookie
 
 unfoldable pub entry_at : Reader DirEntry
-entry_at = field_as (λ x. record { fileid = x.0.0; name = x.0.1; cookie = x.1 }) (u32_at ⊗ bytes_at longest_name ⊗ u32_at)
+entry_at =
+    field_as (λ x. record { fileid = x.0.0; name = x.0.1; cookie = x.1 })
+    (u32_at ⊗ bytes_at longest_name ⊗ u32_at)
 
 abbrev pub EachFits : List DirEntry → Type 0
 EachFits [] = Unit {0}
@@ -101,7 +104,8 @@ form_number form.Page = 6
 form_number form.Space = 7
 
 abbrev pub forms : List ReplyForm
-forms = form.Refused ∷ form.Done ∷ form.Attr ∷ form.Node ∷ form.Path ∷ form.Bytes ∷ form.Page ∷ form.Space ∷ []
+forms = form.Refused ∷ form.Done ∷ form.Attr ∷ form.Node ∷ form.Path ∷ form.Bytes ∷ form.Page
+    ∷ form.Space ∷ []
 
 abbrev pub reply_fields_of : Reply → List ℕ
 reply_fields_of (reply.Refused status) = status_number status ∷ []
@@ -111,7 +115,9 @@ reply_fields_of (reply.Node handle attr) = u32_bytes handle ++ attr_bytes attr
 reply_fields_of (reply.Path text) = counted_bytes text
 reply_fields_of (reply.Bytes attr bytes) = attr_bytes attr ++ counted_bytes bytes
 reply_fields_of (reply.Page entries eof) = entries_bytes entries ++ flag_number eof ∷ []
-reply_fields_of (reply.Space transfer block blocks free available) = u32_bytes transfer ++ u32_bytes block ++ u32_bytes blocks ++ u32_bytes free ++ u32_bytes available
+reply_fields_of (reply.Space transfer block blocks free available) =
+    u32_bytes transfer ++ u32_bytes block ++ u32_bytes blocks ++ u32_bytes free
+    ++ u32_bytes available
 
 -- the one spelling of a reply: the number of its form, and its fields
 abbrev pub reply_bytes : Reply → List ℕ
@@ -126,17 +132,24 @@ ReplyFits (reply.Node handle attr) = (handle < 2 ^ 32) × AttrFits attr
 ReplyFits (reply.Path text) = length text ≤ longest_path
 ReplyFits (reply.Bytes attr bytes) = AttrFits attr × (length bytes ≤ longest_transfer)
 ReplyFits (reply.Page entries eof) = EntriesFit entries
-ReplyFits (reply.Space transfer block blocks free available) = (transfer < 2 ^ 32) × (block < 2 ^ 32) × (blocks < 2 ^ 32) × (free < 2 ^ 32) × (available < 2 ^ 32)
+ReplyFits (reply.Space transfer block blocks free available) =
+    (transfer < 2 ^ 32) × (block < 2 ^ 32) × (blocks < 2 ^ 32) × (free < 2 ^ 32)
+    × (available < 2 ^ 32)
 
 unfoldable pub reply_fields_at : ReplyForm → Reader Reply
-reply_fields_at form.Refused bytes at = field_as reply.Refused (tag_at status_number statuses) bytes at
+reply_fields_at form.Refused bytes at =
+    field_as reply.Refused (tag_at status_number statuses) bytes at
 reply_fields_at form.Done bytes at = Ok (reply.Done, at)
 reply_fields_at form.Attr bytes at = field_as reply.Attr attr_at bytes at
 reply_fields_at form.Node bytes at = field_as (λ x. reply.Node x.0 x.1) (u32_at ⊗ attr_at) bytes at
 reply_fields_at form.Path bytes at = field_as reply.Path (bytes_at longest_path) bytes at
-reply_fields_at form.Bytes bytes at = field_as (λ x. reply.Bytes x.0 x.1) (attr_at ⊗ bytes_at longest_transfer) bytes at
-reply_fields_at form.Page bytes at = field_as (λ x. reply.Page x.0 x.1) (entries_at ⊗ tag_at flag_number flags) bytes at
-reply_fields_at form.Space bytes at = field_as (λ x. reply.Space x.0.0.0.0 x.0.0.0.1 x.0.0.1 x.0.1 x.1) (u32_at ⊗ u32_at ⊗ u32_at ⊗ u32_at ⊗ u32_at) bytes at
+reply_fields_at form.Bytes bytes at =
+    field_as (λ x. reply.Bytes x.0 x.1) (attr_at ⊗ bytes_at longest_transfer) bytes at
+reply_fields_at form.Page bytes at =
+    field_as (λ x. reply.Page x.0 x.1) (entries_at ⊗ tag_at flag_number flags) bytes at
+reply_fields_at form.Space bytes at =
+    field_as (λ x. reply.Space x.0.0.0.0 x.0.0.0.1 x.0.0.1 x.0.1 x.1)
+    (u32_at ⊗ u32_at ⊗ u32_at ⊗ u32_at ⊗ u32_at) bytes at
 
 -- a reply: its form's number, and then the fields
 unfoldable pub reply_at : Reader Reply

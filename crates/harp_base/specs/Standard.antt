@@ -1,4 +1,5 @@
--- A source over a reader and a sink over a writer: what is under them, and how many of their calls have failed.
+-- A source over a reader and a sink over a writer: what is under them, and how many of their calls
+-- have failed.
 use Rattle.std.specs.Prelude.{ℕ}
 use Rattle.harp_base.specs.declared.standard.ReaderSource.{ReaderSource}
 use Rattle.harp_base.specs.declared.standard.WriterSink.{WriterSink}

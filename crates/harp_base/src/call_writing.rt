@@ -20,7 +20,8 @@ fn put_entry(
     dir: u32,
     name: &Bounded<LONGEST_ARGUMENT>,
 ) -> Result<(), AllocError>
-    ensures value { OnOk result (out.new.items ≡ out.old.items ++ u32_bytes dir ++ counted_bytes name.now) }
+    ensures value { OnOk result (out.new.items ≡ out.old.items ++ u32_bytes dir
+        ++ counted_bytes name.now) }
     ensures fits { OnOk result ((dir < 2 ^ 32) × NameFits name.now) }
 {
     put_u32(out, dir)?;

@@ -112,7 +112,8 @@ impl Source for MemSource {
     /// Gives as many bytes as fit.
     fn read(&mut self, into: &mut [u8]) -> Result<usize, Failed>
         ensures within { IfOk result (λ n. n ≤ length into.new) }
-        ensures taken { IfOk result (λ n. Taken (Some self.old.left) (Some self.new.left) into.new n) }
+        ensures taken { IfOk result
+            (λ n. Taken (Some self.old.left) (Some self.new.left) into.new n) }
         ensures kept { OnErr result (self.new.left ≡ self.old.left) }
         ensures rose { OnErr result (Rose self.old.failing.faults self.new.failing.faults) }
         ensures count { self.old.failing.faults ≤ self.new.failing.faults }

@@ -12,11 +12,13 @@ pub same_key : (k l : ℕ × ℕ × ℕ) → is_key k l ≡ true → k ≡ l
 same_key (a, b, c) (x, y, z) h =
     let h1 = and_parts ((a == x) && (b == y)) (c == z) h in
     let h2 = and_parts (a == x) (b == y) h1.0 in
-    ap (λ (n : ℕ). (n, b, c)) (eqb-true a x h2.0) ∙ ap (λ (n : ℕ). (x, n, c)) (eqb-true b y h2.1) ∙ ap (λ (n : ℕ). (x, y, n)) (eqb-true c z h1.1)
+    ap (λ (n : ℕ). (n, b, c)) (eqb-true a x h2.0) ∙ ap (λ (n : ℕ). (x, n, c)) (eqb-true b y h2.1)
+    ∙ ap (λ (n : ℕ). (x, y, n)) (eqb-true c z h1.1)
 
 -- the cell of a key
 cell_of : ℕ × ℕ × ℕ → Cell
-cell_of (kind, first, second) = cond (kind == 1) Meta (cond (kind == 2) (Object first) (cond (kind == 3) (Block first second)
+cell_of (kind, first, second) =
+    cond (kind == 1) Meta (cond (kind == 2) (Object first) (cond (kind == 3) (Block first second)
     (cond (kind == 4) (Slot first second) (cond (kind == 5) (Client first) (Saved first)))))
 
 cell_of-key : (c : Cell) → cell_of (key c) ≡ c
@@ -33,7 +35,9 @@ unfolding is_cell
 is_cell_true a b h = sym (cell_of-key a) ∙ ap cell_of (same_key (key a) (key b) h) ∙ cell_of-key b
 
 is_key_itself : (k : ℕ × ℕ × ℕ) → is_key k k ≡ true
-is_key_itself (a, b, c) = and_from ((a == a) && (b == b)) (c == c) (and_from (a == a) (b == b) (eq-eqb a a refl) (eq-eqb b b refl)) (eq-eqb c c refl)
+is_key_itself (a, b, c) =
+    and_from ((a == a) && (b == b)) (c == c)
+    (and_from (a == a) (b == b) (eq-eqb a a refl) (eq-eqb b b refl)) (eq-eqb c c refl)
 
 pub is_cell_itself : (a b : Cell) → a ≡ b → is_cell a b ≡ true
 unfolding is_cell
@@ -43,17 +47,10 @@ pub alike : (a b c : Cell) → is_cell a b ≡ true → is_cell a c ≡ is_cell 
 unfolding is_cell
 alike a b c h = ap (λ (k : ℕ × ℕ × ℕ). is_key k (key c)) (same_key (key a) (key b) h)
 
-pub alike_right : (a b c : Cell) → is_cell a b ≡ true → is_cell c a ≡ is_cell c b
-unfolding is_cell
-alike_right a b c h = ap (λ (k : ℕ × ℕ × ℕ). is_key (key c) k) (same_key (key a) (key b) h)
-
-pub alike_blocks : (object first : ℕ) (a b : Cell) → is_cell a b ≡ true → is_block_from object first a ≡ is_block_from object first b
-unfolding is_cell is_block_from
-alike_blocks object first a b h = ap (λ (k : ℕ × ℕ × ℕ). is_block_key object first k) (same_key (key a) (key b) h)
-
 -- ---- blocks of an object
 
-pub is_block_key_parts : (object first : ℕ) (k : ℕ × ℕ × ℕ) → is_block_key object first k ≡ true → (k.0 ≡ 3) × (k.1 ≡ object) × (first ≤ k.2)
+pub is_block_key_parts : (object first : ℕ) (k : ℕ × ℕ × ℕ) → is_block_key object first k ≡ true
+    → (k.0 ≡ 3) × (k.1 ≡ object) × (first ≤ k.2)
 is_block_key_parts object first k h =
     let both = and_parts ((k.0 == 3) && (k.1 == object)) (nat_le first k.2) h in
     let same = and_parts (k.0 == 3) (k.1 == object) both.0 in

@@ -12,10 +12,13 @@ use Rattle.harp_cells.specs.Effect.{changed}
 use Rattle.harp_cells.specs.CellsOfTree.{object_value, content_of, block_of, block_value, slot_value, cells_after, stands_for, StandForSame}
 use Rattle.harp_cells.specs.Laws.{NoValuesAreFirst, CellsStand, BlocksEnd, SlotsEnd, DeadAreAbsent, ChangesAppend}
 
-past_end : (bytes : List ℕ) (block : ℕ) → length bytes ≤ 4096 * block → block_value (block_of bytes block) ≡ None
-past_end bytes block past = ap (λ (xs : List ℕ). block_value (take 4096 xs)) (drop_all (4096 * block) bytes past)
+past_end : (bytes : List ℕ) (block : ℕ) → length bytes ≤ 4096 * block
+    → block_value (block_of bytes block) ≡ None
+past_end bytes block past =
+    ap (λ (xs : List ℕ). block_value (take 4096 xs)) (drop_all (4096 * block) bytes past)
 
-past_slots : (slots : List (Option Slot)) (slot : ℕ) → length slots ≤ slot → slot_value (get_or slots slot None) ≡ None
+past_slots : (slots : List (Option Slot)) (slot : ℕ) → length slots ≤ slot
+    → slot_value (get_or slots slot None) ≡ None
 past_slots slots slot past = ap slot_value (get_or_past slots slot None past)
 
 pub blocks_end : BlocksEnd
@@ -27,8 +30,10 @@ slots_end tree stamp last object slot past = past_slots (slots_of (place tree ob
 pub dead_are_absent : DeadAreAbsent
 dead_are_absent tree stamp last object at dead = (
   ap (λ (o : Option Object). object_value tree object o) dead,
-  ap (λ (o : Option Object). block_value (block_of (content_of o) at)) dead ∙ past_end [] at (omega arith),
-  ap (λ (o : Option Object). slot_value (get_or (slots_of o) at None)) dead ∙ past_slots [] at (omega arith),
+  ap (λ (o : Option Object). block_value (block_of (content_of o) at)) dead
+      ∙ past_end [] at (omega arith),
+  ap (λ (o : Option Object). slot_value (get_or (slots_of o) at None)) dead
+      ∙ past_slots [] at (omega arith),
 )
 
 pub cells_stand : CellsStand
@@ -37,7 +42,8 @@ cells_stand entries = record {
     meta = refl;
     object = λ object. refl;
     block = λ object block. refl;
-    ends = λ object block past. past_end (content_of (place (tree_after entries) object)) block past;
+    ends = λ object block past. past_end
+        (content_of (place (tree_after entries) object)) block past;
     slot = λ object slot. refl;
   };
   client = λ client. refl;
@@ -53,7 +59,8 @@ first_slots zero = refl
 first_slots (suc zero) = refl
 first_slots (suc (suc object)) = refl
 
-first_objects : (object : ℕ) → StandForSame first_tree (cell.Object object) None (object_value first_tree object (place first_tree object))
+first_objects : (object : ℕ) → StandForSame first_tree (cell.Object object) None
+    (object_value first_tree object (place first_tree object))
 unfolding links_of parent_of
 first_objects zero = refl
 first_objects (suc zero) = refl
@@ -68,9 +75,14 @@ no_values_are_first = record {
   tree = record {
     meta = first_meta;
     object = first_objects;
-    block = λ object block. ap (λ (v : Option Value). stands_for first_tree (cell.Block object block) v) (sym (ap (λ (xs : List ℕ). block_value (block_of xs block)) (first_content object) ∙ past_end [] block (omega arith)));
+    block = λ object block. ap (λ (v : Option Value). stands_for first_tree
+        (cell.Block object block) v)
+        (sym (ap (λ (xs : List ℕ). block_value (block_of xs block)) (first_content object)
+        ∙ past_end [] block (omega arith)));
     ends = λ object block past. refl;
-    slot = λ object slot. ap (λ (v : Option Value). stands_for first_tree (cell.Slot object slot) v) (sym (ap (λ (xs : List (Option Slot)). slot_value (get_or xs slot None)) (first_slots object) ∙ past_slots [] slot (omega arith)));
+    slot = λ object slot. ap (λ (v : Option Value). stands_for first_tree (cell.Slot object slot) v)
+        (sym (ap (λ (xs : List (Option Slot)). slot_value (get_or xs slot None))
+        (first_slots object) ∙ past_slots [] slot (omega arith)));
   };
   client = λ client. refl;
 }

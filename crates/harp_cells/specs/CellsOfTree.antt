@@ -39,7 +39,8 @@ object_value tree number (Some o) = Some (value.Object (inode_of tree number o))
 -- a file has its bytes in blocks, a symbolic link its text
 abbrev pub content_of : Option Object → List ℕ
 content_of None = []
-content_of (Some o) = elim o.body [ body.Regular bytes ↦ bytes | body.Directory slots ↦ [] | body.Link text ↦ text ]
+content_of (Some o) =
+    elim o.body [ body.Regular bytes ↦ bytes | body.Directory slots ↦ [] | body.Link text ↦ text ]
 
 -- the bytes of a block, fewer than its size in the last one
 abbrev pub block_of : List ℕ → ℕ → List ℕ
@@ -60,19 +61,22 @@ abbrev pub client_value : Option Entry → Option Value
 client_value None = None
 client_value (Some e) = Some (value.Client e.number e.index e.reply)
 
--- the value of each cell by a tree, the stamp of its last update and the last update of each client. The cells of an
--- object that isn't live are absent
+-- the value of each cell by a tree, the stamp of its last update and the last update of each
+-- client. The cells of an object that isn't live are absent
 abbrev pub cell_of_tree : Tree → ℕ → (ℕ → Option Entry) → Cells
 cell_of_tree tree stamp last cell.Meta = Some (value.Meta (length tree) (used_blocks tree) stamp)
 cell_of_tree tree stamp last (cell.Object object) = object_value tree object (place tree object)
-cell_of_tree tree stamp last (cell.Block object block) = block_value (block_of (content_of (place tree object)) block)
-cell_of_tree tree stamp last (cell.Slot object slot) = slot_value (slice_index_or (slots_of (place tree object)) slot None)
+cell_of_tree tree stamp last (cell.Block object block) =
+    block_value (block_of (content_of (place tree object)) block)
+cell_of_tree tree stamp last (cell.Slot object slot) =
+    slot_value (slice_index_or (slots_of (place tree object)) slot None)
 cell_of_tree tree stamp last (cell.Client client) = client_value (last client)
 cell_of_tree tree stamp last (cell.Saved at) = None
 
 -- the cells after the entries of a book
 abbrev pub cells_after : List Entry → Cells
-cells_after entries = cell_of_tree (tree_after entries) (last_stamp entries) (λ client. last_of client entries)
+cells_after entries =
+    cell_of_tree (tree_after entries) (last_stamp entries) (λ client. last_of client entries)
 
 -- ---- values that stand for the same
 
@@ -81,7 +85,20 @@ first_meta = value.Meta 2 0 0
 
 -- the root of the first tree
 abbrev pub first_root : Value
-first_root = value.Object (record { kind = kind.Directory; mode = 493; uid = 0; gid = 0; links = 2; parent = 1; size = 0; slots = 0; atime = time_zero; mtime = time_zero; ctime = time_zero })
+first_root =
+    value.Object (record {
+      kind = kind.Directory;
+      mode = 493;
+      uid = 0;
+      gid = 0;
+      links = 2;
+      parent = 1;
+      size = 0;
+      slots = 0;
+      atime = time_zero;
+      mtime = time_zero;
+      ctime = time_zero;
+    })
 
 -- what an absent cell stands for, other than a block of a file
 abbrev pub absent_value : Cell → Option Value
@@ -103,7 +120,13 @@ full_value (value.Saved bytes) = value.Saved bytes
 
 abbrev pub is_regular_at : Option Object → Bool
 is_regular_at None = false
-is_regular_at (Some o) = elim o.body [ body.Regular bytes ↦ true | body.Directory slots ↦ false | body.Link text ↦ false ]
+is_regular_at (Some o) =
+    elim o.body [
+      | body.Regular bytes ↦ true
+      | body.Directory slots ↦ false
+      | body.Link text ↦
+          false
+    ]
 
 abbrev pub is_in_file : Tree → Cell → Bool
 is_in_file tree (cell.Block object block) = is_regular_at (place tree object)
@@ -117,7 +140,8 @@ is_in_file tree (cell.Saved at) = false
 abbrev pub zero_block : Value
 zero_block = value.Block (replicate block_size 0)
 
--- what a cell stands for that is absent or holds a value: an absent block of a file stands for zeros
+-- what a cell stands for that is absent or holds a value: an absent block of a file stands for
+-- zeros
 abbrev pub stands_for : Tree → Cell → Option Value → Option Value
 stands_for tree c None = if is_in_file tree c then Some zero_block else absent_value c
 stands_for tree c (Some v) = Some (if is_in_file tree c then full_value v else v)
@@ -126,14 +150,21 @@ stands_for tree c (Some v) = Some (if is_in_file tree c then full_value v else v
 abbrev pub StandForSame : Tree → Cell → Option Value → Option Value → Type 0
 StandForSame tree c v w = stands_for tree c v ≡ stands_for tree c w
 
--- these cells stand for a tree, whose last update has this stamp; those of clients and of saved logs are left aside. No
--- block is there at or past the end of its object's content, be it of zeros
+-- these cells stand for a tree, whose last update has this stamp; those of clients and of saved
+-- logs are left aside. No block is there at or past the end of its object's content, be it of zeros
 pub record StandForTree (cells : Cells) (tree : Tree) (stamp : ℕ) : Type 0 where
-  pub meta : StandForSame tree cell.Meta (cells cell.Meta) (Some (value.Meta (length tree) (used_blocks tree) stamp))
-  pub object : (object : ℕ) → StandForSame tree (cell.Object object) (cells (cell.Object object)) (object_value tree object (place tree object))
-  pub block : (object block : ℕ) → StandForSame tree (cell.Block object block) (cells (cell.Block object block)) (block_value (block_of (content_of (place tree object)) block))
-  pub ends : (object block : ℕ) → length (content_of (place tree object)) ≤ block_size * block → cells (cell.Block object block) ≡ None
-  pub slot : (object slot : ℕ) → StandForSame tree (cell.Slot object slot) (cells (cell.Slot object slot)) (slot_value (slice_index_or (slots_of (place tree object)) slot None))
+  pub meta : StandForSame tree cell.Meta (cells cell.Meta)
+      (Some (value.Meta (length tree) (used_blocks tree) stamp))
+  pub object : (object : ℕ) → StandForSame tree (cell.Object object) (cells (cell.Object object))
+      (object_value tree object (place tree object))
+  pub block : (object block : ℕ) → StandForSame tree (cell.Block object block)
+      (cells (cell.Block object block))
+      (block_value (block_of (content_of (place tree object)) block))
+  pub ends : (object block : ℕ) → length (content_of (place tree object)) ≤ block_size * block
+      → cells (cell.Block object block) ≡ None
+  pub slot : (object slot : ℕ) → StandForSame tree (cell.Slot object slot)
+      (cells (cell.Slot object slot))
+      (slot_value (slice_index_or (slots_of (place tree object)) slot None))
 
 -- these cells stand for the tree and the updates after the entries of a book
 pub record StandForBook (cells : Cells) (entries : List Entry) : Type 0 where

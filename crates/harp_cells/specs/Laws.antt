@@ -19,21 +19,25 @@ CellsStand = (entries : List Entry) → StandForBook (cells_after entries) entri
 
 -- a block that begins at or past the end of its file is absent
 abbrev pub BlocksEnd : Type 0
-BlocksEnd = (tree : Tree) (stamp : ℕ) (last : ℕ → Option Entry) (object block : ℕ) → length (content_of (place tree object)) ≤ block_size * block
+BlocksEnd = (tree : Tree) (stamp : ℕ) (last : ℕ → Option Entry) (object block : ℕ)
+    → length (content_of (place tree object)) ≤ block_size * block
     → cell_of_tree tree stamp last (cell.Block object block) ≡ None
 
 -- a slot at or past the number of slots is absent
 abbrev pub SlotsEnd : Type 0
-SlotsEnd = (tree : Tree) (stamp : ℕ) (last : ℕ → Option Entry) (object slot : ℕ) → length (slots_of (place tree object)) ≤ slot
+SlotsEnd = (tree : Tree) (stamp : ℕ) (last : ℕ → Option Entry) (object slot : ℕ)
+    → length (slots_of (place tree object)) ≤ slot
     → cell_of_tree tree stamp last (cell.Slot object slot) ≡ None
 
 -- the cells of an object that isn't live are absent
 abbrev pub DeadAreAbsent : Type 0
-DeadAreAbsent = (tree : Tree) (stamp : ℕ) (last : ℕ → Option Entry) (object place_of : ℕ) → place tree object ≡ None
+DeadAreAbsent = (tree : Tree) (stamp : ℕ) (last : ℕ → Option Entry) (object place_of : ℕ)
+    → place tree object ≡ None
     → (cell_of_tree tree stamp last (cell.Object object) ≡ None)
     × (cell_of_tree tree stamp last (cell.Block object place_of) ≡ None)
     × (cell_of_tree tree stamp last (cell.Slot object place_of) ≡ None)
 
 -- changes made after others are those of both in a row
 abbrev pub ChangesAppend : Type 0
-ChangesAppend = (changes more : List Change) (cells : Cells) (c : Cell) → after (changes ++ more) cells c ≡ after more (after changes cells) c
+ChangesAppend = (changes more : List Change) (cells : Cells) (c : Cell)
+    → after (changes ++ more) cells c ≡ after more (after changes cells) c

@@ -1,7 +1,7 @@
 //! The places of values.
 
-ghost use Rattle.std.specs.Prelude.{◌≡◌, ◌↔◌, IsTrue};
-ghost use Rattle.harp_cells.specs.Effect.{key, is_cell, is_block_from};
+ghost use Rattle.std.specs.Prelude.{◌≡◌};
+ghost use Rattle.harp_cells.specs.Effect.{key};
 
 /// A place that holds a value or is absent. Objects and clients are named by their numbers.
 #[derive(Clone, Copy, Debug, PartialEq, Eq, PartialOrd, Ord)]
@@ -34,32 +34,6 @@ impl Cell {
             Cell::Slot { object, slot } => (4, object, slot),
             Cell::Client { client } => (5, client, 0),
             Cell::Saved { place } => (6, place, 0),
-        }
-    }
-
-    /// Whether it is this cell.
-    #[tactic(auto, unfolding(crate::specs::Effect::is_cell))]
-    pub fn is(self, other: Cell) -> bool
-        ensures value { result ≡ is_cell self other }
-        ensures same { IsTrue result ↔ (self ≡ other) }
-    {
-        let (kind, first, second) = self.key();
-        let (other_kind, other_first, other_second) = other.key();
-        kind == other_kind && first == other_first && second == other_second
-    }
-
-    /// Whether it is a block of this object with this number or a higher one.
-    #[tactic(auto, unfolding(crate::specs::Effect::is_block_from))]
-    pub fn is_block_from(self, object: u32, first: u32) -> bool
-        ensures { result ≡ is_block_from object first self }
-    {
-        match self {
-            Cell::Block { object: of, block } => of == object && block >= first,
-            Cell::Meta
-            | Cell::Object { .. }
-            | Cell::Slot { .. }
-            | Cell::Client { .. }
-            | Cell::Saved { .. } => false,
         }
     }
 }

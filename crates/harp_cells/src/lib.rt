@@ -1,5 +1,5 @@
-//! Cells: the values in which a file tree and its updates lie on a disk, the changes of them, where they are read from,
-//! and a map of cells in memory.
+//! Cells: the values in which a file tree and its updates lie on a disk, the changes of them, where
+//! they are read from, and a map of cells in memory.
 #![tactic(auto)]
 
 mod bounds;

@@ -17,8 +17,8 @@ use std::alloc::{AllocError, Global};
 use std::collections::BTreeMap;
 use std::marker::Model;
 
-/// A map of cells in memory. A read and a change cost a logarithm of the number of values, and an erasure of blocks one
-/// for each block that goes.
+/// A map of cells in memory. A read and a change cost a logarithm of the number of values, and an
+/// erasure of blocks one for each block that goes.
 #[derive(Debug, Drop)]
 pub struct MemCells {
     values: BTreeMap<Key, Value>,
@@ -36,8 +36,10 @@ impl Model for MemCells {
 // The number of the object's first block that holds a value, from a number on.
 fn first_block(values: &BTreeMap<Key, Value>, object: u32, first: u32) -> Option<u32>
     ensures from { IfSome result (λ block. first ≤ block) }
-    ensures found { IfSome result (λ block. IsSome (cell_in values.now.entries (cell.Block object block))) }
-    ensures none { IfNone result ((c : CellName) → is_block_from object first c ≡ true → cell_in values.now.entries c ≡ None) }
+    ensures found { IfSome result (λ block. IsSome
+        (cell_in values.now.entries (cell.Block object block))) }
+    ensures none { IfNone result ((c : CellName) → is_block_from object first c ≡ true
+        → cell_in values.now.entries c ≡ None) }
 {
     let (key, _) = values.range((3, object, first)..).next()?;
     if key.0 == 3 && key.1 == object {
@@ -49,8 +51,10 @@ fn first_block(values: &BTreeMap<Key, Value>, object: u32, first: u32) -> Option
 
 // The value of a cell goes, where there is one.
 fn drop_value(values: &mut BTreeMap<Key, Value>, cell: Cell)
-    ensures gone { (c : CellName) → cell_in values.new.entries c ≡ (if is_cell cell c then None else cell_in values.old.entries c) }
-    ensures fewer { IsSome (cell_in values.old.entries cell) → length values.new.entries < length values.old.entries }
+    ensures gone { (c : CellName) → cell_in values.new.entries c ≡ (if is_cell cell c then None
+        else cell_in values.old.entries c) }
+    ensures fewer { IsSome (cell_in values.old.entries cell)
+        → length values.new.entries < length values.old.entries }
 {
     values.remove(&cell.key());
 }

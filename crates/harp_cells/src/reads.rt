@@ -36,7 +36,8 @@ pub trait CellRead {
     // What each cell holds, where the cells tell it.
     ghost cells: { Self → Option Cells };
 
-    // What the cell holds that was fetched last: nothing where it is absent, where that fetch failed, or where none was made.
+    // What the cell holds that was fetched last: nothing where it is absent, where that fetch
+    // failed, or where none was made.
     ghost found: { Self → Option CellValue };
 
     // How many calls of the store failed, which never falls.
@@ -47,7 +48,8 @@ pub trait CellRead {
         ensures found { OnOk result (Reads (cells self.old) cell (found self.new)) }
         ensures none { OnErr result (found self.new ≡ None) }
         ensures kept { cells self.new ≡ cells self.old }
-        ensures rose { result ≡ Err CellFault.StoreFailed → Rose (faults self.old) (faults self.new) }
+        ensures rose { result ≡ Err CellFault.StoreFailed
+            → Rose (faults self.old) (faults self.new) }
         ensures count { faults self.old ≤ faults self.new };
 
     /// Lends what was fetched last. It takes no memory.
@@ -55,7 +57,8 @@ pub trait CellRead {
         ensures { option_copied result ≡ found self.now };
 }
 
-/// Changes by the records that they came with. The records have consecutive indices, from the one above the base on.
+/// Changes by the records that they came with. The records have consecutive indices, from the one
+/// above the base on.
 pub trait ChangeLog {
     // The index of the record before the first one.
     ghost base: { Self → ℕ };

@@ -9,8 +9,8 @@ use std::alloc::{AllocError, Global};
 // The most bytes of a block.
 const BLOCK_BYTES: usize = BLOCK_SIZE as usize;
 
-/// The attributes of an object. The mode has 12 bits, the parent is 0 of what is no directory, the size is in bytes,
-/// and the slots are those of a directory, free ones too.
+/// The attributes of an object. The mode has 12 bits, the parent is 0 of what is no directory, the
+/// size is in bytes, and the slots are those of a directory, free ones too.
 #[derive(Clone, Copy, Debug, PartialEq, Eq)]
 pub struct Inode {
     pub kind: Kind,
@@ -48,7 +48,8 @@ pub enum Value {
         object: u32,
         name: NonEmpty<LONGEST_NAME>,
     },
-    /// A client's last update: the number that the client gave it, its place among the updates, and its reply.
+    /// A client's last update: the number that the client gave it, its place among the updates, and
+    /// its reply.
     Client {
         number: u64,
         index: u64,

@@ -3,11 +3,11 @@
 ghost use Rattle.std.specs.Prelude.{◌≡◌, IfOk};
 
 use event_record::{Changes, Index, Moment, Record};
-use harp_base::{Bounded, Call, Reply, SUPERUSER, ServerId, ViewNo};
+use harp_base::{Bounded, Call, LOG_ROOM, Reply, SUPERUSER, ServerId, ViewNo};
 use harp_cells::Change;
 use std::alloc::Global;
 use std::test::Fail;
-use volatile_log::ActiveLog;
+use volatile_log::{ActiveLog, LogFull};
 use wire::Message;
 
 /// The update with this number, a write of one byte. It has one change.
@@ -56,5 +56,26 @@ fn keeps_a_record(rt: HostRuntime) -> Result<(), Fail> {
     assert!(rt;
         matches!(message.copy(alloc)?, Message::Event { record, .. } if record.number == 1)
     );
+    Ok(())
+}
+
+#[test]
+fn gives_the_record_back_where_the_log_is_full(rt: HostRuntime) -> Result<(), Fail> {
+    let alloc = rt.alloc();
+    let mut log = ActiveLog::start(alloc)?;
+    for _ in 0..LOG_ROOM {
+        let next = log.top() + 1;
+        assert!(rt; next < 1 << 62);
+        let item = record(alloc, Index::new(next))?;
+        assert!(rt; log.append(item).is_ok());
+    }
+    let next = log.top() + 1;
+    assert_eq!(rt; next, 32_769);
+    let item = record(alloc, Index::new(next))?;
+    assert!(rt;
+        matches!(log.append(item), Err((LogFull, back)) if back.index.get() == 32_769)
+    );
+    assert_eq!(rt; log.top(), 32_768);
+    assert!(rt; matches!(log.item(32_768), Some(last) if last.index.get() == 32_768));
     Ok(())
 }

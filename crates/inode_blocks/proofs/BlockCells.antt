@@ -22,7 +22,8 @@ same_block : (object a b : ℕ) → is_cell (cell.Block object a) (cell.Block ob
 unfolding is_cell
 same_block object a b = and_both (object == object) (a == b) (eq-eqb object object refl)
 
-from_block : (object first b : ℕ) → is_block_from object first (cell.Block object b) ≡ nat_le first b
+from_block : (object first b : ℕ) → is_block_from object first (cell.Block object b)
+    ≡ nat_le first b
 unfolding is_block_from
 from_block object first b = and_both (object == object) (nat_le first b) (eq-eqb object object refl)
 
@@ -43,12 +44,14 @@ put_elsewhere object a b bytes h other =
 pub erased_from : (object first b : ℕ) (h : Option Value) → first ≤ b
     → changed (cell.Block object b) h (change.EraseFrom object first) ≡ None
 erased_from object first b h from =
-    ap (λ (t : Bool). if◌then◌else◌ {A = Option Value} t None h) (from_block object first b ∙ le-leb first b from)
+    ap (λ (t : Bool). if◌then◌else◌ {A = Option Value} t None h)
+    (from_block object first b ∙ le-leb first b from)
 
 pub erased_before : (object first b : ℕ) (h : Option Value) → b < first
     → changed (cell.Block object b) h (change.EraseFrom object first) ≡ h
 erased_before object first b h before =
-    ap (λ (t : Bool). if◌then◌else◌ {A = Option Value} t None h) (from_block object first b ∙ lt-leb first b before)
+    ap (λ (t : Bool). if◌then◌else◌ {A = Option Value} t None h)
+    (from_block object first b ∙ lt-leb first b before)
 
 -- ---- cells that are no block of the object
 
@@ -57,7 +60,8 @@ apart_keys object o a b h = ap (λ (t : Bool). true && t && (a == b))
     (ne_eqb object o (λ e. eqb-false o object h (sym e)))
 
 -- a cell that is no block of the object
-apart : (object a : ℕ) (c : Cell) → is_block_of object c ≡ false → is_cell (cell.Block object a) c ≡ false
+apart : (object a : ℕ) (c : Cell) → is_block_of object c ≡ false
+    → is_cell (cell.Block object a) c ≡ false
 unfolding is_cell
 apart object a cell.Meta h = refl
 apart object a (cell.Object o) h = refl
@@ -66,7 +70,8 @@ apart object a (cell.Slot o s) h = refl
 apart object a (cell.Client n) h = refl
 apart object a (cell.Saved p) h = refl
 
-apart_from : (object first : ℕ) (c : Cell) → is_block_of object c ≡ false → is_block_from object first c ≡ false
+apart_from : (object first : ℕ) (c : Cell) → is_block_of object c ≡ false
+    → is_block_from object first c ≡ false
 unfolding is_block_from
 apart_from object first cell.Meta h = refl
 apart_from object first (cell.Object o) h = refl
@@ -75,10 +80,12 @@ apart_from object first (cell.Slot o s) h = refl
 apart_from object first (cell.Client n) h = refl
 apart_from object first (cell.Saved p) h = refl
 
-pub put_apart : (object a : ℕ) (bytes : List ℕ) (c : Cell) (h : Option Value) → is_block_of object c ≡ false
+pub put_apart : (object a : ℕ) (bytes : List ℕ) (c : Cell) (h : Option Value)
+    → is_block_of object c ≡ false
     → changed c h (put object a bytes) ≡ h
 put_apart object a bytes c h beside = ap
-    (λ (t : Bool). if◌then◌else◌ {A = Option Value} t (Some (value.Block bytes)) h) (apart object a c beside)
+    (λ (t : Bool). if◌then◌else◌ {A = Option Value} t (Some (value.Block bytes)) h)
+    (apart object a c beside)
 
 pub erased_apart : (object first : ℕ) (c : Cell) (h : Option Value) → is_block_of object c ≡ false
     → changed c h (change.EraseFrom object first) ≡ h
@@ -110,14 +117,16 @@ puts_behind object bytes b h a (suc n) behind =
     (put_elsewhere object a b (bytes a) h (λ e. omega arith))
     ∙ puts_behind object bytes b h (a + 1) n (omega arith)
 
-pub puts_at : (object : ℕ) (bytes : ℕ → List ℕ) (b : ℕ) (h : Option Value) (a n : ℕ) → a ≤ b → b < a + n
+pub puts_at : (object : ℕ) (bytes : ℕ → List ℕ) (b : ℕ) (h : Option Value) (a n : ℕ) → a ≤ b
+    → b < a + n
     → fold (changed (cell.Block object b)) h (puts_over object bytes (range_with_len a n)) ≡ Some
     (value.Block (bytes b))
 puts_at object bytes b h a zero from to = absurd (omega arith)
 puts_at object bytes b h a (suc n) from to = elim (cases_eq a b) [
   | inl here ↦
       go_on (cell.Block object b) _ _ (puts_over object bytes (range_with_len (a + 1) n))
-      (ap (λ (k : ℕ). changed (cell.Block object b) h (put object k (bytes k))) here ∙ put_here object b (bytes b) h)
+      (ap (λ (k : ℕ). changed (cell.Block object b) h (put object k (bytes k))) here
+      ∙ put_here object b (bytes b) h)
       ∙ puts_before object bytes b (Some (value.Block (bytes b))) (a + 1) n (omega arith)
   | inr other ↦
       go_on (cell.Block object b) _ h (puts_over object bytes (range_with_len (a + 1) n))
@@ -130,7 +139,8 @@ pub puts_apart : (object : ℕ) (bytes : ℕ → List ℕ) (c : Cell) (h : Optio
     → fold (changed c) h (puts_over object bytes (range_with_len a n)) ≡ h
 puts_apart object bytes c h a zero beside = refl
 puts_apart object bytes c h a (suc n) beside =
-    go_on c _ h (puts_over object bytes (range_with_len (a + 1) n)) (put_apart object a (bytes a) c h beside)
+    go_on c _ h (puts_over object bytes (range_with_len (a + 1) n))
+    (put_apart object a (bytes a) c h beside)
     ∙ puts_apart object bytes c h (a + 1) n beside
 
 -- ---- one block of a file
@@ -140,6 +150,7 @@ pub record HoldsBlock (v : Option Value) (bytes : List ℕ) (start : ℕ) : Type
   pub kind : IsBlock v
   pub byte : (at : ℕ) → at < 4096 → get_or (stored v) at 0 ≡ get_or bytes (start + at) 0
 
-pub holds_along : (v w : Option Value) (bytes : List ℕ) (start : ℕ) → v ≡ w → HoldsBlock w bytes start
+pub holds_along : (v w : Option Value) (bytes : List ℕ) (start : ℕ) → v ≡ w
+    → HoldsBlock w bytes start
     → HoldsBlock v bytes start
 holds_along v w bytes start e h = subst (λ (u : Option Value). HoldsBlock u bytes start) (sym e) h

@@ -50,14 +50,16 @@ stands_if : Bool → Option Value → Option Value
 stands_if true v = Some (full v)
 stands_if false v = v
 
-stands_is : (tree : Tree) (object block : ℕ) (v : Option Value) (t : Bool) → t ≡ is_regular_at (place tree object)
+stands_is : (tree : Tree) (object block : ℕ) (v : Option Value) (t : Bool)
+    → t ≡ is_regular_at (place tree object)
     → stands_for tree (cell.Block object block) v ≡ stands_if t v
 unfolding full stands_if
 stands_is tree object block None true e = ap
     (λ (b : Bool). if◌then◌else◌ {A = Option Value} b (Some zero_block) None) (sym e)
 stands_is tree object block None false e = ap
     (λ (b : Bool). if◌then◌else◌ {A = Option Value} b (Some zero_block) None) (sym e)
-stands_is tree object block (Some v) true e = ap (λ (b : Bool). Some (if◌then◌else◌ {A = Value} b (full_value v) v))
+stands_is tree object block (Some v) true e =
+    ap (λ (b : Bool). Some (if◌then◌else◌ {A = Value} b (full_value v) v))
     (sym e)
 stands_is tree object block (Some v) false e = ap
     (λ (b : Bool). Some (if◌then◌else◌ {A = Value} b (full_value v) v)) (sym e)
@@ -89,12 +91,14 @@ by_bytes bytes new e short = record {
       ∙ ap (λ (xs : List ℕ). get_or xs at 0) e ∙ padded_at new at;
 }
 
-by_full : (v : Option Value) (bytes : List ℕ) → length bytes ≤ 4096 → full v ≡ value.Block (padded bytes)
+by_full : (v : Option Value) (bytes : List ℕ) → length bytes ≤ 4096
+    → full v ≡ value.Block (padded bytes)
     → HoldsBlock v bytes
 unfolding full raw padded
 by_full None bytes short e = record {
   kind = tt;
-  byte = λ at within. sym (zero_at 4096 at) ∙ ap (λ (w : Value). get_or (raw w) at 0) e ∙ padded_at bytes at;
+  byte = λ at within. sym (zero_at 4096 at) ∙ ap (λ (w : Value). get_or (raw w) at 0) e
+      ∙ padded_at bytes at;
 }
 by_full (Some (value.Block b)) bytes short e = by_bytes b bytes (ap raw e) short
 by_full (Some (value.Meta next used stamp)) bytes short e = absurd cc
@@ -111,7 +115,8 @@ block_value_holds (b ∷ bytes) short = record
 by_stands : (t : Bool) (v : Option Value) (bytes : List ℕ) → length bytes ≤ 4096
     → stands_if t v ≡ stands_if t (block_value bytes) → HoldsBlock v bytes
 unfolding stands_if
-by_stands true v bytes short e = let f : full v ≡ full (block_value bytes) = cc in by_full v bytes short
+by_stands true v bytes short e = let f : full v ≡ full (block_value bytes) = cc in
+    by_full v bytes short
     (f ∙ full_block bytes)
 by_stands false v bytes short e = subst (λ (w : Option Value). HoldsBlock w bytes) (sym e)
     (block_value_holds bytes short)
@@ -128,8 +133,10 @@ tree_block : (cells : Cells) (tree : Tree) (stamp object block : ℕ) → StandF
     → HoldsBlock (cells (cell.Block object block)) (block_of (content_of (place tree object)) block)
 tree_block cells tree stamp object block stand =
     by_stands (is_regular_at (place tree object)) (cells (cell.Block object block))
-    (block_of (content_of (place tree object)) block) (short_block (content_of (place tree object)) block)
-    (sym (stands_is tree object block (cells (cell.Block object block)) (is_regular_at (place tree object)) refl)
+    (block_of (content_of (place tree object)) block)
+    (short_block (content_of (place tree object)) block)
+    (sym (stands_is tree object block (cells (cell.Block object block))
+    (is_regular_at (place tree object)) refl)
     ∙ stand.block object block
     ∙ stands_is tree object block (block_value (block_of (content_of (place tree object)) block))
     (is_regular_at (place tree object)) refl)
@@ -150,7 +157,8 @@ full_stored bytes = refl
 full_of : (v : Option Value) (bytes : List ℕ) → length bytes ≤ 4096 → HoldsBlock v bytes
     → full v ≡ value.Block (padded bytes)
 unfolding full
-full_of None bytes short h = full_block [] ∙ ap value.Block (same_padded [] bytes (omega arith) short h.byte)
+full_of None bytes short h = full_block []
+    ∙ ap value.Block (same_padded [] bytes (omega arith) short h.byte)
 full_of (Some (value.Block b)) bytes short h = full_stored b
     ∙ ap value.Block (same_padded b bytes h.kind short
     (λ at within. sym (get_or-take 4096 b at 0 within) ∙ h.byte at within))
@@ -160,7 +168,8 @@ full_of (Some (value.Slot object name)) bytes short h = absurd h.kind
 full_of (Some (value.Client number index reply)) bytes short h = absurd h.kind
 full_of (Some (value.Saved b)) bytes short h = absurd h.kind
 
-file_block : (cells : Cells) (object : ℕ) (bytes : List ℕ) (block : ℕ) → HoldsBytes cells object bytes
+file_block : (cells : Cells) (object : ℕ) (bytes : List ℕ) (block : ℕ)
+    → HoldsBytes cells object bytes
     → full (cells (cell.Block object block)) ≡ full (block_value (block_of bytes block))
 file_block cells object bytes block holds =
     full_of (cells (cell.Block object block)) (block_of bytes block) (short_block bytes block)
@@ -176,22 +185,27 @@ unfolding stands_if
 files_stand cells tree object regular holds block =
     stands_is tree object block (cells (cell.Block object block)) true (sym regular)
     ∙ ap Some (file_block cells object (content_of (place tree object)) block holds)
-    ∙ sym (stands_is tree object block (block_value (block_of (content_of (place tree object)) block)) true
+    ∙ sym (stands_is tree object block
+    (block_value (block_of (content_of (place tree object)) block)) true
     (sym regular))
 
 -- ---- other objects
 
-pub past_end : (bytes : List ℕ) (block : ℕ) → length bytes ≤ 4096 * block → block_value (block_of bytes block) ≡ None
-past_end bytes block past = ap (λ (xs : List ℕ). block_value (take 4096 xs)) (drop_all (4096 * block) bytes past)
+pub past_end : (bytes : List ℕ) (block : ℕ) → length bytes ≤ 4096 * block
+    → block_value (block_of bytes block) ≡ None
+past_end bytes block past =
+    ap (λ (xs : List ℕ). block_value (take 4096 xs)) (drop_all (4096 * block) bytes past)
 
 exact : (cells : Cells) (tree : Tree) (stamp object : ℕ) → StandForTree cells tree stamp
     → is_regular_at (place tree object) ≡ false
-    → (block : ℕ) → cells (cell.Block object block) ≡ block_value (block_of (content_of (place tree object)) block)
+    → (block : ℕ) → cells (cell.Block object block)
+    ≡ block_value (block_of (content_of (place tree object)) block)
 unfolding stands_if
 exact cells tree stamp object stand other block =
     sym (stands_is tree object block (cells (cell.Block object block)) false (sym other))
     ∙ stand.block object block
-    ∙ stands_is tree object block (block_value (block_of (content_of (place tree object)) block)) false (sym other)
+    ∙ stands_is tree object block (block_value
+    (block_of (content_of (place tree object)) block)) false (sym other)
 
 pub others_are_exact : OthersAreExact
 others_are_exact cells tree stamp stand object other = (
@@ -208,9 +222,12 @@ erasures_lead cells object = (
 
 -- ---- the text of a link
 
-text_block : (cells : Cells) (object : ℕ) (text : List ℕ) → EndsAt cells object 0 → length text ≤ 4096
-    → (block : ℕ) → after (text_put object text) cells (cell.Block object block) ≡ block_value (block_of text block)
-text_block cells object [] ends short block = ends block (omega arith) ∙ sym (past_end [] block (omega arith))
+text_block : (cells : Cells) (object : ℕ) (text : List ℕ) → EndsAt cells object 0
+    → length text ≤ 4096
+    → (block : ℕ) → after (text_put object text) cells (cell.Block object block)
+    ≡ block_value (block_of text block)
+text_block cells object [] ends short block = ends block (omega arith)
+    ∙ sym (past_end [] block (omega arith))
 text_block cells object (b ∷ bytes) ends short block = elim (cases_eq 0 block) [
   | inl first ↦ subst (λ (k : ℕ). changed (cell.Block object k) (cells (cell.Block object k))
       (put object 0 (b ∷ bytes)) ≡ block_value (block_of (b ∷ bytes) k)) first
@@ -220,11 +237,15 @@ text_block cells object (b ∷ bytes) ends short block = elim (cases_eq 0 block)
       ∙ ends block (omega arith) ∙ sym (past_end (b ∷ bytes) block (omega (arith, other)))
 ]
 
-pub text_apart : (cells : Cells) (object : ℕ) (text : List ℕ) (c : Cell) → is_block_of object c ≡ false
+pub text_apart : (cells : Cells) (object : ℕ) (text : List ℕ) (c : Cell)
+    → is_block_of object c ≡ false
     → after (text_put object text) cells c ≡ cells c
 text_apart cells object [] c other = refl
 text_apart cells object (b ∷ bytes) c other = put_apart object 0 (b ∷ bytes) c (cells c) other
 
 pub texts_lead : TextsLead
 texts_lead cells object text ends
-    short = (text_block cells object text ends short, λ c other. text_apart cells object text c other)
+    short = (
+      text_block cells object text ends short,
+      λ c other. text_apart cells object text c other,
+    )

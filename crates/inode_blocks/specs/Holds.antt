@@ -33,13 +33,16 @@ abbrev pub IsBlock : Option Value → Type 0
 IsBlock None = Unit {0}
 IsBlock (Some v) = IsBlockValue v
 
--- the blocks of an object hold these bytes: each byte stands at its place in its block; those that are missing at the
--- end of a block or in an absent one, and those past the end of the bytes, are zeros
+-- the blocks of an object hold these bytes: each byte stands at its place in its block; those that
+-- are missing at the end of a block or in an absent one, and those past the end of the bytes, are
+-- zeros
 pub record HoldsBytes (cells : Cells) (object : ℕ) (bytes : List ℕ) : Type 0 where
   pub blocks : (block : ℕ) → IsBlock (cells (cell.Block object block))
   pub byte : (block at : ℕ) → at < block_size
-      → slice_index_or (stored (cells (cell.Block object block))) at 0 ≡ slice_index_or bytes (block_size * block + at) 0
+      → slice_index_or (stored (cells (cell.Block object block))) at 0
+      ≡ slice_index_or bytes (block_size * block + at) 0
 
 -- each block at or past this size is absent
 abbrev pub EndsAt : Cells → ℕ → ℕ → Type 0
-EndsAt cells object size = (block : ℕ) → size ≤ block_size * block → cells (cell.Block object block) ≡ None
+EndsAt cells object size = (block : ℕ) → size ≤ block_size * block
+    → cells (cell.Block object block) ≡ None

@@ -59,7 +59,8 @@ pub fn written(
 ) -> Result<Vec<u8>, AllocError>
     requires { within + length bytes.now ≤ block_size }
     ensures value { IfOk result (λ v. v.items ≡ written old.now within bytes.now) }
-    ensures size { IfOk result (λ v. length v.items ≡ max (length old.now) (within + length bytes.now)) }
+    ensures size { IfOk result (λ v. length v.items
+        ≡ max (length old.now) (within + length bytes.now)) }
 {
     let mut new = Vec::from_slice(alloc, old)?;
     new.resize(within, 0)?;
@@ -76,7 +77,8 @@ pub fn append_part(
     count: usize,
 ) -> Result<(), AllocError>
     requires { count ≤ block_size }
-    ensures value { OnOk result (bytes.new.items ≡ bytes.old.items ++ resized (drop within stored.now) count) }
+    ensures value { OnOk result (bytes.new.items ≡ bytes.old.items
+        ++ resized (drop within stored.now) count) }
     ensures size { OnOk result (length bytes.new.items ≡ length bytes.old.items + count) }
 {
     let end = bytes.len() + count;

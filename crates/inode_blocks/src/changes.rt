@@ -27,7 +27,8 @@ pub fn append_put(
 ) -> Result<(), CellFault>
     requires least { 1 ≤ length bytes.items }
     requires most { length bytes.items ≤ block_size }
-    ensures ok { OnOk result (changes.new.items ≡ changes.old.items ++ put object block bytes.items ∷ []) }
+    ensures ok { OnOk result (changes.new.items ≡ changes.old.items ++ put object block bytes.items
+        ∷ []) }
     ensures err { OnErr result (changes.new.items ≡ changes.old.items) }
     ensures cause { OnErr result (result ≡ Err CellFault.NoMemory) }
 {

@@ -27,7 +27,8 @@ fn kept_part<R: CellRead>(
     ensures least { IfOk result (λ kept. IfSome kept (λ v. 1 ≤ length v.items)) }
     ensures most { IfOk result (λ kept. IfSome kept (λ v. length v.items ≤ block_size)) }
     ensures kept { R.cells cells.new ≡ R.cells cells.old }
-    ensures rose { result ≡ Err CellFault.StoreFailed → Rose (R.faults cells.old) (R.faults cells.new) }
+    ensures rose { result ≡ Err CellFault.StoreFailed
+        → Rose (R.faults cells.old) (R.faults cells.new) }
     ensures count { R.faults cells.old ≤ R.faults cells.new }
 {
     let within = (wanted % BLOCK_SIZE) as usize;
@@ -83,9 +84,10 @@ fn append_erasure(
     }
 }
 
-/// Appends the changes that cut a file of a size to a wanted one: at most one Put, of the block that is cut, where more
-/// stands in it than is kept, and then at most one EraseFrom, where whole blocks go. A file that is extended needs no
-/// change, since what is missing is zeros. After a fault the Put may stand in the changes.
+/// Appends the changes that cut a file of a size to a wanted one: at most one Put, of the block
+/// that is cut, where more stands in it than is kept, and then at most one EraseFrom, where whole
+/// blocks go. A file that is extended needs no change, since what is missing is zeros. After a
+/// fault the Put may stand in the changes.
 pub fn cut_to<R: CellRead>(
     alloc: Global,
     cells: &mut R,
@@ -96,16 +98,19 @@ pub fn cut_to<R: CellRead>(
 ) -> Result<(), CellFault>
     requires { wanted ≤ 2 ^ 31 - 1 }
     ensures cuts { (held : Cells) → R.cells cells.old ≡ Some held
-        → OnOk result (changes.new.items ≡ changes.old.items ++ cuts object size wanted (kept_in held object wanted)) }
+        → OnOk result (changes.new.items ≡ changes.old.items
+        ++ cuts object size wanted (kept_in held object wanted)) }
     ensures leads { (held : Cells) (old : List ℕ) → R.cells cells.old ≡ Some held
         → HoldsBytes held object old → length old ≡ size
-        → OnOk result (LeadTo (added changes.old.items changes.new.items) held object size (resized old wanted)) }
+        → OnOk result (LeadTo (added changes.old.items changes.new.items) held object size
+        (resized old wanted)) }
     ensures kinds { OnOk result ((kept : Option (List ℕ)) × (changes.new.items ≡ changes.old.items
         ++ cuts object size wanted kept)) }
     ensures still { size ≤ wanted → changes.new.items ≡ changes.old.items }
     ensures front { BeginsWith changes.new.items changes.old.items }
     ensures kept { R.cells cells.new ≡ R.cells cells.old }
-    ensures rose { result ≡ Err CellFault.StoreFailed → Rose (R.faults cells.old) (R.faults cells.new) }
+    ensures rose { result ≡ Err CellFault.StoreFailed
+        → Rose (R.faults cells.old) (R.faults cells.new) }
     ensures count { R.faults cells.old ≤ R.faults cells.new }
 {
     if size <= wanted {

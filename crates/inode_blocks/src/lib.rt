@@ -1,4 +1,5 @@
-//! A file's bytes in blocks of 4096, some of which may be absent: reading, writing and cutting them over a map of cells.
+//! A file's bytes in blocks of 4096, some of which may be absent: reading, writing and cutting them
+//! over a map of cells.
 #![tactic(auto)]
 
 mod block;

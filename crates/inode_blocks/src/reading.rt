@@ -22,10 +22,12 @@ fn read_part<R: CellRead>(
 ) -> Result<(), CellFault>
     requires { count ≤ block_size }
     ensures part { (held : Cells) → R.cells cells.old ≡ Some held
-        → OnOk result (bytes.new.items ≡ bytes.old.items ++ resized (drop within (stored (held cell))) count) }
+        → OnOk result (bytes.new.items ≡ bytes.old.items
+        ++ resized (drop within (stored (held cell))) count) }
     ensures size { OnOk result (length bytes.new.items ≡ length bytes.old.items + count) }
     ensures kept { R.cells cells.new ≡ R.cells cells.old }
-    ensures rose { result ≡ Err CellFault.StoreFailed → Rose (R.faults cells.old) (R.faults cells.new) }
+    ensures rose { result ≡ Err CellFault.StoreFailed
+        → Rose (R.faults cells.old) (R.faults cells.new) }
     ensures count { R.faults cells.old ≤ R.faults cells.new }
 {
     cells.fetch(cell)?;
@@ -38,8 +40,8 @@ fn read_part<R: CellRead>(
     Ok(())
 }
 
-/// The bytes of a file of a size from an offset on, at most so many and to the end of the file; holes are zeros. It
-/// fetches the blocks that this range meets, and no others.
+/// The bytes of a file of a size from an offset on, at most so many and to the end of the file;
+/// holes are zeros. It fetches the blocks that this range meets, and no others.
 pub fn read_bytes<R: CellRead>(
     alloc: Global,
     cells: &mut R,
@@ -49,10 +51,12 @@ pub fn read_bytes<R: CellRead>(
     count: u32,
 ) -> Result<Bytes, CellFault>
     ensures range { (held : Cells) (bytes : List ℕ) → R.cells cells.old ≡ Some held
-        → HoldsBytes held object bytes → length bytes ≡ size → IfOk result (λ r. r ≡ take count (drop offset bytes)) }
+        → HoldsBytes held object bytes → length bytes ≡ size
+        → IfOk result (λ r. r ≡ take count (drop offset bytes)) }
     ensures size { IfOk result (λ r. length r ≡ min count (size - offset)) }
     ensures kept { R.cells cells.new ≡ R.cells cells.old }
-    ensures rose { result ≡ Err CellFault.StoreFailed → Rose (R.faults cells.old) (R.faults cells.new) }
+    ensures rose { result ≡ Err CellFault.StoreFailed
+        → Rose (R.faults cells.old) (R.faults cells.new) }
     ensures count { R.faults cells.old ≤ R.faults cells.new }
 {
     let end = offset.saturating_add(count).min(size);

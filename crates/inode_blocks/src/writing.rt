@@ -27,7 +27,8 @@ fn part_in(offset: u32, bytes: &[u8], block: u32) -> &[u8]
     part(bytes, start.saturating_sub(offset) as usize, room as usize)
 }
 
-/// The number behind the last block that a range meets, and that of the first one where it meets none.
+/// The number behind the last block that a range meets, and that of the first one where it meets
+/// none.
 fn past_block(offset: u32, count: usize) -> u32
     requires { offset + count < 2 ^ 31 }
     ensures { result ≡ (if count == 0 then offset / block_size else blocks_of (offset + count)) }
@@ -39,7 +40,8 @@ fn past_block(offset: u32, count: usize) -> u32
     }
 }
 
-/// The bytes of a block with others placed in it. What stands in it is fetched only where some of it may be kept.
+/// The bytes of a block with others placed in it. What stands in it is fetched only where some of
+/// it may be kept.
 fn block_bytes<R: CellRead>(
     alloc: Global,
     cells: &mut R,
@@ -53,9 +55,11 @@ fn block_bytes<R: CellRead>(
     requires small { block < 2 ^ 20 }
     ensures bytes { (held : Cells) → R.cells cells.old ≡ Some held
         → IfOk result (λ v. v.items ≡ written (stored_in held object size block) within bytes.now) }
-    ensures size { IfOk result (λ v. (within + length bytes.now ≤ length v.items) × (length v.items ≤ block_size)) }
+    ensures size { IfOk result (λ v. (within + length bytes.now ≤ length v.items)
+        × (length v.items ≤ block_size)) }
     ensures kept { R.cells cells.new ≡ R.cells cells.old }
-    ensures rose { result ≡ Err CellFault.StoreFailed → Rose (R.faults cells.old) (R.faults cells.new) }
+    ensures rose { result ≡ Err CellFault.StoreFailed
+        → Rose (R.faults cells.old) (R.faults cells.new) }
     ensures count { R.faults cells.old ≤ R.faults cells.new }
 {
     if size <= block * BLOCK_SIZE || bytes.len() == BLOCK_SIZE as usize {
@@ -65,9 +69,9 @@ fn block_bytes<R: CellRead>(
     Ok(written(alloc, stored(cells.value()), within, bytes)?)
 }
 
-/// Appends the changes that place bytes in a file of a size: a Put of each block that their range meets, ascending, and
-/// nothing else. It fetches only blocks that are written in part, and none past the end of the file. After a fault some
-/// of the Puts may stand in the changes.
+/// Appends the changes that place bytes in a file of a size: a Put of each block that their range
+/// meets, ascending, and nothing else. It fetches only blocks that are written in part, and none
+/// past the end of the file. After a fault some of the Puts may stand in the changes.
 pub fn write_bytes<R: CellRead>(
     alloc: Global,
     cells: &mut R,
@@ -79,7 +83,8 @@ pub fn write_bytes<R: CellRead>(
 ) -> Result<(), CellFault>
     requires { offset + length bytes.now ≤ 2 ^ 31 - 1 }
     ensures puts { (held : Cells) → R.cells cells.old ≡ Some held
-        → OnOk result (changes.new.items ≡ changes.old.items ++ puts held object size offset bytes.now) }
+        → OnOk result (changes.new.items ≡ changes.old.items
+        ++ puts held object size offset bytes.now) }
     ensures leads { (held : Cells) (old : List ℕ) → R.cells cells.old ≡ Some held
         → HoldsBytes held object old → length old ≡ size
         → OnOk result (LeadTo (added changes.old.items changes.new.items) held object size
@@ -89,7 +94,8 @@ pub fn write_bytes<R: CellRead>(
     ensures nothing { length bytes.now ≡ 0 → OnOk result (changes.new.items ≡ changes.old.items) }
     ensures front { BeginsWith changes.new.items changes.old.items }
     ensures kept { R.cells cells.new ≡ R.cells cells.old }
-    ensures rose { result ≡ Err CellFault.StoreFailed → Rose (R.faults cells.old) (R.faults cells.new) }
+    ensures rose { result ≡ Err CellFault.StoreFailed
+        → Rose (R.faults cells.old) (R.faults cells.new) }
     ensures count { R.faults cells.old ≤ R.faults cells.new }
 {
     for block in offset / BLOCK_SIZE..past_block(offset, bytes.len()) {

@@ -32,7 +32,8 @@ none_is : (slots : Slots) (name : List ℕ) (x : Option (ℕ × ℕ)) → entry 
 none_is slots name None e h = refl
 none_is slots name (Some x) e h =
     let f = found slots name x e in
-    let named : has_name name (Some f.slot) ≡ true = (bytes_eq-Decides f.slot.name name).1 f.named in
+    let named : has_name name (Some f.slot) ≡ true =
+    (bytes_eq-Decides f.slot.name name).1 f.named in
     absurd (both_ways _ (h x.0) (ap (has_name name) f.at ∙ named))
 
 pub none_is_named : NoneIsNamed

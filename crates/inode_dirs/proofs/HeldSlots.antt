@@ -7,4 +7,5 @@ use Rattle.inode_dirs.specs.Slots.{TellsSlots, TellsSlot}
 -- the cells are as they were when they told the slots
 pub slot_then : (told now : Option Cells) (dir many : ℕ) (slots : Slots) (i : ℕ) → now ≡ told
     → TellsSlots told dir many slots → TellsSlot now dir i (get_or slots i None)
-slot_then told now dir many slots i kept t = record { cells = t.cells; are = kept ∙ t.are; holds = t.holds i }
+slot_then told now dir many slots i kept t =
+    record { cells = t.cells; are = kept ∙ t.are; holds = t.holds i }

@@ -1,5 +1,5 @@
--- In a sound tree the root stands within as many levels as there are blocks: each directory above another one holds an
--- entry, so it has a block of its own.
+-- In a sound tree the root stands within as many levels as there are blocks: each directory above
+-- another one holds an entry, so it has a block of its own.
 use Rattle.std.proofs.Common.{◌≡◌, ℕ, zero, suc, ◌+◌, ◌*◌, ◌<◌, ◌≤◌, ◌==◌, Bool, true, false, cond, length, take}
 use Rattle.std.proofs.Common.{sum_by, Option, Some, None, refl, sym, ap, arith, take_all, inl, inr}
 use Rattle.std.proofs.lemmas.Bool.{cases_eq, cases_lt, cases_Bool, cond_both, or_cases, or_left, or_right, or_parts}
@@ -28,12 +28,15 @@ more_or_same true true w h = omega arith
 more_or_same true false w h = let e = h refl in absurd cc
 more_or_same false q w h = omega arith
 
-weight_kept : (n : ℕ) (p q : ℕ → Bool) (w : ℕ → ℕ) → ((m : ℕ) → p m ≡ true → q m ≡ true) → weight n p w ≤ weight n q w
+weight_kept : (n : ℕ) (p q : ℕ → Bool) (w : ℕ → ℕ) → ((m : ℕ) → p m ≡ true → q m ≡ true)
+    → weight n p w ≤ weight n q w
 unfolding weight
 weight_kept zero p q w h = omega arith
-weight_kept (suc n) p q w h = omega (arith, more_or_same (p n) (q n) (w n) (h n), weight_kept n p q w h)
+weight_kept (suc n) p q w h =
+    omega (arith, more_or_same (p n) (q n) (w n) (h n), weight_kept n p q w h)
 
-weight_more : (n : ℕ) (p q : ℕ → Bool) (w : ℕ → ℕ) → ((m : ℕ) → p m ≡ true → q m ≡ true) → (m : ℕ) → m < n
+weight_more : (n : ℕ) (p q : ℕ → Bool) (w : ℕ → ℕ) → ((m : ℕ) → p m ≡ true → q m ≡ true) → (m : ℕ)
+    → m < n
     → p m ≡ false → q m ≡ true → 1 ≤ w m → weight n p w + 1 ≤ weight n q w
 unfolding weight
 weight_more zero p q w h m lt miss hit some = absurd (omega arith)
@@ -65,7 +68,8 @@ weight-le (suc n) p tree le =
     let more = sum_by_more blocks_at tree n None (omega (arith, le)) in
     omega (arith, one, taken, more, weight-le n p tree (omega (arith, le)))
 
-names_within-le : (number : ℕ) (b : Body) → names_in number (slots_within b) ≤ 16 * blocks_of (size_of b)
+names_within-le : (number : ℕ) (b : Body)
+    → names_in number (slots_within b) ≤ 16 * blocks_of (size_of b)
 names_within-le number (Directory slots) = omega (arith, names_in-le number slots)
 names_within-le number (Regular bytes) = omega arith
 names_within-le number (Link text) = omega arith
@@ -96,7 +100,8 @@ record IsParent (tree : Tree) (m : ℕ) : Type 0 where
   directory : IsDirectory tree (parent_of tree m)
   block : 1 ≤ block_weight tree (parent_of tree m)
 
-parent_facts : (tree : Tree) (m : ℕ) → AreNamed tree → IsDirectory tree m → (m ≡ 1 → ⊥) → IsParent tree m
+parent_facts : (tree : Tree) (m : ℕ) → AreNamed tree → IsDirectory tree m → (m ≡ 1 → ⊥)
+    → IsParent tree m
 parent_facts tree m named d ne =
     let held : Holds tree (parent_of tree m) m = parent_holds tree m named d ne in
     record {
@@ -127,7 +132,8 @@ record IsAtLevel (tree : Tree) (levels x : ℕ) : Type 0 where
   hit : is_above (suc levels) tree 1 x ≡ true
   block : 1 ≤ block_weight tree x
 
-at_level : (most levels : ℕ) (tree : Tree) (m : ℕ) → AreNamed tree → IsDirectory tree m → is_above most tree 1 m ≡ true
+at_level : (most levels : ℕ) (tree : Tree) (m : ℕ) → AreNamed tree → IsDirectory tree m
+    → is_above most tree 1 m ≡ true
     → is_above (suc levels) tree 1 m ≡ false → (x : ℕ) × IsAtLevel tree levels x
 unfolding is_above
 at_level zero levels tree m named d hit miss =
@@ -138,7 +144,11 @@ at_level (suc most) levels tree m named d hit miss =
     elim (or_cases (m == 1) _ hit) [
       | inl root ↦ absurd (both_ways _ parts.0 root)
       | inr further ↦ elim (cases_Bool (is_above (suc levels) tree 1 (parent_of tree m))) [
-        | inl e ↦ (parent_of tree m, record { within = parent.within; miss = parts.1; hit = e; block = parent.block })
+        | inl e ↦ (
+          parent_of tree m,
+          record
+              { within = parent.within; miss = parts.1; hit = e; block = parent.block },
+        )
         | inr e ↦ at_level most levels tree (parent_of tree m) named parent.directory further e
       ]
     ]
@@ -152,13 +162,15 @@ unfolding is_above
 not_root tree m miss = eqb-false m 1 miss
 
 -- what isn't met within so many levels has more blocks above it
-deep : (levels most : ℕ) (tree : Tree) (m : ℕ) → AreNamed tree → 1 < length tree → IsDirectory tree m
+deep : (levels most : ℕ) (tree : Tree) (m : ℕ) → AreNamed tree → 1 < length tree
+    → IsDirectory tree m
     → is_above most tree 1 m ≡ true → is_above levels tree 1 m ≡ false
     → levels + 1 ≤ weight (length tree) (λ x. is_above levels tree 1 x) (block_weight tree)
 deep zero most tree m named two d hit miss =
     let root = root_block most tree m named d (not_root tree m miss) hit in
     let more =
-    weight_more (length tree) (λ x. false) (λ x. is_above 0 tree 1 x) (block_weight tree) (λ k e. absurd cc)
+    weight_more (length tree) (λ x. false) (λ x. is_above 0 tree 1 x) (block_weight tree)
+    (λ k e. absurd cc)
     1 two refl (root_itself tree) root in
     omega (arith, more)
 deep (suc levels) most tree m named two d hit miss =
@@ -166,7 +178,8 @@ deep (suc levels) most tree m named two d hit miss =
     let before = deep levels most tree m named two d hit (above_less levels tree m miss) in
     let more =
     weight_more (length tree) (λ x. is_above levels tree 1 x) (λ x. is_above (suc levels) tree 1 x)
-    (block_weight tree) (λ k e. above_more levels tree k e) r.0 r.1.within r.1.miss r.1.hit r.1.block in
+    (block_weight tree) (λ k e. above_more levels tree k e) r.0 r.1.within r.1.miss r.1.hit
+    r.1.block in
     omega (arith, before, more)
 
 root_within : (tree : Tree) → is_directory_at (place tree 1) ≡ true → 1 < length tree

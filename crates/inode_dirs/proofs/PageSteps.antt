@@ -16,26 +16,32 @@ page_skip : (above room : ℕ) (e : DirEntry) (es : List DirEntry) → e.cookie 
 unfolding page_of
 page_skip above room e es le = grind (arith, nat_tests)
 
-page_take : (above room : ℕ) (e : DirEntry) (es : List DirEntry) → above < e.cookie → entry_size e ≤ room
+page_take : (above room : ℕ) (e : DirEntry) (es : List DirEntry) → above < e.cookie
+    → entry_size e ≤ room
     → page_of above room (e ∷ es) ≡ page_after (e ∷ []) above (room - entry_size e) es
 unfolding page_of
 page_take above room e es lt fits = grind (arith, nat_tests)
 
-pub page_stop : (above room : ℕ) (e : DirEntry) (es : List DirEntry) → above < e.cookie → room < entry_size e
+pub page_stop : (above room : ℕ) (e : DirEntry) (es : List DirEntry) → above < e.cookie
+    → room < entry_size e
     → page_of above room (e ∷ es) ≡ ([], false)
 unfolding page_of
 page_stop above room e es lt full = grind (arith, nat_tests)
 
-pub after_skip : (front : List DirEntry) (above room : ℕ) (e : DirEntry) (es : List DirEntry) → e.cookie ≤ above
+pub after_skip : (front : List DirEntry) (above room : ℕ) (e : DirEntry) (es : List DirEntry)
+    → e.cookie ≤ above
     → page_after front above room (e ∷ es) ≡ page_after front above room es
 after_skip front above room e es le = rw (page_skip above room e es le) refl
 
-pub after_take : (front : List DirEntry) (above room : ℕ) (e : DirEntry) (es : List DirEntry) → above < e.cookie
+pub after_take : (front : List DirEntry) (above room : ℕ) (e : DirEntry) (es : List DirEntry)
+    → above < e.cookie
     → entry_size e ≤ room
-    → page_after front above room (e ∷ es) ≡ page_after (front ++ e ∷ []) above (room - entry_size e) es
+    → page_after front above room (e ∷ es)
+    ≡ page_after (front ++ e ∷ []) above (room - entry_size e) es
 after_take front above room e es lt fits = rw (page_take above room e es lt fits, append_assoc) refl
 
-pub after_stop : (front : List DirEntry) (above room : ℕ) (e : DirEntry) (es : List DirEntry) → above < e.cookie
+pub after_stop : (front : List DirEntry) (above room : ℕ) (e : DirEntry) (es : List DirEntry)
+    → above < e.cookie
     → room < entry_size e
     → page_after front above room (e ∷ es) ≡ (front, false)
 after_stop front above room e es lt full = rw (page_stop above room e es lt full, append-nil) refl
@@ -51,7 +57,8 @@ at_skipped above room c (Some s) es le =
     page_skip above room (record { fileid = s.number; name = s.name; cookie = c }) es le
 
 slots_skipped : (c k above room : ℕ) (slots : Slots) → c + k ≤ above + 1
-    → page_of above room (entries_from c slots) ≡ page_of above room (entries_from (c + k) (drop k slots))
+    → page_of above room (entries_from c slots)
+    ≡ page_of above room (entries_from (c + k) (drop k slots))
 unfolding entries_from
 slots_skipped c zero above room slots le = rw add-zero refl
 slots_skipped c (suc k) above room [] le = refl
@@ -65,13 +72,15 @@ abbrev pub entries_at : ℕ → Slots → List DirEntry
 entries_at i slots = entries_from (i + 3) (drop i slots)
 
 pub after_skipped : (front : List DirEntry) (above room : ℕ) (slots : Slots)
-    → page_after front above room (entries_at (above - 2) slots) ≡ page_after front above room (entries_from 3 slots)
-after_skipped front above room slots = ap (λ (p : List DirEntry × Bool). (front ++ p.0, p.1)) (elim (cases_lt above 2) [
-  | inl lt ↦ let z : above - 2 ≡ 0 = omega (arith, lt) in rw z refl
-  | inr le ↦
-      let e : above - 2 + 3 ≡ 3 + (above - 2) = omega (arith, le) in
-      rw e (sym (slots_skipped 3 (above - 2) above room slots (omega (arith, le))))
-])
+    → page_after front above room (entries_at (above - 2) slots)
+    ≡ page_after front above room (entries_from 3 slots)
+after_skipped front above room slots =
+    ap (λ (p : List DirEntry × Bool). (front ++ p.0, p.1)) (elim (cases_lt above 2) [
+      | inl lt ↦ let z : above - 2 ≡ 0 = omega (arith, lt) in rw z refl
+      | inr le ↦
+          let e : above - 2 + 3 ≡ 3 + (above - 2) = omega (arith, le) in
+          rw e (sym (slots_skipped 3 (above - 2) above room slots (omega (arith, le))))
+    ])
 
 -- ---- the slots above it
 
@@ -86,13 +95,15 @@ none_behind : (slots : Slots) (i : ℕ) → length slots ≤ i → entries_at i 
 unfolding entries_from
 none_behind slots i le = at_drop_all (entries_from (i + 3)) slots i le
 
-pub after_slots : (front : List DirEntry) (above room : ℕ) (slots : Slots) (i : ℕ) → length slots ≤ i
+pub after_slots : (front : List DirEntry) (above room : ℕ) (slots : Slots) (i : ℕ)
+    → length slots ≤ i
     → page_after front above room (entries_at i slots) ≡ (front, true)
 unfolding page_of
 after_slots front above room slots i le = rw (none_behind slots i le, append-nil) refl
 
 -- the next slot's entry is offered next
-pub after_next : (front : List DirEntry) (above room : ℕ) (slots : Slots) (i : ℕ) (e : Option DirEntry)
+pub after_next : (front : List DirEntry) (above room : ℕ) (slots : Slots) (i : ℕ)
+    (e : Option DirEntry)
     → i < length slots → entry_list e ≡ entry_at (i + 3) (get_or slots i None)
     → page_after front above room (entries_at i slots)
     ≡ page_after front above room (entry_list e ++ entries_at (i + 1) slots)

@@ -19,7 +19,8 @@ entry_next i (Some s) slots name e = elim (cases_Bool (bytes_eq s.name name)) [
   | inr t ↦ rw t refl
 ]
 
-entry_here : (i : ℕ) (s : Option Slot) (slots : Slots) (name : List ℕ) (n : ℕ) → object_named name s ≡ Some n
+entry_here : (i : ℕ) (s : Option Slot) (slots : Slots) (name : List ℕ) (n : ℕ)
+    → object_named name s ≡ Some n
     → entry_from i (s ∷ slots) name ≡ Some (i, n)
 unfolding entry_from
 entry_here i None slots name n e = absurd cc
@@ -42,7 +43,8 @@ entry_hits slots i name n lt e =
     let first = at_drop_more (λ (ss : Slots). entry_from i ss name) slots i None lt in
     sym (first ∙ entry_here i (get_or slots i None) (drop (i + 1) slots) name n e)
 
-pub entry_ends : (slots : Slots) (i : ℕ) (name : List ℕ) → length slots ≤ i → None ≡ entry_from i (drop i slots) name
+pub entry_ends : (slots : Slots) (i : ℕ) (name : List ℕ) → length slots ≤ i
+    → None ≡ entry_from i (drop i slots) name
 unfolding entry_from
 entry_ends slots i name le = sym (at_drop_all (λ (ss : Slots). entry_from i ss name) slots i le)
 
@@ -54,20 +56,25 @@ unfolding free_from
 free_next i None slots e = absurd cc
 free_next i (Some s) slots e = refl
 
-free_here : (i : ℕ) (s : Option Slot) (slots : Slots) → not (is_some s) ≡ true → free_from i (s ∷ slots) ≡ i
+free_here : (i : ℕ) (s : Option Slot) (slots : Slots) → not (is_some s) ≡ true
+    → free_from i (s ∷ slots) ≡ i
 unfolding free_from
 free_here i None slots e = refl
 free_here i (Some s) slots e = absurd cc
 
-pub free_passes : (slots : Slots) (i : ℕ) → i < length slots → not (is_some (get_or slots i None)) ≡ false
+pub free_passes : (slots : Slots) (i : ℕ) → i < length slots
+    → not (is_some (get_or slots i None)) ≡ false
     → free_from (i + 1) (drop (i + 1) slots) ≡ free_from i (drop i slots)
 free_passes slots i lt e =
-    sym (at_drop_more (free_from i) slots i None lt ∙ free_next i (get_or slots i None) (drop (i + 1) slots) e)
+    sym (at_drop_more (free_from i) slots i None lt
+    ∙ free_next i (get_or slots i None) (drop (i + 1) slots) e)
 
-pub free_hits : (slots : Slots) (i : ℕ) → i < length slots → not (is_some (get_or slots i None)) ≡ true
+pub free_hits : (slots : Slots) (i : ℕ) → i < length slots
+    → not (is_some (get_or slots i None)) ≡ true
     → i ≡ free_from i (drop i slots)
 free_hits slots i lt e =
-    sym (at_drop_more (free_from i) slots i None lt ∙ free_here i (get_or slots i None) (drop (i + 1) slots) e)
+    sym (at_drop_more (free_from i) slots i None lt
+    ∙ free_here i (get_or slots i None) (drop (i + 1) slots) e)
 
 pub free_ends : (slots : Slots) (i : ℕ) → length slots ≤ i → i ≡ free_from i (drop i slots)
 unfolding free_from

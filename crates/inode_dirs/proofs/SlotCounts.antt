@@ -12,7 +12,8 @@ free_shift : (i : ℕ) (slots : Slots) → free_from (suc i) slots ≡ suc (free
 unfolding free_from
 free_shift i [] = refl
 free_shift i (None ∷ slots) = refl
-free_shift i (Some s ∷ slots) = let e : suc i + 1 ≡ suc (i + 1) = omega arith in rw e (free_shift (i + 1) slots)
+free_shift i (Some s ∷ slots) = let e : suc i + 1 ≡ suc (i + 1) = omega arith in
+    rw e (free_shift (i + 1) slots)
 
 free_behind : (slots : Slots) → free_from (0 + 1) slots ≡ suc (free_from 0 slots)
 free_behind slots = free_shift 0 slots
@@ -29,15 +30,22 @@ freed_is_free [] i lt = absurd (omega arith)
 freed_is_free (s ∷ slots) zero lt = omega arith
 freed_is_free (None ∷ slots) (suc i) lt = omega arith
 freed_is_free (Some s ∷ slots) (suc i) lt =
-    omega (arith, free_behind slots, free_behind (set slots i None), freed_is_free slots i (omega (arith, lt)))
+    omega (
+      arith,
+      free_behind slots,
+      free_behind (set slots i None),
+      freed_is_free slots i (omega (arith, lt)),
+    )
 
-none_left : (c : ℕ) (slots : Slots) → 2 < c → (page_of 2 0 (entries_from c slots)).1 ≡ has_no_entry slots
+none_left : (c : ℕ) (slots : Slots) → 2 < c
+    → (page_of 2 0 (entries_from c slots)).1 ≡ has_no_entry slots
 unfolding entries_from page_of
 none_left c [] lt = refl
 none_left c (None ∷ slots) lt = none_left (c + 1) slots (omega (arith, lt))
 none_left c (Some s ∷ slots) lt =
     ap (λ (p : List DirEntry × Bool). p.1)
-    (page_stop 2 0 (record { fileid = s.number; name = s.name; cookie = c }) (entries_from (c + 1) slots) lt
+    (page_stop 2 0 (record { fileid = s.number; name = s.name; cookie = c })
+    (entries_from (c + 1) slots) lt
     (omega arith))
 
 pub empty_is_last : EmptyIsLast

@@ -17,11 +17,13 @@ use Rattle.inode_dirs.specs.Laws.{TreesTellSlots, TreesTellParents, SlotsArePlac
 use Rattle.inode_dirs.specs.Laws.{TreesHoldParents, StoredParentsAreComputed, CookiesFit, EntriesAreUnderParent}
 
 pub slots_placed : SlotsArePlaced
-slots_placed tree dir slots e = let is = directory_is tree dir slots e in ap slots_of is.at ∙ ap slots_within is.body
+slots_placed tree dir slots e = let is = directory_is tree dir slots e in
+    ap slots_of is.at ∙ ap slots_within is.body
 
 -- ---- slots
 
-itself : (tree : Tree) (dir slot : ℕ) (v : Option Value) → stands_for tree (cell.Slot dir slot) v ≡ v
+itself : (tree : Tree) (dir slot : ℕ) (v : Option Value)
+    → stands_for tree (cell.Slot dir slot) v ≡ v
 itself tree dir slot None = refl
 itself tree dir slot (Some v) = refl
 
@@ -54,18 +56,22 @@ parent_itself tree number None = elim (cases_Bool (number == 1)) [
 ]
 parent_itself tree number (Some v) = refl
 
-dead_parent : (tree : Tree) (number : ℕ) → is_directory_at (place tree number) ≡ false → parent_of tree number ≡ 0
+dead_parent : (tree : Tree) (number : ℕ) → is_directory_at (place tree number) ≡ false
+    → parent_of tree number ≡ 0
 unfolding parent_of
 dead_parent tree number e = rw e refl
 
-placed_parent : (tree : Tree) (number : ℕ) (x : Option Object) → is_directory_at (place tree 1) ≡ true
+placed_parent : (tree : Tree) (number : ℕ) (x : Option Object)
+    → is_directory_at (place tree 1) ≡ true
     → place tree number ≡ x
     → parent_by number (object_value tree number x) ≡ parent_of tree number
 placed_parent tree number None root at =
     let no_directory : is_directory_at (place tree number) ≡ false = ap is_directory_at at in
     elim (cases_eq number 1) [
-      | inl e ↦ let at_root : is_directory_at (place tree 1) ≡ false = rw e at no_directory in absurd cc
-      | inr ne ↦ let t : (number == 1) ≡ false = ne_eqb number 1 ne in rw (t, dead_parent tree number no_directory) refl
+      | inl e ↦ let at_root : is_directory_at (place tree 1) ≡ false = rw e at no_directory in
+          absurd cc
+      | inr ne ↦ let t : (number == 1) ≡ false = ne_eqb number 1 ne in
+          rw (t, dead_parent tree number no_directory) refl
     ]
 placed_parent tree number (Some o) root at = refl
 
@@ -76,7 +82,8 @@ trees_hold_parents cells tree stamp root is number =
     ∙ parent_itself tree number (object_value tree number (place tree number))
     ∙ placed_parent tree number (place tree number) root refl
 
-stored_in : (tree : Tree) (number : ℕ) (inode : Inode) (x : Option Object) → is_directory_at x ≡ true
+stored_in : (tree : Tree) (number : ℕ) (inode : Inode) (x : Option Object)
+    → is_directory_at x ≡ true
     → Some (value.Object inode) ≡ stands_for tree (cell.Object number) (object_value tree number x)
     → inode.parent ≡ parent_of tree number
 stored_in tree number inode None d e = absurd cc
@@ -93,7 +100,8 @@ pub trees_tell_slots : TreesTellSlots
 trees_tell_slots told cells tree stamp dir slots are is d = record {
   cells = cells;
   are = are;
-  holds = subst (HoldsSlots cells dir) (slots_placed tree dir slots d) (trees_hold_slots cells tree stamp dir is);
+  holds = subst (HoldsSlots cells dir) (slots_placed tree dir slots d)
+      (trees_hold_slots cells tree stamp dir is);
   count = refl;
 }
 

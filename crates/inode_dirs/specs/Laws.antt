@@ -32,13 +32,15 @@ TreesHoldSlots = (cells : Cells) (tree : Tree) (stamp dir : ℕ) → StandForTre
 
 -- and where cells hold the slots of an object, each of these cells stands for its slot
 abbrev pub HeldSlotsStand : Type 0
-HeldSlotsStand = (cells : Cells) (tree : Tree) (dir slot : ℕ) → HoldsSlots cells dir (slots_of (place tree dir))
+HeldSlotsStand = (cells : Cells) (tree : Tree) (dir slot : ℕ)
+    → HoldsSlots cells dir (slots_of (place tree dir))
     → StandForSame tree (cell.Slot dir slot) (cells (cell.Slot dir slot))
     (slot_value (slice_index_or (slots_of (place tree dir)) slot None))
 
 -- a directory without an entry has no cell of a slot
 abbrev pub EmptyHoldsNone : Type 0
-EmptyHoldsNone = (cells : Cells) (dir : ℕ) (slots : Slots) → has_no_entry slots ≡ true → HoldsSlots cells dir slots
+EmptyHoldsNone = (cells : Cells) (dir : ℕ) (slots : Slots) → has_no_entry slots ≡ true
+    → HoldsSlots cells dir slots
     → HoldsSlots cells dir []
 
 -- cells that stand for a tree tell the slots of each directory
@@ -54,21 +56,24 @@ TreesHoldParents = (cells : Cells) (tree : Tree) (stamp : ℕ) → is_directory_
 
 -- those that stand for a sound tree tell them
 abbrev pub TreesTellParents : Type 0
-TreesTellParents = (told : Option Cells) (cells : Cells) (tree : Tree) (stamp : ℕ) → told ≡ Some cells → IsSound tree
+TreesTellParents = (told : Option Cells) (cells : Cells) (tree : Tree) (stamp : ℕ)
+    → told ≡ Some cells → IsSound tree
     → StandForTree cells tree stamp → TellsParents told tree
 
 -- a directory's parent that is stored is the computed one
 abbrev pub StoredParentsAreComputed : Type 0
 StoredParentsAreComputed = (cells : Cells) (tree : Tree) (stamp number : ℕ) (inode : Inode)
     → StandForTree cells tree stamp
-    → cells (cell.Object number) ≡ Some (value.Object inode) → is_directory_at (place tree number) ≡ true
+    → cells (cell.Object number) ≡ Some (value.Object inode)
+    → is_directory_at (place tree number) ≡ true
     → inode.parent ≡ parent_of tree number
 
 -- ---- what the definitions of a tree say of slots and parents
 
 -- the cookies of a directory's slots fit 32 bits
 abbrev pub CookiesFit : Type 0
-CookiesFit = (tree : Tree) (dir : ℕ) → IsWithinLimits tree → length (slots_of (place tree dir)) + 2 < 2 ^ 32
+CookiesFit = (tree : Tree) (dir : ℕ) → IsWithinLimits tree
+    → length (slots_of (place tree dir)) + 2 < 2 ^ 32
 
 -- the entries of a directory are those under its parent
 abbrev pub EntriesAreUnderParent : Type 0
@@ -77,21 +82,25 @@ EntriesAreUnderParent = (tree : Tree) (dir : ℕ) (slots : Slots)
 
 -- a page of no bytes behind `..` is the last one exactly where the directory has no entry
 abbrev pub EmptyIsLast : Type 0
-EmptyIsLast = (dir parent : ℕ) (slots : Slots) → (page_of 2 0 (entries_under dir parent slots)).1 ≡ has_no_entry slots
+EmptyIsLast = (dir parent : ℕ) (slots : Slots)
+    → (page_of 2 0 (entries_under dir parent slots)).1 ≡ has_no_entry slots
 
 -- no entry has a name exactly where no slot has it
 abbrev pub NoneIsNamed : Type 0
 NoneIsNamed = (slots : Slots) (name : List ℕ)
-    → entry slots name ≡ None ↔ ((slot : ℕ) → has_name name (slice_index_or slots slot None) ≡ false)
+    → entry slots name ≡ None ↔ ((slot : ℕ)
+    → has_name name (slice_index_or slots slot None) ≡ false)
 
 -- an entry's slot has the name and names the object
 abbrev pub FoundIsNamed : Type 0
 FoundIsNamed = (slots : Slots) (name : List ℕ) (x : ℕ × ℕ) → entry slots name ≡ Some x
-    → (x.0 < length slots) × (slice_index_or slots x.0 None ≡ Some (record { name = name; number = x.1 }))
+    → (x.0 < length slots) × (slice_index_or slots x.0 None
+    ≡ Some (record { name = name; number = x.1 }))
 
 -- so many slots has a directory with a new entry
 abbrev pub EntryGrows : Type 0
-EntryGrows = (slots : Slots) (s : Slot) → length (with_entry slots s) ≡ max (length slots) (free_from 0 slots + 1)
+EntryGrows = (slots : Slots) (s : Slot)
+    → length (with_entry slots s) ≡ max (length slots) (free_from 0 slots + 1)
 
 -- the first free slot after one was freed
 abbrev pub FreedIsFree : Type 0
@@ -108,12 +117,14 @@ AboveIsBelow = (tree : Tree) (top dir : ℕ) → IsSound tree → is_directory_a
 -- a new entry goes into the first free slot
 abbrev pub EntersFirstFree : Type 0
 EntersFirstFree = (cells : Cells) (dir : ℕ) (slots : Slots) (s : Slot) → HoldsSlots cells dir slots
-    → HoldsSlots (after (change.Put (cell.Slot dir (free_from 0 slots)) (value.Slot s.number s.name) ∷ []) cells) dir
+    → HoldsSlots (after (change.Put (cell.Slot dir (free_from 0 slots)) (value.Slot s.number s.name)
+    ∷ []) cells) dir
     (with_entry slots s)
 
 -- a slot's entry is replaced
 abbrev pub ReplacesSlot : Type 0
-ReplacesSlot = (cells : Cells) (dir i : ℕ) (slots : Slots) (s : Slot) → i < length slots → HoldsSlots cells dir slots
+ReplacesSlot = (cells : Cells) (dir i : ℕ) (slots : Slots) (s : Slot) → i < length slots
+    → HoldsSlots cells dir slots
     → HoldsSlots (after (change.Put (cell.Slot dir i) (value.Slot s.number s.name) ∷ []) cells) dir
     (slice_set slots i (Some s))
 

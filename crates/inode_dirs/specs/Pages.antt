@@ -17,4 +17,5 @@ entry_list (Some e) = e ∷ []
 
 -- the page that these entries become by further ones above a cookie that fit into the room left
 abbrev pub page_after : List DirEntry → ℕ → ℕ → List DirEntry → List DirEntry × Bool
-page_after entries above room more = (entries ++ (page_of above room more).0, (page_of above room more).1)
+page_after entries above room more =
+    (entries ++ (page_of above room more).0, (page_of above room more).1)

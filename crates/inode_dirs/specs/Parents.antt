@@ -18,7 +18,8 @@ parent_by number (Some (value.Saved bytes)) = 0
 
 -- cells hold the parent of each directory of a tree
 abbrev pub HoldsParents : Cells → Tree → Type 0
-HoldsParents cells tree = (number : ℕ) → parent_by number (cells (cell.Object number)) ≡ parent_of tree number
+HoldsParents cells tree = (number : ℕ)
+    → parent_by number (cells (cell.Object number)) ≡ parent_of tree number
 
 -- cells that tell what they hold, and hold the parents of a tree
 pub record TellsParents (told : Option Cells) (tree : Tree) : Type 0 where

@@ -13,9 +13,11 @@ use Rattle.harp_cells.specs.declared.change.Change.TheVariants as change
 use Rattle.harp_cells.specs.Effect.{Cells}
 use Rattle.harp_cells.specs.CellsOfTree.{slot_value}
 
--- cells hold the slots of a directory: a free slot, and one at or past the number of slots, is absent
+-- cells hold the slots of a directory: a free slot, and one at or past the number of slots, is
+-- absent
 abbrev pub HoldsSlots : Cells → ℕ → Slots → Type 0
-HoldsSlots cells dir slots = (slot : ℕ) → cells (cell.Slot dir slot) ≡ slot_value (slice_index_or slots slot None)
+HoldsSlots cells dir slots = (slot : ℕ)
+    → cells (cell.Slot dir slot) ≡ slot_value (slice_index_or slots slot None)
 
 -- cells that tell what they hold, and hold these slots of a directory, so many of them
 pub record TellsSlots (told : Option Cells) (dir many : ℕ) (slots : Slots) : Type 0 where

@@ -6,8 +6,8 @@ ghost use Rattle.inode_dirs.specs.Laws.{CookiesFit, EntriesAreUnderParent, Empty
 ghost use Rattle.inode_dirs.specs.Laws.{NoneIsNamed, FoundIsNamed, EntryGrows, FreedIsFree};
 ghost use Rattle.inode_dirs.specs.Laws.{EntersFirstFree, ReplacesSlot, FreesSlot, KeepsSlots};
 
-/// Slots: cells that stand for a tree hold those of each directory, and where they hold these, they stand for them.
-/// What one change of a cell makes of a directory's slots.
+/// Slots: cells that stand for a tree hold those of each directory, and where they hold these, they
+/// stand for them. What one change of a cell makes of a directory's slots.
 pub fn slot_laws()
     ensures placed { SlotsArePlaced }
     ensures held { TreesHoldSlots }
@@ -20,8 +20,8 @@ pub fn slot_laws()
     ensures keeps { KeepsSlots }
 {}
 
-/// Parents: cells that stand for a tree hold the computed ones. In a sound tree the way up meets each directory that
-/// another one is below.
+/// Parents: cells that stand for a tree hold the computed ones. In a sound tree the way up meets
+/// each directory that another one is below.
 pub fn parent_laws()
     ensures held { TreesHoldParents }
     ensures told { TreesTellParents }

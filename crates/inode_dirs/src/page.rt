@@ -15,7 +15,8 @@ use harp_base::{Bounded, DirEntry, LONGEST_TRANSFER};
 use harp_cells::{CellFault, CellRead};
 use std::alloc::{AllocError, Global};
 
-/// A page of a directory: entries in the order of their cookies, and whether none is left after them.
+/// A page of a directory: entries in the order of their cookies, and whether none is left after
+/// them.
 #[derive(Debug, Drop)]
 pub struct DirPage {
     pub entries: Vec<DirEntry>,
@@ -39,7 +40,8 @@ fn size_of(entry: &DirEntry) -> u32
 }
 
 impl Filling {
-    /// Adds an entry, unless its cookie isn't above. It gives false where the entry doesn't fit, which ends the page.
+    /// Adds an entry, unless its cookie isn't above. It gives false where the entry doesn't fit,
+    /// which ends the page.
     #[tactic(auto, using(crate::proofs::PageSteps::offer_steps))]
     fn offer(&mut self, entry: DirEntry) -> Result<bool, AllocError>
         ensures above { self.new.above ≡ self.old.above }
@@ -64,7 +66,8 @@ impl Filling {
     fn offer_some(&mut self, entry: Option<DirEntry>) -> Result<bool, AllocError>
         ensures above { self.new.above ≡ self.old.above }
         ensures page { IfOk result (λ goes. (more : List Listed)
-            → page_after self.old.entries.items self.old.above self.old.room (entry_list entry ++ more)
+            → page_after self.old.entries.items self.old.above self.old.room
+            (entry_list entry ++ more)
             ≡ (if goes then page_after self.new.entries.items self.new.above self.new.room more
             else (self.new.entries.items, false))) }
     {
@@ -78,8 +81,10 @@ impl Filling {
     fn offer_dots(&mut self, alloc: Global, dir: u32, parent: u32) -> Result<bool, AllocError>
         ensures above { self.new.above ≡ self.old.above }
         ensures page { IfOk result (λ goes. (slots : Slots)
-            → page_after self.old.entries.items self.old.above self.old.room (entries_under dir parent slots)
-            ≡ (if goes then page_after self.new.entries.items self.new.above self.new.room (entries_from 3 slots)
+            → page_after self.old.entries.items self.old.above self.old.room
+            (entries_under dir parent slots)
+            ≡ (if goes then page_after self.new.entries.items self.new.above self.new.room
+            (entries_from 3 slots)
             else (self.new.entries.items, false))) }
     {
         if !self.offer(dots(alloc, dir, 1)?)? {
@@ -91,7 +96,8 @@ impl Filling {
 
 fn dots(alloc: Global, fileid: u32, count: usize) -> Result<DirEntry, AllocError>
     requires { count < 3 }
-    ensures { IfOk result (λ e. e ≡ record { fileid = fileid; name = replicate count 46; cookie = count }) }
+    ensures { IfOk result (λ e. e ≡ record
+        { fileid = fileid; name = replicate count 46; cookie = count }) }
 {
     Ok(DirEntry {
         fileid,
@@ -108,11 +114,14 @@ fn list_slots<R: CellRead>(
     slots: u32,
     page: &mut Filling,
 ) -> Result<bool, CellFault>
-    ensures page { (held : Slots) → TellsSlots (R.cells cells.old) dir slots held → slots + 2 < 2 ^ 32
-        → IfOk result (λ eof. page_after page.old.entries.items page.old.above page.old.room (entries_from 3 held)
+    ensures page { (held : Slots) → TellsSlots (R.cells cells.old) dir slots held
+        → slots + 2 < 2 ^ 32
+        → IfOk result (λ eof. page_after page.old.entries.items page.old.above page.old.room
+        (entries_from 3 held)
         ≡ (page.new.entries.items, eof)) }
     ensures kept { R.cells cells.new ≡ R.cells cells.old }
-    ensures rose { result ≡ Err CellFault.StoreFailed → Rose (R.faults cells.old) (R.faults cells.new) }
+    ensures rose { result ≡ Err CellFault.StoreFailed
+        → Rose (R.faults cells.old) (R.faults cells.new) }
     ensures count { R.faults cells.old ≤ R.faults cells.new }
 {
     for slot in page.above.saturating_sub(2)..slots {
@@ -124,11 +133,11 @@ fn list_slots<R: CellRead>(
     Ok(true)
 }
 
-/// READDIR (RFC 1094, section 2.2.17) of a directory with so many slots: the entries with a cookie above the one
-/// given, `.`, `..` and those of the slots, as many as fit into `count` bytes, of which 8192 count at most. An entry
-/// takes 16 bytes and its name, rounded up to a multiple of 4. Slots are fetched in order from the first one with such
-/// a cookie on, as far as the first entry that doesn't fit. Cookies fit 32 bits where there are fewer than 2^32 - 2
-/// slots.
+/// READDIR (RFC 1094, section 2.2.17) of a directory with so many slots: the entries with a cookie
+/// above the one given, `.`, `..` and those of the slots, as many as fit into `count` bytes, of
+/// which 8192 count at most. An entry takes 16 bytes and its name, rounded up to a multiple of 4.
+/// Slots are fetched in order from the first one with such a cookie on, as far as the first entry
+/// that doesn't fit. Cookies fit 32 bits where there are fewer than 2^32 - 2 slots.
 pub fn list_from<R: CellRead>(
     alloc: Global,
     cells: &mut R,
@@ -138,12 +147,14 @@ pub fn list_from<R: CellRead>(
     cookie: u32,
     count: u32,
 ) -> Result<DirPage, CellFault>
-    ensures page { (held : Slots) → TellsSlots (R.cells cells.old) dir slots held → slots + 2 < 2 ^ 32
+    ensures page { (held : Slots) → TellsSlots (R.cells cells.old) dir slots held
+        → slots + 2 < 2 ^ 32
         → IfOk result (λ page. (page.entries.items, page.eof)
         ≡ page_of cookie (min count longest_transfer) (entries_under dir parent held)) }
     ensures few { IfOk result (λ page. length page.entries.items ≤ 512) }
     ensures kept { R.cells cells.new ≡ R.cells cells.old }
-    ensures rose { result ≡ Err CellFault.StoreFailed → Rose (R.faults cells.old) (R.faults cells.new) }
+    ensures rose { result ≡ Err CellFault.StoreFailed
+        → Rose (R.faults cells.old) (R.faults cells.new) }
     ensures count { R.faults cells.old ≤ R.faults cells.new }
 {
     let mut page = Filling {

@@ -37,24 +37,28 @@ fn parent_at<R: CellRead>(cells: &mut R, number: u32) -> Result<u32, CellFault>
     ensures parent { (tree : Tree) → TellsParents (R.cells cells.old) tree
         → IfOk result (λ parent. parent ≡ parent_of tree number) }
     ensures kept { R.cells cells.new ≡ R.cells cells.old }
-    ensures rose { result ≡ Err CellFault.StoreFailed → Rose (R.faults cells.old) (R.faults cells.new) }
+    ensures rose { result ≡ Err CellFault.StoreFailed
+        → Rose (R.faults cells.old) (R.faults cells.new) }
     ensures count { R.faults cells.old ≤ R.faults cells.new }
 {
     cells.fetch(Cell::Object { object: number })?;
     Ok(parent_found(cells, number))
 }
 
-/// As many levels as a tree has blocks at most: each directory above another one has a block of its own.
+/// As many levels as a tree has blocks at most: each directory above another one has a block of its
+/// own.
 const MOST_LEVELS: u32 = 65_536;
 
-/// Whether a directory is `top` or below it, by the parents in the cells of a sound tree. They are followed as far as
-/// `top` or the root, and on at most 65,536 levels, so that the walk ends on any cells. Of the answer on cells of no
-/// sound tree nothing is said.
+/// Whether a directory is `top` or below it, by the parents in the cells of a sound tree. They are
+/// followed as far as `top` or the root, and on at most 65,536 levels, so that the walk ends on any
+/// cells. Of the answer on cells of no sound tree nothing is said.
 pub fn is_below<R: CellRead>(cells: &mut R, dir: u32, top: u32) -> Result<bool, CellFault>
     ensures below { (tree : Tree) → IsSound tree → is_directory_at (place tree dir) ≡ true
-        → TellsParents (R.cells cells.old) tree → IfOk result (λ below. below ≡ is_above (length tree) tree top dir) }
+        → TellsParents (R.cells cells.old) tree
+        → IfOk result (λ below. below ≡ is_above (length tree) tree top dir) }
     ensures kept { R.cells cells.new ≡ R.cells cells.old }
-    ensures rose { result ≡ Err CellFault.StoreFailed → Rose (R.faults cells.old) (R.faults cells.new) }
+    ensures rose { result ≡ Err CellFault.StoreFailed
+        → Rose (R.faults cells.old) (R.faults cells.new) }
     ensures count { R.faults cells.old ≤ R.faults cells.new }
 {
     let mut at = dir;

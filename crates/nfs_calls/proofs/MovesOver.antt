@@ -36,8 +36,10 @@ use Rattle.nfs_calls.proofs.Losses.{loss_of, loses_is, totals_lost, body_at}
 use Rattle.nfs_calls.proofs.MovedEntry.{IsMoved, are_apart}
 use Rattle.nfs_calls.proofs.MovesIn.{moved_slot}
 
--- an entry that another one replaces: its slot, its object, which has no entry of its own, and the attributes of that
-pub record IsTarget (tree : Tree) (m : Relocation) (to_name : List ℕ) (y : ℕ × ℕ) (j : Inode) : Type 0 where
+-- an entry that another one replaces: its slot, its object, which has no entry of its own, and the
+-- attributes of that
+pub record IsTarget (tree : Tree) (m : Relocation) (to_name : List ℕ) (y : ℕ × ℕ)
+    (j : Inode) : Type 0 where
   pub entry : entry (slots_of (place tree m.to_dir)) to_name ≡ Some y
   pub object : IsInode tree y.1 j
   pub other : y.1 ≡ m.number → ⊥
@@ -52,48 +54,63 @@ abbrev pub over_slots : Tree → Relocation → List ℕ → ℕ × ℕ → Slot
 over_slots tree m to_name y = set (slots_of (place tree m.to_dir)) y.0 (Some (moved_slot m to_name))
 
 abbrev pub swapped : Tree → Relocation → List ℕ → ℕ × ℕ → Time → Tree
-swapped tree m to_name y now = change tree m.to_dir (slot_changed now y.0 (Some (moved_slot m to_name)))
+swapped tree m to_name y now =
+    change tree m.to_dir (slot_changed now y.0 (Some (moved_slot m to_name)))
 
 -- what the tree keeps
-pub record Replaces (tree : Tree) (m : Relocation) (to_name : List ℕ) (y : ℕ × ℕ) (j : Inode) (now : Time) (after : Slots) (q : Object) : Type 0 where
+pub record Replaces (tree : Tree) (m : Relocation) (to_name : List ℕ) (y : ℕ × ℕ) (j : Inode)
+    (now : Time) (after : Slots) (q : Object) : Type 0 where
   pub moved : IsMoved tree (tree_over tree m to_name y now) m now
-  pub to_at : place (tree_over tree m to_name y now) m.to_dir ≡ Some (reslotted now after (object_at tree m.to_dir))
+  pub to_at : place (tree_over tree m to_name y now) m.to_dir
+      ≡ Some (reslotted now after (object_at tree m.to_dir))
   pub from_at : place (tree_over tree m to_name y now) m.dir ≡ Some (slot_changed now m.slot None q)
-  pub kept : (k : ℕ) → (k ≡ m.number → ⊥) → (k ≡ y.1 → ⊥) → (d : ℕ) → Holds tree d k → Holds (tree_over tree m to_name y now) d k
+  pub kept : (k : ℕ) → (k ≡ m.number → ⊥) → (k ≡ y.1 → ⊥) → (d : ℕ) → Holds tree d k
+      → Holds (tree_over tree m to_name y now) d k
   pub lost : loses tree (tree_over tree m to_name y now) y.1 ≡ loss y.1 j now
   pub totals : after_loss (totals_of tree) j ≡ totals_of (tree_over tree m to_name y now)
 
-pub slot_is : (now : Time) (i : ℕ) (s : _) (slots : Slots) (o : Object) → o.body ≡ Directory slots → slot_changed now i s o ≡ reslotted now (set slots i s) o
-slot_is now i s slots o body = ap (λ (b : Body). record o { mtime = now; ctime = now; body = slot_replaced b i s }) body
+pub slot_is : (now : Time) (i : ℕ) (s : _) (slots : Slots) (o : Object) → o.body ≡ Directory slots
+    → slot_changed now i s o ≡ reslotted now (set slots i s) o
+slot_is now i s slots o body =
+    ap (λ (b : Body). record o { mtime = now; ctime = now; body = slot_replaced b i s }) body
 
 -- the target is neither of the directories
 pub record IsAside (m : Relocation) (y : ℕ × ℕ) : Type 0 where
   pub from : y.1 ≡ m.dir → ⊥
   pub to : y.1 ≡ m.to_dir → ⊥
 
-bare_aside : (tree : Tree) (number dir k : ℕ) → IsBare tree number → Holds tree dir k → number ≡ dir → ⊥
+bare_aside : (tree : Tree) (number dir k : ℕ) → IsBare tree number → Holds tree dir k → number ≡ dir
+    → ⊥
 bare_aside tree number dir k bare held e =
     let some : Holds tree number k = subst (λ (n : ℕ). Holds tree n k) (sym e) held in
     let none = bare k in omega (arith, none, some)
 
-pub is_aside : (tree : Tree) (m : Relocation) (name to_name : List ℕ) (y : ℕ × ℕ) (j : Inode) → IsMoving tree m name to_name → IsTarget tree m to_name y j → IsAside m y
+pub is_aside : (tree : Tree) (m : Relocation) (name to_name : List ℕ) (y : ℕ × ℕ) (j : Inode)
+    → IsMoving tree m name to_name → IsTarget tree m to_name y j → IsAside m y
 is_aside tree m name to_name y j is target = record {
   from = bare_aside tree y.1 m.dir m.number target.bare
-      (found_held tree m.dir (object_at tree m.dir) (slots_of (place tree m.dir)) name (m.slot, m.number) is.from.own.at (body_at tree m.dir m.from is.from)
+      (found_held tree m.dir (object_at tree m.dir) (slots_of (place tree m.dir)) name
+      (m.slot, m.number) is.from.own.at (body_at tree m.dir m.from is.from)
       (found (slots_of (place tree m.dir)) name (m.slot, m.number) is.entry));
   to = bare_aside tree y.1 m.to_dir y.1 target.bare
-      (found_held tree m.to_dir (object_at tree m.to_dir) (slots_of (place tree m.to_dir)) to_name y is.to.own.at (body_at tree m.to_dir m.to is.to)
+      (found_held tree m.to_dir (object_at tree m.to_dir)
+      (slots_of (place tree m.to_dir)) to_name y is.to.own.at (body_at tree m.to_dir m.to is.to)
       (found (slots_of (place tree m.to_dir)) to_name y target.entry));
 }
 
 -- a replaced entry gives its place to another one
-pub over_names : (slots : Slots) (to_name : List ℕ) (y : ℕ × ℕ) (s : Slot) (k : ℕ) → IsFound slots to_name y
+pub over_names : (slots : Slots) (to_name : List ℕ) (y : ℕ × ℕ) (s : Slot) (k : ℕ)
+    → IsFound slots to_name y
     → names_in k (set slots y.0 (Some s)) + one y.1 k ≡ names_in k slots + one s.number k
-over_names slots to_name y s k g = omega (arith, share_found slots to_name y k g, names_set slots y.0 (Some s) k g.within)
+over_names slots to_name y s k g =
+    omega (arith, share_found slots to_name y k g, names_set slots y.0 (Some s) k g.within)
 
-pub replaces : (tree : Tree) (m : Relocation) (name to_name : List ℕ) (y : ℕ × ℕ) (j : Inode) (now : Time) (left after : Slots) (q : Object) → IsSound tree → IsMoving tree m name to_name
-    → IsTarget tree m to_name y j → place (swapped tree m to_name y now) m.dir ≡ Some q → q.body ≡ Directory left → IsFound left name (m.slot, m.number)
-    → place (change (swapped tree m to_name y now) m.dir (slot_changed now m.slot None)) m.to_dir ≡ Some (reslotted now after (object_at tree m.to_dir))
+pub replaces : (tree : Tree) (m : Relocation) (name to_name : List ℕ) (y : ℕ × ℕ) (j : Inode)
+    (now : Time) (left after : Slots) (q : Object) → IsSound tree → IsMoving tree m name to_name
+    → IsTarget tree m to_name y j → place (swapped tree m to_name y now) m.dir ≡ Some q
+    → q.body ≡ Directory left → IsFound left name (m.slot, m.number)
+    → place (change (swapped tree m to_name y now) m.dir (slot_changed now m.slot None)) m.to_dir
+    ≡ Some (reslotted now after (object_at tree m.to_dir))
     → 1 ≤ names_in m.number after → Replaces tree m to_name y j now after q
 unfolding moved_over
 replaces tree m name to_name y j now left after q sound is target q_at q_body f there named =
@@ -117,41 +134,77 @@ replaces tree m name to_name y j now left after q sound is target q_at q_body f 
     let two_tree = change one_tree m.dir (slot_changed now m.slot None) in
     let three_tree = lost_entry two_tree y.1 now in
     let new = tree_over tree m to_name y now in
-    let s1 : IsSet tree one_tree m.to_dir (Some e) (Some (slot_changed now y.0 (Some s) e)) = set_by_change tree m.to_dir (slot_changed now y.0 (Some s)) e is.to.own.at in
-    let s2 : IsSet one_tree two_tree m.dir (Some q) (Some (slot_changed now m.slot None q)) = set_by_change one_tree m.dir (slot_changed now m.slot None) q q_at in
+    let s1 : IsSet tree one_tree m.to_dir (Some e) (Some (slot_changed now y.0 (Some s) e)) =
+    set_by_change tree m.to_dir (slot_changed now y.0 (Some s)) e is.to.own.at in
+    let s2 : IsSet one_tree two_tree m.dir (Some q) (Some (slot_changed now m.slot None q)) =
+    set_by_change one_tree m.dir (slot_changed now m.slot None) q q_at in
     let changed1 = slot_is now y.0 (Some s) to_slots e to_body in
     let changed2 = slot_is now m.slot None left q q_body in
-    let a1 : (k : ℕ) → names_at k (Some e) ≡ names_in k to_slots = λ (k : ℕ). ap (λ (b : Body). names_in k (slots_within b)) to_body in
-    let b1 : (k : ℕ) → names_at k (Some (slot_changed now y.0 (Some s) e)) ≡ names_in k over = λ (k : ℕ). ap (λ (r : Object). names_at k (Some r)) changed1 in
-    let a2 : (k : ℕ) → names_at k (Some q) ≡ names_in k left = λ (k : ℕ). ap (λ (b : Body). names_in k (slots_within b)) q_body in
-    let b2 : (k : ℕ) → names_at k (Some (slot_changed now m.slot None q)) ≡ names_in k without = λ (k : ℕ). ap (λ (r : Object). names_at k (Some r)) changed2 in
+    let a1 : (k : ℕ) → names_at k (Some e)
+    ≡ names_in k to_slots = λ (k : ℕ). ap (λ (b : Body). names_in k (slots_within b)) to_body in
+    let b1 : (k : ℕ) → names_at k (Some (slot_changed now y.0 (Some s) e))
+    ≡ names_in k over = λ (k : ℕ). ap (λ (r : Object). names_at k (Some r)) changed1 in
+    let a2 : (k : ℕ) → names_at k (Some q)
+    ≡ names_in k left = λ (k : ℕ). ap (λ (b : Body). names_in k (slots_within b)) q_body in
+    let b2 : (k : ℕ) → names_at k (Some (slot_changed now m.slot None q))
+    ≡ names_in k without = λ (k : ℕ). ap (λ (r : Object). names_at k (Some r)) changed2 in
     let count : (k : ℕ) → names_of two_tree k + one y.1 k ≡ names_of tree k = λ (k : ℕ).
-    omega (arith, names_on s1 k, names_on s2 k, a1 k, b1 k, a2 k, b2 k, over_names to_slots to_name y s k g, cleared_names left name x k f) in
-    let y_there : place two_tree y.1 ≡ Some oy = place_other s2 y.1 aside.from ∙ place_other s1 y.1 aside.to ∙ target.object.at in
-    let l = loss_of tree two_tree y.1 j now sound target.object target.bare y_there (omega (arith, count y.1, one_itself y.1)) in
-    let y_bare : (k : ℕ) → names_at k (Some oy) ≡ 0 = λ (k : ℕ). sym (ap (names_at k) target.object.at) ∙ target.bare k in
+    omega (
+      arith,
+      names_on s1 k,
+      names_on s2 k,
+      a1 k,
+      b1 k,
+      a2 k,
+      b2 k,
+      over_names to_slots to_name y s k g,
+      cleared_names left name x k f,
+    ) in
+    let y_there : place two_tree y.1 ≡ Some oy = place_other s2 y.1 aside.from
+    ∙ place_other s1 y.1 aside.to ∙ target.object.at in
+    let l = loss_of tree two_tree y.1 j now sound target.object target.bare y_there
+    (omega (arith, count y.1, one_itself y.1)) in
+    let y_bare : (k : ℕ) → names_at k (Some oy)
+    ≡ 0 = λ (k : ℕ). sym (ap (names_at k) target.object.at) ∙ target.bare k in
     let x_other : m.number ≡ y.1 → ⊥ = λ (h : m.number ≡ y.1). target.other (sym h) in
     let x_there : place three_tree m.number ≡ Some ob =
-    place_other l.sets m.number x_other ∙ place_other s2 m.number apart.from ∙ place_other s1 m.number apart.to ∙ is.moved.at in
-    let s4 : IsSet three_tree new m.number (Some ob) (Some (set_ctime now ob)) = set_by_change three_tree m.number (set_ctime now) ob x_there in
-    let whole : IsSound new = sound_moved_over tree m.dir m.to_dir o e slots to_slots name to_name x y now sound is.from.own.at body is.to.own.at to_body f0 g target.other target.bare is.apart in
-    let all_names : (k : ℕ) → names_of new k + one y.1 k ≡ names_of tree k = λ (k : ℕ). omega (arith, count k, names_on l.sets k, l.bare k, y_bare k, names_on s4 k) in
-    let same1 : is_directory_at (Some (slot_changed now y.0 (Some s) e)) ≡ is_directory_at (Some e) = ap (λ (r : Object). is_directory r.body) changed1 ∙ sym (ap is_directory to_body) in
-    let same2 : is_directory_at (Some (slot_changed now m.slot None q)) ≡ is_directory_at (Some q) = ap (λ (r : Object). is_directory r.body) changed2 ∙ sym (ap is_directory q_body) in
+    place_other l.sets m.number x_other ∙ place_other s2 m.number apart.from
+    ∙ place_other s1 m.number apart.to ∙ is.moved.at in
+    let s4 : IsSet three_tree new m.number (Some ob) (Some (set_ctime now ob)) =
+    set_by_change three_tree m.number (set_ctime now) ob x_there in
+    let whole : IsSound new =
+    sound_moved_over tree m.dir m.to_dir o e slots to_slots name to_name x y now sound
+    is.from.own.at body is.to.own.at to_body f0 g target.other target.bare is.apart in
+    let all_names : (k : ℕ) → names_of new k + one y.1 k
+    ≡ names_of tree k = λ (k : ℕ). omega
+    (arith, count k, names_on l.sets k, l.bare k, y_bare k, names_on s4 k) in
+    let same1 : is_directory_at (Some (slot_changed now y.0 (Some s) e))
+    ≡ is_directory_at (Some e) = ap (λ (r : Object). is_directory r.body) changed1
+    ∙ sym (ap is_directory to_body) in
+    let same2 : is_directory_at (Some (slot_changed now m.slot None q)) ≡ is_directory_at (Some q) =
+    ap (λ (r : Object). is_directory r.body) changed2 ∙ sym (ap is_directory q_body) in
     let y_at : place new y.1 ≡ l.becomes = place_other s4 y.1 target.other ∙ place_at l.sets in
     let long1 = length-set to_slots y.0 (Some s) in
     let long2 = length-set left m.slot None in
-    let blocks_e : blocks_at (Some e) ≡ blocks_of (264 * length to_slots) = ap (λ (b : Body). blocks_of (size_of b)) to_body in
-    let blocks_1 : blocks_at (Some (slot_changed now y.0 (Some s) e)) ≡ blocks_of (264 * length to_slots) =
-    ap (λ (r : Object). blocks_of (size_of r.body)) changed1 ∙ ap (λ (n : ℕ). blocks_of (264 * n)) long1 in
-    let blocks_q : blocks_at (Some q) ≡ blocks_of (264 * length left) = ap (λ (b : Body). blocks_of (size_of b)) q_body in
-    let blocks_2 : blocks_at (Some (slot_changed now m.slot None q)) ≡ blocks_of (264 * length left) =
-    ap (λ (r : Object). blocks_of (size_of r.body)) changed2 ∙ ap (λ (n : ℕ). blocks_of (264 * n)) long2 in
+    let blocks_e : blocks_at (Some e) ≡ blocks_of (264 * length to_slots) =
+    ap (λ (b : Body). blocks_of (size_of b)) to_body in
+    let blocks_1 : blocks_at (Some (slot_changed now y.0 (Some s) e))
+    ≡ blocks_of (264 * length to_slots) =
+    ap (λ (r : Object). blocks_of (size_of r.body)) changed1
+    ∙ ap (λ (n : ℕ). blocks_of (264 * n)) long1 in
+    let blocks_q : blocks_at (Some q) ≡ blocks_of (264 * length left) =
+    ap (λ (b : Body). blocks_of (size_of b)) q_body in
+    let blocks_2 : blocks_at (Some (slot_changed now m.slot None q))
+    ≡ blocks_of (264 * length left) =
+    ap (λ (r : Object). blocks_of (size_of r.body)) changed2
+    ∙ ap (λ (n : ℕ). blocks_of (264 * n)) long2 in
     let blocks_4 : blocks_at (Some (set_ctime now ob)) ≡ blocks_at (Some ob) = refl in
-    let used_two : used_blocks two_tree ≡ used_blocks tree = omega (arith, used_on s1, used_on s2, blocks_e, blocks_1, blocks_q, blocks_2) in
+    let used_two : used_blocks two_tree ≡ used_blocks tree =
+    omega (arith, used_on s1, used_on s2, blocks_e, blocks_1, blocks_q, blocks_2) in
     let used_new : used_blocks three_tree ≡ used_blocks new = omega (arith, used_on s4, blocks_4) in
     let to_at : place new m.to_dir ≡ Some (reslotted now after e) =
-    place_other s4 m.to_dir (λ h. apart.to (sym h)) ∙ place_other l.sets m.to_dir (λ h. aside.to (sym h)) ∙ there in
+    place_other s4 m.to_dir (λ h. apart.to (sym h))
+    ∙ place_other l.sets m.to_dir (λ h. aside.to (sym h)) ∙ there in
     let two_next : length two_tree ≡ length tree = length_on s2 ∙ length_on s1 in
     let totals_two : totals_of tree ≡ totals_of two_tree = rw (used_two, two_next) refl in
     let new_next = length_on s4 in
@@ -168,54 +221,85 @@ replaces tree m name to_name y j now left after q sound is target q_at q_body f 
               let some : 1 ≤ names_of new y.1 = subst (λ (n : ℕ). 1 ≤ names_of new n) same h in
               omega (arith, few, some, all_names y.1, one_itself y.1)) in
               rw same (ap is_directory_at y_at ∙ l.file ∙ sym file)
-          | inr ne ↦ kinds_on s4 refl k ∙ ap is_directory_at (place_other l.sets k ne) ∙ kinds_on s2 same2 k ∙ kinds_on s1 same1 k
+          | inr ne ↦ kinds_on s4 refl k ∙ ap is_directory_at (place_other l.sets k ne)
+              ∙ kinds_on s2 same2 k ∙ kinds_on s1 same1 k
         ];
         held = let here = ap (names_at m.number) to_at in omega (arith, here, named);
       };
       to_at = to_at;
-      from_at = place_other s4 m.dir (λ h. apart.from (sym h)) ∙ place_other l.sets m.dir (λ h. aside.from (sym h)) ∙ place_at s2;
+      from_at = place_other s4 m.dir (λ h. apart.from (sym h))
+          ∙ place_other l.sets m.dir (λ h. aside.from (sym h)) ∙ place_at s2;
       kept = λ k nx ny d h.
           holds_on s4 k (omega arith) d
           (holds_on l.sets k (omega (arith, l.bare k, y_bare k)) d
-          (holds_on s2 k (omega (arith, a2 k, b2 k, cleared_names left name x k f, one_other m.number k nx)) d
-          (holds_on s1 k (omega (arith, a1 k, b1 k, over_names to_slots to_name y s k g, one_other y.1 k ny)) d h)));
-      lost = loses_is tree two_tree three_tree new y.1 j now target.object l y_at (omega (arith, all_names y.1, one_itself y.1));
-      totals = ap (λ (t : Totals). after_loss t j) totals_two ∙ totals_lost tree two_tree three_tree y.1 j now target.object l ∙ totals_new;
+          (holds_on s2 k (omega (
+            arith,
+            a2 k,
+            b2 k,
+            cleared_names left name x k f,
+            one_other m.number k nx,
+          )) d
+          (holds_on s1 k (omega (
+            arith,
+            a1 k,
+            b1 k,
+            over_names to_slots to_name y s k g,
+            one_other y.1 k ny,
+          )) d h)));
+      lost = loses_is tree two_tree three_tree new y.1 j now target.object l y_at
+          (omega (arith, all_names y.1, one_itself y.1));
+      totals = ap (λ (t : Totals). after_loss t j) totals_two
+          ∙ totals_lost tree two_tree three_tree y.1 j now target.object l ∙ totals_new;
     }
 
 either_step : Tree → Tree → Bool → Tried Tree
 either_step tree new b = elim b [ true ↦ Ok tree | false ↦ Ok new ]
 
-to_other : (tree : Tree) (m : Relocation) (to_name : List ℕ) (y : ℕ × ℕ) (now : Time) → (y.1 ≡ m.number → ⊥)
-    → moved_to tree m.dir (m.slot, m.number) m.to_dir (slots_of (place tree m.to_dir)) to_name (Some y) now ≡ Ok (tree_over tree m to_name y now)
+to_other : (tree : Tree) (m : Relocation) (to_name : List ℕ) (y : ℕ × ℕ) (now : Time)
+    → (y.1 ≡ m.number → ⊥)
+    → moved_to tree m.dir (m.slot, m.number) m.to_dir (slots_of (place tree m.to_dir)) to_name
+    (Some y) now ≡ Ok (tree_over tree m to_name y now)
 unfolding either_step
-to_other tree m to_name y now ne = ap (either_step tree (tree_over tree m to_name y now)) (ne_eqb y.1 m.number ne)
+to_other tree m to_name y now ne =
+    ap (either_step tree (tree_over tree m to_name y now)) (ne_eqb y.1 m.number ne)
 
-to_same : (tree : Tree) (m : Relocation) (to_name : List ℕ) (y : ℕ × ℕ) (now : Time) → y.1 ≡ m.number
-    → moved_to tree m.dir (m.slot, m.number) m.to_dir (slots_of (place tree m.to_dir)) to_name (Some y) now ≡ Ok tree
+to_same : (tree : Tree) (m : Relocation) (to_name : List ℕ) (y : ℕ × ℕ) (now : Time)
+    → y.1 ≡ m.number
+    → moved_to tree m.dir (m.slot, m.number) m.to_dir (slots_of (place tree m.to_dir)) to_name
+    (Some y) now ≡ Ok tree
 unfolding either_step
-to_same tree m to_name y now e = ap (either_step tree (tree_over tree m to_name y now)) (eq-eqb y.1 m.number e)
+to_same tree m to_name y now e =
+    ap (either_step tree (tree_over tree m to_name y now)) (eq-eqb y.1 m.number e)
 
 -- the parts of the plan
-pub over_planned : (cells : Cells) (tree : Tree) (m : Relocation) (name to_name : List ℕ) (y : ℕ × ℕ) (now : Time) (a b l c : List Change) (totals : Totals)
-    → entry (slots_of (place tree m.dir)) name ≡ Some (m.slot, m.number) → entry (slots_of (place tree m.to_dir)) to_name ≡ Some y
+pub over_planned : (cells : Cells) (tree : Tree) (m : Relocation) (name to_name : List ℕ)
+    (y : ℕ × ℕ) (now : Time) (a b l c : List Change) (totals : Totals)
+    → entry (slots_of (place tree m.dir)) name ≡ Some (m.slot, m.number)
+    → entry (slots_of (place tree m.to_dir)) to_name ≡ Some y
     → (y.1 ≡ m.number → ⊥) → check_target tree m.number (Some y) ≡ Ok tt
     → set_by (tree_over tree m to_name y now) (slot_pair m.dir m.slot m.to_dir y.0) ≡ a
     → set_by (tree_over tree m to_name y now) (dir_pair m.dir m.to_dir) ≡ b
     → loses tree (tree_over tree m to_name y now) y.1 ≡ l
     → set_by (tree_over tree m to_name y now) (cell.Object m.number ∷ []) ≡ c
     → totals_of (tree_over tree m to_name y now) ≡ totals
-    → planned cells tree (call.Rename m.dir name m.to_dir to_name) (moved_outcome tree m.dir (m.slot, m.number) m.to_dir to_name (Some y) now) ≡ Ok (Done, a ++ b ++ l ++ c, totals)
+    → planned cells tree (call.Rename m.dir name m.to_dir to_name)
+    (moved_outcome tree m.dir (m.slot, m.number) m.to_dir to_name (Some y) now)
+    ≡ Ok (Done, a ++ b ++ l ++ c, totals)
 unfolding moves tree_changes
 over_planned cells tree m name to_name y now a b l c totals e to_e ne checked sa sb sl sc st =
     let t : (y.1 == m.number) ≡ false = ne_eqb y.1 m.number ne in
-    rw (checked, to_other tree m to_name y now ne) (rw (e, to_e) (rw t (rw (sa, sb, sl, sc, st) refl)))
+    rw (checked, to_other tree m to_name y now ne)
+    (rw (e, to_e) (rw t (rw (sa, sb, sl, sc, st) refl)))
 
 -- onto the same object
-pub same_planned : (cells : Cells) (tree : Tree) (m : Relocation) (name to_name : List ℕ) (y : ℕ × ℕ) (now : Time)
-    → entry (slots_of (place tree m.dir)) name ≡ Some (m.slot, m.number) → entry (slots_of (place tree m.to_dir)) to_name ≡ Some y
+pub same_planned : (cells : Cells) (tree : Tree) (m : Relocation) (name to_name : List ℕ)
+    (y : ℕ × ℕ) (now : Time)
+    → entry (slots_of (place tree m.dir)) name ≡ Some (m.slot, m.number)
+    → entry (slots_of (place tree m.to_dir)) to_name ≡ Some y
     → y.1 ≡ m.number → check_target tree m.number (Some y) ≡ Ok tt
-    → planned cells tree (call.Rename m.dir name m.to_dir to_name) (moved_outcome tree m.dir (m.slot, m.number) m.to_dir to_name (Some y) now) ≡ Ok (Done, [], totals_of tree)
+    → planned cells tree (call.Rename m.dir name m.to_dir to_name)
+    (moved_outcome tree m.dir (m.slot, m.number) m.to_dir to_name (Some y) now)
+    ≡ Ok (Done, [], totals_of tree)
 unfolding moves tree_changes
 same_planned cells tree m name to_name y now e to_e same checked =
     let t : (y.1 == m.number) ≡ true = eq-eqb y.1 m.number same in

@@ -39,7 +39,8 @@ alike true false e = absurd cc
 alike false true e = absurd cc
 
 -- a directory and what is none
-pub target_differs : (tree : Tree) (moved i y : ℕ) (a b : Bool) → a ≡ is_directory_at (place tree moved) → b ≡ is_directory_at (place tree y) → (a ≡ b → ⊥)
+pub target_differs : (tree : Tree) (moved i y : ℕ) (a b : Bool)
+    → a ≡ is_directory_at (place tree moved) → b ≡ is_directory_at (place tree y) → (a ≡ b → ⊥)
     → check_target tree moved (Some (i, y)) ≡ Err (kind_refusal a)
 unfolding check_target
 target_differs tree moved i y true false d e ne = rw (sym d, sym e) refl
@@ -48,11 +49,13 @@ target_differs tree moved i y true true d e ne = absurd (ne refl)
 target_differs tree moved i y false false d e ne = absurd (ne refl)
 
 -- the moved object itself
-pub target_same : (tree : Tree) (moved i y : ℕ) → y ≡ moved → check_target tree moved (Some (i, y)) ≡ Ok tt
+pub target_same : (tree : Tree) (moved i y : ℕ) → y ≡ moved
+    → check_target tree moved (Some (i, y)) ≡ Ok tt
 unfolding check_target
 target_same tree moved i y e =
     let same : (y == moved) ≡ true = eq-eqb y moved e in
-    let kind : is_directory_at (place tree y) ≡ is_directory_at (place tree moved) = ap (λ (n : ℕ). is_directory_at (place tree n)) e in
+    let kind : is_directory_at (place tree y) ≡ is_directory_at (place tree moved) =
+    ap (λ (n : ℕ). is_directory_at (place tree n)) e in
     elim (cases_Bool (is_directory_at (place tree moved))) [
       | inl d ↦ rw (kind, d, same) refl
       | inr d ↦ rw (kind, d) refl
@@ -68,8 +71,10 @@ none_is_empty None d = refl
 none_is_empty (Some o) d = file_is_empty o.body d
 
 -- a directory with an entry
-pub target_full : (tree : Tree) (moved i y : ℕ) → is_directory_at (place tree moved) ≡ is_directory_at (place tree y) → (y ≡ moved → ⊥)
-    → has_no_entry (slots_of (place tree y)) ≡ false → check_target tree moved (Some (i, y)) ≡ Err NotEmpty
+pub target_full : (tree : Tree) (moved i y : ℕ)
+    → is_directory_at (place tree moved) ≡ is_directory_at (place tree y) → (y ≡ moved → ⊥)
+    → has_no_entry (slots_of (place tree y)) ≡ false
+    → check_target tree moved (Some (i, y)) ≡ Err NotEmpty
 unfolding check_target
 target_full tree moved i y kind ne full =
     let other : (y == moved) ≡ false = ne_eqb y moved ne in
@@ -79,7 +84,8 @@ target_full tree moved i y kind ne full =
     ]
 
 -- an object without an entry
-pub target_empty : (tree : Tree) (moved i y : ℕ) → is_directory_at (place tree moved) ≡ is_directory_at (place tree y) → (y ≡ moved → ⊥)
+pub target_empty : (tree : Tree) (moved i y : ℕ)
+    → is_directory_at (place tree moved) ≡ is_directory_at (place tree y) → (y ≡ moved → ⊥)
     → has_no_entry (slots_of (place tree y)) ≡ true → check_target tree moved (Some (i, y)) ≡ Ok tt
 unfolding check_target
 target_empty tree moved i y kind ne empty =
@@ -96,7 +102,8 @@ both_ways_round true false e f = absurd cc
 both_ways_round false true e f = absurd cc
 
 -- what is accepted is of the same kind
-pub target_kind : (tree : Tree) (moved : ℕ) (y : ℕ × ℕ) → check_target tree moved (Some y) ≡ Ok tt → is_directory_at (place tree y.1) ≡ is_directory_at (place tree moved)
+pub target_kind : (tree : Tree) (moved : ℕ) (y : ℕ × ℕ) → check_target tree moved (Some y) ≡ Ok tt
+    → is_directory_at (place tree y.1) ≡ is_directory_at (place tree moved)
 unfolding check_target
 target_kind tree moved y e =
     let a = is_directory_at (place tree moved) in
@@ -104,11 +111,14 @@ target_kind tree moved y e =
     given_at (check_target tree moved (Some y)) (λ u. b ≡ a) tt
     (unless NotDir (a && not b) _ (λ u. b ≡ a) (λ first.
     unless IsDir (b && not a) _ (λ u. b ≡ a) (λ second.
-    refused_unless NotEmpty (b && not (y.1 == moved) && not (has_no_entry (slots_of (place tree y.1)))) (λ u. b ≡ a) (λ third.
+    refused_unless NotEmpty (b && not (y.1 == moved)
+    && not (has_no_entry (slots_of (place tree y.1)))) (λ u. b ≡ a) (λ third.
     both_ways_round a b first second)))) e
 
-pub target_is : (tree : Tree) (m : Relocation) (to_name : List ℕ) (y : ℕ × ℕ) (j : Inode) → entry (slots_of (place tree m.to_dir)) to_name ≡ Some y → IsInode tree y.1 j
-    → (y.1 ≡ m.number → ⊥) → check_target tree m.number (Some y) ≡ Ok tt → IsTarget tree m to_name y j
+pub target_is : (tree : Tree) (m : Relocation) (to_name : List ℕ) (y : ℕ × ℕ) (j : Inode)
+    → entry (slots_of (place tree m.to_dir)) to_name ≡ Some y → IsInode tree y.1 j
+    → (y.1 ≡ m.number → ⊥) → check_target tree m.number (Some y) ≡ Ok tt
+    → IsTarget tree m to_name y j
 target_is tree m to_name y j e is ne checked = record {
   entry = e;
   object = is;
@@ -118,10 +128,13 @@ target_is tree m to_name y j e is ne checked = record {
 }
 
 -- a refusal that one step gives, and then another one
-pub fails_then : {A B : Type 0} (r : CallError) (a : Tried A) (b : Tried B) → ((status : Status) → a ≡ Err status → b ≡ Err status) → Fails r a → Fails r b
+pub fails_then : {A B : Type 0} (r : CallError) (a : Tried A) (b : Tried B)
+    → ((status : Status) → a ≡ Err status → b ≡ Err status) → Fails r a → Fails r b
 fails_then (error.Fault fault) a b h e = tt
 fails_then (error.Status status) a b h e = h status e
 
-pub target_refused : (cells : Cells) (tree : Tree) (m : Relocation) (name to_name : List ℕ) (y : ℕ × ℕ) (now : Time) (status : Status) → check_target tree m.number (Some y) ≡ Err status
-    → planned cells tree (call.Rename m.dir name m.to_dir to_name) (moved_outcome tree m.dir (m.slot, m.number) m.to_dir to_name (Some y) now) ≡ Err status
+pub target_refused : (cells : Cells) (tree : Tree) (m : Relocation) (name to_name : List ℕ)
+    (y : ℕ × ℕ) (now : Time) (status : Status) → check_target tree m.number (Some y) ≡ Err status
+    → planned cells tree (call.Rename m.dir name m.to_dir to_name)
+    (moved_outcome tree m.dir (m.slot, m.number) m.to_dir to_name (Some y) now) ≡ Err status
 target_refused cells tree m name to_name y now status e = rw e refl

@@ -49,13 +49,30 @@ loss number i now =
 
 -- the totals after an object lost an entry
 abbrev pub after_loss : Totals → Inode → Totals
-after_loss totals i = if is_last i then record totals { used = totals.used - blocks_of i.size } else totals
+after_loss totals i =
+    if is_last i then record totals { used = totals.used - blocks_of i.size }
+    else totals
 
 abbrev pub inode_zero : Inode
-inode_zero = record { kind = kind.Regular; mode = 0; uid = 0; gid = 0; links = 0; parent = 0; size = 0; slots = 0; atime = time_zero; mtime = time_zero; ctime = time_zero }
+inode_zero =
+    record {
+      kind = kind.Regular;
+      mode = 0;
+      uid = 0;
+      gid = 0;
+      links = 0;
+      parent = 0;
+      size = 0;
+      slots = 0;
+      atime = time_zero;
+      mtime = time_zero;
+      ctime = time_zero;
+    }
 
--- an entry of a directory, given by its slot and its object, and the attributes of both; the object has no entry of its own
-pub record IsTaking (tree : Tree) (dir : ℕ) (i : Inode) (name : List ℕ) (x : ℕ × ℕ) (j : Inode) : Type 0 where
+-- an entry of a directory, given by its slot and its object, and the attributes of both; the object
+-- has no entry of its own
+pub record IsTaking (tree : Tree) (dir : ℕ) (i : Inode) (name : List ℕ) (x : ℕ × ℕ)
+    (j : Inode) : Type 0 where
   pub sound : IsSound tree
   pub directory : IsDirectory tree dir i
   pub entry : entry (slots_of (place tree dir)) name ≡ Some x

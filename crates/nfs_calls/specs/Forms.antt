@@ -65,4 +65,5 @@ IsReplyTo c r = (form r ≡ refused_form) ⊎ (form r ≡ form_given c)
 pub record EndsWithTotals (stamp : ℕ) (changes : List Change) : Type 0 where
   pub before : List Change
   pub totals : Totals
-  pub ends : changes ≡ before ++ change.Put cell.Meta (value.Meta totals.next totals.used stamp) ∷ []
+  pub ends : changes ≡ before ++ change.Put cell.Meta (value.Meta totals.next totals.used stamp)
+      ∷ []

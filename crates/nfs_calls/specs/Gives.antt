@@ -9,7 +9,8 @@ abbrev pub Fails : {Y : Type 0} → CallError → Tried Y → Type 0
 Fails (error.Fault fault) step = Unit {0}
 Fails (error.Status status) step = step ≡ Err status
 
--- what a function returned, seen by view, is the step's value or refusal, unless the cells couldn't be read
+-- what a function returned, seen by view, is the step's value or refusal, unless the cells couldn't
+-- be read
 abbrev pub Gives : {X Y : Type 0} → (X → Y) → Result X CallError → Tried Y → Type 0
 Gives view (Ok x) step = step ≡ Ok (view x)
 Gives view (Err e) step = Fails e step

@@ -1,6 +1,9 @@
 pub mod TreeCells
 pub mod Gives
 pub mod Plans
+pub mod Space
+pub mod NewEntries
+pub mod Attributes
 pub mod Entries
 pub mod Moves
 pub mod Forms

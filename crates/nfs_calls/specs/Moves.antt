@@ -26,18 +26,24 @@ abbrev pub slot_changes : Relocation → ℕ → List ℕ → List Change
 slot_changes m to_slot to_name =
     if (m.dir == m.to_dir) && (m.slot == to_slot)
     then change.Put (cell.Slot m.to_dir to_slot) (value.Slot m.number to_name) ∷ []
-    else change.Erase (cell.Slot m.dir m.slot) ∷ change.Put (cell.Slot m.to_dir to_slot) (value.Slot m.number to_name) ∷ []
+    else change.Erase (cell.Slot m.dir m.slot)
+    ∷ change.Put (cell.Slot m.to_dir to_slot) (value.Slot m.number to_name) ∷ []
 
 -- the directory that the entry leaves, unless it is the one that it moves to
 abbrev pub directory_changes : Relocation → Inode → Time → List Change
 directory_changes m to now =
     if m.dir == m.to_dir then change.Put (cell.Object m.to_dir) (value.Object to) ∷ []
-    else change.Put (cell.Object m.dir) (value.Object (relinked now (m.from.links - link_of m.moved.kind) m.from))
+    else change.Put (cell.Object m.dir)
+    (value.Object (relinked now (m.from.links - link_of m.moved.kind) m.from))
     ∷ change.Put (cell.Object m.to_dir) (value.Object to) ∷ []
 
 -- the moved object: a directory gets another parent
 abbrev pub moved_inode : Relocation → Time → Inode
-moved_inode m now = record m.moved { parent = if is_directory_kind m.moved.kind then m.to_dir else m.moved.parent; ctime = now }
+moved_inode m now = record m.moved {
+  parent = if is_directory_kind m.moved.kind then m.to_dir
+      else m.moved.parent;
+  ctime = now;
+}
 
 -- the links of the directory that the entry moves to, where it replaces an entry of its own kind
 abbrev pub links_over : Relocation → ℕ
@@ -77,4 +83,5 @@ pub record IsMoving (tree : Tree) (m : Relocation) (name to_name : List ℕ) : T
   pub entry : entry (slots_of (place tree m.dir)) name ≡ Some (m.slot, m.number)
   pub moved : IsInode tree m.number m.moved
   pub right : entry_name to_name ≡ Ok tt
-  pub apart : (is_directory_at (place tree m.number) && is_above (length tree) tree m.number m.to_dir) ≡ false
+  pub apart : (is_directory_at (place tree m.number)
+      && is_above (length tree) tree m.number m.to_dir) ≡ false

@@ -16,7 +16,20 @@ use Rattle.nfs_calls.specs.declared.parts.totals.Totals.{Totals}
 use Rattle.harp_cells.specs.CellsOfTree.{inode_of}
 
 abbrev pub root_inode : Inode
-root_inode = record { kind = kind.Directory; mode = 493; uid = 0; gid = 0; links = 2; parent = 1; size = 0; slots = 0; atime = time_zero; mtime = time_zero; ctime = time_zero }
+root_inode =
+    record {
+      kind = kind.Directory;
+      mode = 493;
+      uid = 0;
+      gid = 0;
+      links = 2;
+      parent = 1;
+      size = 0;
+      slots = 0;
+      atime = time_zero;
+      mtime = time_zero;
+      ctime = time_zero;
+    }
 
 -- the attributes that an object's cell stands for
 abbrev pub inode_found : ℕ → Option Value → Option Inode
@@ -53,7 +66,16 @@ attr_by number i = record {
 }
 
 abbrev pub object_zero : Object
-object_zero = record { mode = 0; uid = 0; gid = 0; atime = time_zero; mtime = time_zero; ctime = time_zero; body = body.Regular [] }
+object_zero =
+    record {
+      mode = 0;
+      uid = 0;
+      gid = 0;
+      atime = time_zero;
+      mtime = time_zero;
+      ctime = time_zero;
+      body = body.Regular [];
+    }
 
 abbrev pub object_or_zero : Option Object → Object
 object_or_zero None = object_zero

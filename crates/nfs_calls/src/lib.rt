@@ -1,5 +1,6 @@
-//! The calls of NFS version 2 over the cells of a file tree: the answers to reads, and the plans of updates. It shares
-//! no code with plain_tree, a second opinion on the outcomes, but the tests of permissions of file_tree.
+//! The calls of NFS version 2 over the cells of a file tree: the answers to reads, and the plans of
+//! updates. It shares no code with plain_tree, a second opinion on the outcomes, but the tests of
+//! permissions of file_tree.
 #![tactic(auto)]
 
 mod error;

@@ -9,36 +9,41 @@ use Rattle.file_tree.specs.Tree.{Tree, Slots, slots_of, names_it, names_in, name
 use Rattle.file_tree.proofs.SlotLaws.{share}
 
 -- a number that is set is read there, and the others as before
-pub get_or-noted : (xs : List ℕ) (i y n : ℕ) → n < length xs → get_or (set xs i y) n 0 ≡ cond (i == n) y (get_or xs n 0)
+pub get_or-noted : (xs : List ℕ) (i y n : ℕ) → n < length xs
+    → get_or (set xs i y) n 0 ≡ cond (i == n) y (get_or xs n 0)
 get_or-noted xs i y n lt = elim (cases_eq n i) [
   | inl e ↦
       let t = eq-eqb i n (sym e) in
-      rw t (ap (λ (k : ℕ). get_or (set xs i y) k 0) e ∙ get_or-set_same xs i y 0 (omega (arith, lt, e)))
+      rw t (ap (λ (k : ℕ). get_or (set xs i y) k 0) e
+      ∙ get_or-set_same xs i y 0 (omega (arith, lt, e)))
   | inr ne ↦ let t = ne_eqb i n (λ e. ne (sym e)) in rw t (get_or-set_other xs i n y 0 ne)
 ]
 
-turn : (b : Bool) (names x y : ℕ) → cond b y (cond (names == 0) x y) ≡ cond (names + cond b 1 0 == 0) x y
-turn true names x y = let t : (names + 1 == 0) ≡ false = ne_eqb (names + 1) 0 (λ e. omega (arith, e)) in rw t refl
+turn : (b : Bool) (names x y : ℕ) → cond b y (cond (names == 0) x y)
+    ≡ cond (names + cond b 1 0 == 0) x y
+turn true names x y = let t : (names + 1 == 0) ≡ false =
+    ne_eqb (names + 1) 0 (λ e. omega (arith, e)) in rw t refl
 turn false names x y = let t : names + 0 ≡ names = omega arith in rw t refl
 
--- one more slot is noted
-pub noted_more : (slots : Slots) (k n x y now : ℕ) (s : Option Slot) → k < length slots → s ≡ get_or slots k s
-    → now ≡ cond (names_it n s) y (cond (names_in n (take k slots) == 0) x y) → now ≡ cond (names_in n (take (k + 1) slots) == 0) x y
-noted_more slots k n x y now s lt is e =
-    let more : names_in n (take (k + 1) slots) ≡ names_in n (take k slots) + share n s = sum_by_more (share n) slots k s lt ∙ ap (λ (t : Option Slot). names_in n (take k slots) + share n t) (sym is) in
-    rw more (e ∙ turn (names_it n s) (names_in n (take k slots)) x y)
-
 -- one more object is noted
-pub held_more : (tree : Tree) (i n found now whole : ℕ) (o : Option Object) → i < length tree → o ≡ get_or tree i o
-    → now ≡ cond (names_in n (slots_of o) == 0) found i → holder_from i (drop i tree) n found ≡ whole → holder_from (i + 1) (drop (i + 1) tree) n now ≡ whole
+pub held_more : (tree : Tree) (i n found now whole : ℕ) (o : Option Object) → i < length tree
+    → o ≡ get_or tree i o
+    → now ≡ cond (names_in n (slots_of o) == 0) found i
+    → holder_from i (drop i tree) n found ≡ whole
+    → holder_from (i + 1) (drop (i + 1) tree) n now ≡ whole
 unfolding holder_from
 held_more tree i n found now whole o lt is e h =
-    let step : holder_from i (drop i tree) n found ≡ holder_from (i + 1) (drop (i + 1) tree) n (cond (names_at n o == 0) found i) =
-    at_drop_more (λ (os : Tree). holder_from i os n found) tree i o lt ∙ ap (λ (p : Option Object). holder_from (i + 1) (drop (i + 1) tree) n (cond (names_at n p == 0) found i)) (sym is) in
+    let step : holder_from i (drop i tree) n found
+    ≡ holder_from (i + 1) (drop (i + 1) tree) n (cond (names_at n o == 0) found i) =
+    at_drop_more (λ (os : Tree). holder_from i os n found) tree i o lt
+    ∙ ap (λ (p : Option Object). holder_from (i + 1) (drop (i + 1) tree) n
+    (cond (names_at n p == 0) found i)) (sym is) in
     rw e (sym step ∙ h)
 
-pub held_all : (tree : Tree) (i n found whole : ℕ) → length tree ≤ i → holder_from i (drop i tree) n found ≡ whole → found ≡ whole
+pub held_all : (tree : Tree) (i n found whole : ℕ) → length tree ≤ i
+    → holder_from i (drop i tree) n found ≡ whole → found ≡ whole
 unfolding holder_from
-held_all tree i n found whole le h = sym (at_drop_all (λ (os : Tree). holder_from i os n found) tree i le) ∙ h
+held_all tree i n found whole le h =
+    sym (at_drop_all (λ (os : Tree). holder_from i os n found) tree i le) ∙ h
 
 pub ruleset notes = (get_or-noted)

@@ -16,8 +16,8 @@ abbrev pub Gives : {X Y : Type 0} → (X → Y) → Result X TreeError → Tried
 Gives view (Ok x) step = step ≡ Ok (view x)
 Gives view (Err e) step = Fails e step
 
--- what a call of a tree that may change it does: its reply and the new tree are the step's; after a refusal,
--- and where memory ran out, the tree is as before
+-- what a call of a tree that may change it does: its reply and the new tree are the step's; after a
+-- refusal, and where memory ran out, the tree is as before
 abbrev pub Does : Tree → Tree → Result Reply TreeError → Outcome → Type 0
 Does old new (Ok reply) outcome = outcome ≡ Ok (reply, new)
 Does old new (Err error.NoMemory) outcome = new ≡ old
@@ -32,4 +32,5 @@ DoesStep old new (Err (error.Status status)) step = (step ≡ Err status) × (ne
 -- a table with the holder of each number, 0 where none has a slot that names it
 pub record AreHolders (tree : Tree) (holders : List ℕ) : Type 0 where
   pub size : length holders ≡ length tree
-  pub at : (number : ℕ) → number < length tree → slice_index_or holders number 0 ≡ holder_from 0 tree number 0
+  pub at : (number : ℕ) → number < length tree
+      → slice_index_or holders number 0 ≡ holder_from 0 tree number 0

@@ -14,7 +14,8 @@ use std::alloc::{AllocError, Global};
 fn note_slot(holders: &mut Vec<u32>, slot: &Option<Slot>, dir: u32)
     ensures size { length holders.new.items ≡ length holders.old.items }
     ensures noted { (n : ℕ) → n < length holders.old.items
-        → slice_index_or holders.new.items n 0 ≡ if names_it n slot.now then dir else slice_index_or holders.old.items n 0 }
+        → slice_index_or holders.new.items n 0 ≡ if names_it n slot.now then dir
+        else slice_index_or holders.old.items n 0 }
 {
     if let Some(slot) = slot {
         if (slot.number as usize) < holders.len() {
@@ -28,7 +29,8 @@ fn note_slot(holders: &mut Vec<u32>, slot: &Option<Slot>, dir: u32)
 fn note(holders: &mut Vec<u32>, slots: &[Option<Slot>], dir: u32)
     ensures size { length holders.new.items ≡ length holders.old.items }
     ensures noted { (n : ℕ) → n < length holders.old.items
-        → slice_index_or holders.new.items n 0 ≡ if names_in n slots.now == 0 then slice_index_or holders.old.items n 0 else dir }
+        → slice_index_or holders.new.items n 0
+        ≡ if names_in n slots.now == 0 then slice_index_or holders.old.items n 0 else dir }
 {
     for slot in slots {
         note_slot(holders, slot, dir);
@@ -91,7 +93,9 @@ pub fn holds_itself(
     to_dir: u32,
 ) -> Result<bool, AllocError>
     requires { length tree.now ≤ object_numbers }
-    ensures { IfOk result (λ below. below ≡ (is_directory_at (place tree.now moved) && is_above (length tree.now) tree.now moved to_dir)) }
+    ensures { IfOk result (λ below. below
+        ≡ (is_directory_at (place tree.now moved)
+        && is_above (length tree.now) tree.now moved to_dir)) }
 {
     if !is_directory_at(tree, moved) {
         return Ok(false);

@@ -54,7 +54,8 @@ pub fn with_entry(alloc: Global, slots: &[Option<Slot>], slot: Slot) -> Result<S
 pub fn reslot(tree: &mut Vec<Option<Object>>, dir: u32, slots: Slots, now: Time)
     requires few { length tree.old.items ≤ object_numbers }
     requires within { dir < length tree.old.items }
-    requires room { used_blocks tree.old.items + blocks_of (slot_size * length slots) ≤ tree_blocks + blocks_at (place tree.old.items dir) }
+    requires room { used_blocks tree.old.items + blocks_of
+        (slot_size * length slots) ≤ tree_blocks + blocks_at (place tree.old.items dir) }
     ensures value { tree.new.items ≡ change tree.old.items dir (reslotted now slots) }
     ensures kept { IsWithinLimits tree.new.items }
 {
@@ -70,7 +71,8 @@ pub fn reslot(tree: &mut Vec<Option<Object>>, dir: u32, slots: Slots, now: Time)
 pub fn rewrite(tree: &mut Vec<Option<Object>>, handle: u32, bytes: Bytes, now: Time)
     requires few { length tree.old.items ≤ object_numbers }
     requires within { handle < length tree.old.items }
-    requires room { used_blocks tree.old.items + blocks_of (length bytes) ≤ tree_blocks + blocks_at (place tree.old.items handle) }
+    requires room { used_blocks tree.old.items + blocks_of (length bytes) ≤ tree_blocks + blocks_at
+        (place tree.old.items handle) }
     ensures value { tree.new.items ≡ change tree.old.items handle (rewritten now bytes) }
     ensures kept { IsWithinLimits tree.new.items }
 {
@@ -149,7 +151,8 @@ pub fn add_object(
     requires tree { IsWithinLimits tree.old.items }
     requires within { dir < length tree.old.items }
     requires few { length tree.old.items < object_numbers }
-    requires room { used_blocks tree.old.items + blocks_of (size_of object.body) + blocks_of (slot_size * length slots)
+    requires room { used_blocks tree.old.items + blocks_of (size_of object.body) + blocks_of
+        (slot_size * length slots)
         ≤ tree_blocks + blocks_at (place tree.old.items dir) }
     ensures ok { OnOk result (tree.new.items ≡ with_object tree.old.items dir slots object now) }
     ensures err { OnErr result (tree.new.items ≡ tree.old.items) }

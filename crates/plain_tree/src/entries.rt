@@ -33,7 +33,8 @@ fn add_entry(
     requires within { dir < length tree.old.items }
     requires name { length name.now ≤ longest_name }
     ensures does { DoesStep tree.old.items tree.new.items result
-        (add_entry tree.old.items dir (slots_of (place tree.old.items dir)) (record { name = name.now; number = number }) now) }
+        (add_entry tree.old.items dir (slots_of (place tree.old.items dir))
+        (record { name = name.now; number = number }) now) }
     ensures kept { IsWithinLimits tree.new.items }
 {
     let slots = slots_of_place(tree, dir);

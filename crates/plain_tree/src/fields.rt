@@ -76,7 +76,8 @@ fn with_size(
     requires fits { blocks_of (size_of body.now) ≤ tree_blocks }
     ensures step { Gives (λ b. b) result (with_size tree.now cred number body.now size) }
     ensures enough { IfOk result (λ b. IfSome b (λ bytes.
-        used_blocks tree.now + blocks_of (length bytes) ≤ tree_blocks + blocks_at (place tree.now number))) }
+        used_blocks tree.now + blocks_of (length bytes) ≤ tree_blocks + blocks_at
+        (place tree.now number))) }
 {
     if size == FIELD_LEFT {
         return Ok(None);
@@ -108,7 +109,8 @@ fn set_in(object: &mut Object, a: &SetAttr, bytes: Option<Bytes>, now: Time)
 fn set_at(tree: &mut Vec<Option<Object>>, handle: u32, a: &SetAttr, bytes: Option<Bytes>, now: Time)
     requires tree { IsWithinLimits tree.old.items }
     requires enough { IfSome bytes (λ b.
-        used_blocks tree.old.items + blocks_of (length b) ≤ tree_blocks + blocks_at (place tree.old.items handle)) }
+        used_blocks tree.old.items + blocks_of (length b) ≤ tree_blocks + blocks_at
+        (place tree.old.items handle)) }
     ensures value { tree.new.items ≡ change tree.old.items handle (with_fields a.now bytes now) }
     ensures kept { IsWithinLimits tree.new.items }
 {

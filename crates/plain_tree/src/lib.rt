@@ -1,6 +1,6 @@
-//! A plain program that computes the outcome of each call of NFS version 2 (RFC 1094) over a list of objects.
-//! It is a second opinion on the program over cells, nfs_calls, and shares no code with it but the tests of
-//! permissions of file_tree.
+//! A plain program that computes the outcome of each call of NFS version 2 (RFC 1094) over a list
+//! of objects. It is a second opinion on the program over cells, nfs_calls, and shares no code with
+//! it but the tests of permissions of file_tree.
 #![tactic(auto)]
 
 mod ancestry;

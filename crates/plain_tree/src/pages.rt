@@ -16,7 +16,8 @@ use std::alloc::{AllocError, Global};
 
 fn dots(alloc: Global, fileid: u32, count: usize) -> Result<DirEntry, AllocError>
     requires { count < 3 }
-    ensures { IfOk result (λ e. e ≡ record { fileid = fileid; name = replicate count 46; cookie = count }) }
+    ensures { IfOk result (λ e. e ≡ record
+        { fileid = fileid; name = replicate count 46; cookie = count }) }
 {
     Ok(DirEntry {
         fileid,
@@ -100,8 +101,8 @@ fn page(
     Ok((page, true))
 }
 
-/// READDIR (RFC 1094, section 2.2.17): at most 8192 bytes, and an entry has 16 bytes and its name, rounded up to
-/// a multiple of 4.
+/// READDIR (RFC 1094, section 2.2.17): at most 8192 bytes, and an entry has 16 bytes and its name,
+/// rounded up to a multiple of 4.
 #[tactic(auto, unfolding(file_tree::specs::Outcome::read_dir))]
 pub fn read_dir(
     alloc: Global,

@@ -28,7 +28,8 @@ fn read_answered(
 ) -> Result<Reply, TreeError>
     requires tree { IsWithinLimits tree.now }
     requires read { is_update call.now ≡ false }
-    ensures { (now : Time) → Gives (λ r. (r, tree.now)) result (answered tree.now cred call.now now) }
+    ensures { (now : Time) → Gives (λ r. (r, tree.now)) result
+        (answered tree.now cred call.now now) }
 {
     match call {
         Call::Null => Ok(Reply::Done),
@@ -58,7 +59,8 @@ fn entries_answered(
 ) -> Result<Reply, TreeError>
     requires tree { IsWithinLimits tree.old.items }
     requires entries { changes_entries call.now ≡ true }
-    ensures does { Does tree.old.items tree.new.items result (answered tree.old.items cred call.now now) }
+    ensures does { Does tree.old.items tree.new.items result
+        (answered tree.old.items cred call.now now) }
     ensures kept { IsWithinLimits tree.new.items }
 {
     match call {
@@ -91,7 +93,8 @@ fn content_answered(
     requires tree { IsWithinLimits tree.old.items }
     requires update { is_update call.now ≡ true }
     requires content { changes_entries call.now ≡ false }
-    ensures does { Does tree.old.items tree.new.items result (answered tree.old.items cred call.now now) }
+    ensures does { Does tree.old.items tree.new.items result
+        (answered tree.old.items cred call.now now) }
     ensures kept { IsWithinLimits tree.new.items }
 {
     match call {
@@ -129,7 +132,8 @@ fn call_answered(
     now: Time,
 ) -> Result<Reply, TreeError>
     requires { IsWithinLimits tree.old.items }
-    ensures does { Does tree.old.items tree.new.items result (answered tree.old.items cred call.now now) }
+    ensures does { Does tree.old.items tree.new.items result
+        (answered tree.old.items cred call.now now) }
     ensures kept { IsWithinLimits tree.new.items }
 {
     if !is_update(call) {
@@ -141,8 +145,8 @@ fn call_answered(
     }
 }
 
-/// A file tree: contracts see the list of its objects by number. It has less than 2^32 numbers, and its objects have at
-/// most 65,536 blocks of 4096 bytes.
+/// A file tree: contracts see the list of its objects by number. It has less than 2^32 numbers, and
+/// its objects have at most 65,536 blocks of 4096 bytes.
 #[derive(Drop)]
 pub struct PlainTree {
     objects: Vec<Option<Object>>,
@@ -185,8 +189,9 @@ impl PlainTree {
         Ok(PlainTree { objects })
     }
 
-    /// The outcome of a caller's call at a stamp in milliseconds: its reply, and the new tree. An update changes the tree in
-    /// place, and copies no more than the file or the slots that it changes. Where memory runs out the tree is as before.
+    /// The outcome of a caller's call at a stamp in milliseconds: its reply, and the new tree. An
+    /// update changes the tree in place, and copies no more than the file or the slots that it
+    /// changes. Where memory runs out the tree is as before.
     pub fn apply(
         &mut self,
         alloc: Global,
@@ -194,7 +199,8 @@ impl PlainTree {
         call: &Call,
         stamp: u64,
     ) -> Result<Reply, AllocError>
-        ensures ok { IfOk result (λ reply. outcome self.old cred call.now stamp ≡ (reply, self.new)) }
+        ensures ok { IfOk result (λ reply. outcome self.old cred call.now stamp
+            ≡ (reply, self.new)) }
         ensures err { OnErr result (self.new ≡ self.old) }
     {
         match call_answered(alloc, &mut self.objects, cred, call, time_of(stamp)) {

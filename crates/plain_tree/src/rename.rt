@@ -84,7 +84,8 @@ fn move_in(
     requires within { to_dir < length tree.old.items }
     requires name { length to_name.now ≤ longest_name }
     ensures does { DoesStep tree.old.items tree.new.items result
-        (moved_in tree.old.items dir x to_dir (slots_of (place tree.old.items to_dir)) to_name.now now) }
+        (moved_in tree.old.items dir x to_dir
+        (slots_of (place tree.old.items to_dir)) to_name.now now) }
     ensures kept { IsWithinLimits tree.new.items }
 {
     let to_slots = slots_of_place(tree, to_dir);
@@ -142,7 +143,8 @@ fn move_to(
     requires within { to_dir < length tree.old.items }
     requires name { length to_name.now ≤ longest_name }
     ensures does { DoesStep tree.old.items tree.new.items result
-        (moved_to tree.old.items dir x to_dir (slots_of (place tree.old.items to_dir)) to_name.now target now) }
+        (moved_to tree.old.items dir x to_dir
+        (slots_of (place tree.old.items to_dir)) to_name.now target now) }
     ensures kept { IsWithinLimits tree.new.items }
 {
     match target {
@@ -163,7 +165,8 @@ fn entry_or_none(slots: &[Option<Slot>], name: &[u8]) -> Result<(usize, u32), Tr
     entry(slots, name).ok_or(TreeError::Status(Status::NoEnt))
 }
 
-/// RENAME (RFC 1094, section 2.2.12): a target is replaced, where it is of the same kind and no directory with entries.
+/// RENAME (RFC 1094, section 2.2.12): a target is replaced, where it is of the same kind and no
+/// directory with entries.
 #[tactic(auto, unfolding(file_tree::specs::Rename::rename))]
 pub fn rename(
     alloc: Global,

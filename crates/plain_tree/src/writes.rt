@@ -140,7 +140,8 @@ fn create_new(
     requires name { length name.now ≤ longest_name }
     requires within { dir < length tree.old.items }
     ensures does { Does tree.old.items tree.new.items result
-        (create_new tree.old.items cred dir (slots_of (place tree.old.items dir)) name.now a.now now) }
+        (create_new tree.old.items cred dir
+        (slots_of (place tree.old.items dir)) name.now a.now now) }
     ensures kept { IsWithinLimits tree.new.items }
 {
     may_make(tree, cred, dir, a)?;

@@ -4,7 +4,8 @@ use Rattle.std.specs.List.{slice_get}
 use Rattle.harp_base.specs.Limits.{log_room}
 use Rattle.event_record.specs.declared.record.Record.{Record}
 
--- the records base + 1 to base + length records; those up to LB are on the disk, up to AP applied, up to CP committed
+-- the records base + 1 to base + length records; those up to LB are on the disk, up to AP applied,
+-- up to CP committed
 pub record LogValue : Type 0 where
   pub base : ℕ
   pub lb : ℕ
@@ -25,7 +26,8 @@ abbrev pub AreNumberedAfter : ℕ → List Record → Type 0
 AreNumberedAfter n [] = Unit {0}
 AreNumberedAfter n (r ∷ rs) = (r.index ≡ n + 1) × AreNumberedAfter (n + 1) rs
 
--- the numbers stand in their order and within their limits, and the records follow each other from the base on
+-- the numbers stand in their order and within their limits, and the records follow each other from
+-- the base on
 pub record IsLog (log : LogValue) : Type 0 where
   pub base : log.base ≤ log.lb
   pub lb : log.lb ≤ log.ap
@@ -48,4 +50,6 @@ committed_to log n = record log { cp = n }
 
 -- the record of an index, none up to the base and above the top
 abbrev pub record_at : LogValue → ℕ → Option Record
-record_at log index = if nat_lt log.base index then slice_get log.records (index - log.base - 1) else None
+record_at log index =
+    if nat_lt log.base index then slice_get log.records (index - log.base - 1)
+    else None

@@ -15,9 +15,9 @@ use std::marker::Model;
 pub struct LogFull;
 
 /// A log that records are added to and committed in. It has the records base + 1 to top, at most
-/// 32,768 and each with the index of its place; base <= LB <= AP <= CP <= top, all below 2^62. Those
-/// up to LB are on this server's disk, those up to AP are applied to its tree, and those up to CP are
-/// committed (Harp paper). The room is taken when the log is made.
+/// 32,768 and each with the index of its place; base <= LB <= AP <= CP <= top, all below 2^62.
+/// Those up to LB are on this server's disk, those up to AP are applied to its tree, and those up
+/// to CP are committed (Harp paper). The room is taken when the log is made.
 #[derive(Drop)]
 pub struct ActiveLog {
     base: u64,
@@ -34,9 +34,21 @@ impl Model for ActiveLog {
 
     ghost Value = { LogValue };
 
-    ghost view = { λ l. record { base = l.base; lb = l.lb; ap = l.ap; cp = l.cp; records = l.records.items } };
+    ghost view = { λ l. record {
+      base = l.base;
+      lb = l.lb;
+      ap = l.ap;
+      cp = l.cp;
+      records = l.records.items;
+    } };
 
-    ghost invariant = { λ l. IsLog (record { base = l.base; lb = l.lb; ap = l.ap; cp = l.cp; records = l.records.items })
+    ghost invariant = { λ l. IsLog (record {
+      base = l.base;
+      lb = l.lb;
+      ap = l.ap;
+      cp = l.cp;
+      records = l.records.items;
+    })
         × (room ≤ deque_capacity l.records) };
 }
 
@@ -54,8 +66,8 @@ impl ActiveLog {
         })
     }
 
-    /// Adds the next record. LogFull comes exactly where 32,768 records stand; the record comes back
-    /// with it, and the log is as before. It takes no memory.
+    /// Adds the next record. LogFull comes exactly where 32,768 records stand; the record comes
+    /// back with it, and the log is as before. It takes no memory.
     pub fn append(&mut self, item: Record) -> Result<(), (LogFull, Record)>
         requires next { item.index ≡ top self.old + 1 }
         requires limit { item.index < 2 ^ 62 }

@@ -18,7 +18,8 @@ use harp_cells::{CellFault, CellRead, Inode};
 
 /// Ok for a directory, else its refusal.
 pub fn slots_in(kind: Kind) -> Result<(), Status>
-    ensures { (body : Body) → kind_of body ≡ kind → Tells (λ _. slots_within body) result (slots_in body) }
+    ensures { (body : Body) → kind_of body ≡ kind
+        → Tells (λ _. slots_within body) result (slots_in body) }
 {
     match kind {
         Kind::Directory => Ok(()),
@@ -31,9 +32,11 @@ pub fn slots_in(kind: Kind) -> Result<(), Status>
 pub fn directory<R: CellRead>(cells: &mut R, number: u32) -> Result<Inode, CallError>
     ensures step { (t : TreeCells) → R.cells cells.old ≡ Some t.cells
         → Gives (λ _. slots_of (place t.tree number)) result (directory t.tree number) }
-    ensures inode { (t : TreeCells) → R.cells cells.old ≡ Some t.cells → IfOk result (IsInode t.tree number) }
+    ensures inode { (t : TreeCells) → R.cells cells.old ≡ Some t.cells
+        → IfOk result (IsInode t.tree number) }
     ensures kept { R.cells cells.new ≡ R.cells cells.old }
-    ensures rose { result ≡ Err (CallError.Fault CellFault.StoreFailed) → Rose (R.faults cells.old) (R.faults cells.new) }
+    ensures rose { result ≡ Err (CallError.Fault CellFault.StoreFailed)
+        → Rose (R.faults cells.old) (R.faults cells.new) }
     ensures count { R.faults cells.old ≤ R.faults cells.new }
 {
     let inode = live(cells, number)?;
@@ -48,11 +51,13 @@ pub fn entry<R: CellRead>(
     inode: &Inode,
     name: &[u8],
 ) -> Result<Option<(u32, u32)>, CellFault>
-    ensures entry { (t : TreeCells) → R.cells cells.old ≡ Some t.cells → IsDirectory t.tree dir inode.now
+    ensures entry { (t : TreeCells) → R.cells cells.old ≡ Some t.cells
+        → IsDirectory t.tree dir inode.now
         → IfOk result (λ x. x ≡ entry (slots_of (place t.tree dir)) name.now) }
     ensures within { IfOk result (λ x. IfSome x (λ entry. entry.0 < inode.now.slots)) }
     ensures kept { R.cells cells.new ≡ R.cells cells.old }
-    ensures rose { result ≡ Err CellFault.StoreFailed → Rose (R.faults cells.old) (R.faults cells.new) }
+    ensures rose { result ≡ Err CellFault.StoreFailed
+        → Rose (R.faults cells.old) (R.faults cells.new) }
     ensures count { R.faults cells.old ≤ R.faults cells.new }
 {
     inode_dirs::find(cells, dir, inode.slots, name)
@@ -65,11 +70,13 @@ pub fn find<R: CellRead>(
     inode: &Inode,
     name: &[u8],
 ) -> Result<(u32, u32), CallError>
-    ensures step { (t : TreeCells) → R.cells cells.old ≡ Some t.cells → IsDirectory t.tree dir inode.now
+    ensures step { (t : TreeCells) → R.cells cells.old ≡ Some t.cells
+        → IsDirectory t.tree dir inode.now
         → Gives (λ x. x) result (find (slots_of (place t.tree dir)) name.now) }
     ensures within { IfOk result (λ x. x.0 < inode.now.slots) }
     ensures kept { R.cells cells.new ≡ R.cells cells.old }
-    ensures rose { result ≡ Err (CallError.Fault CellFault.StoreFailed) → Rose (R.faults cells.old) (R.faults cells.new) }
+    ensures rose { result ≡ Err (CallError.Fault CellFault.StoreFailed)
+        → Rose (R.faults cells.old) (R.faults cells.new) }
     ensures count { R.faults cells.old ≤ R.faults cells.new }
 {
     check_name(name)?;
@@ -86,10 +93,12 @@ pub fn resolve<R: CellRead>(
     inode: &Inode,
     name: &[u8],
 ) -> Result<u32, CallError>
-    ensures step { (t : TreeCells) → R.cells cells.old ≡ Some t.cells → IsDirectory t.tree dir inode.now
+    ensures step { (t : TreeCells) → R.cells cells.old ≡ Some t.cells
+        → IsDirectory t.tree dir inode.now
         → Gives (λ x. x) result (resolve t.tree dir (slots_of (place t.tree dir)) name.now) }
     ensures kept { R.cells cells.new ≡ R.cells cells.old }
-    ensures rose { result ≡ Err (CallError.Fault CellFault.StoreFailed) → Rose (R.faults cells.old) (R.faults cells.new) }
+    ensures rose { result ≡ Err (CallError.Fault CellFault.StoreFailed)
+        → Rose (R.faults cells.old) (R.faults cells.new) }
     ensures count { R.faults cells.old ≤ R.faults cells.new }
 {
     if is_dot(name) {

@@ -18,7 +18,8 @@ use std::alloc::Global;
 
 /// Ok for a regular file, else its refusal.
 pub fn bytes_in(kind: Kind) -> Result<(), Status>
-    ensures step { (body : Body) → kind_of body ≡ kind → Tells (λ _. bytes_within body) result (bytes_in body) }
+    ensures step { (body : Body) → kind_of body ≡ kind
+        → Tells (λ _. bytes_within body) result (bytes_in body) }
     ensures kind { IfOk result (λ _. kind ≡ kinds.Regular) }
 {
     match kind {
@@ -30,7 +31,8 @@ pub fn bytes_in(kind: Kind) -> Result<(), Status>
 
 /// Ok for a symbolic link, else its refusal.
 pub fn text_in(kind: Kind) -> Result<(), Status>
-    ensures step { (body : Body) → kind_of body ≡ kind → Tells (λ _. bytes_within body) result (text_in body) }
+    ensures step { (body : Body) → kind_of body ≡ kind
+        → Tells (λ _. bytes_within body) result (text_in body) }
     ensures kind { IfOk result (λ _. kind ≡ kinds.Link) }
 {
     match kind {
@@ -50,11 +52,13 @@ pub fn content<R: CellRead>(
     count: u32,
 ) -> Result<Bytes, CellFault>
     requires { inode.now.kind ≢ kinds.Directory }
-    ensures bytes { (t : TreeCells) → R.cells cells.old ≡ Some t.cells → IsInode t.tree number inode.now
+    ensures bytes { (t : TreeCells) → R.cells cells.old ≡ Some t.cells
+        → IsInode t.tree number inode.now
         → IfOk result (λ b. b ≡ take count (drop offset (content_of (place t.tree number)))) }
     ensures most { IfOk result (λ b. length b ≤ count) }
     ensures kept { R.cells cells.new ≡ R.cells cells.old }
-    ensures rose { result ≡ Err CellFault.StoreFailed → Rose (R.faults cells.old) (R.faults cells.new) }
+    ensures rose { result ≡ Err CellFault.StoreFailed
+        → Rose (R.faults cells.old) (R.faults cells.new) }
     ensures count { R.faults cells.old ≤ R.faults cells.new }
 {
     read_bytes(alloc, cells, number, inode.size, offset, count)

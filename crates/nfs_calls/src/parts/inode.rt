@@ -65,7 +65,8 @@ pub fn inode_at<R: CellRead>(cells: &mut R, number: u32) -> Result<Option<Inode>
     ensures inode { (t : TreeCells) → R.cells cells.old ≡ Some t.cells
         → IfOk result (λ i. i ≡ inode_placed t.tree number) }
     ensures kept { R.cells cells.new ≡ R.cells cells.old }
-    ensures rose { result ≡ Err CellFault.StoreFailed → Rose (R.faults cells.old) (R.faults cells.new) }
+    ensures rose { result ≡ Err CellFault.StoreFailed
+        → Rose (R.faults cells.old) (R.faults cells.new) }
     ensures count { R.faults cells.old ≤ R.faults cells.new }
 {
     cells.fetch(Cell::Object { object: number })?;
@@ -76,9 +77,11 @@ pub fn inode_at<R: CellRead>(cells: &mut R, number: u32) -> Result<Option<Inode>
 pub fn live<R: CellRead>(cells: &mut R, number: u32) -> Result<Inode, CallError>
     ensures step { (t : TreeCells) → R.cells cells.old ≡ Some t.cells
         → Gives (λ i. object_at t.tree number) result (live t.tree number) }
-    ensures inode { (t : TreeCells) → R.cells cells.old ≡ Some t.cells → IfOk result (IsInode t.tree number) }
+    ensures inode { (t : TreeCells) → R.cells cells.old ≡ Some t.cells
+        → IfOk result (IsInode t.tree number) }
     ensures kept { R.cells cells.new ≡ R.cells cells.old }
-    ensures rose { result ≡ Err (CallError.Fault CellFault.StoreFailed) → Rose (R.faults cells.old) (R.faults cells.new) }
+    ensures rose { result ≡ Err (CallError.Fault CellFault.StoreFailed)
+        → Rose (R.faults cells.old) (R.faults cells.new) }
     ensures count { R.faults cells.old ≤ R.faults cells.new }
 {
     match inode_at(cells, number)? {
@@ -134,7 +137,8 @@ pub fn attr_at<R: CellRead>(cells: &mut R, number: u32) -> Result<Attr, CellFaul
     ensures attr { (t : TreeCells) → R.cells cells.old ≡ Some t.cells
         → IfOk result (λ a. a ≡ attr_at t.tree number) }
     ensures kept { R.cells cells.new ≡ R.cells cells.old }
-    ensures rose { result ≡ Err CellFault.StoreFailed → Rose (R.faults cells.old) (R.faults cells.new) }
+    ensures rose { result ≡ Err CellFault.StoreFailed
+        → Rose (R.faults cells.old) (R.faults cells.new) }
     ensures count { R.faults cells.old ≤ R.faults cells.new }
 {
     match inode_at(cells, number)? {

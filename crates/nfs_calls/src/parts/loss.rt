@@ -81,7 +81,8 @@ pub fn lose(
     inode: &Inode,
     now: Time,
 ) -> Result<(), AllocError>
-    ensures { IfOk result (λ _. changes.new.items ≡ changes.old.items ++ loss number inode.now now) }
+    ensures { IfOk result (λ _. changes.new.items ≡ changes.old.items
+        ++ loss number inode.now now) }
 {
     if !is_last(inode) {
         return put_object(changes, number, &unlinked(inode, now));
@@ -128,12 +129,16 @@ fn inode_zero() -> Inode
     }
 }
 
-/// The attributes of an object that an entry names; zeros where none lives, as no entry of a sound tree says.
+/// The attributes of an object that an entry names; zeros where none lives, as no entry of a sound
+/// tree says.
 pub fn named<R: CellRead>(cells: &mut R, number: u32) -> Result<Inode, CellFault>
-    ensures inode { (t : TreeCells) (dir slot : ℕ) (name : List ℕ) → R.cells cells.old ≡ Some t.cells
-        → entry (slots_of (place t.tree dir)) name ≡ Some (slot, number) → IfOk result (IsInode t.tree number) }
+    ensures inode { (t : TreeCells) (dir slot : ℕ) (name : List ℕ)
+        → R.cells cells.old ≡ Some t.cells
+        → entry (slots_of (place t.tree dir)) name ≡ Some (slot, number)
+        → IfOk result (IsInode t.tree number) }
     ensures kept { R.cells cells.new ≡ R.cells cells.old }
-    ensures rose { result ≡ Err CellFault.StoreFailed → Rose (R.faults cells.old) (R.faults cells.new) }
+    ensures rose { result ≡ Err CellFault.StoreFailed
+        → Rose (R.faults cells.old) (R.faults cells.new) }
     ensures count { R.faults cells.old ≤ R.faults cells.new }
 {
     match inode_at(cells, number)? {

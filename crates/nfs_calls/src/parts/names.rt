@@ -3,7 +3,7 @@
 ghost use Rattle.std.specs.Prelude.{◌≡◌, IfOk};
 ghost use Rattle.std.specs.List.{list_any};
 ghost use Rattle.file_tree.specs.Tries.{refuse, is_dot, is_dot_dot, is_dots, is_odd_byte, is_odd, check_name, entry_name};
-ghost use Rattle.nfs_calls.specs.Plans.{FitsName};
+ghost use Rattle.nfs_calls.specs.NewEntries.{FitsName};
 
 use harp_base::{LONGEST_NAME, Status};
 

@@ -9,7 +9,8 @@ ghost use Rattle.file_tree.specs.Outcome.{has_entry, free_name};
 ghost use Rattle.harp_cells.specs.Effect.{Cells};
 ghost use Rattle.cell_changes.specs.TreeCells.{TreeCells};
 ghost use Rattle.nfs_calls.specs.TreeCells.{IsDirectory, IsRoom};
-ghost use Rattle.nfs_calls.specs.Plans.{FitsName, entered, replaced_blocks};
+ghost use Rattle.nfs_calls.specs.NewEntries.{FitsName, entered};
+ghost use Rattle.nfs_calls.specs.Space.{replaced_blocks};
 ghost use Rattle.nfs_calls.specs.Gives.{Gives};
 
 use crate::error::CallError;
@@ -27,10 +28,12 @@ pub fn has_entry<R: CellRead>(
     inode: &Inode,
     name: &[u8],
 ) -> Result<bool, CellFault>
-    ensures has { (t : TreeCells) → R.cells cells.old ≡ Some t.cells → IsDirectory t.tree dir inode.now
+    ensures has { (t : TreeCells) → R.cells cells.old ≡ Some t.cells
+        → IsDirectory t.tree dir inode.now
         → IfOk result (λ has. has ≡ has_entry (slots_of (place t.tree dir)) name.now) }
     ensures kept { R.cells cells.new ≡ R.cells cells.old }
-    ensures rose { result ≡ Err CellFault.StoreFailed → Rose (R.faults cells.old) (R.faults cells.new) }
+    ensures rose { result ≡ Err CellFault.StoreFailed
+        → Rose (R.faults cells.old) (R.faults cells.new) }
     ensures count { R.faults cells.old ≤ R.faults cells.new }
 {
     let found = entry(cells, dir, inode, name)?;
@@ -44,11 +47,13 @@ pub fn free_name<R: CellRead>(
     inode: &Inode,
     name: &[u8],
 ) -> Result<(), CallError>
-    ensures step { (t : TreeCells) → R.cells cells.old ≡ Some t.cells → IsDirectory t.tree dir inode.now
+    ensures step { (t : TreeCells) → R.cells cells.old ≡ Some t.cells
+        → IsDirectory t.tree dir inode.now
         → Gives (λ x. x) result (free_name (slots_of (place t.tree dir)) name.now) }
     ensures fits { IfOk result (λ _. FitsName name.now) }
     ensures kept { R.cells cells.new ≡ R.cells cells.old }
-    ensures rose { result ≡ Err (CallError.Fault CellFault.StoreFailed) → Rose (R.faults cells.old) (R.faults cells.new) }
+    ensures rose { result ≡ Err (CallError.Fault CellFault.StoreFailed)
+        → Rose (R.faults cells.old) (R.faults cells.new) }
     ensures count { R.faults cells.old ≤ R.faults cells.new }
 {
     entry_name(name)?;
@@ -57,7 +62,8 @@ pub fn free_name<R: CellRead>(
     Ok(())
 }
 
-/// The place of a new entry in a directory, which then has so many slots, and the used blocks with it.
+/// The place of a new entry in a directory, which then has so many slots, and the used blocks with
+/// it.
 #[derive(Clone, Copy, Debug)]
 pub struct Room {
     pub slot: u32,
@@ -73,14 +79,18 @@ pub fn room_in<R: CellRead>(
     inode: &Inode,
 ) -> Result<Room, CallError>
     requires { used < 2 ^ 48 }
-    ensures step { (t : TreeCells) (s : Slot) → R.cells cells.old ≡ Some t.cells → IsDirectory t.tree dir inode.now
+    ensures step { (t : TreeCells) (s : Slot) → R.cells cells.old ≡ Some t.cells
+        → IsDirectory t.tree dir inode.now
         → Gives (λ room. room.used) result
-        (replaced_blocks used inode.now.size (slot_size * length (with_entry (slots_of (place t.tree dir)) s))) }
-    ensures room { (t : TreeCells) → R.cells cells.old ≡ Some t.cells → IsDirectory t.tree dir inode.now
+        (replaced_blocks used inode.now.size
+        (slot_size * length (with_entry (slots_of (place t.tree dir)) s))) }
+    ensures room { (t : TreeCells) → R.cells cells.old ≡ Some t.cells
+        → IsDirectory t.tree dir inode.now
         → IfOk result (IsRoom (slots_of (place t.tree dir))) }
     ensures bound { IfOk result (λ room. room.slots < 2 ^ 40) }
     ensures kept { R.cells cells.new ≡ R.cells cells.old }
-    ensures rose { result ≡ Err (CallError.Fault CellFault.StoreFailed) → Rose (R.faults cells.old) (R.faults cells.new) }
+    ensures rose { result ≡ Err (CallError.Fault CellFault.StoreFailed)
+        → Rose (R.faults cells.old) (R.faults cells.new) }
     ensures count { R.faults cells.old ≤ R.faults cells.new }
 {
     let slot = slot_for(cells, dir, inode.slots)?;
@@ -90,7 +100,7 @@ pub fn room_in<R: CellRead>(
 }
 
 /// A directory's attributes with so many slots after an entry came, and so many links more.
-#[tactic(auto, unfolding(crate::specs::Plans::entered))]
+#[tactic(auto, unfolding(crate::specs::NewEntries::entered))]
 pub fn entered(inode: &Inode, slots: u64, more: u32, now: Time) -> Inode
     requires { slots < 2 ^ 40 }
     ensures { result ≡ entered inode.now slots more now }

@@ -19,7 +19,8 @@ use harp_cells::{CellFault, CellRead, Inode};
 
 /// A refusal, unless the caller may do what is wanted with an object.
 pub fn allowed(cred: Cred, inode: &Inode, want: u8) -> Result<(), Status>
-    ensures { (tree : Tree) (number : ℕ) → IsInode tree number inode.now → result ≡ allowed tree cred number want }
+    ensures { (tree : Tree) (number : ℕ) → IsInode tree number inode.now
+        → result ≡ allowed tree cred number want }
 {
     refuse(
         Status::Acces,
@@ -31,9 +32,11 @@ pub fn allowed(cred: Cred, inode: &Inode, want: u8) -> Result<(), Status>
 pub fn searched<R: CellRead>(cells: &mut R, cred: Cred, number: u32) -> Result<Inode, CallError>
     ensures step { (t : TreeCells) → R.cells cells.old ≡ Some t.cells
         → Gives (λ _. slots_of (place t.tree number)) result (searched t.tree cred number) }
-    ensures directory { (t : TreeCells) → R.cells cells.old ≡ Some t.cells → IfOk result (IsDirectory t.tree number) }
+    ensures directory { (t : TreeCells) → R.cells cells.old ≡ Some t.cells
+        → IfOk result (IsDirectory t.tree number) }
     ensures kept { R.cells cells.new ≡ R.cells cells.old }
-    ensures rose { result ≡ Err (CallError.Fault CellFault.StoreFailed) → Rose (R.faults cells.old) (R.faults cells.new) }
+    ensures rose { result ≡ Err (CallError.Fault CellFault.StoreFailed)
+        → Rose (R.faults cells.old) (R.faults cells.new) }
     ensures count { R.faults cells.old ≤ R.faults cells.new }
 {
     let inode = directory(cells, number)?;
@@ -43,7 +46,8 @@ pub fn searched<R: CellRead>(cells: &mut R, cred: Cred, number: u32) -> Result<I
 
 /// A refusal, unless the caller may write the directory and make an object with these fields.
 pub fn may_make(cred: Cred, inode: &Inode, attr: &SetAttr) -> Result<(), Status>
-    ensures { (tree : Tree) (number : ℕ) → IsInode tree number inode.now → result ≡ may_make tree cred number attr.now }
+    ensures { (tree : Tree) (number : ℕ) → IsInode tree number inode.now
+        → result ≡ may_make tree cred number attr.now }
 {
     allowed(cred, inode, TO_WRITE)?;
     refuse(Status::Perm, !may_give(cred, attr))
@@ -52,7 +56,8 @@ pub fn may_make(cred: Cred, inode: &Inode, attr: &SetAttr) -> Result<(), Status>
 /// A refusal, unless the caller may set these fields of an object.
 pub fn settable(cred: Cred, inode: &Inode, attr: &SetAttr) -> Result<(), Status>
     ensures { (tree : Tree) (number : ℕ) → IsInode tree number inode.now
-        → result ≡ refuse Perm (not (may_set cred attr.now (object_at tree number).uid (object_at tree number).gid)) }
+        → result ≡ refuse Perm (not
+        (may_set cred attr.now (object_at tree number).uid (object_at tree number).gid)) }
 {
     refuse(Status::Perm, !may_set(cred, attr, inode.uid, inode.gid))
 }

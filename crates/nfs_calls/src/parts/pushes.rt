@@ -23,7 +23,8 @@ pub fn put_object(changes: &mut Vec<Change>, number: u32, inode: &Inode) -> Resu
 
 /// An object goes.
 pub fn erase_object(changes: &mut Vec<Change>, number: u32) -> Result<(), AllocError>
-    ensures { IfOk result (λ _. changes.new.items ≡ changes.old.items ++ change.Erase (cell.Object number) ∷ []) }
+    ensures { IfOk result (λ _. changes.new.items ≡ changes.old.items
+        ++ change.Erase (cell.Object number) ∷ []) }
 {
     changes.push(Change::Erase {
         cell: Cell::Object { object: number },
@@ -33,7 +34,8 @@ pub fn erase_object(changes: &mut Vec<Change>, number: u32) -> Result<(), AllocE
 
 /// All blocks of an object go.
 pub fn erase_blocks(changes: &mut Vec<Change>, number: u32) -> Result<(), AllocError>
-    ensures { IfOk result (λ _. changes.new.items ≡ changes.old.items ++ change.EraseFrom number 0 ∷ []) }
+    ensures { IfOk result (λ _. changes.new.items ≡ changes.old.items ++ change.EraseFrom number 0
+        ∷ []) }
 {
     changes.push(Change::EraseFrom {
         object: number,
@@ -62,7 +64,8 @@ pub fn put_slot(
 
 /// A slot is freed.
 pub fn erase_slot(changes: &mut Vec<Change>, dir: u32, slot: u32) -> Result<(), AllocError>
-    ensures { IfOk result (λ _. changes.new.items ≡ changes.old.items ++ change.Erase (cell.Slot dir slot) ∷ []) }
+    ensures { IfOk result (λ _. changes.new.items ≡ changes.old.items
+        ++ change.Erase (cell.Slot dir slot) ∷ []) }
 {
     changes.push(Change::Erase {
         cell: Cell::Slot { object: dir, slot },

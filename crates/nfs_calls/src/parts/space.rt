@@ -2,7 +2,7 @@
 
 ghost use Rattle.std.specs.Prelude.{◌≡◌, ◌<◌, ◌^◌};
 ghost use Rattle.file_tree.specs.Tree.{blocks_of};
-ghost use Rattle.nfs_calls.specs.Plans.{capped, replaced_blocks};
+ghost use Rattle.nfs_calls.specs.Space.{capped, replaced_blocks};
 
 use crate::parts::names::refuse;
 use harp_base::{BLOCK_SIZE, Status, TREE_BLOCKS};
@@ -22,7 +22,8 @@ pub fn capped(number: u64) -> u32
     number.min(4_294_967_295) as u32
 }
 
-/// The used blocks where those of one size in bytes are replaced by those of another, as far as there is room.
+/// The used blocks where those of one size in bytes are replaced by those of another, as far as
+/// there is room.
 pub fn replaced(used: u64, old: u32, new: u64) -> Result<u32, Status>
     requires used { used < 2 ^ 48 }
     requires new { new < 2 ^ 48 }

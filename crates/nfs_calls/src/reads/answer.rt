@@ -27,7 +27,8 @@ fn answered<R: CellRead>(
         → Gives (λ r. (r, t.tree)) result (answered t.tree cred call.now now) }
     ensures form { IfOk result (λ r. form r ≡ form_given call.now) }
     ensures kept { R.cells cells.new ≡ R.cells cells.old }
-    ensures rose { result ≡ Err (CallError.Fault CellFault.StoreFailed) → Rose (R.faults cells.old) (R.faults cells.new) }
+    ensures rose { result ≡ Err (CallError.Fault CellFault.StoreFailed)
+        → Rose (R.faults cells.old) (R.faults cells.new) }
     ensures count { R.faults cells.old ≤ R.faults cells.new }
 {
     match call {
@@ -46,9 +47,10 @@ fn answered<R: CellRead>(
     }
 }
 
-/// The reply to a caller's read over cells that stand for a sound tree: that of its outcome, which no stamp changes. A status of
-/// NFS is a reply. It reads no more cells than the call needs: of a directory's slots those up to the entry that is
-/// looked up or that ends the page, and of a file the blocks that are read.
+/// The reply to a caller's read over cells that stand for a sound tree: that of its outcome, which
+/// no stamp changes. A status of NFS is a reply. It reads no more cells than the call needs: of a
+/// directory's slots those up to the entry that is looked up or that ends the page, and of a file
+/// the blocks that are read.
 pub fn answer<R: CellRead>(
     alloc: Global,
     cells: &mut R,
@@ -61,7 +63,8 @@ pub fn answer<R: CellRead>(
     // Over any cells: a refusal, or what the call gives.
     ensures form { IfOk result (IsReplyTo call.now) }
     ensures kept { R.cells cells.new ≡ R.cells cells.old }
-    ensures rose { result ≡ Err CellFault.StoreFailed → Rose (R.faults cells.old) (R.faults cells.new) }
+    ensures rose { result ≡ Err CellFault.StoreFailed
+        → Rose (R.faults cells.old) (R.faults cells.new) }
     ensures count { R.faults cells.old ≤ R.faults cells.new }
 {
     match answered(alloc, cells, cred, call) {

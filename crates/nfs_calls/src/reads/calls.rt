@@ -30,7 +30,8 @@ pub fn get_attr<R: CellRead>(cells: &mut R, handle: u32) -> Result<Reply, CallEr
         → Gives (λ r. (r, t.tree)) result (get_attr t.tree handle) }
     ensures form { IfOk result (λ r. form r ≡ attr_form) }
     ensures kept { R.cells cells.new ≡ R.cells cells.old }
-    ensures rose { result ≡ Err (CallError.Fault CellFault.StoreFailed) → Rose (R.faults cells.old) (R.faults cells.new) }
+    ensures rose { result ≡ Err (CallError.Fault CellFault.StoreFailed)
+        → Rose (R.faults cells.old) (R.faults cells.new) }
     ensures count { R.faults cells.old ≤ R.faults cells.new }
 {
     let inode = live(cells, handle)?;
@@ -51,7 +52,8 @@ pub fn lookup<R: CellRead>(
         → Gives (λ r. (r, t.tree)) result (lookup t.tree cred dir name.now) }
     ensures form { IfOk result (λ r. form r ≡ node_form) }
     ensures kept { R.cells cells.new ≡ R.cells cells.old }
-    ensures rose { result ≡ Err (CallError.Fault CellFault.StoreFailed) → Rose (R.faults cells.old) (R.faults cells.new) }
+    ensures rose { result ≡ Err (CallError.Fault CellFault.StoreFailed)
+        → Rose (R.faults cells.old) (R.faults cells.new) }
     ensures count { R.faults cells.old ≤ R.faults cells.new }
 {
     let inode = searched(cells, cred, dir)?;
@@ -70,7 +72,8 @@ pub fn read_link<R: CellRead>(alloc: Global, cells: &mut R, handle: u32) -> Resu
         → Gives (λ r. (r, t.tree)) result (read_link t.tree handle) }
     ensures form { IfOk result (λ r. form r ≡ path_form) }
     ensures kept { R.cells cells.new ≡ R.cells cells.old }
-    ensures rose { result ≡ Err (CallError.Fault CellFault.StoreFailed) → Rose (R.faults cells.old) (R.faults cells.new) }
+    ensures rose { result ≡ Err (CallError.Fault CellFault.StoreFailed)
+        → Rose (R.faults cells.old) (R.faults cells.new) }
     ensures count { R.faults cells.old ≤ R.faults cells.new }
 {
     let inode = live(cells, handle)?;
@@ -95,7 +98,8 @@ pub fn read<R: CellRead>(
         → Gives (λ r. (r, t.tree)) result (read t.tree cred handle offset count) }
     ensures form { IfOk result (λ r. form r ≡ bytes_form) }
     ensures kept { R.cells cells.new ≡ R.cells cells.old }
-    ensures rose { result ≡ Err (CallError.Fault CellFault.StoreFailed) → Rose (R.faults cells.old) (R.faults cells.new) }
+    ensures rose { result ≡ Err (CallError.Fault CellFault.StoreFailed)
+        → Rose (R.faults cells.old) (R.faults cells.new) }
     ensures count { R.faults cells.old ≤ R.faults cells.new }
 {
     let inode = live(cells, handle)?;
@@ -129,7 +133,8 @@ pub fn read_dir<R: CellRead>(
         → Gives (λ r. (r, t.tree)) result (read_dir t.tree cred dir cookie count) }
     ensures form { IfOk result (λ r. form r ≡ page_form) }
     ensures kept { R.cells cells.new ≡ R.cells cells.old }
-    ensures rose { result ≡ Err (CallError.Fault CellFault.StoreFailed) → Rose (R.faults cells.old) (R.faults cells.new) }
+    ensures rose { result ≡ Err (CallError.Fault CellFault.StoreFailed)
+        → Rose (R.faults cells.old) (R.faults cells.new) }
     ensures count { R.faults cells.old ≤ R.faults cells.new }
 {
     let inode = directory(cells, dir)?;
@@ -148,7 +153,8 @@ pub fn stat_fs<R: CellRead>(cells: &mut R, handle: u32) -> Result<Reply, CallErr
         → Gives (λ r. (r, t.tree)) result (stat_fs t.tree handle) }
     ensures form { IfOk result (λ r. form r ≡ space_form) }
     ensures kept { R.cells cells.new ≡ R.cells cells.old }
-    ensures rose { result ≡ Err (CallError.Fault CellFault.StoreFailed) → Rose (R.faults cells.old) (R.faults cells.new) }
+    ensures rose { result ≡ Err (CallError.Fault CellFault.StoreFailed)
+        → Rose (R.faults cells.old) (R.faults cells.new) }
     ensures count { R.faults cells.old ≤ R.faults cells.new }
 {
     live(cells, handle)?;

@@ -11,7 +11,9 @@ ghost use Rattle.harp_cells.specs.Effect.{Cells};
 ghost use Rattle.cell_changes.specs.Short.{AreShort};
 ghost use Rattle.cell_changes.specs.TreeCells.{TreeCells};
 ghost use Rattle.nfs_calls.specs.TreeCells.{IsDirectory};
-ghost use Rattle.nfs_calls.specs.Plans.{FitsName, plan_view, planned, sets_planned, totals_of};
+ghost use Rattle.nfs_calls.specs.Plans.{plan_view, planned, totals_of};
+ghost use Rattle.nfs_calls.specs.Attributes.{sets_planned};
+ghost use Rattle.nfs_calls.specs.NewEntries.{FitsName};
 ghost use Rattle.nfs_calls.specs.Gives.{Gives};
 ghost use Rattle.nfs_calls.specs.Forms.{form, node_form};
 
@@ -53,11 +55,13 @@ fn create_again<R: CellRead>(
 ) -> Result<Planned, CallError>
     ensures plan { (t : TreeCells) → R.cells cells.old ≡ Some t.cells → totals ≡ totals_of t.tree
         → Gives plan_view result
-        (sets_planned t.cells t.tree number attr.now.size (create_again t.tree cred number attr.now now)) }
+        (sets_planned t.cells t.tree number attr.now.size
+        (create_again t.tree cred number attr.now now)) }
     ensures short { IfOk result (λ p. AreShort 13 p.changes.items) }
     ensures form { IfOk result (λ p. form p.reply ≡ node_form) }
     ensures kept { R.cells cells.new ≡ R.cells cells.old }
-    ensures rose { result ≡ Err (CallError.Fault CellFault.StoreFailed) → Rose (R.faults cells.old) (R.faults cells.new) }
+    ensures rose { result ≡ Err (CallError.Fault CellFault.StoreFailed)
+        → Rose (R.faults cells.old) (R.faults cells.new) }
     ensures count { R.faults cells.old ≤ R.faults cells.new }
 {
     let Some(inode) = inode_at(cells, number)? else {
@@ -98,7 +102,8 @@ fn create_new<R: CellRead>(
     ensures short { IfOk result (λ p. AreShort 13 p.changes.items) }
     ensures form { IfOk result (λ p. form p.reply ≡ node_form) }
     ensures kept { R.cells cells.new ≡ R.cells cells.old }
-    ensures rose { result ≡ Err (CallError.Fault CellFault.StoreFailed) → Rose (R.faults cells.old) (R.faults cells.new) }
+    ensures rose { result ≡ Err (CallError.Fault CellFault.StoreFailed)
+        → Rose (R.faults cells.old) (R.faults cells.new) }
     ensures count { R.faults cells.old ≤ R.faults cells.new }
 {
     may_make(cred, inode, attr)?;
@@ -141,11 +146,13 @@ pub fn create<R: CellRead>(
 ) -> Result<Planned, CallError>
     ensures plan { (t : TreeCells) → R.cells cells.old ≡ Some t.cells → totals ≡ totals_of t.tree
         → Gives plan_view result
-        (planned t.cells t.tree (call.Create dir name.now attr.now) (create t.tree cred dir name.now attr.now now)) }
+        (planned t.cells t.tree (call.Create dir name.now attr.now)
+        (create t.tree cred dir name.now attr.now now)) }
     ensures short { IfOk result (λ p. AreShort 13 p.changes.items) }
     ensures form { IfOk result (λ p. form p.reply ≡ node_form) }
     ensures kept { R.cells cells.new ≡ R.cells cells.old }
-    ensures rose { result ≡ Err (CallError.Fault CellFault.StoreFailed) → Rose (R.faults cells.old) (R.faults cells.new) }
+    ensures rose { result ≡ Err (CallError.Fault CellFault.StoreFailed)
+        → Rose (R.faults cells.old) (R.faults cells.new) }
     ensures count { R.faults cells.old ≤ R.faults cells.new }
 {
     let inode = searched(cells, cred, dir)?;

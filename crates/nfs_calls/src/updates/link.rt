@@ -13,7 +13,9 @@ ghost use Rattle.harp_cells.specs.Effect.{Cells};
 ghost use Rattle.cell_changes.specs.Short.{AreShort};
 ghost use Rattle.cell_changes.specs.TreeCells.{TreeCells};
 ghost use Rattle.nfs_calls.specs.TreeCells.{IsDirectory, IsRoom};
-ghost use Rattle.nfs_calls.specs.Plans.{linked, links_by, plan_view, planned, replaced_blocks, totals_of};
+ghost use Rattle.nfs_calls.specs.Plans.{plan_view, planned, totals_of};
+ghost use Rattle.nfs_calls.specs.NewEntries.{linked, links_by};
+ghost use Rattle.nfs_calls.specs.Space.{replaced_blocks};
 ghost use Rattle.nfs_calls.specs.Gives.{Gives};
 ghost use Rattle.nfs_calls.specs.Forms.{done_form, form};
 
@@ -42,7 +44,7 @@ fn is_directory(kind: Kind) -> bool
 }
 
 /// The attributes of a file or a link with one more entry.
-#[tactic(auto, unfolding(crate::specs::Plans::linked))]
+#[tactic(auto, unfolding(crate::specs::NewEntries::linked))]
 fn linked(inode: &Inode, now: Time) -> Inode
     ensures { result ≡ linked inode.now now }
 {
@@ -61,18 +63,23 @@ fn room_beside<R: CellRead>(
     dir: u32,
     inode: &Inode,
 ) -> Result<Room, CallError>
-    ensures step { (t : TreeCells) (s : Slot) (now : Time) → R.cells cells.old ≡ Some t.cells → totals ≡ totals_of t.tree
+    ensures step { (t : TreeCells) (s : Slot) (now : Time) → R.cells cells.old ≡ Some t.cells
+        → totals ≡ totals_of t.tree
         → IsDirectory t.tree dir inode.now
-        → Gives (λ _. change t.tree dir (reslotted now (with_entry (slots_of (place t.tree dir)) s))) result
+        → Gives (λ _. change t.tree dir
+        (reslotted now (with_entry (slots_of (place t.tree dir)) s))) result
         (add_entry t.tree dir (slots_of (place t.tree dir)) s now) }
-    ensures used { (t : TreeCells) (s : Slot) → R.cells cells.old ≡ Some t.cells → IsDirectory t.tree dir inode.now
+    ensures used { (t : TreeCells) (s : Slot) → R.cells cells.old ≡ Some t.cells
+        → IsDirectory t.tree dir inode.now
         → IfOk result (λ room. replaced_blocks totals.used inode.now.size
         (slot_size * length (with_entry (slots_of (place t.tree dir)) s)) ≡ Ok room.used) }
-    ensures room { (t : TreeCells) → R.cells cells.old ≡ Some t.cells → IsDirectory t.tree dir inode.now
+    ensures room { (t : TreeCells) → R.cells cells.old ≡ Some t.cells
+        → IsDirectory t.tree dir inode.now
         → IfOk result (IsRoom (slots_of (place t.tree dir))) }
     ensures bound { IfOk result (λ room. room.slots < 2 ^ 40) }
     ensures kept { R.cells cells.new ≡ R.cells cells.old }
-    ensures rose { result ≡ Err (CallError.Fault CellFault.StoreFailed) → Rose (R.faults cells.old) (R.faults cells.new) }
+    ensures rose { result ≡ Err (CallError.Fault CellFault.StoreFailed)
+        → Rose (R.faults cells.old) (R.faults cells.new) }
     ensures count { R.faults cells.old ≤ R.faults cells.new }
 {
     let room = room_in(cells, u64::from(totals.used), dir, inode)?;
@@ -116,11 +123,13 @@ pub fn link<R: CellRead>(
 ) -> Result<Planned, CallError>
     ensures plan { (t : TreeCells) → R.cells cells.old ≡ Some t.cells → totals ≡ totals_of t.tree
         → Gives plan_view result
-        (planned t.cells t.tree (call.Link handle dir name.now) (link t.tree cred handle dir name.now now)) }
+        (planned t.cells t.tree (call.Link handle dir name.now)
+        (link t.tree cred handle dir name.now now)) }
     ensures short { IfOk result (λ p. AreShort 13 p.changes.items) }
     ensures form { IfOk result (λ p. form p.reply ≡ done_form) }
     ensures kept { R.cells cells.new ≡ R.cells cells.old }
-    ensures rose { result ≡ Err (CallError.Fault CellFault.StoreFailed) → Rose (R.faults cells.old) (R.faults cells.new) }
+    ensures rose { result ≡ Err (CallError.Fault CellFault.StoreFailed)
+        → Rose (R.faults cells.old) (R.faults cells.new) }
     ensures count { R.faults cells.old ≤ R.faults cells.new }
 {
     let target = live(cells, handle)?;

@@ -12,7 +12,9 @@ ghost use Rattle.inode_blocks.specs.Changes.{text_put};
 ghost use Rattle.cell_changes.specs.Short.{AreShort};
 ghost use Rattle.cell_changes.specs.TreeCells.{TreeCells};
 ghost use Rattle.nfs_calls.specs.TreeCells.{IsDirectory, IsRoom};
-ghost use Rattle.nfs_calls.specs.Plans.{FitsName, made_inode, makes_by, plan_view, planned, replaced_blocks, totals_of};
+ghost use Rattle.nfs_calls.specs.Plans.{plan_view, planned, totals_of};
+ghost use Rattle.nfs_calls.specs.NewEntries.{FitsName, made_inode, makes_by};
+ghost use Rattle.nfs_calls.specs.Space.{replaced_blocks};
 ghost use Rattle.nfs_calls.specs.Gives.{Gives};
 ghost use Rattle.nfs_calls.specs.Forms.{done_form, form, node_form};
 
@@ -40,19 +42,24 @@ pub fn room_for<R: CellRead>(
     inode: &Inode,
     size: u32,
 ) -> Result<Room, CallError>
-    ensures step { (t : TreeCells) (name : List ℕ) → R.cells cells.old ≡ Some t.cells → totals ≡ totals_of t.tree
+    ensures step { (t : TreeCells) (name : List ℕ) → R.cells cells.old ≡ Some t.cells
+        → totals ≡ totals_of t.tree
         → IsDirectory t.tree dir inode.now
-        → Gives (λ _. with_entry (slots_of (place t.tree dir)) (record { name = name; number = totals.next })) result
+        → Gives (λ _. with_entry (slots_of (place t.tree dir))
+        (record { name = name; number = totals.next })) result
         (room_for t.tree dir (slots_of (place t.tree dir)) name size) }
-    ensures used { (t : TreeCells) (s : Slot) → R.cells cells.old ≡ Some t.cells → IsDirectory t.tree dir inode.now
+    ensures used { (t : TreeCells) (s : Slot) → R.cells cells.old ≡ Some t.cells
+        → IsDirectory t.tree dir inode.now
         → IfOk result (λ room. replaced_blocks (totals.used + blocks_of size) inode.now.size
         (slot_size * length (with_entry (slots_of (place t.tree dir)) s)) ≡ Ok room.used) }
-    ensures room { (t : TreeCells) → R.cells cells.old ≡ Some t.cells → IsDirectory t.tree dir inode.now
+    ensures room { (t : TreeCells) → R.cells cells.old ≡ Some t.cells
+        → IsDirectory t.tree dir inode.now
         → IfOk result (IsRoom (slots_of (place t.tree dir))) }
     ensures bound { IfOk result (λ room. room.slots < 2 ^ 40) }
     ensures few { IfOk result (λ _. totals.next < object_numbers) }
     ensures kept { R.cells cells.new ≡ R.cells cells.old }
-    ensures rose { result ≡ Err (CallError.Fault CellFault.StoreFailed) → Rose (R.faults cells.old) (R.faults cells.new) }
+    ensures rose { result ≡ Err (CallError.Fault CellFault.StoreFailed)
+        → Rose (R.faults cells.old) (R.faults cells.new) }
     ensures count { R.faults cells.old ≤ R.faults cells.new }
 {
     refuse(Status::NoSpc, totals.next >= OBJECT_NUMBERS)?;
@@ -62,7 +69,7 @@ pub fn room_for<R: CellRead>(
 }
 
 /// The attributes of a caller's new object.
-#[tactic(auto, unfolding(crate::specs::Plans::made_inode))]
+#[tactic(auto, unfolding(crate::specs::NewEntries::made_inode))]
 pub fn made(
     cred: Cred,
     attr: &SetAttr,
@@ -89,7 +96,8 @@ pub fn made(
     }
 }
 
-/// A directory that gets an entry: its number, its attributes with the entry, and the entry's slot and name.
+/// A directory that gets an entry: its number, its attributes with the entry, and the entry's slot
+/// and name.
 #[derive(Debug, Drop)]
 pub struct Entering {
     pub dir: u32,
@@ -131,7 +139,8 @@ pub fn make(
 ) -> Result<Vec<Change>, AllocError>
     requires { length text.now ≤ longest_path }
     ensures { IfOk result (λ changes. changes.items
-        ≡ makes_by entering.dir entering.slot entering.name entering.inode number made.now text.now) }
+        ≡ makes_by entering.dir entering.slot entering.name entering.inode number made.now
+        text.now) }
 {
     let mut changes = Vec::new(alloc);
     put_slot(
@@ -169,11 +178,13 @@ pub fn make_dir<R: CellRead>(
 ) -> Result<Planned, CallError>
     ensures plan { (t : TreeCells) → R.cells cells.old ≡ Some t.cells → totals ≡ totals_of t.tree
         → Gives plan_view result
-        (planned t.cells t.tree (call.MkDir dir name.now attr.now) (make_dir t.tree cred dir name.now attr.now now)) }
+        (planned t.cells t.tree (call.MkDir dir name.now attr.now)
+        (make_dir t.tree cred dir name.now attr.now now)) }
     ensures short { IfOk result (λ p. AreShort 13 p.changes.items) }
     ensures form { IfOk result (λ p. form p.reply ≡ node_form) }
     ensures kept { R.cells cells.new ≡ R.cells cells.old }
-    ensures rose { result ≡ Err (CallError.Fault CellFault.StoreFailed) → Rose (R.faults cells.old) (R.faults cells.new) }
+    ensures rose { result ≡ Err (CallError.Fault CellFault.StoreFailed)
+        → Rose (R.faults cells.old) (R.faults cells.new) }
     ensures count { R.faults cells.old ≤ R.faults cells.new }
 {
     let inode = searched(cells, cred, dir)?;
@@ -216,12 +227,14 @@ pub fn make_link<R: CellRead>(
     now: Time,
 ) -> Result<Planned, CallError>
     ensures plan { (t : TreeCells) → R.cells cells.old ≡ Some t.cells → totals ≡ totals_of t.tree
-        → Gives plan_view result (planned t.cells t.tree (call.SymLink dir name.now text.now attr.now)
+        → Gives plan_view result (planned t.cells t.tree
+        (call.SymLink dir name.now text.now attr.now)
         (make_link t.tree cred dir name.now text.now attr.now now)) }
     ensures short { IfOk result (λ p. AreShort 13 p.changes.items) }
     ensures form { IfOk result (λ p. form p.reply ≡ done_form) }
     ensures kept { R.cells cells.new ≡ R.cells cells.old }
-    ensures rose { result ≡ Err (CallError.Fault CellFault.StoreFailed) → Rose (R.faults cells.old) (R.faults cells.new) }
+    ensures rose { result ≡ Err (CallError.Fault CellFault.StoreFailed)
+        → Rose (R.faults cells.old) (R.faults cells.new) }
     ensures count { R.faults cells.old ≤ R.faults cells.new }
 {
     let inode = searched(cells, cred, dir)?;

@@ -4,8 +4,8 @@ use crate::parts::totals::Totals;
 use harp_base::Reply;
 use harp_cells::Change;
 
-/// The reply to an update, its changes of the tree's cells, in their order, but for the Put of the totals, and the totals
-/// after it.
+/// The reply to an update, its changes of the tree's cells, in their order, but for the Put of the
+/// totals, and the totals after it.
 #[derive(Debug, Drop)]
 pub struct Planned {
     pub reply: Reply,

@@ -48,11 +48,13 @@ fn plan_entry<R: CellRead>(
 ) -> Result<Planned, CallError>
     requires { changes_entries call.now ≡ true }
     ensures plan { (t : TreeCells) → R.cells cells.old ≡ Some t.cells → totals ≡ totals_of t.tree
-        → Gives plan_view result (planned t.cells t.tree call.now (answered t.tree cred call.now now)) }
+        → Gives plan_view result (planned t.cells t.tree call.now
+        (answered t.tree cred call.now now)) }
     ensures short { IfOk result (λ p. AreShort 13 p.changes.items) }
     ensures form { IfOk result (λ p. form p.reply ≡ form_given call.now) }
     ensures kept { R.cells cells.new ≡ R.cells cells.old }
-    ensures rose { result ≡ Err (CallError.Fault CellFault.StoreFailed) → Rose (R.faults cells.old) (R.faults cells.new) }
+    ensures rose { result ≡ Err (CallError.Fault CellFault.StoreFailed)
+        → Rose (R.faults cells.old) (R.faults cells.new) }
     ensures count { R.faults cells.old ≤ R.faults cells.new }
 {
     match call {
@@ -93,11 +95,13 @@ fn plan_update<R: CellRead>(
 ) -> Result<Planned, CallError>
     requires { is_update call.now ≡ true }
     ensures plan { (t : TreeCells) → R.cells cells.old ≡ Some t.cells → totals ≡ totals_of t.tree
-        → Gives plan_view result (planned t.cells t.tree call.now (answered t.tree cred call.now now)) }
+        → Gives plan_view result (planned t.cells t.tree call.now
+        (answered t.tree cred call.now now)) }
     ensures short { IfOk result (λ p. AreShort 13 p.changes.items) }
     ensures form { IfOk result (λ p. form p.reply ≡ form_given call.now) }
     ensures kept { R.cells cells.new ≡ R.cells cells.old }
-    ensures rose { result ≡ Err (CallError.Fault CellFault.StoreFailed) → Rose (R.faults cells.old) (R.faults cells.new) }
+    ensures rose { result ≡ Err (CallError.Fault CellFault.StoreFailed)
+        → Rose (R.faults cells.old) (R.faults cells.new) }
     ensures count { R.faults cells.old ≤ R.faults cells.new }
 {
     match call {
@@ -143,11 +147,13 @@ fn settled<R: CellRead>(
 ) -> Result<Planned, CellFault>
     requires { is_update call.now ≡ true }
     ensures plan { (t : TreeCells) → R.cells cells.old ≡ Some t.cells → totals ≡ totals_of t.tree
-        → IfOk result (λ p. plan_view p ≡ settled_plan t.cells t.tree call.now (answered t.tree cred call.now now)) }
+        → IfOk result (λ p. plan_view p
+        ≡ settled_plan t.cells t.tree call.now (answered t.tree cred call.now now)) }
     ensures short { IfOk result (λ p. AreShort 13 p.changes.items) }
     ensures form { IfOk result (λ p. IsReplyTo call.now p.reply) }
     ensures kept { R.cells cells.new ≡ R.cells cells.old }
-    ensures rose { result ≡ Err CellFault.StoreFailed → Rose (R.faults cells.old) (R.faults cells.new) }
+    ensures rose { result ≡ Err CellFault.StoreFailed
+        → Rose (R.faults cells.old) (R.faults cells.new) }
     ensures count { R.faults cells.old ≤ R.faults cells.new }
 {
     match plan_update(alloc, cells, totals, cred, call, now) {
@@ -164,7 +170,8 @@ fn settled<R: CellRead>(
 /// The whole tree gets totals and the stamp of its last update.
 fn put_totals(changes: &mut Vec<Change>, totals: Totals, stamp: Moment) -> Result<(), AllocError>
     ensures { IfOk result (λ _. changes.new.items
-        ≡ changes.old.items ++ change.Put cell.Meta (value.Meta totals.next totals.used stamp) ∷ []) }
+        ≡ changes.old.items ++ change.Put cell.Meta (value.Meta totals.next totals.used stamp)
+        ∷ []) }
 {
     changes.push(Change::Put {
         cell: Cell::Meta,
@@ -177,10 +184,11 @@ fn put_totals(changes: &mut Vec<Change>, totals: Totals, stamp: Moment) -> Resul
     Ok(())
 }
 
-/// The reply to a caller's update at a stamp in milliseconds, and the changes of cells that it makes: from cells that stand for a
-/// sound tree they lead to cells that stand for the tree of the outcome. A status of NFS is a reply, and changes nothing
-/// but the stamp. At most 15 changes are made, all of cells of the tree, and at most three put a block; the last one puts
-/// the totals. The reply is a refusal or of the call's form.
+/// The reply to a caller's update at a stamp in milliseconds, and the changes of cells that it
+/// makes: from cells that stand for a sound tree they lead to cells that stand for the tree of the
+/// outcome. A status of NFS is a reply, and changes nothing but the stamp. At most 15 changes are
+/// made, all of cells of the tree, and at most three put a block; the last one puts the totals. The
+/// reply is a refusal or of the call's form.
 pub fn prepare<R: CellRead>(
     alloc: Global,
     cells: &mut R,
@@ -194,13 +202,15 @@ pub fn prepare<R: CellRead>(
     ensures changes { (t : TreeCells) → R.cells cells.old ≡ Some t.cells
         → IfOk result (λ p. p.changes.items ≡ update_changes t.cells t.tree cred call.now stamp) }
     ensures leads { (t : TreeCells) → R.cells cells.old ≡ Some t.cells
-        → IfOk result (λ p. StandForTree (after p.changes.items t.cells) (outcome t.tree cred call.now stamp).1 stamp) }
+        → IfOk result (λ p. StandForTree (after p.changes.items t.cells)
+        (outcome t.tree cred call.now stamp).1 stamp) }
     ensures short { IfOk result (λ p. AreShort 15 p.changes.items) }
     // Over any cells: a refusal or what the call gives, and the totals last.
     ensures form { IfOk result (λ p. IsReplyTo call.now p.reply) }
     ensures totals { IfOk result (λ p. EndsWithTotals stamp p.changes.items) }
     ensures kept { R.cells cells.new ≡ R.cells cells.old }
-    ensures rose { result ≡ Err CellFault.StoreFailed → Rose (R.faults cells.old) (R.faults cells.new) }
+    ensures rose { result ≡ Err CellFault.StoreFailed
+        → Rose (R.faults cells.old) (R.faults cells.new) }
     ensures count { R.faults cells.old ≤ R.faults cells.new }
 {
     let totals = read_totals(cells)?;

@@ -47,7 +47,8 @@ fn plan_in(
       Done,
       slot_changes moving.now to_slot to_name
           ++ directory_changes moving.now to.now now
-          ++ change.Put (cell.Object moving.now.number) (value.Object (moved_inode moving.now now)) ∷ [],
+          ++ change.Put (cell.Object moving.now.number) (value.Object (moved_inode moving.now now))
+          ∷ [],
       totals,
     )) }
     ensures short { IfOk result (λ p. AreShort 13 p.changes.items) }
@@ -78,8 +79,10 @@ fn plan_over(
     ensures plan { IfOk result (λ p. plan_view p ≡ (
       Done,
       slot_changes moving.now to_slot to_name
-          ++ directory_changes moving.now (relinked now (links_over moving.now) moving.now.to) now ++ loss target object.now now
-          ++ change.Put (cell.Object moving.now.number) (value.Object (moved_inode moving.now now)) ∷ [],
+          ++ directory_changes moving.now (relinked now (links_over moving.now) moving.now.to) now
+          ++ loss target object.now now
+          ++ change.Put (cell.Object moving.now.number) (value.Object (moved_inode moving.now now))
+          ∷ [],
       after_loss totals object.now,
     )) }
     ensures short { IfOk result (λ p. AreShort 13 p.changes.items) }
@@ -107,16 +110,20 @@ fn move_within<R: CellRead>(
     to_name: NonEmpty<LONGEST_NAME>,
     now: Time,
 ) -> Result<Planned, CellFault>
-    ensures plan { (t : TreeCells) (name : List ℕ) → R.cells cells.old ≡ Some t.cells → totals ≡ totals_of t.tree
+    ensures plan { (t : TreeCells) (name : List ℕ) → R.cells cells.old ≡ Some t.cells
+        → totals ≡ totals_of t.tree
         → moving.now.dir ≡ moving.now.to_dir → IsMoving t.tree moving.now name to_name
         → entry (slots_of (place t.tree moving.now.to_dir)) to_name ≡ None
-        → IfOk result (λ p. planned t.cells t.tree (call.Rename moving.now.dir name moving.now.to_dir to_name)
-        (moved_outcome t.tree moving.now.dir (moving.now.slot, moving.now.number) moving.now.to_dir to_name None now)
+        → IfOk result (λ p. planned t.cells t.tree
+        (call.Rename moving.now.dir name moving.now.to_dir to_name)
+        (moved_outcome t.tree moving.now.dir
+        (moving.now.slot, moving.now.number) moving.now.to_dir to_name None now)
         ≡ Ok (plan_view p)) }
     ensures short { IfOk result (λ p. AreShort 13 p.changes.items) }
     ensures form { IfOk result (λ p. form p.reply ≡ done_form) }
     ensures kept { R.cells cells.new ≡ R.cells cells.old }
-    ensures rose { result ≡ Err CellFault.StoreFailed → Rose (R.faults cells.old) (R.faults cells.new) }
+    ensures rose { result ≡ Err CellFault.StoreFailed
+        → Rose (R.faults cells.old) (R.faults cells.new) }
     ensures count { R.faults cells.old ≤ R.faults cells.new }
 {
     let free = slot_for(cells, moving.to_dir, moving.to.slots)?;
@@ -134,15 +141,19 @@ fn move_across<R: CellRead>(
     to_name: NonEmpty<LONGEST_NAME>,
     now: Time,
 ) -> Result<Planned, CallError>
-    ensures plan { (t : TreeCells) (name : List ℕ) → R.cells cells.old ≡ Some t.cells → totals ≡ totals_of t.tree
+    ensures plan { (t : TreeCells) (name : List ℕ) → R.cells cells.old ≡ Some t.cells
+        → totals ≡ totals_of t.tree
         → moving.now.dir ≢ moving.now.to_dir → IsMoving t.tree moving.now name to_name
         → entry (slots_of (place t.tree moving.now.to_dir)) to_name ≡ None
-        → Gives plan_view result (planned t.cells t.tree (call.Rename moving.now.dir name moving.now.to_dir to_name)
-        (moved_outcome t.tree moving.now.dir (moving.now.slot, moving.now.number) moving.now.to_dir to_name None now)) }
+        → Gives plan_view result (planned t.cells t.tree
+        (call.Rename moving.now.dir name moving.now.to_dir to_name)
+        (moved_outcome t.tree moving.now.dir
+        (moving.now.slot, moving.now.number) moving.now.to_dir to_name None now)) }
     ensures short { IfOk result (λ p. AreShort 13 p.changes.items) }
     ensures form { IfOk result (λ p. form p.reply ≡ done_form) }
     ensures kept { R.cells cells.new ≡ R.cells cells.old }
-    ensures rose { result ≡ Err (CallError.Fault CellFault.StoreFailed) → Rose (R.faults cells.old) (R.faults cells.new) }
+    ensures rose { result ≡ Err (CallError.Fault CellFault.StoreFailed)
+        → Rose (R.faults cells.old) (R.faults cells.new) }
     ensures count { R.faults cells.old ≤ R.faults cells.new }
 {
     match room_in(cells, u64::from(totals.used), moving.to_dir, &moving.to) {
@@ -167,14 +178,19 @@ pub fn move_in<R: CellRead>(
     to_name: NonEmpty<LONGEST_NAME>,
     now: Time,
 ) -> Result<Planned, CallError>
-    ensures plan { (t : TreeCells) (name : List ℕ) → R.cells cells.old ≡ Some t.cells → totals ≡ totals_of t.tree
-        → IsMoving t.tree moving.now name to_name → entry (slots_of (place t.tree moving.now.to_dir)) to_name ≡ None
-        → Gives plan_view result (planned t.cells t.tree (call.Rename moving.now.dir name moving.now.to_dir to_name)
-        (moved_outcome t.tree moving.now.dir (moving.now.slot, moving.now.number) moving.now.to_dir to_name None now)) }
+    ensures plan { (t : TreeCells) (name : List ℕ) → R.cells cells.old ≡ Some t.cells
+        → totals ≡ totals_of t.tree
+        → IsMoving t.tree moving.now name to_name
+        → entry (slots_of (place t.tree moving.now.to_dir)) to_name ≡ None
+        → Gives plan_view result (planned t.cells t.tree
+        (call.Rename moving.now.dir name moving.now.to_dir to_name)
+        (moved_outcome t.tree moving.now.dir
+        (moving.now.slot, moving.now.number) moving.now.to_dir to_name None now)) }
     ensures short { IfOk result (λ p. AreShort 13 p.changes.items) }
     ensures form { IfOk result (λ p. form p.reply ≡ done_form) }
     ensures kept { R.cells cells.new ≡ R.cells cells.old }
-    ensures rose { result ≡ Err (CallError.Fault CellFault.StoreFailed) → Rose (R.faults cells.old) (R.faults cells.new) }
+    ensures rose { result ≡ Err (CallError.Fault CellFault.StoreFailed)
+        → Rose (R.faults cells.old) (R.faults cells.new) }
     ensures count { R.faults cells.old ≤ R.faults cells.new }
 {
     if moving.dir == moving.to_dir {
@@ -198,11 +214,13 @@ fn check_target<R: CellRead>(
     target: u32,
     object: &Inode,
 ) -> Result<(), CallError>
-    ensures step { (t : TreeCells) (slot : ℕ) → R.cells cells.old ≡ Some t.cells → IsInode t.tree moving.now.number moving.now.moved
+    ensures step { (t : TreeCells) (slot : ℕ) → R.cells cells.old ≡ Some t.cells
+        → IsInode t.tree moving.now.number moving.now.moved
         → IsInode t.tree target object.now
         → Gives (λ u. u) result (check_target t.tree moving.now.number (Some (slot, target))) }
     ensures kept { R.cells cells.new ≡ R.cells cells.old }
-    ensures rose { result ≡ Err (CallError.Fault CellFault.StoreFailed) → Rose (R.faults cells.old) (R.faults cells.new) }
+    ensures rose { result ≡ Err (CallError.Fault CellFault.StoreFailed)
+        → Rose (R.faults cells.old) (R.faults cells.new) }
     ensures count { R.faults cells.old ≤ R.faults cells.new }
 {
     let from = is_directory(moving.moved.kind);
@@ -219,7 +237,8 @@ fn check_target<R: CellRead>(
     Ok(())
 }
 
-/// The move where there is a target, which the moved object replaces. Onto the same object nothing changes.
+/// The move where there is a target, which the moved object replaces. Onto the same object nothing
+/// changes.
 pub fn move_over<R: CellRead>(
     alloc: Global,
     cells: &mut R,
@@ -230,16 +249,20 @@ pub fn move_over<R: CellRead>(
     to_name: NonEmpty<LONGEST_NAME>,
     now: Time,
 ) -> Result<Planned, CallError>
-    ensures plan { (t : TreeCells) (name : List ℕ) → R.cells cells.old ≡ Some t.cells → totals ≡ totals_of t.tree
+    ensures plan { (t : TreeCells) (name : List ℕ) → R.cells cells.old ≡ Some t.cells
+        → totals ≡ totals_of t.tree
         → IsMoving t.tree moving.now name to_name
         → entry (slots_of (place t.tree moving.now.to_dir)) to_name ≡ Some (to_slot, target)
-        → Gives plan_view result (planned t.cells t.tree (call.Rename moving.now.dir name moving.now.to_dir to_name)
-        (moved_outcome t.tree moving.now.dir (moving.now.slot, moving.now.number) moving.now.to_dir to_name
+        → Gives plan_view result (planned t.cells t.tree
+        (call.Rename moving.now.dir name moving.now.to_dir to_name)
+        (moved_outcome t.tree moving.now.dir
+        (moving.now.slot, moving.now.number) moving.now.to_dir to_name
         (Some (to_slot, target)) now)) }
     ensures short { IfOk result (λ p. AreShort 13 p.changes.items) }
     ensures form { IfOk result (λ p. form p.reply ≡ done_form) }
     ensures kept { R.cells cells.new ≡ R.cells cells.old }
-    ensures rose { result ≡ Err (CallError.Fault CellFault.StoreFailed) → Rose (R.faults cells.old) (R.faults cells.new) }
+    ensures rose { result ≡ Err (CallError.Fault CellFault.StoreFailed)
+        → Rose (R.faults cells.old) (R.faults cells.new) }
     ensures count { R.faults cells.old ≤ R.faults cells.new }
 {
     let object = named(cells, target)?;

@@ -18,8 +18,8 @@ pub struct Directories {
     pub to: Inode,
 }
 
-/// An entry that moves: its slot, the object that it names, the directory that it is in and the one that it moves to,
-/// which may be the same, and the attributes of these.
+/// An entry that moves: its slot, the object that it names, the directory that it is in and the one
+/// that it moves to, which may be the same, and the attributes of these.
 #[derive(Clone, Copy, Debug)]
 pub struct Relocation {
     pub dir: u32,
@@ -38,7 +38,8 @@ pub fn push_slots(
     to_slot: u32,
     to_name: NonEmpty<LONGEST_NAME>,
 ) -> Result<(), AllocError>
-    ensures { IfOk result (λ _. changes.new.items ≡ changes.old.items ++ slot_changes entry.now to_slot to_name) }
+    ensures { IfOk result (λ _. changes.new.items ≡ changes.old.items
+        ++ slot_changes entry.now to_slot to_name) }
 {
     if entry.dir != entry.to_dir || entry.slot != to_slot {
         erase_slot(changes, entry.dir, entry.slot)?;
@@ -53,7 +54,8 @@ pub fn push_directories(
     to: &Inode,
     now: Time,
 ) -> Result<(), AllocError>
-    ensures { IfOk result (λ _. changes.new.items ≡ changes.old.items ++ directory_changes entry.now to.now now) }
+    ensures { IfOk result (λ _. changes.new.items ≡ changes.old.items
+        ++ directory_changes entry.now to.now now) }
 {
     if entry.dir != entry.to_dir {
         let links = entry.from.links.saturating_sub(link_of(entry.moved.kind));

@@ -36,12 +36,15 @@ pub fn doomed<R: CellRead>(
     inode: &Inode,
     name: &[u8],
 ) -> Result<(u32, u32), CallError>
-    ensures step { (t : TreeCells) → R.cells cells.old ≡ Some t.cells → IsDirectory t.tree dir inode.now
+    ensures step { (t : TreeCells) → R.cells cells.old ≡ Some t.cells
+        → IsDirectory t.tree dir inode.now
         → Gives (λ x. x) result (doomed (slots_of (place t.tree dir)) name.now) }
-    ensures entry { (t : TreeCells) → R.cells cells.old ≡ Some t.cells → IsDirectory t.tree dir inode.now
+    ensures entry { (t : TreeCells) → R.cells cells.old ≡ Some t.cells
+        → IsDirectory t.tree dir inode.now
         → IfOk result (λ x. entry (slots_of (place t.tree dir)) name.now ≡ Some x) }
     ensures kept { R.cells cells.new ≡ R.cells cells.old }
-    ensures rose { result ≡ Err (CallError.Fault CellFault.StoreFailed) → Rose (R.faults cells.old) (R.faults cells.new) }
+    ensures rose { result ≡ Err (CallError.Fault CellFault.StoreFailed)
+        → Rose (R.faults cells.old) (R.faults cells.new) }
     ensures count { R.faults cells.old ≤ R.faults cells.new }
 {
     refuse(Status::Perm, is_dots(name))?;
@@ -56,10 +59,12 @@ pub fn is_empty<R: CellRead>(
     number: u32,
     inode: &Inode,
 ) -> Result<bool, CellFault>
-    ensures empty { (t : TreeCells) → R.cells cells.old ≡ Some t.cells → IsInode t.tree number inode.now
+    ensures empty { (t : TreeCells) → R.cells cells.old ≡ Some t.cells
+        → IsInode t.tree number inode.now
         → IfOk result (λ empty. empty ≡ has_no_entry (slots_of (place t.tree number))) }
     ensures kept { R.cells cells.new ≡ R.cells cells.old }
-    ensures rose { result ≡ Err CellFault.StoreFailed → Rose (R.faults cells.old) (R.faults cells.new) }
+    ensures rose { result ≡ Err CellFault.StoreFailed
+        → Rose (R.faults cells.old) (R.faults cells.new) }
     ensures count { R.faults cells.old ≤ R.faults cells.new }
 {
     let page = list_from(alloc, cells, number, inode.parent, inode.slots, 2, 0)?;
@@ -80,7 +85,8 @@ fn take(
     ensures plan { (t : TreeCells) (name : List ℕ) → totals ≡ totals_of t.tree
         → IsTaking t.tree dir inode.now name (slot, number) object.now
         → let new = removed t.tree dir (slot, number) now in
-        IfOk result (λ p. plan_view p ≡ (Done, takes t.tree new dir (Some (slot, number)), totals_of new)) }
+        IfOk result (λ p. plan_view p
+        ≡ (Done, takes t.tree new dir (Some (slot, number)), totals_of new)) }
     ensures short { IfOk result (λ p. AreShort 13 p.changes.items) }
     ensures form { IfOk result (λ p. form p.reply ≡ done_form) }
 {
@@ -108,11 +114,13 @@ pub fn remove<R: CellRead>(
     now: Time,
 ) -> Result<Planned, CallError>
     ensures plan { (t : TreeCells) → R.cells cells.old ≡ Some t.cells → totals ≡ totals_of t.tree
-        → Gives plan_view result (planned t.cells t.tree (call.Remove dir name.now) (remove t.tree cred dir name.now now)) }
+        → Gives plan_view result (planned t.cells t.tree (call.Remove dir name.now)
+        (remove t.tree cred dir name.now now)) }
     ensures short { IfOk result (λ p. AreShort 13 p.changes.items) }
     ensures form { IfOk result (λ p. form p.reply ≡ done_form) }
     ensures kept { R.cells cells.new ≡ R.cells cells.old }
-    ensures rose { result ≡ Err (CallError.Fault CellFault.StoreFailed) → Rose (R.faults cells.old) (R.faults cells.new) }
+    ensures rose { result ≡ Err (CallError.Fault CellFault.StoreFailed)
+        → Rose (R.faults cells.old) (R.faults cells.new) }
     ensures count { R.faults cells.old ≤ R.faults cells.new }
 {
     let inode = searched(cells, cred, dir)?;
@@ -137,11 +145,13 @@ pub fn remove_dir<R: CellRead>(
     now: Time,
 ) -> Result<Planned, CallError>
     ensures plan { (t : TreeCells) → R.cells cells.old ≡ Some t.cells → totals ≡ totals_of t.tree
-        → Gives plan_view result (planned t.cells t.tree (call.RmDir dir name.now) (remove_dir t.tree cred dir name.now now)) }
+        → Gives plan_view result (planned t.cells t.tree (call.RmDir dir name.now)
+        (remove_dir t.tree cred dir name.now now)) }
     ensures short { IfOk result (λ p. AreShort 13 p.changes.items) }
     ensures form { IfOk result (λ p. form p.reply ≡ done_form) }
     ensures kept { R.cells cells.new ≡ R.cells cells.old }
-    ensures rose { result ≡ Err (CallError.Fault CellFault.StoreFailed) → Rose (R.faults cells.old) (R.faults cells.new) }
+    ensures rose { result ≡ Err (CallError.Fault CellFault.StoreFailed)
+        → Rose (R.faults cells.old) (R.faults cells.new) }
     ensures count { R.faults cells.old ≤ R.faults cells.new }
 {
     let inode = searched(cells, cred, dir)?;

@@ -10,7 +10,8 @@ ghost use Rattle.cell_changes.specs.Short.{AreShort};
 ghost use Rattle.cell_changes.specs.TreeCells.{TreeCells};
 ghost use Rattle.nfs_calls.specs.TreeCells.{IsInode, IsDirectory};
 ghost use Rattle.nfs_calls.specs.Gives.{Gives};
-ghost use Rattle.nfs_calls.specs.Plans.{FitsName, plan_view, planned, totals_of};
+ghost use Rattle.nfs_calls.specs.Plans.{plan_view, planned, totals_of};
+ghost use Rattle.nfs_calls.specs.NewEntries.{FitsName};
 ghost use Rattle.nfs_calls.specs.Moves.{apart_outcome, found_outcome};
 ghost use Rattle.nfs_calls.specs.Forms.{done_form, form};
 
@@ -38,11 +39,14 @@ fn holds_itself<R: CellRead>(
     moved: &Inode,
     to_dir: u32,
 ) -> Result<bool, CellFault>
-    ensures above { (t : TreeCells) → R.cells cells.old ≡ Some t.cells → IsInode t.tree number moved.now
+    ensures above { (t : TreeCells) → R.cells cells.old ≡ Some t.cells
+        → IsInode t.tree number moved.now
         → is_directory_at (place t.tree to_dir) ≡ true
-        → IfOk result (λ b. b ≡ (is_directory_at (place t.tree number) && is_above (length t.tree) t.tree number to_dir)) }
+        → IfOk result (λ b. b ≡ (is_directory_at (place t.tree number)
+        && is_above (length t.tree) t.tree number to_dir)) }
     ensures kept { R.cells cells.new ≡ R.cells cells.old }
-    ensures rose { result ≡ Err CellFault.StoreFailed → Rose (R.faults cells.old) (R.faults cells.new) }
+    ensures rose { result ≡ Err CellFault.StoreFailed
+        → Rose (R.faults cells.old) (R.faults cells.new) }
     ensures count { R.faults cells.old ≤ R.faults cells.new }
 {
     if !is_directory(moved.kind) {
@@ -63,16 +67,22 @@ fn rename_found<R: CellRead>(
     now: Time,
 ) -> Result<Planned, CallError>
     requires { FitsName to_name.now }
-    ensures plan { (t : TreeCells) (name : List ℕ) → R.cells cells.old ≡ Some t.cells → totals ≡ totals_of t.tree
-        → IsDirectory t.tree directories.now.dir directories.now.from → IsDirectory t.tree directories.now.to_dir directories.now.to
-        → entry (slots_of (place t.tree directories.now.dir)) name ≡ Some (slot, number) → entry_name to_name.now ≡ Ok tt
+    ensures plan { (t : TreeCells) (name : List ℕ) → R.cells cells.old ≡ Some t.cells
+        → totals ≡ totals_of t.tree
+        → IsDirectory t.tree directories.now.dir directories.now.from
+        → IsDirectory t.tree directories.now.to_dir directories.now.to
+        → entry (slots_of (place t.tree directories.now.dir)) name ≡ Some (slot, number)
+        → entry_name to_name.now ≡ Ok tt
         → Gives plan_view result
-        (planned t.cells t.tree (call.Rename directories.now.dir name directories.now.to_dir to_name.now)
-        (apart_outcome t.tree directories.now.dir (slot, number) directories.now.to_dir to_name.now now)) }
+        (planned t.cells t.tree (call.Rename directories.now.dir name directories.now.to_dir
+        to_name.now)
+        (apart_outcome t.tree directories.now.dir
+        (slot, number) directories.now.to_dir to_name.now now)) }
     ensures short { IfOk result (λ p. AreShort 13 p.changes.items) }
     ensures form { IfOk result (λ p. form p.reply ≡ done_form) }
     ensures kept { R.cells cells.new ≡ R.cells cells.old }
-    ensures rose { result ≡ Err (CallError.Fault CellFault.StoreFailed) → Rose (R.faults cells.old) (R.faults cells.new) }
+    ensures rose { result ≡ Err (CallError.Fault CellFault.StoreFailed)
+        → Rose (R.faults cells.old) (R.faults cells.new) }
     ensures count { R.faults cells.old ≤ R.faults cells.new }
 {
     let moved = named(cells, number)?;
@@ -110,15 +120,19 @@ fn rename_checked<R: CellRead>(
 ) -> Result<Planned, CallError>
     requires { FitsName to_name.now }
     ensures plan { (t : TreeCells) → R.cells cells.old ≡ Some t.cells → totals ≡ totals_of t.tree
-        → IsDirectory t.tree directories.now.dir directories.now.from → IsDirectory t.tree directories.now.to_dir directories.now.to
+        → IsDirectory t.tree directories.now.dir directories.now.from
+        → IsDirectory t.tree directories.now.to_dir directories.now.to
         → entry_name to_name.now ≡ Ok tt
         → Gives plan_view result
-        (planned t.cells t.tree (call.Rename directories.now.dir name.now directories.now.to_dir to_name.now)
-        (found_outcome t.tree cred directories.now.dir name.now directories.now.to_dir to_name.now now)) }
+        (planned t.cells t.tree (call.Rename directories.now.dir name.now directories.now.to_dir
+        to_name.now)
+        (found_outcome t.tree cred directories.now.dir name.now directories.now.to_dir to_name.now
+        now)) }
     ensures short { IfOk result (λ p. AreShort 13 p.changes.items) }
     ensures form { IfOk result (λ p. form p.reply ≡ done_form) }
     ensures kept { R.cells cells.new ≡ R.cells cells.old }
-    ensures rose { result ≡ Err (CallError.Fault CellFault.StoreFailed) → Rose (R.faults cells.old) (R.faults cells.new) }
+    ensures rose { result ≡ Err (CallError.Fault CellFault.StoreFailed)
+        → Rose (R.faults cells.old) (R.faults cells.new) }
     ensures count { R.faults cells.old ≤ R.faults cells.new }
 {
     match entry(cells, directories.dir, &directories.from, name)? {
@@ -140,7 +154,8 @@ fn rename_checked<R: CellRead>(
     }
 }
 
-/// RENAME (RFC 1094, section 2.2.12): a target is replaced, where it is of the same kind and no directory with entries.
+/// RENAME (RFC 1094, section 2.2.12): a target is replaced, where it is of the same kind and no
+/// directory with entries.
 #[tactic(auto, unfolding(file_tree::specs::Rename::rename))]
 pub fn rename<R: CellRead>(
     alloc: Global,
@@ -154,12 +169,14 @@ pub fn rename<R: CellRead>(
     now: Time,
 ) -> Result<Planned, CallError>
     ensures plan { (t : TreeCells) → R.cells cells.old ≡ Some t.cells → totals ≡ totals_of t.tree
-        → Gives plan_view result (planned t.cells t.tree (call.Rename dir name.now to_dir to_name.now)
+        → Gives plan_view result (planned t.cells t.tree
+        (call.Rename dir name.now to_dir to_name.now)
         (rename t.tree cred dir name.now to_dir to_name.now now)) }
     ensures short { IfOk result (λ p. AreShort 13 p.changes.items) }
     ensures form { IfOk result (λ p. form p.reply ≡ done_form) }
     ensures kept { R.cells cells.new ≡ R.cells cells.old }
-    ensures rose { result ≡ Err (CallError.Fault CellFault.StoreFailed) → Rose (R.faults cells.old) (R.faults cells.new) }
+    ensures rose { result ≡ Err (CallError.Fault CellFault.StoreFailed)
+        → Rose (R.faults cells.old) (R.faults cells.new) }
     ensures count { R.faults cells.old ≤ R.faults cells.new }
 {
     let from = live(cells, dir)?;

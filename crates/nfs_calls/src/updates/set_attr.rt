@@ -11,7 +11,9 @@ ghost use Rattle.harp_cells.specs.Effect.{Cells};
 ghost use Rattle.cell_changes.specs.Short.{AreShort};
 ghost use Rattle.cell_changes.specs.TreeCells.{TreeCells};
 ghost use Rattle.nfs_calls.specs.TreeCells.{IsInode, object_at};
-ghost use Rattle.nfs_calls.specs.Plans.{IsSet, bytes_given, plan_view, planned, resizes_by, set_inode, set_tree, totals_of, used_with};
+ghost use Rattle.nfs_calls.specs.Plans.{plan_view, planned, totals_of};
+ghost use Rattle.nfs_calls.specs.Attributes.{IsSet, bytes_given, resizes_by, set_inode, set_tree};
+ghost use Rattle.nfs_calls.specs.Space.{used_with};
 ghost use Rattle.nfs_calls.specs.Gives.{Gives, Tells};
 ghost use Rattle.nfs_calls.specs.Forms.{attr_form, form};
 
@@ -63,7 +65,7 @@ fn mtime_for_size(size: u32, old: Time, now: Time) -> Time
 }
 
 /// An object's attributes with the given ones set.
-#[tactic(auto, unfolding(crate::specs::Plans::set_inode))]
+#[tactic(auto, unfolding(crate::specs::Attributes::set_inode))]
 fn set_inode(inode: &Inode, attr: &SetAttr, now: Time) -> Inode
     ensures { result ≡ set_inode inode.now attr.now now }
 {
@@ -82,7 +84,8 @@ fn set_inode(inode: &Inode, attr: &SetAttr, now: Time) -> Inode
 /// The used blocks with an object of a given size, which only a file gets.
 #[tactic(auto, unfolding(file_tree::specs::Outcome::with_size))]
 fn with_size(cred: Cred, inode: &Inode, used: u32, size: u32) -> Result<u32, Status>
-    ensures step { (tree : Tree) (number : ℕ) → IsInode tree number inode.now → used_blocks tree ≡ used
+    ensures step { (tree : Tree) (number : ℕ) → IsInode tree number inode.now
+        → used_blocks tree ≡ used
         → Tells (λ _. bytes_given (object_at tree number).body size) result
         (with_size tree cred number (object_at tree number).body size) }
     ensures used { IfOk result (λ after. used_with used inode.now.size size ≡ Ok after) }
@@ -111,7 +114,8 @@ fn resize<R: CellRead>(
         → IfOk result (λ changes. changes.items ≡ resizes_by held handle size wanted) }
     ensures short { IfOk result (λ changes. AreShort 2 changes.items) }
     ensures kept { R.cells cells.new ≡ R.cells cells.old }
-    ensures rose { result ≡ Err CellFault.StoreFailed → Rose (R.faults cells.old) (R.faults cells.new) }
+    ensures rose { result ≡ Err CellFault.StoreFailed
+        → Rose (R.faults cells.old) (R.faults cells.new) }
     ensures count { R.faults cells.old ≤ R.faults cells.new }
 {
     let mut changes = Vec::new(alloc);
@@ -144,13 +148,16 @@ pub fn set_found<R: CellRead>(
 ) -> Result<Set, CallError>
     ensures step { (t : TreeCells) → R.cells cells.old ≡ Some t.cells → totals ≡ totals_of t.tree
         → IsInode t.tree handle inode.now
-        → Gives (λ _. set_tree t.tree handle attr.now now) result (set_fields t.tree cred handle attr.now now) }
+        → Gives (λ _. set_tree t.tree handle attr.now now) result
+        (set_fields t.tree cred handle attr.now now) }
     ensures set { (t : TreeCells) → R.cells cells.old ≡ Some t.cells → totals ≡ totals_of t.tree
         → IsInode t.tree handle inode.now
-        → IfOk result (IsSet t.cells t.tree (set_tree t.tree handle attr.now now) handle attr.now.size) }
+        → IfOk result (IsSet t.cells t.tree
+        (set_tree t.tree handle attr.now now) handle attr.now.size) }
     ensures short { IfOk result (λ s. AreShort 3 s.changes.items) }
     ensures kept { R.cells cells.new ≡ R.cells cells.old }
-    ensures rose { result ≡ Err (CallError.Fault CellFault.StoreFailed) → Rose (R.faults cells.old) (R.faults cells.new) }
+    ensures rose { result ≡ Err (CallError.Fault CellFault.StoreFailed)
+        → Rose (R.faults cells.old) (R.faults cells.new) }
     ensures count { R.faults cells.old ≤ R.faults cells.new }
 {
     settable(cred, inode, attr)?;
@@ -181,11 +188,13 @@ pub fn set_attr<R: CellRead>(
 ) -> Result<Planned, CallError>
     ensures plan { (t : TreeCells) → R.cells cells.old ≡ Some t.cells → totals ≡ totals_of t.tree
         → Gives plan_view result
-        (planned t.cells t.tree (call.SetAttr handle attr.now) (set_attr t.tree cred handle attr.now now)) }
+        (planned t.cells t.tree (call.SetAttr handle attr.now)
+        (set_attr t.tree cred handle attr.now now)) }
     ensures short { IfOk result (λ p. AreShort 13 p.changes.items) }
     ensures form { IfOk result (λ p. form p.reply ≡ attr_form) }
     ensures kept { R.cells cells.new ≡ R.cells cells.old }
-    ensures rose { result ≡ Err (CallError.Fault CellFault.StoreFailed) → Rose (R.faults cells.old) (R.faults cells.new) }
+    ensures rose { result ≡ Err (CallError.Fault CellFault.StoreFailed)
+        → Rose (R.faults cells.old) (R.faults cells.new) }
     ensures count { R.faults cells.old ≤ R.faults cells.new }
 {
     let inode = live(cells, handle)?;

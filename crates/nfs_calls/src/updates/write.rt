@@ -41,9 +41,11 @@ fn place<R: CellRead>(
     requires { offset + length bytes.now ≤ largest_file }
     ensures changes { (held : Cells) → R.cells cells.old ≡ Some held
         → IfOk result (λ changes. changes.items ≡ puts held handle size offset bytes.now) }
-    ensures short { length bytes.now ≤ longest_transfer → IfOk result (λ changes. AreShort 3 changes.items) }
+    ensures short { length bytes.now ≤ longest_transfer
+        → IfOk result (λ changes. AreShort 3 changes.items) }
     ensures kept { R.cells cells.new ≡ R.cells cells.old }
-    ensures rose { result ≡ Err CellFault.StoreFailed → Rose (R.faults cells.old) (R.faults cells.new) }
+    ensures rose { result ≡ Err CellFault.StoreFailed
+        → Rose (R.faults cells.old) (R.faults cells.new) }
     ensures count { R.faults cells.old ≤ R.faults cells.new }
 {
     let mut changes = Vec::new(alloc);
@@ -65,11 +67,14 @@ pub fn write<R: CellRead>(
 ) -> Result<Planned, CallError>
     ensures plan { (t : TreeCells) → R.cells cells.old ≡ Some t.cells → totals ≡ totals_of t.tree
         → Gives plan_view result
-        (planned t.cells t.tree (call.Write handle offset bytes.now) (write t.tree cred handle offset bytes.now now)) }
-    ensures short { length bytes.now ≤ longest_transfer → IfOk result (λ p. AreShort 13 p.changes.items) }
+        (planned t.cells t.tree (call.Write handle offset bytes.now)
+        (write t.tree cred handle offset bytes.now now)) }
+    ensures short { length bytes.now ≤ longest_transfer
+        → IfOk result (λ p. AreShort 13 p.changes.items) }
     ensures form { IfOk result (λ p. form p.reply ≡ attr_form) }
     ensures kept { R.cells cells.new ≡ R.cells cells.old }
-    ensures rose { result ≡ Err (CallError.Fault CellFault.StoreFailed) → Rose (R.faults cells.old) (R.faults cells.new) }
+    ensures rose { result ≡ Err (CallError.Fault CellFault.StoreFailed)
+        → Rose (R.faults cells.old) (R.faults cells.new) }
     ensures count { R.faults cells.old ≤ R.faults cells.new }
 {
     let inode = live(cells, handle)?;

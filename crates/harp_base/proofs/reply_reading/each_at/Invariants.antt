@@ -7,5 +7,6 @@ abbrev pub invariant-loop : goal.invariant-loop
 invariant-loop l = record {
   count : length l.entries.items ≡ l.counter;
   within : l.at ≤ length l.bytes;
-  step : each_at l.count l.bytes l.fn.from ≡ after_entries l.entries.items (each_at (l.count - l.counter) l.bytes l.at);
+  step : each_at l.count l.bytes l.fn.from
+      ≡ after_entries l.entries.items (each_at (l.count - l.counter) l.bytes l.at);
 }

@@ -8,6 +8,7 @@ loop-at-preserved g c =
     let within = given.1 in
     record {
       within = omega (arith, simp (length-take, length-drop) at within);
-      grew = Appends-more _ _ _ c.args.bytes.now c.loop-at.at c.in_ok-at.field-0 c.loop-at.invariant.grew given.0;
+      grew = Appends-more _ _ _ c.args.bytes.now c.loop-at.at c.in_ok-at.field-0
+          c.loop-at.invariant.grew given.0;
       count = omega arith;
     }

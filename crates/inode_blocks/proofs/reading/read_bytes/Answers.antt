@@ -9,7 +9,8 @@ loop-at-preserved g c = record {
   size = omega (arith, c.in_ok-read_part.ensures.size);
   range = λ held old told holds is. read_more held c.args.object old c.args.offset c.loop-at.at
       (c.loop-at.at % 4096) (c.loop-at.at / 4096) c.min-count.result
-      c.loop-at.bytes.items c.read_part.new.bytes.items holds (omega arith) (omega arith) (omega arith)
+      c.loop-at.bytes.items c.read_part.new.bytes.items holds (omega arith) (omega arith)
+      (omega arith)
       (omega arith) (omega arith)
       (c.loop-at.invariant.range held old told holds is)
       (c.in_ok-read_part.ensures.part held (c.loop-at.invariant.kept ∙ told));

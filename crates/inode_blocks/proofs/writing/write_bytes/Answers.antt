@@ -11,7 +11,8 @@ loop-block-preserved g c = record {
   puts = λ held told. put_more
       (λ block. put c.args.object block
       (block_written held c.args.object c.args.size c.args.offset c.args.bytes.now block))
-      c.args.changes.now.items c.loop-block.changes.items c.append_put.new.changes.items (c.args.offset / 4096)
+      c.args.changes.now.items c.loop-block.changes.items c.append_put.new.changes.items
+      (c.args.offset / 4096)
       c.loop-block.block (put c.args.object c.loop-block.block c.in_ok-new.new.items)
       (c.loop-block.invariant.puts held told) (omega arith)
       (ap (λ xs. put c.args.object c.loop-block.block xs)
@@ -25,8 +26,10 @@ loop-block-preserved g c = record {
       (map block_put c.append_put.new.changes.items) (c.args.offset / 4096) c.loop-block.block
       (Some (c.args.object, c.loop-block.block)) c.loop-block.invariant.blocks (omega arith) refl
       (ap (λ xs. map block_put xs) c.in_ok-append_put.ensures.ok
-      ∙ map_push block_put c.loop-block.changes.items (put c.args.object c.loop-block.block c.in_ok-new.new.items));
-  front = begins_more c.args.changes.now.items c.loop-block.changes.items _ c.append_put.new.changes.items
+      ∙ map_push block_put c.loop-block.changes.items
+      (put c.args.object c.loop-block.block c.in_ok-new.new.items));
+  front = begins_more c.args.changes.now.items c.loop-block.changes.items _
+      c.append_put.new.changes.items
       c.loop-block.invariant.front c.in_ok-append_put.ensures.ok;
   kept = c.in_ok-new.ensures.kept ∙ c.loop-block.invariant.kept;
   count = omega (arith, c.in_ok-new.ensures.count);
@@ -45,7 +48,8 @@ returns-clause-puts g c held told =
 pub returns-clause-leads : goal.returns-clause-leads
 returns-clause-leads g c held old told holds is =
     lead_by c.args.changes.now.items c.loop-block.changes.items
-    (puts held c.args.object c.args.size c.args.offset c.args.bytes.now) held c.args.object c.args.size _
+    (puts held c.args.object c.args.size c.args.offset c.args.bytes.now) held c.args.object
+    c.args.size _
     (c.loop-block.invariant.puts held told
     ∙ ap (λ n. c.args.changes.now.items ++ map
     (λ block. put c.args.object block

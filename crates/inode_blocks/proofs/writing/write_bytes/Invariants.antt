@@ -8,10 +8,12 @@ abbrev pub invariant-loop-block : goal.invariant-loop-block
 invariant-loop-block g l = record {
   puts : (held : Cells) → g.R.CellRead.cells l.fn.cells ≡ Some held
       → l.changes.items ≡ l.fn.changes.items ++ map
-      (λ block. put l.fn.object block (block_written held l.fn.object l.fn.size l.fn.offset l.fn.bytes block))
+      (λ block. put l.fn.object block
+      (block_written held l.fn.object l.fn.size l.fn.offset l.fn.bytes block))
       (range_with_len (l.fn.offset / 4096) (l.block - l.fn.offset / 4096));
   blocks : map block_put l.changes.items ≡ map block_put l.fn.changes.items ++ map
-      (λ block. Some (l.fn.object, block)) (range_with_len (l.fn.offset / 4096) (l.block - l.fn.offset / 4096));
+      (λ block. Some (l.fn.object, block))
+      (range_with_len (l.fn.offset / 4096) (l.block - l.fn.offset / 4096));
   front : BeginsWith l.changes.items l.fn.changes.items;
   kept : g.R.CellRead.cells l.cells ≡ g.R.CellRead.cells l.fn.cells;
   count : g.R.CellRead.faults l.fn.cells ≤ g.R.CellRead.faults l.cells;

@@ -21,7 +21,8 @@ loop-slot-preserved g c = record {
       let told = slot_then _ _ _ _ held at c.loop-slot.invariant.kept t in
       let named = c.in_ok-object.ensures.found (get_or held at None) told in
       let within : at < length held = omega (arith, t.count, c.loop-slot-test.true) in
-      entry_passes held at c.args.name.now within (sym named ∙ c.in_default.is) ∙ c.loop-slot.invariant.found held t;
+      entry_passes held at c.args.name.now within (sym named ∙ c.in_default.is)
+      ∙ c.loop-slot.invariant.found held t;
 }
 
 pub returns-clause-found : goal.returns-clause-found

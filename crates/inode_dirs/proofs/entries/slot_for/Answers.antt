@@ -25,6 +25,7 @@ loop-slot-preserved g c = record {
 
 pub returns-clause-free : goal.returns-clause-free
 returns-clause-free g c held t =
-    let end : c.args.slots ≡ c.loop-slot.slot = omega (arith, c.loop-slot-test.false, c.loop-slot.auto.slot-end) in
+    let end : c.args.slots ≡ c.loop-slot.slot =
+    omega (arith, c.loop-slot-test.false, c.loop-slot.auto.slot-end) in
     let past : length held ≤ c.loop-slot.slot = omega (arith, t.count, end) in
     end ∙ free_ends held c.loop-slot.slot past ∙ c.loop-slot.invariant.free held t

@@ -18,7 +18,8 @@ returns-then-not-branch-clause-page g c held t fits =
     let page = c.loop-slot.page in
     let at = c.loop-slot.slot in
     let told = slot_then _ _ _ _ held at c.loop-slot.invariant.kept t in
-    let is = c.in_ok-entry.ensures.entry (get_or held at None) told (omega (arith, fits, c.loop-slot-test.true)) in
+    let is = c.in_ok-entry.ensures.entry (get_or held at None) told
+    (omega (arith, fits, c.loop-slot-test.true)) in
     let within : at < length held = omega (arith, t.count, c.loop-slot-test.true) in
     let more = entries_from (at + 1 + 3) (drop (at + 1) held) in
     let offered = rw c.if-not-branch.true at (c.in_ok-offer_some.ensures.page more) in
@@ -34,12 +35,14 @@ loop-slot-preserved g c = record {
       let page = c.loop-slot.page in
       let at = c.loop-slot.slot in
       let told = slot_then _ _ _ _ held at c.loop-slot.invariant.kept t in
-      let is = c.in_ok-entry.ensures.entry (get_or held at None) told (omega (arith, fits, c.loop-slot-test.true)) in
+      let is = c.in_ok-entry.ensures.entry (get_or held at None) told
+      (omega (arith, fits, c.loop-slot-test.true)) in
       let within : at < length held = omega (arith, t.count, c.loop-slot-test.true) in
       let more = entries_from (at + 1 + 3) (drop (at + 1) held) in
       let offered = rw c.if-not-branch.false at (c.in_ok-offer_some.ensures.page more) in
       sym offered
-      ∙ sym (after_next page.entries.items page.above page.room held at c.in_ok-entry.entry within is)
+      ∙ sym (after_next page.entries.items page.above page.room held at c.in_ok-entry.entry within
+      is)
       ∙ c.loop-slot.invariant.page held t fits;
 }
 

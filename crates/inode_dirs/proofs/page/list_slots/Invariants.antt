@@ -9,7 +9,9 @@ abbrev pub invariant-loop-slot : goal.invariant-loop-slot
 invariant-loop-slot g l = record {
   kept : g.R.CellRead.cells l.cells ≡ g.R.CellRead.cells l.fn.cells;
   count : g.R.CellRead.faults l.fn.cells ≤ g.R.CellRead.faults l.cells;
-  page : (held : Slots) → TellsSlots (g.R.CellRead.cells l.fn.cells) l.dir l.slots held → l.slots + 2 < 2 ^ 32
-      → page_after l.page.entries.items l.page.above l.page.room (entries_from (l.slot + 3) (drop l.slot held))
+  page : (held : Slots) → TellsSlots (g.R.CellRead.cells l.fn.cells) l.dir l.slots held
+      → l.slots + 2 < 2 ^ 32
+      → page_after l.page.entries.items l.page.above l.page.room
+      (entries_from (l.slot + 3) (drop l.slot held))
       ≡ page_after l.fn.page.entries.items l.fn.page.above l.fn.page.room (entries_from 3 held);
 }

@@ -9,5 +9,6 @@ returns-clause-taken c =
     let front = rw value at c.copy_front-n.ensures.front in
     let count = simp (value, length-take, length-drop) at c.copy_front-n.ensures.count in (
       sym is ∙ left_after _ _ _ _ front,
-      λ none some. sym is ∙ nothing_left _ (omega (arith, none, some, count, length-drop c.self.inside.at c.self.inside.bytes.items)),
+      λ none some. sym is ∙ nothing_left _
+          (omega (arith, none, some, count, length-drop c.self.inside.at c.self.inside.bytes.items)),
     )

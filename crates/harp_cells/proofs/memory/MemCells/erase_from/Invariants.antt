@@ -7,7 +7,8 @@ use Rattle.harp_cells.proofs.memory.MemCells.erase_from.Given as goal
 -- the other cells are as before
 abbrev pub invariant-loop-block : goal.invariant-loop-block
 invariant-loop-block l = record {
-  others : (c : Cell) → is_block_from l.object l.first c ≡ false → cell_in l.self-inside.values.entries c ≡ cell_in l.fn.self.entries c;
+  others : (c : Cell) → is_block_from l.object l.first c ≡ false
+      → cell_in l.self-inside.values.entries c ≡ cell_in l.fn.self.entries c;
   fetched : l.self-inside.fetched ≡ l.fn.self.fetched;
 }
 

@@ -7,5 +7,7 @@ use Rattle.harp_cells.proofs.memory.MemCells.put.Goals as goal
 
 pub returns-clause-put : goal.returns-clause-put
 returns-clause-put c cell =
-    cell_after c.self.inside.values.entries c.insert.new.self.entries c.args.cell c.key.result (Some c.args.value) c.key.ensures c.in_ok-insert.ensures.updates.0 cell
-    ∙ ap (λ v. if◌then◌else◌ (is_cell c.args.cell cell) (Some c.args.value) (cell_in v.entries cell)) c.self.view_is
+    cell_after c.self.inside.values.entries c.insert.new.self.entries c.args.cell c.key.result
+    (Some c.args.value) c.key.ensures c.in_ok-insert.ensures.updates.0 cell
+    ∙ ap (λ v. if◌then◌else◌ (is_cell c.args.cell cell) (Some c.args.value)
+    (cell_in v.entries cell)) c.self.view_is

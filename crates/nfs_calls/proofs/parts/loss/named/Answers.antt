@@ -5,7 +5,8 @@ use Rattle.nfs_calls.proofs.parts.loss.named.Goals as goal
 
 pub returns-in-Some-clause-inode : goal.returns-in-Some-clause-inode
 returns-in-Some-clause-inode g c t dir slot name told e =
-    is_inode t.tree c.args.number c.in-Some.inode (sym c.in-Some.is ∙ c.in_ok-inode.ensures.inode t told)
+    is_inode t.tree c.args.number c.in-Some.inode
+    (sym c.in-Some.is ∙ c.in_ok-inode.ensures.inode t told)
 
 pub returns-in-None-clause-inode : goal.returns-in-None-clause-inode
 returns-in-None-clause-inode g c t dir slot name told e =

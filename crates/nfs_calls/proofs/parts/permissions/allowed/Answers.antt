@@ -7,4 +7,5 @@ use Rattle.nfs_calls.proofs.parts.permissions.allowed.Goals as goal
 pub returns : goal.returns
 returns c tree number is =
     c.refuse.ensures
-    ∙ ap (λ (b : Bool). refuse Acces (not b)) (c.may.ensures ∙ sym (may_stored tree c.args.cred number c.args.want c.args.inode.now is))
+    ∙ ap (λ (b : Bool). refuse Acces (not b))
+    (c.may.ensures ∙ sym (may_stored tree c.args.cred number c.args.want c.args.inode.now is))

@@ -8,4 +8,6 @@ use Rattle.nfs_calls.proofs.parts.permissions.settable.Goals as goal
 pub returns : goal.returns
 returns c tree number is =
     c.refuse.ensures
-    ∙ ap (λ (b : Bool). refuse Perm (not b)) (c.may_set.ensures ∙ ap (λ (j : Inode). may_set c.args.cred c.args.attr.now j.uid j.gid) is.is)
+    ∙ ap (λ (b : Bool). refuse Perm (not b))
+    (c.may_set.ensures ∙ ap (λ (j : Inode). may_set c.args.cred c.args.attr.now j.uid j.gid)
+    is.is)

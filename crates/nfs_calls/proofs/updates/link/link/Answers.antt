@@ -19,7 +19,8 @@ returns-clause-plan g c t told totals =
     let file : IsInode t.tree a.handle f = c.in_ok-target.ensures.inode t told in
     let is : IsDirectory t.tree a.dir i = c.in_ok-inode.ensures.directory t looked in
     let kind : is_directory (object_at t.tree a.handle).body ≡ false =
-    sym (c.is_directory.ensures (object_at t.tree a.handle).body (kind_is t.tree a.handle f file)) ∙ passed Perm _ c.in_ok-refuse.ensures in
+    sym (c.is_directory.ensures (object_at t.tree a.handle).body (kind_is t.tree a.handle f file))
+    ∙ passed Perm _ c.in_ok-refuse.ensures in
     let linking : IsLinking t.tree a.handle a.dir f i a.name.now room = record {
       file = file;
       kind = kind;
@@ -27,7 +28,8 @@ returns-clause-plan g c t told totals =
       opens = c.in_ok-room.ensures.room t named is;
       used = rw totals at (c.in_ok-room.ensures.used t (link_of a.name.now a.handle) named is);
     } in
-    let computed : IsComputed a.dir a.handle f i a.name.now room a.now c.in_ok-changes.changes.items = record {
+    let computed : IsComputed a.dir a.handle f i a.name.now room a.now
+    c.in_ok-changes.changes.items = record {
       stored = c.in_ok-name_of.field-0;
       with = c.entered.result;
       file = c.linked.result;
@@ -36,6 +38,8 @@ returns-clause-plan g c t told totals =
       named = c.in_ok-name_of.ensures;
       are = c.in_ok-changes.ensures;
     } in
-    link_plan t a.totals a.cred a.handle a.dir f i a.name.now room a.now c.in_ok-changes.changes.items totals linking
-    (c.in_ok-target.ensures.step t told) (c.in_ok-inode.ensures.step t looked) (c.in_ok-free_name.ensures.step t listed is) (sym (c.in_ok-allowed.ensures t.tree a.dir is.own))
+    link_plan t a.totals a.cred a.handle a.dir f i a.name.now room a.now
+    c.in_ok-changes.changes.items totals linking
+    (c.in_ok-target.ensures.step t told) (c.in_ok-inode.ensures.step t looked)
+    (c.in_ok-free_name.ensures.step t listed is) (sym (c.in_ok-allowed.ensures t.tree a.dir is.own))
     (c.in_ok-room.ensures.step t (link_of a.name.now a.handle) a.now named totals is) computed

@@ -9,6 +9,8 @@ use Rattle.nfs_calls.proofs.updates.prepare.prepare.Goals as goal
 
 pub returns-clause-leads : goal.returns-clause-leads
 returns-clause-leads g c t told =
-    let e : c.put_totals.new.changes.items ≡ update_changes t.cells t.tree c.args.cred c.args.call.now c.args.stamp = search rules in
-    subst (λ (changes : List Change). StandForTree (after changes t.cells) (outcome t.tree c.args.cred c.args.call.now c.args.stamp).1 c.args.stamp) (sym e)
+    let e : c.put_totals.new.changes.items
+    ≡ update_changes t.cells t.tree c.args.cred c.args.call.now c.args.stamp = search rules in
+    subst (λ (changes : List Change). StandForTree (after changes t.cells)
+    (outcome t.tree c.args.cred c.args.call.now c.args.stamp).1 c.args.stamp) (sym e)
     (updates_lead t c.args.cred c.args.call.now c.args.stamp c.requires)

@@ -2,7 +2,8 @@ use Rattle.std.proofs.Common.{◌≡◌, ℕ, ◌*◌, length, ◌∙◌, sym, a
 use Rattle.file_tree.specs.Tree.{place, slots_of, with_entry, used_blocks}
 use Rattle.harp_cells.specs.declared.value.Inode.{Inode}
 use Rattle.nfs_calls.specs.declared.parts.totals.Totals.{Totals}
-use Rattle.nfs_calls.specs.Plans.{replaced_blocks, entered}
+use Rattle.nfs_calls.specs.NewEntries.{entered}
+use Rattle.nfs_calls.specs.Space.{replaced_blocks}
 use Rattle.nfs_calls.specs.Entries.{link_of}
 use Rattle.nfs_calls.proofs.MovesIn.{moved_slot, in_view}
 use Rattle.nfs_calls.proofs.MovesAcross.{across_planned, across_full}
@@ -14,9 +15,11 @@ returns-in-Err-clause-plan g c t name told totals two is none =
     let m = c.args.moving.now in
     let s = moved_slot m c.args.to_name in
     let many = 264 * length (with_entry (slots_of (place t.tree m.to_dir)) s) in
-    let used : c.from.result ≡ used_blocks t.tree = c.from.ensures ∙ ap (λ (n : Totals). n.used) totals in
+    let used : c.from.result ≡ used_blocks t.tree = c.from.ensures
+    ∙ ap (λ (n : Totals). n.used) totals in
     fails_then c.in-Err.refusal (replaced_blocks c.from.result m.to.size many) _
-    (λ status e. across_full t.cells t.tree m name c.args.to_name c.args.now status two is (ap (λ (n : ℕ). replaced_blocks n m.to.size many) (sym used) ∙ e))
+    (λ status e. across_full t.cells t.tree m name c.args.to_name c.args.now status two is
+    (ap (λ (n : ℕ). replaced_blocks n m.to.size many) (sym used) ∙ e))
     (c.in-Err.ensures.step t s told is.to)
 
 pub returns-in_ok-plan_in-in-Ok-clause-plan : goal.returns-in_ok-plan_in-in-Ok-clause-plan
@@ -25,12 +28,19 @@ returns-in_ok-plan_in-in-Ok-clause-plan g c t name told totals two is none =
     let s = moved_slot m c.args.to_name in
     let room = c.in-Ok.ensures.room t told is.to in
     let count = room.slots_are s in
-    let used : c.from.result ≡ used_blocks t.tree = c.from.ensures ∙ ap (λ (n : Totals). n.used) totals in
+    let used : c.from.result ≡ used_blocks t.tree = c.from.ensures
+    ∙ ap (λ (n : Totals). n.used) totals in
     let fits = ap (λ (n : ℕ). replaced_blocks n m.to.size (264 * c.in-Ok.room.slots)) (sym used)
-    ∙ ap (λ (n : ℕ). replaced_blocks c.from.result m.to.size (264 * n)) count ∙ c.in-Ok.ensures.step t s told is.to in
+    ∙ ap (λ (n : ℕ). replaced_blocks c.from.result m.to.size (264 * n)) count
+    ∙ c.in-Ok.ensures.step t s told is.to in
     let next : c.args.totals.next ≡ length t.tree = ap (λ (n : Totals). n.next) totals in
     let after : Totals = record { next = c.args.totals.next; used = c.in-Ok.room.used } in
-    across_planned t.cells t.tree m name c.args.to_name c.args.now c.in-Ok.room.slot c.in-Ok.room.slots c.in-Ok.room.used t.sound two is none room.slot count fits
+    across_planned t.cells t.tree m name c.args.to_name c.args.now c.in-Ok.room.slot
+    c.in-Ok.room.slots c.in-Ok.room.used t.sound two is none room.slot count fits
     ∙ ap Ok (sym (c.in_ok-plan_in-in-Ok.ensures.plan
-    ∙ ap (λ (to : Inode). in_view m c.in-Ok.room.slot c.args.to_name c.args.now to after) (c.entered-to.ensures ∙ ap (λ (l : ℕ). entered m.to c.in-Ok.room.slots l c.args.now) c.link_of.ensures)
-    ∙ ap (λ (n : ℕ). in_view m c.in-Ok.room.slot c.args.to_name c.args.now (entered m.to c.in-Ok.room.slots (link_of m.moved.kind) c.args.now) (record { next = n; used = c.in-Ok.room.used })) next))
+    ∙ ap (λ (to : Inode). in_view m c.in-Ok.room.slot c.args.to_name c.args.now to after)
+    (c.entered-to.ensures ∙ ap (λ (l : ℕ). entered m.to c.in-Ok.room.slots l c.args.now)
+    c.link_of.ensures)
+    ∙ ap (λ (n : ℕ). in_view m c.in-Ok.room.slot c.args.to_name c.args.now
+    (entered m.to c.in-Ok.room.slots (link_of m.moved.kind) c.args.now)
+    (record { next = n; used = c.in-Ok.room.used })) next))

@@ -9,6 +9,8 @@ returns-clause-plan g c t name told totals one is none =
     let m = c.args.moving.now in
     let slots = slots_of (place t.tree m.to_dir) in
     let free = c.in_ok-free.ensures.free slots (tells_slots t _ m.to_dir m.to told is.to) in
-    let first : c.min-to_slot.result ≡ min m.slot (free_from 0 slots) = c.min-to_slot.ensures ∙ ap (λ n. min m.slot n) free in
-    within_planned t.cells t.tree m name c.args.to_name c.args.now c.min-to_slot.result t.sound one is none first
+    let first : c.min-to_slot.result ≡ min m.slot (free_from 0 slots) = c.min-to_slot.ensures
+    ∙ ap (λ n. min m.slot n) free in
+    within_planned t.cells t.tree m name c.args.to_name c.args.now c.min-to_slot.result t.sound one
+    is none first
     ∙ ap Ok (rw (sym c.relinked-to.ensures, sym totals) (sym c.in_ok-plan_in.ensures.plan))

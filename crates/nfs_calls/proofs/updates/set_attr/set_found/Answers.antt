@@ -14,4 +14,5 @@ returns-clause-set g c t told totals own =
       room = c.in_ok-used.ensures.used;
     } in
     is_set t.cells t.tree a.handle i a.attr.now a.now a.totals used _ is c.set_inode-new.ensures
-    (put_behind _ _ _ _ (c.in_ok-changes.ensures.changes t.cells told) c.in_ok-put_object.ensures) refl
+    (put_behind _ _ _ _ (c.in_ok-changes.ensures.changes t.cells told) c.in_ok-put_object.ensures)
+    refl

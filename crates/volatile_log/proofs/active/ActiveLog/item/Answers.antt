@@ -3,4 +3,6 @@ use Rattle.volatile_log.proofs.Numbers.{lent_at}
 use Rattle.volatile_log.proofs.active.ActiveLog.item.Goals as goal
 
 pub returns-clause-index : goal.returns-clause-index
-returns-clause-index c = lent_at _ _ _ _ c.get.result c.self.invariant.0.numbered (search rules) c.get.ensures.lookup (omega arith)
+returns-clause-index c =
+    lent_at _ _ _ _ c.get.result c.self.invariant.0.numbered (search rules) c.get.ensures.lookup
+    (omega arith)
