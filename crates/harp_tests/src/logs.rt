@@ -72,9 +72,7 @@ fn gives_the_record_back_where_the_log_is_full(rt: HostRuntime) -> Result<(), Fa
     let next = log.top() + 1;
     assert_eq!(rt; next, 32_769);
     let item = record(alloc, Index::new(next))?;
-    assert!(rt;
-        matches!(log.append(item), Err((LogFull, back)) if back.index.get() == 32_769)
-    );
+    assert!(rt; matches!(log.append(item), Err((LogFull, back)) if back.index.get() == 32_769));
     assert_eq!(rt; log.top(), 32_768);
     assert!(rt; matches!(log.item(32_768), Some(last) if last.index.get() == 32_768));
     Ok(())
