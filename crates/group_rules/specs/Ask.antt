@@ -1,5 +1,6 @@
 -- The answer to an ask, and appending.
 use Rattle.std.specs.Prelude.{ℕ, ◌+◌, ◌||◌, ◌==◌, nat_lt, nat_le, List, [], ◌∷◌, length, take, Option, None, Some, max, if◌then◌else◌}
+use Rattle.harp_base.specs.Limits.{last_client}
 use Rattle.harp_base.specs.declared.call.Call.{Call}
 use Rattle.harp_base.specs.declared.cred.Cred.{Cred}
 use Rattle.file_tree.specs.Calls.{outcome}
@@ -65,7 +66,7 @@ read_moves clock s e = if nat_le s.grant clock then refuse e.client e.number NoP
 -- The answer to an ask; `list` is the server's list of entries up to its top
 abbrev pub on_ask : Place → ℕ → List Entry → Server Entry → ℕ → ℕ → Cred → Call → List (Move Entry)
 on_ask q clock list s client number cred c =
-    if nat_lt 4095 client then refuse client number BadClient
+    if nat_lt last_client client then refuse client number BadClient
     else (if all_of (is_active s.mode ∷ same q (leader s.plan.storers) ∷ [])
     then (if is_open s.mode
     then (if is_update c

@@ -1,5 +1,6 @@
 -- A group in whose view 1.0 server 0 leads and server 1 follows, with no update yet, and in which nothing was sent.
 use Rattle.std.specs.Prelude.{ℕ, zero, suc, true, false, [], ◌∷◌, None, Some}
+use Rattle.harp_base.specs.Limits.{first_promise}
 use Rattle.file_tree.specs.Book.{Entry}
 use Rattle.group_rules.specs.Places.{Zero, One, Two, Place, nobody}
 use Rattle.group_rules.specs.State.{Empty, Follows, Group, Held, JoinMade, Leads, Live, Log, Mode, NoDuty, Open, Outside, Page, Rests, Role, Server, no_plan, no_report}
@@ -17,7 +18,7 @@ server_at_start role held mode = record {
   role = role;
   lb = 0;
   saved = None;
-  longest = Some 2000;
+  longest = Some first_promise;
   held = held;
   base = 0;
   ap = 0;
@@ -34,7 +35,7 @@ server_at_start role held mode = record {
   grant = 0;
   served = 0;
   duty = NoDuty;
-  delta = 2000;
+  delta = first_promise;
   horizon = 0;
 }
 
@@ -103,5 +104,5 @@ fixed_start = record {
   book = [];
   answered = [];
   clock = λ q. 0;
-  delta = 2000;
+  delta = first_promise;
 }

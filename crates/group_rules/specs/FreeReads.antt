@@ -1,5 +1,6 @@
 -- Asks where promises aren't built yet: an open leader answers a read without one.
 use Rattle.std.specs.Prelude.{ℕ, nat_lt, List, [], ◌∷◌, if◌then◌else◌}
+use Rattle.harp_base.specs.Limits.{last_client}
 use Rattle.harp_base.specs.declared.call.Call.{Call}
 use Rattle.harp_base.specs.Update.{is_update}
 use Rattle.harp_base.specs.declared.cred.Cred.{Cred}
@@ -13,7 +14,7 @@ use Rattle.group_rules.specs.State.{BadClient, NotLeader, NotYetOpen, Server}
 -- the answer to a read: that of `on_ask`, but for the promise
 abbrev pub on_read : Place → List Entry → Server Entry → ℕ → ℕ → Cred → Call → List (Move Entry)
 on_read q list s client number cred c =
-    if nat_lt 4095 client then refuse client number BadClient
+    if nat_lt last_client client then refuse client number BadClient
     else (if all_of (is_active s.mode ∷ same q (leader s.plan.storers) ∷ [])
     then (if is_open s.mode then Reading s.cp (read_entry s.cp list client number cred c) ∷ []
     else refuse client number NotYetOpen)

@@ -1,5 +1,6 @@
 -- The limits of the profile, and tests of modes and logs.
 use Rattle.std.specs.Prelude.{ℕ, ◌-◌, ◌^◌, ◌≤◌, ◌||◌, nat_le, Bool, true, false, List, [], ◌∷◌}
+use Rattle.harp_base.specs.Limits.{log_room}
 use Rattle.group_rules.specs.Places.{Zero, One, Two, Place}
 use Rattle.group_rules.specs.State.{Empty, Follows, Held, Joins, Leads, Live, Log, Lost, Mode, Open, Outside, Pulls, Rests, Role, Waits}
 
@@ -9,7 +10,7 @@ limit = 2 ^ 62 - 1
 
 -- the records that a log has room for
 unfoldable pub room : ℕ
-room = 32768
+room = log_room
 
 -- the most bytes of records in a Give
 unfoldable pub give_bytes : ℕ

@@ -1,5 +1,6 @@
 -- Opening a view, and the base of an open leader.
 use Rattle.std.specs.Prelude.{ℕ, ◌+◌, ◌||◌, ◌==◌, nat_le, nat_lt, Bool, List, [], ◌∷◌, ◌++◌, Option, None, Some, min, if◌then◌else◌}
+use Rattle.harp_base.specs.Limits.{clock_skew}
 use Rattle.group_rules.specs.Limits.{is_joining, is_open, is_waits}
 use Rattle.group_rules.specs.Moves.{Basing, Hearing, Move, Opening, Sending, acts}
 use Rattle.group_rules.specs.Places.{Two, Place, all_of, get, is_s01, leader, partner, same}
@@ -18,10 +19,10 @@ open_moves s lb = Opening lb
     ∷ ((if is_s01 s.plan.storers then Sending Two (Demote s.accepted) ∷ [] else [])
     ++ Sending (partner s.plan.storers) (Beat s.accepted (top s) s.base) ∷ [])
 
--- its partner's Formed has come, and its clock is at least the horizon + 50
+-- its partner's Formed has come, and its clock is at least the horizon and the clocks' skew
 abbrev pub open_heard : {E : Type 0} → ℕ → Server E → Option ℕ → List (Move E)
 open_heard clock s None = []
-open_heard clock s (Some lb) = if nat_le (s.plan.horizon + 50) clock then open_moves s lb else []
+open_heard clock s (Some lb) = if nat_le (s.plan.horizon + clock_skew) clock then open_moves s lb else []
 
 abbrev pub open_tests : {E : Type 0} → Place → Server E → List Bool
 open_tests q s = is_waits s.mode ∷ same q (leader s.plan.storers) ∷ []

@@ -1,5 +1,6 @@
 -- What a group is: servers with their durable marks, messages, the pages of its views, the book and the clocks.
 use Rattle.std.specs.Prelude.{ℕ, ◌+◌, Bool, List, length, Option, None, Some}
+use Rattle.harp_base.specs.Limits.{first_promise}
 use Rattle.group_rules.specs.Places.{Zero, Pair, Place, S01, Trio}
 
 -- a log, nothing though it was a storer, or nothing because it stands outside
@@ -136,9 +137,9 @@ mark_of s = record {
   longest = s.longest;
 }
 
--- the longest promise of a mark's disk: before marks had the field each promise was of 2000
+-- the longest promise of a mark's disk: before marks had the field each was a first one
 abbrev pub longest_of : Option ℕ → ℕ
-longest_of None = 2000
+longest_of None = first_promise
 longest_of (Some n) = n
 
 -- The messages among servers. An index is a record's number, from 1

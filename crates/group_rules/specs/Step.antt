@@ -1,5 +1,6 @@
 -- One server's step, and what happens to a group.
 use Rattle.std.specs.Prelude.{◌≤◌, ℕ, zero, suc, ◌+◌, ◌-◌, nat_lt, nat_le, Bool, true, false, List, [], ◌∷◌, length, take, Option, None, Some, slice_get, if◌then◌else◌}
+use Rattle.harp_base.specs.Limits.{clock_skew, first_promise}
 use Rattle.harp_base.specs.declared.call.Call.{Call}
 use Rattle.harp_base.specs.declared.cred.Cred.{Cred}
 use Rattle.file_tree.specs.Book.{Entry}
@@ -133,16 +134,18 @@ cut_delivered size g None = g
 cut_delivered size g (Some p) = cut_steps size g p.to (Comes p.from p.body)
 
 abbrev pub near_tests : ℕ → (Place → ℕ) → List Bool
-near_tests t clock = nat_le t (clock Zero + 50) ∷ nat_le (clock Zero) (t + 50) ∷ nat_le t (clock One + 50)
-    ∷ nat_le (clock One) (t + 50) ∷ nat_le t (clock Two + 50) ∷ nat_le (clock Two) (t + 50) ∷ []
+near_tests t clock =
+    nat_le t (clock Zero + clock_skew) ∷ nat_le (clock Zero) (t + clock_skew)
+    ∷ nat_le t (clock One + clock_skew) ∷ nat_le (clock One) (t + clock_skew)
+    ∷ nat_le t (clock Two + clock_skew) ∷ nat_le (clock Two) (t + clock_skew) ∷ []
 
--- readings don't go back, and are at most 50 apart
+-- readings don't go back, and are at most their skew apart
 abbrev pub near : ℕ → (Place → ℕ) → Bool
 near t clock = all_of (near_tests t clock)
 
--- the clocks are at most 50 apart
+-- the clocks are at most their skew apart
 abbrev pub Near : (Place → ℕ) → Type 0
-Near clock = (x y : Place) → clock x ≤ clock y + 50
+Near clock = (x y : Place) → clock x ≤ clock y + clock_skew
 
 abbrev pub clock_tests : Group Entry → Place → ℕ → List Bool
 clock_tests g q t = nat_le (g.clock q) t ∷ near t (at g.clock q t) ∷ []
@@ -193,7 +196,7 @@ first_page (suc n) = record {
 -- three servers that are down, with the marks of new disks
 abbrev pub new_disks : Group Entry
 new_disks = record {
-  server = λ q. down (first_mark Entry 2000 q);
+  server = λ q. down (first_mark Entry first_promise q);
   page = first_page;
   joins = [];
   packets = [];
@@ -201,7 +204,7 @@ new_disks = record {
   book = [];
   answered = [];
   clock = λ q. 0;
-  delta = 2000;
+  delta = first_promise;
 }
 
 -- the group at first: the three have booted

@@ -1,6 +1,7 @@
 -- The facts that every step keeps. Each takes only the parts of the group that it speaks of. A comment that begins
 -- with "Further:" marks a fact beyond the named ones, and says what needs it.
 use Rattle.std.specs.Prelude.{◌≡◌, ℕ, ◌+◌, ◌-◌, ◌<◌, ◌≤◌, ◌⊎◌, true, false, List, length, Option, None, Some, slice_get, ⊤}
+use Rattle.harp_base.specs.Limits.{clock_skew}
 use Rattle.group_rules.specs.Form.{fits, wanted}
 use Rattle.group_rules.specs.Places.{IsIn, Two, Place, S01, Trio, coordinator, get, leader, partner, same}
 use Rattle.group_rules.specs.State.{Ack, Beat, Chose, Collects, Demote, Empty, Event, Fetch, Form, Formed, Give, Group, Invite, Join, JoinMade, Live, Log, Message, Open, Outside, Packet, Page, Plan, Pulls, Report, Saved, Server, Waits, top}
@@ -182,6 +183,6 @@ pub record Ok {E : Type 0} (g : Group E) : Type 0 where
   pub first_view : (g.page 0).formed ≡ true
   -- Further: a view whose horizon covers a promise was opened only after it; exclusive reading needs it
   pub late : (w : ℕ) → (g.page w).formed ≡ true → (g.page w).opened ≡ true → 0 < (g.page w).plan.horizon
-      → (g.page w).plan.horizon + 50 ≤ g.clock (leader (g.page w).plan.storers)
+      → (g.page w).plan.horizon + clock_skew ≤ g.clock (leader (g.page w).plan.storers)
   -- the whole book is held twice in some view
   pub committed : (v : ℕ) × ((g.page v).formed ≡ true) × Sure g.page g.committed v (length g.committed)

@@ -19,14 +19,14 @@ use crate::outputs::Outputs;
 use crate::records::ROOM;
 use crate::view::{is_view_one, view_one};
 use event_record::{Moment, Record};
-use harp_base::{Held, Mode, Role, ServerId, StateLine, ViewNo};
+use harp_base::{FIRST_PROMISE, Held, Mode, Role, ServerId, StateLine, ViewNo};
 use std::alloc::{AllocError, Global};
 use std::marker::Model;
 use volatile_log::ActiveLog;
 use wire::Message;
 
 /// How long a promise runs, in milliseconds.
-const PROMISE: u64 = 2000;
+const PROMISE: u64 = FIRST_PROMISE;
 
 /// Server 1 as the settled partner of view 1.0, in which server 0 leads. Its contracts see it as a
 /// server of the group's rules.

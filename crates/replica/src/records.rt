@@ -15,7 +15,7 @@ use crate::outputs::Asker;
 use crate::view::view_one;
 use dedup::keep;
 use event_record::{Changes, Index, Moment, Record};
-use harp_base::Call;
+use harp_base::{Call, LOG_ROOM};
 use harp_cells::MemCells;
 use nfs_calls::Prepared;
 use std::alloc::{AllocError, Global};
@@ -24,7 +24,7 @@ use volatile_log::ActiveLog;
 use wire::Message;
 
 /// How many records a log has room for.
-pub(crate) const ROOM: u64 = 32768;
+pub(crate) const ROOM: u64 = LOG_ROOM as u64;
 
 /// The record before which n stand in a log that dropped none.
 pub(crate) fn record_after(log: &ActiveLog, n: u64) -> &Record

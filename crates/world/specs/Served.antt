@@ -1,5 +1,6 @@
 -- A step of one server of the world: its moves, what they give, and the world that they leave.
 use Rattle.std.specs.Prelude.{◌≡◌, ℕ, Bool, true, false, nat_lt, slice_get, slice_set, List, []}
+use Rattle.harp_base.specs.Limits.{last_client}
 use Rattle.std.specs.Prelude.{◌∷◌, ◌++◌, length, replicate, map, Option, None, Some, if◌then◌else◌}
 use Rattle.std.specs.List.{flat_map}
 use Rattle.harp_base.specs.declared.server.ServerId.{ServerId}
@@ -49,7 +50,7 @@ server_in w Two = starting Two
 -- a server that leads nothing refuses an ask, with the leader as hint where it knows one
 abbrev pub refuse_moves : ℕ → ℕ → Option Place → List (Move Entry)
 refuse_moves client number hint =
-    Saying (Refuses client number (if nat_lt 4095 client then BadClient else NotLeader hint)) ∷ []
+    Saying (Refuses client number (if nat_lt last_client client then BadClient else NotLeader hint)) ∷ []
 
 -- the moves of an ask, and those of a tick; only the leader has something due
 abbrev pub ask_moves : Place → ℕ → Server Entry → ℕ → ℕ → Cred → Call → List (Move Entry)
@@ -88,7 +89,7 @@ pub record Says (q : Place) (clock : ℕ) (s : Server Entry) (ms : List (Move En
 
 -- the outputs of a server that leads nothing: one refusal
 abbrev pub cause_shown : ℕ → Option ServerId → Cause
-cause_shown client hint = if nat_lt 4095 client then cause.BadClient else cause.NotLeader hint
+cause_shown client hint = if nat_lt last_client client then cause.BadClient else cause.NotLeader hint
 
 pub record RefusesAsk (client number : ℕ) (hint : Option ServerId) (outs : Outputs) : Type 0 where
   pub committed : outs.committed.items ≡ []

@@ -26,7 +26,7 @@ mod taking;
 use crate::given::{put, show_state};
 use crate::packet::{Packet, first_due};
 use crate::refusal::Refusal;
-use harp_base::{Held, Mode, Role, ServerId, StateLine, Trio};
+use harp_base::{CLOCK_SKEW, Held, Mode, Role, ServerId, StateLine, Trio};
 use replica::{Leader, Outputs, Partner, view_one};
 use std::alloc::{AllocError, Global};
 use std::marker::Model;
@@ -268,12 +268,12 @@ fn is_near(reading: u64, zero: u64, one: u64, two: u64) -> bool
       two_th = two;
     }) q) }
 {
-    reading <= zero + 50
-        && zero <= reading + 50
-        && reading <= one + 50
-        && one <= reading + 50
-        && reading <= two + 50
-        && two <= reading + 50
+    reading <= zero + CLOCK_SKEW
+        && zero <= reading + CLOCK_SKEW
+        && reading <= one + CLOCK_SKEW
+        && one <= reading + CLOCK_SKEW
+        && reading <= two + CLOCK_SKEW
+        && two <= reading + CLOCK_SKEW
 }
 
 /// What a trace shows of the witness outside.

@@ -20,7 +20,7 @@ use crate::outputs::{Answered, AskedRead, Asker, Outputs};
 use crate::records::{ROOM, event_of, next_record};
 use dedup::Seen;
 use event_record::{Index, Moment};
-use harp_base::{Call, Cred, Peer, Reply, ServerId, is_update};
+use harp_base::{Call, Cred, LAST_CLIENT, Peer, Reply, ServerId, is_update};
 use std::alloc::{AllocError, Global};
 use trace_lines::Cause;
 
@@ -55,7 +55,7 @@ impl Leader {
             number,
             cred,
         };
-        if client > 4095 {
+        if client > LAST_CLIENT {
             return outs.refuse(asker, Cause::BadClient);
         }
         if is_update(call) {

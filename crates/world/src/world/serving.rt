@@ -12,7 +12,7 @@ ghost use Rattle.world.specs.State.{AreReadings};
 
 use crate::world::World;
 use event_record::{Moment, Record};
-use harp_base::{Call, Cred, Peer, ServerId, ViewNo};
+use harp_base::{Call, Cred, LAST_CLIENT, Peer, ServerId, ViewNo};
 use replica::{Outputs, Refused};
 use std::alloc::{AllocError, Global};
 use trace_lines::Cause;
@@ -260,7 +260,7 @@ fn refuse(
 fn cause_of(client: u32, hint: Option<ServerId>) -> Cause
     ensures { result ≡ cause_shown client hint }
 {
-    if client > 4095 {
+    if client > LAST_CLIENT {
         Cause::BadClient
     } else {
         Cause::NotLeader { hint }
