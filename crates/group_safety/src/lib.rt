@@ -10,16 +10,25 @@ ghost use Rattle.group_rules.specs.Effects.{down, booted};
 ghost use Rattle.group_rules.specs.FixedStart.{fixed_start};
 ghost use Rattle.group_safety.specs.NamedFacts.{NamedFacts};
 ghost use Rattle.group_safety.specs.Entered.{Tidy};
-ghost use Rattle.group_safety.specs.Laws.{Whole, Always, with_old_marks, EveryLaterView, CommittedSurvives, ReadsAlone, OneBook, BasesOnBothDisks, StandsFor, Growth, WithinLimits, log_length, DeedGrows, DeliveryGrows, AllSaidRightly, AnswersAtOnce, TwoOutcomes};
-ghost use Rattle.group_rules.specs.Step.{Deed, Crash, Does, Comes, Happening, At, CutAt, Deliver, CutDeliver, Boot, happens, run, first_group, numbered, step_of};
+ghost use Rattle.group_safety.specs.Laws.{Whole, Always, with_old_marks, EveryLaterView};
+ghost use Rattle.group_safety.specs.Laws.{CommittedSurvives, ReadsAlone, OneBook};
+ghost use Rattle.group_safety.specs.Laws.{BasesOnBothDisks, StandsFor, Growth, WithinLimits};
+ghost use Rattle.group_safety.specs.Laws.{log_length, DeedGrows, DeliveryGrows, AllSaidRightly};
+ghost use Rattle.group_safety.specs.Laws.{AnswersAtOnce, TwoOutcomes};
+ghost use Rattle.group_rules.specs.Step.{Deed, Crash, Does, Comes, Happening, At, CutAt, Deliver};
+ghost use Rattle.group_rules.specs.Step.{CutDeliver, Boot, happens, run, first_group, numbered};
+ghost use Rattle.group_rules.specs.Step.{step_of};
 
-/// The first group meets the facts, so does the fixed start, and each group that meets them keeps them over every list of happenings: whatever is lost, repeated,
-/// reordered, cut off, crashed and booted, and whatever length of promises is set. All laws below hold from each such group on. Marks that know of 2000 may be old ones.
+/// The first group meets the facts, so does the fixed start, and each group that meets them keeps
+/// them over every list of happenings: whatever is lost, repeated, reordered, cut off, crashed
+/// and booted, and whatever length of promises is set. All laws below hold from each such group
+/// on. Marks that know of 2000 may be old ones.
 pub fn facts_hold()
     ensures first { Whole first_group }
     ensures fixed { Whole fixed_start }
     ensures kept { Always Whole }
-    ensures old_marks { (g : Group Entry) → Whole g → ((q : Place) → (g.server q).longest ≡ Some 2000) → Whole (with_old_marks g) }
+    ensures old_marks { (g : Group Entry) → Whole g
+        → ((q : Place) → (g.server q).longest ≡ Some 2000) → Whole (with_old_marks g) }
 {}
 
 /// The facts of the induction by their names.
@@ -33,22 +42,28 @@ pub fn every_later_view()
     ensures committed { Always CommittedSurvives }
 {}
 
-/// A leader that reads under an unexpired promise is the last that opened a view, and knows the whole book.
+/// A leader that reads under an unexpired promise is the last that opened a view, and knows the
+/// whole book.
 pub fn exclusive_reading()
     ensures alone { Always ReadsAlone }
 {}
 
-/// What a step says is right at that moment: answered updates stand in the book, answered reads are its outcomes, a view is formed once.
+/// What a step says is right at that moment: answered updates stand in the book, answered reads
+/// are its outcomes, a view is formed once.
 pub fn said_rightly()
-    ensures deeds { (size : List Entry → Entry → ℕ) (g : Group Entry) → Whole g → (q : Place) (d : Deed) → (g.server q).up ≡ true
+    ensures deeds { (size : List Entry → Entry → ℕ) (g : Group Entry) → Whole g
+        → (q : Place) (d : Deed) → (g.server q).up ≡ true
         → AllSaidRightly g q (g.server q) (step_of size g q (Does d)) }
-    ensures deliveries { (size : List Entry → Entry → ℕ) (g : Group Entry) → Whole g → (n : ℕ) (p : Packet Entry) → numbered g.packets n ≡ Some p
-        → (g.server p.to).up ≡ true → AllSaidRightly g p.to (g.server p.to) (step_of size g p.to (Comes p.from p.body)) }
+    ensures deliveries { (size : List Entry → Entry → ℕ) (g : Group Entry) → Whole g
+        → (n : ℕ) (p : Packet Entry) → numbered g.packets n ≡ Some p
+        → (g.server p.to).up ≡ true → AllSaidRightly g p.to (g.server p.to)
+        (step_of size g p.to (Comes p.from p.body)) }
 {}
 
 /// An update is answered in the step that completes its acknowledgement.
 pub fn answered_at_once()
-    ensures answers { (size : List Entry → Entry → ℕ) (g : Group Entry) → Whole g → (n : ℕ) (p : Packet Entry) → numbered g.packets n ≡ Some p
+    ensures answers { (size : List Entry → Entry → ℕ) (g : Group Entry) → Whole g
+        → (n : ℕ) (p : Packet Entry) → numbered g.packets n ≡ Some p
         → (v t lb until : ℕ) → AnswersAtOnce size g p v t lb until }
 {}
 
@@ -57,7 +72,8 @@ pub fn one_book()
     ensures book { Always OneBook }
 {}
 
-/// Every base is on the disks of both data servers.
+/// Every base, of a log, a saved log, a page, a held server's join or a message, is on the disks
+/// of both data servers.
 pub fn bases_on_both_disks()
     ensures bases { Always BasesOnBothDisks }
 {}
@@ -69,19 +85,23 @@ pub fn logs_stand_for_lists()
 
 /// The book only grows; formed views keep their plan and origin, and their lists are prolonged.
 pub fn history_grows()
-    ensures grows { (size : List Entry → Entry → ℕ) (g : Group Entry) → Whole g → (happenings : List Happening) → Growth g (run size g happenings) }
+    ensures grows { (size : List Entry → Entry → ℕ) (g : Group Entry) → Whole g
+        → (happenings : List Happening) → Growth g (run size g happenings) }
 {}
 
-/// Counts and indices stay within 62 bits, a log within its room, and promises within their lengths: none is longer than its sender's mark says.
+/// Counts and indices stay within 62 bits, a log within its room, and promises within their
+/// lengths: none is longer than its sender's mark says.
 pub fn limits()
     ensures within { Always WithinLimits }
 {}
 
-/// The number of a server's records grows only in an ask at it, in the delivery of an Event to it, each by one, and of a Give.
+/// The number of a server's records grows only in an ask at it, in the delivery of an Event to
+/// it, each by one, and of a Give.
 pub fn logs_grow()
     ensures deeds { (size : List Entry → Entry → ℕ) (g : Group Entry) (q : Place) (d : Deed)
         → DeedGrows d (log_length g q) (log_length (happens size g (At q d)) q) }
-    ensures deliveries { (size : List Entry → Entry → ℕ) (g : Group Entry) (n : ℕ) (p : Packet Entry) → numbered g.packets n ≡ Some p
+    ensures deliveries { (size : List Entry → Entry → ℕ) (g : Group Entry) (n : ℕ) (p : Packet Entry)
+        → numbered g.packets n ≡ Some p
         → DeliveryGrows p.body (log_length g p.to) (log_length (happens size g (Deliver n)) p.to) }
 {}
 
@@ -90,14 +110,20 @@ pub fn no_stale_fields()
     ensures tidy { Always Tidy }
 {}
 
-/// A step that is cut at a call that changes the disk has two outcomes: it is whole, or the server crashed. A crash keeps the mark, and a boot
-/// begins with it, its clock and the group's delta alone.
+/// A step that is cut at a call that changes the disk has two outcomes: it is whole, or the
+/// server crashed. A crash keeps the mark, and a boot begins with it, its clock and the group's
+/// delta alone.
 pub fn cut_off_steps()
-    ensures deeds { (size : List Entry → Entry → ℕ) (g : Group Entry) (q : Place) (d : Deed) → TwoOutcomes size g (CutAt q d) (At q d) q }
-    ensures deliveries { (size : List Entry → Entry → ℕ) (g : Group Entry) (n : ℕ) (p : Packet Entry) → numbered g.packets n ≡ Some p
+    ensures deeds { (size : List Entry → Entry → ℕ) (g : Group Entry) (q : Place) (d : Deed)
+        → TwoOutcomes size g (CutAt q d) (At q d) q }
+    ensures deliveries { (size : List Entry → Entry → ℕ) (g : Group Entry) (n : ℕ) (p : Packet Entry)
+        → numbered g.packets n ≡ Some p
         → TwoOutcomes size g (CutDeliver n) (Deliver n) p.to }
-    ensures crash { (size : List Entry → Entry → ℕ) (g : Group Entry) (q : Place) → (g.server q).up ≡ true
+    ensures crash { (size : List Entry → Entry → ℕ) (g : Group Entry) (q : Place)
+        → (g.server q).up ≡ true
         → (happens size g (At q Crash)).server q ≡ down (mark_of (g.server q)) }
-    ensures boot { (size : List Entry → Entry → ℕ) (g : Group Entry) (q : Place) → (g.server q).up ≡ false
-        → (happens size g (Boot q)).server q ≡ booted q (g.clock q) g.delta (mark_of (g.server q)) }
+    ensures boot { (size : List Entry → Entry → ℕ) (g : Group Entry) (q : Place)
+        → (g.server q).up ≡ false
+        → (happens size g (Boot q)).server q
+        ≡ booted q (g.clock q) g.delta (mark_of (g.server q)) }
 {}
