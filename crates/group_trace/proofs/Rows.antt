@@ -24,7 +24,7 @@ use Rattle.group_rules.proofs.Tests.{left, right}
 
 -- ---- taken steps
 
-abbrev is_free : Option LineFault → Bool
+abbrev pub is_free : Option LineFault → Bool
 is_free None = true
 is_free (Some fault) = false
 
@@ -33,12 +33,12 @@ free_is None e = refl
 free_is (Some fault) e = cc
 
 -- a test of whether all steps are taken
-abbrev all_taken : Measures → Scene → List Step → Bool
+abbrev pub all_taken : Measures → Scene → List Step → Bool
 all_taken m w [] = true
 all_taken m w (s ∷ ss) =
     is_free (refusal m w s) && (is_elementary s && all_taken m (next m w s) ss)
 
-taken : (m : Measures) (w : Scene) (ss : List Step) → all_taken m w ss ≡ true → AreTaken m w ss
+pub taken : (m : Measures) (w : Scene) (ss : List Step) → all_taken m w ss ≡ true → AreTaken m w ss
 taken m w [] e = tt
 taken m w (s ∷ ss) e =
     let rest = right (is_free (refusal m w s)) _ e in

@@ -52,7 +52,8 @@ stands_in g w a i st e =
             start,
             subst (λ es. take n (g.page v).list ≡ take n es) book
                 (take_agree n (g.page v).list g.committed
-                (le_trans start (w.ok.page v f).start_within) own.sure.in_book (laws.later v lt f).1),
+                (le_trans start (w.ok.page v f).start_within) own.sure.in_book
+                (laws.later v lt f).1),
           );
     }
 

@@ -4,14 +4,14 @@ use Rattle.std.specs.Prelude.{⊤}
 use Rattle.std.specs.List.{AllByRecursion}
 use Rattle.std.proofs.lemmas.List.{length-append}
 use Rattle.file_tree.specs.Book.{Entry}
-use Rattle.group_rules.specs.Disk.{flush, flush_tests}
+use Rattle.group_rules.specs.Disk.{apply, flush, flush_tests, settled_tests}
 use Rattle.group_rules.specs.Effects.{booted, demoted_by, down, empty_log, lengthened, load_tests, loaded, lost_log, resting, saving}
 use Rattle.group_rules.specs.Limits.{can_have, is_log, is_outside}
-use Rattle.group_rules.specs.Moves.{Accepting, Appending, Basing, Booting, Demoting, Falling, Flushing, Heeding, Move, Saving, act, acts, moved, moved_by}
+use Rattle.group_rules.specs.Moves.{Accepting, Appending, Basing, Booting, Demoting, Falling, Flushing, Heeding, Move, Saving, act, acts, moved, moved_by, Applying}
 use Rattle.group_rules.specs.Open.{base_tests, rebase}
 use Rattle.group_rules.specs.Places.{Place, all_of, is_p2}
 use Rattle.group_rules.specs.State.{Empty, Group, Lost, Mark, Role, Saved, Server, mark_of}
-use Rattle.group_rules.specs.Step.{Crash, Does, Flush, Input, Power, list_of, rule, step_of}
+use Rattle.group_rules.specs.Step.{Apply, Crash, Does, Flush, Input, Power, list_of, rule, step_of}
 use Rattle.group_rules.proofs.Tests.{by_if, each_of}
 use Rattle.group_safety.proofs.Modes.{open_is, settled_is}
 use Rattle.group_safety.specs.Words.{IsActive}
@@ -19,7 +19,7 @@ use Rattle.group_safety.proofs.Moving.{Goes, Good, May, its}
 use Rattle.trace_laws.proofs.After.{acts_both, moved_clock}
 use Rattle.trace_laws.proofs.Amid.{goes_later, goes_may, goes_now, goes_rest, goes_first}
 use Rattle.trace_laws.proofs.MoveKinds.{each-append}
-use Rattle.trace_laws.proofs.StepCalls.{IsSteady, Once, calls, free, rule_once}
+use Rattle.trace_laws.proofs.StepCalls.{once_steady, IsSteady, Once, calls, free, rule_once}
 use Rattle.trace_laws.proofs.StopLaws.{AreFree, IsFree}
 use Rattle.trace_laws.proofs.Turns.{Made, boot, fell, whole}
 
@@ -143,29 +143,13 @@ pub data Ends (q : Place) (s s' : Server Entry) : Type 0 where
   ends_up : s'.up ≡ true → HasKept q s' → Ends q s s'
   ends_down : s'.up ≡ false → s.up ≡ true → length (kept q s') ≤ length s.items → Ends q s s'
 
-free_steady : (m : Move Entry) → IsFree m → IsSteady m
-free_steady (Saving) f = absurd f
-free_steady (Falling) f = absurd f
-free_steady (Booting d) f = absurd f
-free_steady (Basing n) f = absurd f
-free_steady Flushing f = absurd f
-free_steady m f = tt
-
-all_steady : (ms : List (Move Entry)) → AreFree ms → AllByRecursion IsSteady ms
-all_steady [] h = tt
-all_steady (m ∷ ms) h = (free_steady m h.0, all_steady ms h.1)
-
-once_steady : (ms : List (Move Entry)) → Once IsSteady ms → AllByRecursion IsSteady ms
-once_steady _ (free ms h) = all_steady ms h
-once_steady _ (calls before after move h p k) = each-append IsSteady before (move ∷ after)
-    (all_steady before h) (p, all_steady after k)
-
 steady_calm : (s : Server Entry) (m : Move Entry) → IsSteady m → IsCalm s m
 steady_calm s Saving h = absurd h
 steady_calm s Falling h = absurd h
 steady_calm s (Booting d) h = absurd h
 steady_calm s (Basing n) h = absurd h
 steady_calm s Flushing h = absurd h
+steady_calm s (Applying n) h = absurd h
 steady_calm s m h = tt
 
 demoted_up : (s : Server Entry) (v : ℕ) (b : Bool) → (demoted_by b s v).up ≡ s.up
@@ -231,6 +215,12 @@ flush_stays q clock s a h = by_if (λ ms. IsUpWith q (acts q clock s ms)) (all_o
     ))
     (λ _. h)
 
+apply_stays : (q : Place) (clock : ℕ) (s : Server Entry) (n : ℕ) → IsUpWith q s
+    → IsUpWith q (acts q clock s (apply q s n))
+apply_stays q clock s n h = by_if (λ ms. IsUpWith q (acts q clock s ms))
+    (all_of (settled_tests q s))
+    _ [] (λ _. h) (λ _. h)
+
 -- what a save leaves
 save_most : (q : Place) (s : Server Entry) → HasKept q s
     → length (kept q (down (mark_of (saving q s s.saved)))) ≤ length s.items
@@ -264,6 +254,10 @@ whole_ends size g q (Does Flush) k h =
     let good = goes_now (step_of size g q (Does Flush)) g q s k in
     let ends = rule_stays g q (flush q s) k
     (flush_stays q (g.clock q) s (active_kept g q s good) h) in
+    ends_up ends.0 ends.1
+whole_ends size g q (Does (Apply n)) k h =
+    let ends = rule_stays g q (apply q (g.server q) n) k
+    (apply_stays q (g.clock q) (g.server q) n h) in
     ends_up ends.0 ends.1
 whole_ends size g q i k h =
     let s = g.server q in

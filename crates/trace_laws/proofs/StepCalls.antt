@@ -1,6 +1,7 @@
 -- Each rule has at most one move that makes calls.
 use Rattle.std.proofs.Common.{ℕ, ◌||◌, ◌==◌, Bool, List, [], ◌∷◌, ◌++◌, append_assoc, Option, Some, None, length, sym, subst, nat_lt, if◌then◌else◌}
 use Rattle.std.specs.Prelude.{◌+◌, ◌/◌, ⊤}
+use Rattle.std.specs.List.{AllByRecursion}
 use Rattle.file_tree.specs.Book.{Entry}
 use Rattle.group_rules.specs.Choose.{choose}
 use Rattle.group_rules.specs.Disk.{demote_tests, flush_tests, settled_tests}
@@ -8,7 +9,7 @@ use Rattle.group_rules.specs.Form.{accept_moves, adopted, fits, form_moves, on_g
 use Rattle.group_rules.specs.Joining.{chosen_moves, joined_tests, on_join, to_each}
 use Rattle.group_rules.specs.Limits.{is_joins, limit}
 use Rattle.group_rules.specs.Misfits.{misfits}
-use Rattle.group_rules.specs.Moves.{Basing, Accepting, Choosing, Collecting, Demoting, Falling, Flushing, Joining, Move, Saving, acts, Booting}
+use Rattle.group_rules.specs.Moves.{Basing, Accepting, Choosing, Collecting, Demoting, Falling, Flushing, Joining, Move, Saving, acts, Booting, Applying}
 use Rattle.group_rules.specs.Open.{try_open}
 use Rattle.group_rules.specs.Places.{Place, Trio, all_of, other_storers, partner, same, with_at}
 use Rattle.group_rules.specs.State.{Ack, Beat, Chose, Collects, Demote, Duty, Event, Fetch, Form, Formed, Give, Invite, Join, Message, NoDuty, Plan, Report, Server}
@@ -24,13 +25,15 @@ pub data Once (P : Move Entry → Type 0) : List (Move Entry) → Type 0 where
   calls : (before after : List (Move Entry)) (move : Move Entry) → AreFree before → P move
       → AreFree after → Once P (before ++ move ∷ after)
 
--- a move that may come in any mode: the server stays up, and its mark's LB and its base stay
+-- a move that may come in any mode: the server stays up, and its mark's LB, its base and the
+-- cells of its disk stay
 abbrev pub IsSteady : Move Entry → Type 0
 IsSteady Saving = ⊥
 IsSteady Falling = ⊥
 IsSteady (Booting delta) = ⊥
 IsSteady (Basing n) = ⊥
 IsSteady Flushing = ⊥
+IsSteady (Applying n) = ⊥
 IsSteady m = ⊤
 
 -- what a step's calling move may be
@@ -38,6 +41,7 @@ abbrev pub MayCall : Input → Move Entry → Type 0
 MayCall (Does Power) m = ⊤
 MayCall (Does Crash) m = ⊤
 MayCall (Does Flush) m = ⊤
+MayCall (Does (Apply n)) m = ⊤
 MayCall i m = IsSteady m
 
 once_if : (P : Move Entry → Type 0) (b : Bool) (x y : List (Move Entry)) → Once P x → Once P y
@@ -133,7 +137,8 @@ deed_once size q clock list s Suspect = once_if IsSteady (nat_lt (s.promised / 3
     (calls [] _ _ tt tt (each_free _ _)) (free [] tt)
 deed_once size q clock list s (Ask client number cred c) =
     free _ (rule_free size q clock list s (Does (Ask client number cred c)) tt)
-deed_once size q clock list s (Apply n) = once_if IsSteady (all_of (settled_tests q s)) _ []
+deed_once size q clock list s (Apply n) = once_if (MayCall (Does (Apply n)))
+    (all_of (settled_tests q s)) _ []
     (calls [] [] _ tt tt tt) (free [] tt)
 deed_once size q clock list s Flush =
     once_if (MayCall (Does Flush)) (all_of (flush_tests q s)) _ []
@@ -153,3 +158,23 @@ rule_once size q clock list s (Comes from m) =
     (once_then IsSteady ms (try_open q clock (acts q clock s ms))
     (message_once size q clock list s from m)
     (ends_free _ (end_open q clock (acts q clock s ms))))
+
+-- ---- steady rules
+
+free_steady : (m : Move Entry) → IsFree m → IsSteady m
+free_steady (Saving) f = absurd f
+free_steady (Falling) f = absurd f
+free_steady (Booting d) f = absurd f
+free_steady (Basing n) f = absurd f
+free_steady Flushing f = absurd f
+free_steady (Applying n) f = absurd f
+free_steady m f = tt
+
+all_steady : (ms : List (Move Entry)) → AreFree ms → AllByRecursion IsSteady ms
+all_steady [] h = tt
+all_steady (m ∷ ms) h = (free_steady m h.0, all_steady ms h.1)
+
+pub once_steady : (ms : List (Move Entry)) → Once IsSteady ms → AllByRecursion IsSteady ms
+once_steady _ (free ms h) = all_steady ms h
+once_steady _ (calls before after move h p k) = each-append IsSteady before (move ∷ after)
+    (all_steady before h) (p, all_steady after k)

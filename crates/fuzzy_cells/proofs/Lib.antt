@@ -1,0 +1,4 @@
+pub mod Spans
+pub mod Fuzzy
+pub mod Disks
+pub mod Alike

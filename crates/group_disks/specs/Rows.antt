@@ -1,0 +1,57 @@
+-- A worked row: a stop cuts an apply after three of the five changes of a record, and its pick
+-- keeps the first and the third.
+use Rattle.std.specs.Prelude.{◌≡◌, true, false, List, [], ◌∷◌, Some, None, is_some, replicate}
+use Rattle.harp_base.specs.declared.server.ServerId.TheVariants as server
+use Rattle.harp_base.specs.declared.cred.TheConstants.{SUPERUSER}
+use Rattle.trace_types.specs.declared.pick.Pick.TheVariants as pick
+use Rattle.trace_types.specs.declared.step.Step.{Step}
+use Rattle.trace_types.specs.declared.step.Step.TheVariants as step
+use Rattle.harp_cells.specs.declared.cell.Cell.TheVariants as cell
+use Rattle.harp_cells.specs.declared.value.Value.TheVariants as value
+use Rattle.group_rules.specs.Places.{Zero}
+use Rattle.group_trace.specs.RowOfAnUpdate.{make_a}
+use Rattle.group_trace.specs.Run.{AreTaken}
+use Rattle.group_trace.specs.Scene.{first_scene}
+use Rattle.group_disks.specs.Calls.{Spellings, measures_of}
+use Rattle.group_disks.specs.Run.{DiskScene, disk_run, first_disk_scene}
+
+-- records and messages of 100 bytes, and no bytes that are a message
+abbrev pub plain_spellings : Spellings
+plain_spellings = record {
+  record_bytes = λ before e. replicate 100 0;
+  message_size =
+      λ list m. 100;
+  is_message = λ bytes. false;
+}
+
+abbrev pub cut_apply_steps : List Step
+cut_apply_steps =
+    step.Suspect server.Zero ∷
+    step.Deliver 0 ∷
+    step.Deliver 1 ∷
+    step.Deliver 2 ∷
+    step.Deliver 4 ∷
+    step.Deliver 5 ∷
+    step.Advance 2050 ∷
+    step.Tick server.Zero ∷
+    step.Deliver 7 ∷
+    step.Deliver 8 ∷
+    step.Ask server.Zero 7 1 SUPERUSER make_a ∷
+    step.Deliver 9 ∷
+    step.Deliver 10 ∷
+    step.Stop server.Zero 3 (pick.Bits (true ∷ false ∷ [])) ∷
+    step.Apply server.Zero 1 ∷
+    []
+
+abbrev pub cut_apply_scene : DiskScene
+cut_apply_scene = disk_run plain_spellings first_disk_scene cut_apply_steps
+
+-- the server is down; the new entry and the new object are there, the directory's attributes and
+-- the totals aren't
+pub record CutApply : Type 0 where
+  pub taken : AreTaken (measures_of plain_spellings) first_scene cut_apply_steps
+  pub down : (cut_apply_scene.scene.group.server Zero).up ≡ false
+  pub slot : (cut_apply_scene.disks Zero).synced (cell.Slot 1 0) ≡ Some (value.Slot 2 (0x61 ∷ []))
+  pub directory : (cut_apply_scene.disks Zero).synced (cell.Object 1) ≡ None
+  pub object : is_some ((cut_apply_scene.disks Zero).synced (cell.Object 2)) ≡ true
+  pub totals : (cut_apply_scene.disks Zero).synced cell.Meta ≡ None

@@ -1,0 +1,11 @@
+//! Runs of the group with the disks of its servers, as definitions: the calls that each step makes
+//! of its server's disk, and what a stop and a crash leave of them. No code stands here.
+#![tactic(auto)]
+
+ghost use Rattle.group_disks.specs.Rows.{CutApply};
+
+/// A worked row: a stop cuts an apply, and its pick keeps the first and the third of three
+/// changes.
+pub fn worked_row()
+    ensures cut_apply { CutApply }
+{}

@@ -1,0 +1,3 @@
+pub mod SetOnce
+pub mod Targets
+pub mod Histories
