@@ -10,13 +10,14 @@ use Rattle.std.proofs.lemmas.List.Folds.{length-prefix_len, list_any-from_Any}
 use Rattle.std.proofs.lemmas.List.Elements.{All-contains}
 use Rattle.std.proofs.lemmas.Map.Views.{Contains-from_any}
 use Rattle.std.proofs.lemmas.Slice.Eq.{bytes_eq-Decides}
+use Rattle.harp_base.specs.Calls.{procedures, procedure_name, procedure_named}
+use Rattle.harp_base.specs.declared.procedure.Procedure.{Procedure}
+use Rattle.harp_base.specs.declared.procedure.Procedure.TheVariants as procedure
 use Rattle.text_fields.specs.Fields.{EndsWord, not_space, word_at}
 use Rattle.text_fields.proofs.Places.{Spells}
 use Rattle.schedule_text.specs.declared.form.Form.{Form}
 use Rattle.schedule_text.specs.declared.form.Form.TheVariants as form
-use Rattle.schedule_text.specs.declared.call_name.CallName.{CallName}
-use Rattle.schedule_text.specs.declared.call_name.CallName.TheVariants as names
-use Rattle.schedule_text.specs.Reading.{unbuilt_steps, is_among, form_of, name_text, call_names, call_named}
+use Rattle.schedule_text.specs.Reading.{unbuilt_steps, is_among, form_of}
 
 -- ---- where a word ends
 
@@ -180,63 +181,65 @@ unbuilt_step name c =
 
 -- ---- the names of calls
 
-some_is : (n m : CallName) → Some n ≡ Some m → n ≡ m
+some_is : (n m : Procedure) → Some n ≡ Some m → n ≡ m
 some_is n m e = cc
 
-named_step : (b : Bool) (word : List ℕ) (n m : CallName) (rest : Option CallName)
-    → (b ≡ true → word ≡ name_text n)
-    → (rest ≡ Some m → word ≡ name_text m) → cond b (Some n) rest ≡ Some m → word ≡ name_text m
-named_step true word n m rest is more e = is refl ∙ ap name_text (some_is n m e)
+named_step : (b : Bool) (word : List ℕ) (n m : Procedure) (rest : Option Procedure)
+    → (b ≡ true → word ≡ procedure_name n)
+    → (rest ≡ Some m → word ≡ procedure_name m) → cond b (Some n) rest ≡ Some m
+    → word ≡ procedure_name m
+named_step true word n m rest is more e = is refl ∙ ap procedure_name (some_is n m e)
 named_step false word n m rest is more e = more e
 
-named_among : (word : List ℕ) (names : List CallName) (m : CallName)
-    → find (λ n. bytes_eq word (name_text n)) names ≡ Some m → word ≡ name_text m
+named_among : (word : List ℕ) (names : List Procedure) (m : Procedure)
+    → find (λ n. bytes_eq word (procedure_name n)) names ≡ Some m → word ≡ procedure_name m
 named_among word [] m e = absurd cc
 named_among word (n ∷ names) m e =
-    named_step (bytes_eq word (name_text n)) word n m
-    (find (λ n. bytes_eq word (name_text n)) names)
-    (same_word word (name_text n)) (named_among word names m) e
+    named_step (bytes_eq word (procedure_name n)) word n m
+    (find (λ n. bytes_eq word (procedure_name n)) names)
+    (same_word word (procedure_name n)) (named_among word names m) e
 
 -- a word that names a call is its name
-pub names_call : (word : List ℕ) (n : CallName) → call_named word ≡ Some n → word ≡ name_text n
-names_call word n e = named_among word call_names n e
+pub names_call : (word : List ℕ) (n : Procedure) → procedure_named word ≡ Some n
+    → word ≡ procedure_name n
+names_call word n e = named_among word procedures n e
 
 -- a call is found by its name
-pub named_again : (n : CallName) → call_named (name_text n) ≡ Some n
-named_again names.Null = refl
-named_again names.GetAttr = refl
-named_again names.SetAttr = refl
-named_again names.Lookup = refl
-named_again names.ReadLink = refl
-named_again names.Read = refl
-named_again names.Write = refl
-named_again names.Create = refl
-named_again names.Remove = refl
-named_again names.Rename = refl
-named_again names.Link = refl
-named_again names.SymLink = refl
-named_again names.MkDir = refl
-named_again names.RmDir = refl
-named_again names.ReadDir = refl
-named_again names.StatFs = refl
+pub named_again : (n : Procedure) → procedure_named (procedure_name n) ≡ Some n
+named_again procedure.Null = refl
+named_again procedure.GetAttr = refl
+named_again procedure.SetAttr = refl
+named_again procedure.Lookup = refl
+named_again procedure.ReadLink = refl
+named_again procedure.Read = refl
+named_again procedure.Write = refl
+named_again procedure.Create = refl
+named_again procedure.Remove = refl
+named_again procedure.Rename = refl
+named_again procedure.Link = refl
+named_again procedure.SymLink = refl
+named_again procedure.MkDir = refl
+named_again procedure.RmDir = refl
+named_again procedure.ReadDir = refl
+named_again procedure.StatFs = refl
 
-pub name_is_name : (n : CallName) → is_name (name_text n) ≡ true
-name_is_name names.Null = refl
-name_is_name names.GetAttr = refl
-name_is_name names.SetAttr = refl
-name_is_name names.Lookup = refl
-name_is_name names.ReadLink = refl
-name_is_name names.Read = refl
-name_is_name names.Write = refl
-name_is_name names.Create = refl
-name_is_name names.Remove = refl
-name_is_name names.Rename = refl
-name_is_name names.Link = refl
-name_is_name names.SymLink = refl
-name_is_name names.MkDir = refl
-name_is_name names.RmDir = refl
-name_is_name names.ReadDir = refl
-name_is_name names.StatFs = refl
+pub name_is_name : (n : Procedure) → is_name (procedure_name n) ≡ true
+name_is_name procedure.Null = refl
+name_is_name procedure.GetAttr = refl
+name_is_name procedure.SetAttr = refl
+name_is_name procedure.Lookup = refl
+name_is_name procedure.ReadLink = refl
+name_is_name procedure.Read = refl
+name_is_name procedure.Write = refl
+name_is_name procedure.Create = refl
+name_is_name procedure.Remove = refl
+name_is_name procedure.Rename = refl
+name_is_name procedure.Link = refl
+name_is_name procedure.SymLink = refl
+name_is_name procedure.MkDir = refl
+name_is_name procedure.RmDir = refl
+name_is_name procedure.ReadDir = refl
+name_is_name procedure.StatFs = refl
 
 -- a name has a letter
 pub name_some : (word : List ℕ) → is_name word ≡ true → 0 < length word

@@ -1,7 +1,8 @@
 -- Reading a step of a schedule from left to right, with the place where no step goes on.
-use Rattle.std.specs.Prelude.{ℕ, ◌+◌, ◌==◌, Bool, ◌||◌, nat_eq, nat_lt, List, [], ◌∷◌, length, drop, slice_index, find, codes, Option, Some, None, Result, Ok, Err, if◌then◌else◌}
+use Rattle.std.specs.Prelude.{ℕ, ◌+◌, ◌==◌, Bool, ◌||◌, nat_eq, nat_lt, List, [], ◌∷◌, length, drop, slice_index, codes, Option, Some, None, Result, Ok, Err, if◌then◌else◌}
 use Rattle.std.specs.List.{list_any, starts_with}
 use Rattle.std.specs.Str.{bytes_eq}
+use Rattle.harp_base.specs.Calls.{procedure_named}
 use Rattle.harp_base.specs.Server.{number_of}
 use Rattle.harp_base.specs.declared.server.ServerId.{ServerId}
 use Rattle.harp_base.specs.declared.attr.SetAttr.{SetAttr}
@@ -9,6 +10,8 @@ use Rattle.harp_base.specs.declared.call.Call.{Call}
 use Rattle.harp_base.specs.declared.call.Call.TheVariants as call
 use Rattle.harp_base.specs.declared.cred.Cred.{Cred}
 use Rattle.harp_base.specs.declared.cred.TheConstants.{SUPERUSER}
+use Rattle.harp_base.specs.declared.procedure.Procedure.{Procedure}
+use Rattle.harp_base.specs.declared.procedure.Procedure.TheVariants as procedure
 use Rattle.trace_lines.specs.declared.step.Step.{Step}
 use Rattle.trace_lines.specs.declared.step.Step.TheVariants as step
 use Rattle.spelling.specs.Text.{is_implied}
@@ -17,8 +20,6 @@ use Rattle.text_fields.specs.declared.fault.TextFault.TheVariants.{Grammar, Unbu
 use Rattle.text_fields.specs.Fields.{Reader, ◌>>=◌, space_at, spaced_at, word_at, number_at, u32_at, count_at, server_at, hex_at, set_attr_at}
 use Rattle.schedule_text.specs.declared.form.Form.{Form}
 use Rattle.schedule_text.specs.declared.form.Form.TheVariants as form
-use Rattle.schedule_text.specs.declared.call_name.CallName.{CallName}
-use Rattle.schedule_text.specs.declared.call_name.CallName.TheVariants as names
 
 -- nothing follows
 abbrev pub end_at : {A : Type 0} → A → List ℕ → ℕ → Result A TextFault
@@ -47,35 +48,6 @@ unbuilt_steps =
 
 abbrev pub is_among : List (List ℕ) → List ℕ → Bool
 is_among names word = list_any (bytes_eq word) names
-
--- the name of a call as it is spelled
-abbrev pub name_text : CallName → List ℕ
-name_text names.Null = codes "null"
-name_text names.GetAttr = codes "getattr"
-name_text names.SetAttr = codes "setattr"
-name_text names.Lookup = codes "lookup"
-name_text names.ReadLink = codes "readlink"
-name_text names.Read = codes "read"
-name_text names.Write = codes "write"
-name_text names.Create = codes "create"
-name_text names.Remove = codes "remove"
-name_text names.Rename = codes "rename"
-name_text names.Link = codes "link"
-name_text names.SymLink = codes "symlink"
-name_text names.MkDir = codes "mkdir"
-name_text names.RmDir = codes "rmdir"
-name_text names.ReadDir = codes "readdir"
-name_text names.StatFs = codes "statfs"
-
-abbrev pub call_names : List CallName
-call_names =
-    names.Null ∷ names.GetAttr ∷ names.SetAttr ∷ names.Lookup ∷ names.ReadLink ∷ names.Read
-    ∷ names.Write ∷ names.Create ∷ names.Remove ∷ names.Rename ∷ names.Link ∷ names.SymLink
-    ∷ names.MkDir ∷ names.RmDir ∷ names.ReadDir ∷ names.StatFs ∷ []
-
--- the call of this name
-abbrev pub call_named : List ℕ → Option CallName
-call_named word = find (λ n. bytes_eq word (name_text n)) call_names
 
 -- ---- calls
 
@@ -109,43 +81,44 @@ made_at r made line at = do
   Ok (made x.0, x.1)
 
 -- the fields of a call, in the order of its variant
-unfoldable pub fields_at : CallName → Reader Call
-fields_at names.Null line at = Ok (call.Null, at)
-fields_at names.GetAttr line at = made_at spaced_u32_at call.GetAttr line at
-fields_at names.SetAttr line at =
+unfoldable pub fields_at : Procedure → Reader Call
+fields_at procedure.Null line at = Ok (call.Null, at)
+fields_at procedure.GetAttr line at = made_at spaced_u32_at call.GetAttr line at
+fields_at procedure.SetAttr line at =
     made_at (both_at spaced_u32_at spaced_attr_at) (λ x. call.SetAttr x.0 x.1) line at
-fields_at names.Lookup line at = made_at entry_at (λ x. call.Lookup x.0 x.1) line at
-fields_at names.ReadLink line at = made_at spaced_u32_at call.ReadLink line at
-fields_at names.Read line at =
+fields_at procedure.Lookup line at = made_at entry_at (λ x. call.Lookup x.0 x.1) line at
+fields_at procedure.ReadLink line at = made_at spaced_u32_at call.ReadLink line at
+fields_at procedure.Read line at =
     made_at (both_at numbers_at spaced_u32_at) (λ x. call.Read x.0.0 x.0.1 x.1) line at
-fields_at names.Write line at =
+fields_at procedure.Write line at =
     made_at (both_at numbers_at spaced_bytes_at) (λ x. call.Write x.0.0 x.0.1 x.1) line at
-fields_at names.Create line at =
+fields_at procedure.Create line at =
     made_at (both_at entry_at spaced_attr_at) (λ x. call.Create x.0.0 x.0.1 x.1) line at
-fields_at names.Remove line at = made_at entry_at (λ x. call.Remove x.0 x.1) line at
-fields_at names.Rename line at =
+fields_at procedure.Remove line at = made_at entry_at (λ x. call.Remove x.0 x.1) line at
+fields_at procedure.Rename line at =
     made_at (both_at (both_at entry_at spaced_u32_at) spaced_name_at)
     (λ x. call.Rename x.0.0.0 x.0.0.1 x.0.1 x.1) line at
-fields_at names.Link line at =
+fields_at procedure.Link line at =
     made_at (both_at numbers_at spaced_name_at) (λ x. call.Link x.0.0 x.0.1 x.1) line at
-fields_at names.SymLink line at =
+fields_at procedure.SymLink line at =
     made_at (both_at (both_at entry_at spaced_name_at) spaced_attr_at)
     (λ x. call.SymLink x.0.0.0 x.0.0.1 x.0.1 x.1) line at
-fields_at names.MkDir line at =
+fields_at procedure.MkDir line at =
     made_at (both_at entry_at spaced_attr_at) (λ x. call.MkDir x.0.0 x.0.1 x.1) line at
-fields_at names.RmDir line at = made_at entry_at (λ x. call.RmDir x.0 x.1) line at
-fields_at names.ReadDir line at =
+fields_at procedure.RmDir line at = made_at entry_at (λ x. call.RmDir x.0 x.1) line at
+fields_at procedure.ReadDir line at =
     made_at (both_at numbers_at spaced_u32_at) (λ x. call.ReadDir x.0.0 x.0.1 x.1) line at
-fields_at names.StatFs line at = made_at spaced_u32_at call.StatFs line at
+fields_at procedure.StatFs line at = made_at spaced_u32_at call.StatFs line at
 
--- what stands from a place on: a call's name up to the next place, its fields, and the end
-abbrev pub call_of : List ℕ → ℕ → ℕ → Option CallName → Result Call TextFault
+-- what stands from a place on: a procedure's name up to the next place, its fields, and the end
+abbrev pub call_of : List ℕ → ℕ → ℕ → Option Procedure → Result Call TextFault
 call_of line at next None = Err (Grammar at)
-call_of line at next (Some name) = whole_at (fields_at name) (λ c. c) line next
+call_of line at next (Some called) = whole_at (fields_at called) (λ c. c) line next
 
 -- a call, and the end
 unfoldable pub call_at : List ℕ → ℕ → Result Call TextFault
-call_at line at = call_of line at (at + length (word_at line at)) (call_named (word_at line at))
+call_at line at =
+    call_of line at (at + length (word_at line at)) (procedure_named (word_at line at))
 
 -- ---- credentials
 

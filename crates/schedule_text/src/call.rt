@@ -1,21 +1,21 @@
 //! Calls that are read, behind their names.
 
 ghost use Rattle.std.specs.Prelude.{◌≡◌, ◌+◌, ◌≤◌, length};
+ghost use Rattle.harp_base.specs.Calls.{procedure_named};
+ghost use Rattle.harp_base.specs.declared.procedure.Procedure.TheVariants as procedure;
 ghost use Rattle.text_fields.specs.Fields.{Gives};
 ghost use Rattle.schedule_text.specs.Reading.{fields_at, call_of, call_at};
-ghost use Rattle.schedule_text.specs.declared.call_name.CallName.TheVariants as names;
 
-use crate::call_name::{CallName, call_named};
 use crate::field::{
     end_at, entry_at, numbers_at, spaced_attr_at, spaced_bytes_at, spaced_name_at, spaced_u32_at,
 };
-use harp_base::Call;
+use harp_base::{Call, Procedure};
 use std::alloc::Global;
 use text_fields::{TextFault, word_at};
 
 #[tactic(auto, unfolding(crate::specs::Reading::fields_at))]
 fn get_attr_at(line: &[u8], at: usize) -> Result<(Call, usize), TextFault>
-    ensures { Gives (λ x. x) result (fields_at names.GetAttr line.now at) }
+    ensures { Gives (λ x. x) result (fields_at procedure.GetAttr line.now at) }
 {
     let (handle, at) = spaced_u32_at(line, at)?;
     Ok((Call::GetAttr { handle }, at))
@@ -23,7 +23,7 @@ fn get_attr_at(line: &[u8], at: usize) -> Result<(Call, usize), TextFault>
 
 #[tactic(auto, unfolding(crate::specs::Reading::fields_at))]
 fn set_attr_at(line: &[u8], at: usize) -> Result<(Call, usize), TextFault>
-    ensures { Gives (λ x. x) result (fields_at names.SetAttr line.now at) }
+    ensures { Gives (λ x. x) result (fields_at procedure.SetAttr line.now at) }
 {
     let (handle, at) = spaced_u32_at(line, at)?;
     let (attr, at) = spaced_attr_at(line, at)?;
@@ -32,7 +32,7 @@ fn set_attr_at(line: &[u8], at: usize) -> Result<(Call, usize), TextFault>
 
 #[tactic(auto, unfolding(crate::specs::Reading::fields_at))]
 fn lookup_at(alloc: Global, line: &[u8], at: usize) -> Result<(Call, usize), TextFault>
-    ensures { Gives (λ x. x) result (fields_at names.Lookup line.now at) }
+    ensures { Gives (λ x. x) result (fields_at procedure.Lookup line.now at) }
 {
     let ((dir, name), at) = entry_at(alloc, line, at)?;
     Ok((Call::Lookup { dir, name }, at))
@@ -40,7 +40,7 @@ fn lookup_at(alloc: Global, line: &[u8], at: usize) -> Result<(Call, usize), Tex
 
 #[tactic(auto, unfolding(crate::specs::Reading::fields_at))]
 fn read_link_at(line: &[u8], at: usize) -> Result<(Call, usize), TextFault>
-    ensures { Gives (λ x. x) result (fields_at names.ReadLink line.now at) }
+    ensures { Gives (λ x. x) result (fields_at procedure.ReadLink line.now at) }
 {
     let (handle, at) = spaced_u32_at(line, at)?;
     Ok((Call::ReadLink { handle }, at))
@@ -48,7 +48,7 @@ fn read_link_at(line: &[u8], at: usize) -> Result<(Call, usize), TextFault>
 
 #[tactic(auto, unfolding(crate::specs::Reading::fields_at))]
 fn read_at(line: &[u8], at: usize) -> Result<(Call, usize), TextFault>
-    ensures { Gives (λ x. x) result (fields_at names.Read line.now at) }
+    ensures { Gives (λ x. x) result (fields_at procedure.Read line.now at) }
 {
     let ((handle, offset), at) = numbers_at(line, at)?;
     let (count, at) = spaced_u32_at(line, at)?;
@@ -62,7 +62,7 @@ fn read_at(line: &[u8], at: usize) -> Result<(Call, usize), TextFault>
 
 #[tactic(auto, unfolding(crate::specs::Reading::fields_at))]
 fn write_at(alloc: Global, line: &[u8], at: usize) -> Result<(Call, usize), TextFault>
-    ensures { Gives (λ x. x) result (fields_at names.Write line.now at) }
+    ensures { Gives (λ x. x) result (fields_at procedure.Write line.now at) }
 {
     let ((handle, offset), at) = numbers_at(line, at)?;
     let (bytes, at) = spaced_bytes_at(alloc, line, at)?;
@@ -76,7 +76,7 @@ fn write_at(alloc: Global, line: &[u8], at: usize) -> Result<(Call, usize), Text
 
 #[tactic(auto, unfolding(crate::specs::Reading::fields_at))]
 fn create_at(alloc: Global, line: &[u8], at: usize) -> Result<(Call, usize), TextFault>
-    ensures { Gives (λ x. x) result (fields_at names.Create line.now at) }
+    ensures { Gives (λ x. x) result (fields_at procedure.Create line.now at) }
 {
     let ((dir, name), at) = entry_at(alloc, line, at)?;
     let (attr, at) = spaced_attr_at(line, at)?;
@@ -85,7 +85,7 @@ fn create_at(alloc: Global, line: &[u8], at: usize) -> Result<(Call, usize), Tex
 
 #[tactic(auto, unfolding(crate::specs::Reading::fields_at))]
 fn remove_at(alloc: Global, line: &[u8], at: usize) -> Result<(Call, usize), TextFault>
-    ensures { Gives (λ x. x) result (fields_at names.Remove line.now at) }
+    ensures { Gives (λ x. x) result (fields_at procedure.Remove line.now at) }
 {
     let ((dir, name), at) = entry_at(alloc, line, at)?;
     Ok((Call::Remove { dir, name }, at))
@@ -93,7 +93,7 @@ fn remove_at(alloc: Global, line: &[u8], at: usize) -> Result<(Call, usize), Tex
 
 #[tactic(auto, unfolding(crate::specs::Reading::fields_at))]
 fn rename_at(alloc: Global, line: &[u8], at: usize) -> Result<(Call, usize), TextFault>
-    ensures { Gives (λ x. x) result (fields_at names.Rename line.now at) }
+    ensures { Gives (λ x. x) result (fields_at procedure.Rename line.now at) }
 {
     let ((dir, name), at) = entry_at(alloc, line, at)?;
     let (to_dir, at) = spaced_u32_at(line, at)?;
@@ -109,7 +109,7 @@ fn rename_at(alloc: Global, line: &[u8], at: usize) -> Result<(Call, usize), Tex
 
 #[tactic(auto, unfolding(crate::specs::Reading::fields_at))]
 fn link_at(alloc: Global, line: &[u8], at: usize) -> Result<(Call, usize), TextFault>
-    ensures { Gives (λ x. x) result (fields_at names.Link line.now at) }
+    ensures { Gives (λ x. x) result (fields_at procedure.Link line.now at) }
 {
     let ((handle, dir), at) = numbers_at(line, at)?;
     let (name, at) = spaced_name_at(alloc, line, at)?;
@@ -118,7 +118,7 @@ fn link_at(alloc: Global, line: &[u8], at: usize) -> Result<(Call, usize), TextF
 
 #[tactic(auto, unfolding(crate::specs::Reading::fields_at))]
 fn symlink_at(alloc: Global, line: &[u8], at: usize) -> Result<(Call, usize), TextFault>
-    ensures { Gives (λ x. x) result (fields_at names.SymLink line.now at) }
+    ensures { Gives (λ x. x) result (fields_at procedure.SymLink line.now at) }
 {
     let ((dir, name), at) = entry_at(alloc, line, at)?;
     let (text, at) = spaced_name_at(alloc, line, at)?;
@@ -134,7 +134,7 @@ fn symlink_at(alloc: Global, line: &[u8], at: usize) -> Result<(Call, usize), Te
 
 #[tactic(auto, unfolding(crate::specs::Reading::fields_at))]
 fn make_dir_at(alloc: Global, line: &[u8], at: usize) -> Result<(Call, usize), TextFault>
-    ensures { Gives (λ x. x) result (fields_at names.MkDir line.now at) }
+    ensures { Gives (λ x. x) result (fields_at procedure.MkDir line.now at) }
 {
     let ((dir, name), at) = entry_at(alloc, line, at)?;
     let (attr, at) = spaced_attr_at(line, at)?;
@@ -143,7 +143,7 @@ fn make_dir_at(alloc: Global, line: &[u8], at: usize) -> Result<(Call, usize), T
 
 #[tactic(auto, unfolding(crate::specs::Reading::fields_at))]
 fn remove_dir_at(alloc: Global, line: &[u8], at: usize) -> Result<(Call, usize), TextFault>
-    ensures { Gives (λ x. x) result (fields_at names.RmDir line.now at) }
+    ensures { Gives (λ x. x) result (fields_at procedure.RmDir line.now at) }
 {
     let ((dir, name), at) = entry_at(alloc, line, at)?;
     Ok((Call::RmDir { dir, name }, at))
@@ -151,7 +151,7 @@ fn remove_dir_at(alloc: Global, line: &[u8], at: usize) -> Result<(Call, usize),
 
 #[tactic(auto, unfolding(crate::specs::Reading::fields_at))]
 fn read_dir_at(line: &[u8], at: usize) -> Result<(Call, usize), TextFault>
-    ensures { Gives (λ x. x) result (fields_at names.ReadDir line.now at) }
+    ensures { Gives (λ x. x) result (fields_at procedure.ReadDir line.now at) }
 {
     let ((dir, cookie), at) = numbers_at(line, at)?;
     let (count, at) = spaced_u32_at(line, at)?;
@@ -160,39 +160,39 @@ fn read_dir_at(line: &[u8], at: usize) -> Result<(Call, usize), TextFault>
 
 #[tactic(auto, unfolding(crate::specs::Reading::fields_at))]
 fn stat_fs_at(line: &[u8], at: usize) -> Result<(Call, usize), TextFault>
-    ensures { Gives (λ x. x) result (fields_at names.StatFs line.now at) }
+    ensures { Gives (λ x. x) result (fields_at procedure.StatFs line.now at) }
 {
     let (handle, at) = spaced_u32_at(line, at)?;
     Ok((Call::StatFs { handle }, at))
 }
 
-/// The fields of the call of this name.
+/// The fields of a call of this procedure.
 #[tactic(auto, unfolding(crate::specs::Reading::fields_at))]
 fn fields_at(
     alloc: Global,
-    name: CallName,
+    procedure: Procedure,
     line: &[u8],
     at: usize,
 ) -> Result<(Call, usize), TextFault>
-    ensures { Gives (λ x. x) result (fields_at name line.now at) }
+    ensures { Gives (λ x. x) result (fields_at procedure line.now at) }
 {
-    match name {
-        CallName::Null => Ok((Call::Null, at)),
-        CallName::GetAttr => get_attr_at(line, at),
-        CallName::SetAttr => set_attr_at(line, at),
-        CallName::Lookup => lookup_at(alloc, line, at),
-        CallName::ReadLink => read_link_at(line, at),
-        CallName::Read => read_at(line, at),
-        CallName::Write => write_at(alloc, line, at),
-        CallName::Create => create_at(alloc, line, at),
-        CallName::Remove => remove_at(alloc, line, at),
-        CallName::Rename => rename_at(alloc, line, at),
-        CallName::Link => link_at(alloc, line, at),
-        CallName::SymLink => symlink_at(alloc, line, at),
-        CallName::MkDir => make_dir_at(alloc, line, at),
-        CallName::RmDir => remove_dir_at(alloc, line, at),
-        CallName::ReadDir => read_dir_at(line, at),
-        CallName::StatFs => stat_fs_at(line, at),
+    match procedure {
+        Procedure::Null => Ok((Call::Null, at)),
+        Procedure::GetAttr => get_attr_at(line, at),
+        Procedure::SetAttr => set_attr_at(line, at),
+        Procedure::Lookup => lookup_at(alloc, line, at),
+        Procedure::ReadLink => read_link_at(line, at),
+        Procedure::Read => read_at(line, at),
+        Procedure::Write => write_at(alloc, line, at),
+        Procedure::Create => create_at(alloc, line, at),
+        Procedure::Remove => remove_at(alloc, line, at),
+        Procedure::Rename => rename_at(alloc, line, at),
+        Procedure::Link => link_at(alloc, line, at),
+        Procedure::SymLink => symlink_at(alloc, line, at),
+        Procedure::MkDir => make_dir_at(alloc, line, at),
+        Procedure::RmDir => remove_dir_at(alloc, line, at),
+        Procedure::ReadDir => read_dir_at(line, at),
+        Procedure::StatFs => stat_fs_at(line, at),
     }
 }
 
@@ -203,10 +203,10 @@ pub fn call_at(alloc: Global, line: &[u8], at: usize) -> Result<Call, TextFault>
     ensures { Gives (λ x. x) result (call_at line.now at) }
 {
     let word = word_at(line, at);
-    match call_named(word) {
+    match Procedure::named(word) {
         None => Err(TextFault::Grammar(at)),
-        Some(name) => {
-            let (call, next) = fields_at(alloc, name, line, at + word.len())?;
+        Some(procedure) => {
+            let (call, next) = fields_at(alloc, procedure, line, at + word.len())?;
             end_at(line, next)?;
             Ok(call)
         }

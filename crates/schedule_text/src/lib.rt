@@ -3,7 +3,6 @@
 
 mod ask;
 mod call;
-mod call_name;
 mod field;
 mod form;
 mod reading;

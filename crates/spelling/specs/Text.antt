@@ -3,6 +3,7 @@ use Rattle.std.specs.Prelude.{ℕ, ◌==◌, Bool, ◌&&◌, ◌||◌, not, true
 use Rattle.std.specs.List.{flat_map}
 use Rattle.std.specs.Fmt.{digits}
 use Rattle.hex.specs.Hex.{encode_lower}
+use Rattle.harp_base.specs.Calls.{procedure_of, procedure_name}
 use Rattle.harp_base.specs.Server.{number_of}
 use Rattle.harp_base.specs.declared.server.ServerId.{ServerId}
 use Rattle.harp_base.specs.declared.attr.Time.{Time}
@@ -87,35 +88,38 @@ set_attr_text a =
 
 -- ---- calls
 
--- the name of a call and its fields, in the order of its variant
-unfoldable pub call_text : Call → List ℕ
-call_text call.Null = codes "null"
-call_text (call.GetAttr handle) = codes "getattr" ++ spaced (decimal handle)
-call_text (call.SetAttr handle attr) =
-    codes "setattr" ++ spaced (decimal handle) ++ spaced (set_attr_text attr)
-call_text (call.Lookup dir name) = codes "lookup" ++ spaced (decimal dir) ++ spaced (hex_text name)
-call_text (call.ReadLink handle) = codes "readlink" ++ spaced (decimal handle)
-call_text (call.Read handle offset count) =
-    codes "read" ++ spaced (decimal handle) ++ spaced (decimal offset) ++ spaced (decimal count)
-call_text (call.Write handle offset bytes) =
-    codes "write" ++ spaced (decimal handle) ++ spaced (decimal offset) ++ spaced (hex_text bytes)
-call_text (call.Create dir name attr) =
-    codes "create" ++ spaced (decimal dir) ++ spaced (hex_text name) ++ spaced (set_attr_text attr)
-call_text (call.Remove dir name) = codes "remove" ++ spaced (decimal dir) ++ spaced (hex_text name)
-call_text (call.Rename dir name to_dir to_name) =
-    codes "rename" ++ spaced (decimal dir) ++ spaced (hex_text name) ++ spaced (decimal to_dir)
+-- the fields of a call, in the order of its variant
+abbrev pub fields_text : Call → List ℕ
+fields_text call.Null = []
+fields_text (call.GetAttr handle) = spaced (decimal handle)
+fields_text (call.SetAttr handle attr) = spaced (decimal handle) ++ spaced (set_attr_text attr)
+fields_text (call.Lookup dir name) = spaced (decimal dir) ++ spaced (hex_text name)
+fields_text (call.ReadLink handle) = spaced (decimal handle)
+fields_text (call.Read handle offset count) =
+    spaced (decimal handle) ++ spaced (decimal offset) ++ spaced (decimal count)
+fields_text (call.Write handle offset bytes) =
+    spaced (decimal handle) ++ spaced (decimal offset) ++ spaced (hex_text bytes)
+fields_text (call.Create dir name attr) =
+    spaced (decimal dir) ++ spaced (hex_text name) ++ spaced (set_attr_text attr)
+fields_text (call.Remove dir name) = spaced (decimal dir) ++ spaced (hex_text name)
+fields_text (call.Rename dir name to_dir to_name) =
+    spaced (decimal dir) ++ spaced (hex_text name) ++ spaced (decimal to_dir)
     ++ spaced (hex_text to_name)
-call_text (call.Link handle dir name) =
-    codes "link" ++ spaced (decimal handle) ++ spaced (decimal dir) ++ spaced (hex_text name)
-call_text (call.SymLink dir name text attr) =
-    codes "symlink" ++ spaced (decimal dir) ++ spaced (hex_text name) ++ spaced (hex_text text)
+fields_text (call.Link handle dir name) =
+    spaced (decimal handle) ++ spaced (decimal dir) ++ spaced (hex_text name)
+fields_text (call.SymLink dir name text attr) =
+    spaced (decimal dir) ++ spaced (hex_text name) ++ spaced (hex_text text)
     ++ spaced (set_attr_text attr)
-call_text (call.MkDir dir name attr) =
-    codes "mkdir" ++ spaced (decimal dir) ++ spaced (hex_text name) ++ spaced (set_attr_text attr)
-call_text (call.RmDir dir name) = codes "rmdir" ++ spaced (decimal dir) ++ spaced (hex_text name)
-call_text (call.ReadDir dir cookie count) =
-    codes "readdir" ++ spaced (decimal dir) ++ spaced (decimal cookie) ++ spaced (decimal count)
-call_text (call.StatFs handle) = codes "statfs" ++ spaced (decimal handle)
+fields_text (call.MkDir dir name attr) =
+    spaced (decimal dir) ++ spaced (hex_text name) ++ spaced (set_attr_text attr)
+fields_text (call.RmDir dir name) = spaced (decimal dir) ++ spaced (hex_text name)
+fields_text (call.ReadDir dir cookie count) =
+    spaced (decimal dir) ++ spaced (decimal cookie) ++ spaced (decimal count)
+fields_text (call.StatFs handle) = spaced (decimal handle)
+
+-- the name of a call's procedure, and the fields
+unfoldable pub call_text : Call → List ℕ
+call_text c = procedure_name (procedure_of c) ++ fields_text c
 
 -- ---- credentials
 

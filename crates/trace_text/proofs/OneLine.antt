@@ -5,6 +5,7 @@ use Rattle.std.specs.List.{AllByRecursion, flat_map}
 use Rattle.std.specs.Fmt.{digit_glyph, digits_onto, digits}
 use Rattle.std.proofs.lemmas.Bool.{eqb-false, or_parts}
 use Rattle.hex.specs.Hex.{encode_lower, encode_with, lower_digits}
+use Rattle.harp_base.specs.Calls.{procedure_of, procedure_name}
 use Rattle.harp_base.specs.Server.{number_of}
 use Rattle.harp_base.specs.View.{View}
 use Rattle.harp_base.specs.declared.server.ServerId.{ServerId}
@@ -20,6 +21,8 @@ use Rattle.harp_base.specs.declared.attr.SetAttr.{SetAttr}
 use Rattle.harp_base.specs.declared.attr.Attr.{Attr}
 use Rattle.harp_base.specs.declared.call.Call.{Call}
 use Rattle.harp_base.specs.declared.call.Call.TheVariants as call
+use Rattle.harp_base.specs.declared.procedure.Procedure.{Procedure}
+use Rattle.harp_base.specs.declared.procedure.Procedure.TheVariants as procedure
 use Rattle.harp_base.specs.declared.cred.Cred.{Cred}
 use Rattle.harp_base.specs.declared.reply.DirEntry.{DirEntry}
 use Rattle.harp_base.specs.declared.reply.Reply.{Reply}
@@ -35,7 +38,7 @@ use Rattle.trace_lines.specs.declared.line.ShownMessage.{ShownMessage}
 use Rattle.trace_lines.specs.declared.line.ShownMessage.TheVariants as message
 use Rattle.trace_lines.specs.declared.line.Line.{Line}
 use Rattle.trace_lines.specs.declared.line.Line.TheVariants as line
-use Rattle.spelling.specs.Text.{left, is_left_time, hex_text, octal, time_text, number_field, mode_field, time_field, later, mtime_on, atime_on, size_on, gid_on, uid_on, set_attr_text, call_text, kind_number, status_number, attr_owner, attr_extent, attr_times, attr_text, entry_text, page_end, reply_text, spaced, comma, is_implied, told_text, cred_text, ask_head, pair_text, among_text, step_text}
+use Rattle.spelling.specs.Text.{left, is_left_time, hex_text, octal, time_text, number_field, mode_field, time_field, later, mtime_on, atime_on, size_on, gid_on, uid_on, set_attr_text, fields_text, call_text, kind_number, status_number, attr_owner, attr_extent, attr_times, attr_text, entry_text, page_end, reply_text, spaced, comma, is_implied, told_text, cred_text, ask_head, pair_text, among_text, step_text}
 use Rattle.spelling.specs.Lines.{IsOneLine, hint_text, cause_text, fault_text, view_text, message_text, mode_text, role_text, held_text, state_text, entry_line, line_text}
 
 append : (x y : List ℕ) → IsOneLine x → IsOneLine y → IsOneLine (x ++ y)
@@ -174,52 +177,67 @@ set_attr a =
     append ((((mode_field a.mode ++ uid) ++ gid) ++ size) ++ atime) mtime four
     (later_line (mtime_on a) (time_field a.mtime) (set_time a.mtime))
 
+procedure_line : (p : Procedure) → IsOneLine (procedure_name p)
+procedure_line procedure.Null = known (procedure_name procedure.Null) refl
+procedure_line procedure.GetAttr = known (procedure_name procedure.GetAttr) refl
+procedure_line procedure.SetAttr = known (procedure_name procedure.SetAttr) refl
+procedure_line procedure.Lookup = known (procedure_name procedure.Lookup) refl
+procedure_line procedure.ReadLink = known (procedure_name procedure.ReadLink) refl
+procedure_line procedure.Read = known (procedure_name procedure.Read) refl
+procedure_line procedure.Write = known (procedure_name procedure.Write) refl
+procedure_line procedure.Create = known (procedure_name procedure.Create) refl
+procedure_line procedure.Remove = known (procedure_name procedure.Remove) refl
+procedure_line procedure.Rename = known (procedure_name procedure.Rename) refl
+procedure_line procedure.Link = known (procedure_name procedure.Link) refl
+procedure_line procedure.SymLink = known (procedure_name procedure.SymLink) refl
+procedure_line procedure.MkDir = known (procedure_name procedure.MkDir) refl
+procedure_line procedure.RmDir = known (procedure_name procedure.RmDir) refl
+procedure_line procedure.ReadDir = known (procedure_name procedure.ReadDir) refl
+procedure_line procedure.StatFs = known (procedure_name procedure.StatFs) refl
+
+call_fields : (c : Call) → IsOneLine (fields_text c)
+call_fields call.Null = tt
+call_fields (call.GetAttr handle) = words [] (decimal handle ∷ []) tt (number handle, tt)
+call_fields (call.SetAttr handle attr) =
+    words [] (decimal handle ∷ set_attr_text attr ∷ []) tt (number handle, (set_attr attr, tt))
+call_fields (call.Lookup dir n) =
+    words [] (decimal dir ∷ hex_text n ∷ []) tt (number dir, (name n, tt))
+call_fields (call.ReadLink handle) = words [] (decimal handle ∷ []) tt (number handle, tt)
+call_fields (call.Read handle offset count) =
+    words [] (decimal handle ∷ decimal offset ∷ decimal count ∷ []) tt
+    (number handle, (number offset, (number count, tt)))
+call_fields (call.Write handle offset bytes) =
+    words [] (decimal handle ∷ decimal offset ∷ hex_text bytes ∷ []) tt
+    (number handle, (number offset, (name bytes, tt)))
+call_fields (call.Create dir n attr) =
+    words [] (decimal dir ∷ hex_text n ∷ set_attr_text attr ∷ []) tt
+    (number dir, (name n, (set_attr attr, tt)))
+call_fields (call.Remove dir n) =
+    words [] (decimal dir ∷ hex_text n ∷ []) tt (number dir, (name n, tt))
+call_fields (call.Rename dir n to_dir to_name) =
+    words [] (decimal dir ∷ hex_text n ∷ decimal to_dir ∷ hex_text to_name ∷ []) tt
+    (number dir, (name n, (number to_dir, (name to_name, tt))))
+call_fields (call.Link handle dir n) =
+    words [] (decimal handle ∷ decimal dir ∷ hex_text n ∷ []) tt
+    (number handle, (number dir, (name n, tt)))
+call_fields (call.SymLink dir n text attr) =
+    words [] (decimal dir ∷ hex_text n ∷ hex_text text ∷ set_attr_text attr ∷ []) tt
+    (number dir, (name n, (name text, (set_attr attr, tt))))
+call_fields (call.MkDir dir n attr) =
+    words [] (decimal dir ∷ hex_text n ∷ set_attr_text attr ∷ []) tt
+    (number dir, (name n, (set_attr attr, tt)))
+call_fields (call.RmDir dir n) =
+    words [] (decimal dir ∷ hex_text n ∷ []) tt (number dir, (name n, tt))
+call_fields (call.ReadDir dir cookie count) =
+    words [] (decimal dir ∷ decimal cookie ∷ decimal count ∷ []) tt
+    (number dir, (number cookie, (number count, tt)))
+call_fields (call.StatFs handle) = words [] (decimal handle ∷ []) tt (number handle, tt)
+
 call_line : (c : Call) → IsOneLine (call_text c)
 unfolding call_text
-call_line call.Null = known (codes "null") refl
-call_line (call.GetAttr handle) =
-    words (codes "getattr") (decimal handle ∷ []) (known (codes "getattr") refl) (number handle, tt)
-call_line (call.SetAttr handle attr) =
-    words (codes "setattr") (decimal handle ∷ set_attr_text attr ∷ [])
-    (known (codes "setattr") refl) (number handle, (set_attr attr, tt))
-call_line (call.Lookup dir n) =
-    words (codes "lookup") (decimal dir ∷ hex_text n ∷ []) (known (codes "lookup") refl)
-    (number dir, (name n, tt))
-call_line (call.ReadLink handle) =
-    words (codes "readlink") (decimal handle ∷ []) (known (codes "readlink") refl)
-    (number handle, tt)
-call_line (call.Read handle offset count) =
-    words (codes "read") (decimal handle ∷ decimal offset ∷ decimal count ∷ [])
-    (known (codes "read") refl) (number handle, (number offset, (number count, tt)))
-call_line (call.Write handle offset bytes) =
-    words (codes "write") (decimal handle ∷ decimal offset ∷ hex_text bytes ∷ [])
-    (known (codes "write") refl) (number handle, (number offset, (name bytes, tt)))
-call_line (call.Create dir n attr) =
-    words (codes "create") (decimal dir ∷ hex_text n ∷ set_attr_text attr ∷ [])
-    (known (codes "create") refl) (number dir, (name n, (set_attr attr, tt)))
-call_line (call.Remove dir n) =
-    words (codes "remove") (decimal dir ∷ hex_text n ∷ []) (known (codes "remove") refl)
-    (number dir, (name n, tt))
-call_line (call.Rename dir n to_dir to_name) =
-    words (codes "rename") (decimal dir ∷ hex_text n ∷ decimal to_dir ∷ hex_text to_name ∷ [])
-    (known (codes "rename") refl) (number dir, (name n, (number to_dir, (name to_name, tt))))
-call_line (call.Link handle dir n) =
-    words (codes "link") (decimal handle ∷ decimal dir ∷ hex_text n ∷ [])
-    (known (codes "link") refl) (number handle, (number dir, (name n, tt)))
-call_line (call.SymLink dir n text attr) =
-    words (codes "symlink") (decimal dir ∷ hex_text n ∷ hex_text text ∷ set_attr_text attr ∷ [])
-    (known (codes "symlink") refl) (number dir, (name n, (name text, (set_attr attr, tt))))
-call_line (call.MkDir dir n attr) =
-    words (codes "mkdir") (decimal dir ∷ hex_text n ∷ set_attr_text attr ∷ [])
-    (known (codes "mkdir") refl) (number dir, (name n, (set_attr attr, tt)))
-call_line (call.RmDir dir n) =
-    words (codes "rmdir") (decimal dir ∷ hex_text n ∷ []) (known (codes "rmdir") refl)
-    (number dir, (name n, tt))
-call_line (call.ReadDir dir cookie count) =
-    words (codes "readdir") (decimal dir ∷ decimal cookie ∷ decimal count ∷ [])
-    (known (codes "readdir") refl) (number dir, (number cookie, (number count, tt)))
-call_line (call.StatFs handle) =
-    words (codes "statfs") (decimal handle ∷ []) (known (codes "statfs") refl) (number handle, tt)
+call_line c =
+    append (procedure_name (procedure_of c)) (fields_text c) (procedure_line (procedure_of c))
+    (call_fields c)
 
 attr : (a : Attr) → IsOneLine (attr_text a)
 unfolding attr_text attr_owner attr_extent attr_times
