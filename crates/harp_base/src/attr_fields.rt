@@ -8,8 +8,9 @@ use crate::attr::{Attr, Kind, SetAttr, Time};
 use crate::field::{FieldFault, byte_at, put_u16, put_u32, u16_at, u32_at};
 use std::alloc::AllocError;
 
+/// A time, and the place after it.
 #[tactic(auto, unfolding(crate::specs::Attributes::time_at))]
-fn time_at(bytes: &[u8], at: usize) -> Result<(Time, usize), FieldFault>
+pub fn time_at(bytes: &[u8], at: usize) -> Result<(Time, usize), FieldFault>
     requires { at ≤ length bytes.now }
     ensures step { result ≡ time_at bytes.now at }
     ensures within { IfOk result (λ x. x.1 ≤ length bytes.now) }
@@ -42,7 +43,8 @@ pub(crate) fn set_attr_at(bytes: &[u8], at: usize) -> Result<(SetAttr, usize), F
     Ok((attr, at))
 }
 
-fn kind_at(bytes: &[u8], at: usize) -> Result<(Kind, usize), FieldFault>
+/// The kind of an object, and the place after it.
+pub fn kind_at(bytes: &[u8], at: usize) -> Result<(Kind, usize), FieldFault>
     ensures step { result ≡ tag_at kind_number kinds bytes.now at }
     ensures within { IfOk result (λ x. x.1 ≤ length bytes.now) }
 {
@@ -85,8 +87,9 @@ pub(crate) fn attr_at(bytes: &[u8], at: usize) -> Result<(Attr, usize), FieldFau
     Ok((attr, at))
 }
 
+/// Appends a time.
 #[tactic(auto, unfolding(crate::specs::Attributes::time_bytes))]
-fn put_time(out: &mut Vec<u8>, time: &Time) -> Result<(), AllocError>
+pub fn put_time(out: &mut Vec<u8>, time: &Time) -> Result<(), AllocError>
     ensures value { OnOk result (out.new.items ≡ out.old.items ++ time_bytes time.now) }
     ensures fits { OnOk result (TimeFits time.now) }
 {

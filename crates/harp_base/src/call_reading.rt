@@ -229,9 +229,12 @@ fn fields_at(
     }
 }
 
+/// A call that begins at a place, and the place after it.
 #[tactic(auto, unfolding(crate::specs::Calls::call_at))]
-fn call_at(alloc: Global, bytes: &[u8], at: usize) -> Result<(Call, usize), FieldFault>
-    ensures { Gives result (call_at bytes.now at) }
+pub fn call_at(alloc: Global, bytes: &[u8], at: usize) -> Result<(Call, usize), FieldFault>
+    requires { at ≤ length bytes.now }
+    ensures step { Gives result (call_at bytes.now at) }
+    ensures within { IfOk result (λ x. x.1 ≤ length bytes.now) }
 {
     let (procedure, at) = procedure_at(bytes, at)?;
     fields_at(alloc, procedure, bytes, at)

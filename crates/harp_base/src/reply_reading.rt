@@ -3,8 +3,8 @@
 ghost use Rattle.std.specs.Prelude.{◌≡◌, ◌≤◌, ◌<◌, ◌++◌, ℕ, List, length, IfOk, Ok};
 ghost use Rattle.harp_base.specs.declared.reply.Reply.{Reply};
 ghost use Rattle.harp_base.specs.declared.reply_form.ReplyForm.TheVariants as form;
-ghost use Rattle.harp_base.specs.Fields.{Gives, GivesAs, Spells, tag_at};
-ghost use Rattle.harp_base.specs.Replies.{status_number, statuses, flag_number, flags, entry_at, each_at, entries_at, reply_fields_at, reply_at, reply_bytes, ReplyFits};
+ghost use Rattle.harp_base.specs.Fields.{Gives, GivesAs, Spells, tag_at, many_at};
+ghost use Rattle.harp_base.specs.Replies.{status_number, statuses, flag_number, flags, entry_at, entries_at, reply_fields_at, reply_at, reply_bytes, ReplyFits};
 
 use crate::attr_fields::attr_at;
 use crate::field::{FieldFault, byte_at, bytes_at, u16_at, u32_at};
@@ -50,7 +50,7 @@ fn entry_at(alloc: Global, bytes: &[u8], at: usize) -> Result<(DirEntry, usize),
     Ok((entry, at))
 }
 
-#[tactic(auto, unfolding(crate::specs::Replies::each_at))]
+#[tactic(auto, unfolding(crate::specs::Fields::many_at))]
 fn each_at(
     alloc: Global,
     count: u16,
@@ -58,7 +58,7 @@ fn each_at(
     from: usize,
 ) -> Result<(Vec<DirEntry>, usize), FieldFault>
     requires { from ≤ length bytes.now }
-    ensures step { GivesAs (λ x. (x.0.items, x.1)) result (each_at count bytes.now from) }
+    ensures step { GivesAs (λ x. (x.0.items, x.1)) result (many_at entry_at count bytes.now from) }
     ensures count { IfOk result (λ x. length x.0.items ≡ count) }
     ensures within { IfOk result (λ x. x.1 ≤ length bytes.now) }
 {
@@ -179,9 +179,12 @@ fn fields_at(
     }
 }
 
+/// A reply that begins at a place, and the place after it.
 #[tactic(auto, unfolding(crate::specs::Replies::reply_at))]
-fn reply_at(alloc: Global, bytes: &[u8], at: usize) -> Result<(Reply, usize), FieldFault>
-    ensures { Gives result (reply_at bytes.now at) }
+pub fn reply_at(alloc: Global, bytes: &[u8], at: usize) -> Result<(Reply, usize), FieldFault>
+    requires { at ≤ length bytes.now }
+    ensures step { Gives result (reply_at bytes.now at) }
+    ensures within { IfOk result (λ x. x.1 ≤ length bytes.now) }
 {
     let (form, at) = form_at(bytes, at)?;
     fields_at(alloc, form, bytes, at)
