@@ -9,7 +9,8 @@ use Rattle.harp_store.specs.Mark.{MarkFields}
 
 -- ---- a disk
 
--- a disk at one moment: what the last sync left in each cell, what was put or erased there since, in order, and the mark
+-- a disk at one moment: what the last sync left in each cell, what was put or erased there since,
+-- in order, and the mark
 pub record Disk : Type 0 where
   pub synced : Cells
   pub unsynced : Cell → List (Option Value)
@@ -80,9 +81,11 @@ changed_by (change.EraseFrom object first) d = without_from object first d
 unfoldable pub changed_by_all : List Change → Disk → Disk
 changed_by_all changes d = fold (λ e change. changed_by change e) d changes
 
--- a crash after some of these changes may leave of a cell what it may leave before them, or what reads give after some first ones
+-- a crash after some of these changes may leave of a cell what it may leave before them, or what
+-- reads give after some first ones
 abbrev pub MayHoldInPart : List Change → Disk → Cell → Option Value → Type 0
-MayHoldInPart changes d c value = MayHold d c value ⊎ ((n : ℕ) × (n ≤ length changes) × (value ≡ after (take n changes) (reads d) c))
+MayHoldInPart changes d c value = MayHold d c value ⊎ ((n : ℕ) × (n ≤ length changes) × (value
+    ≡ after (take n changes) (reads d) c))
 
 -- every value is synced
 abbrev pub synced_whole : Disk → Disk
@@ -137,7 +140,8 @@ ReadsMark (Some h) mark = mark ≡ h.now.mark
 
 -- ---- a run of calls
 
--- between two histories each disk has P: the one that the run began with, each in between, and the last one
+-- between two histories each disk has P: the one that the run began with, each in between, and the
+-- last one
 pub record KeepsTo (P : Disk → Type 0) (old new : Moments) : Type 0 where
   pub more : List Disk
   pub past : new.past ≡ old.past ++ more
@@ -173,7 +177,8 @@ AfterPart changes old new = (n : ℕ) × (new ≡ after_changes (take n changes)
 abbrev pub IsAfterPart : List Change → Disk → Disk → Type 0
 IsAfterPart changes d e = (n : ℕ) × (e ≡ changed_by_all (take n changes) d)
 
--- what a crash left in the middle of changes: in each cell what it may leave before them, or what reads give after some first ones
+-- what a crash left in the middle of changes: in each cell what it may leave before them, or what
+-- reads give after some first ones
 pub record IsLeftInPart (changes : List Change) (d : Disk) (image : Image) : Type 0 where
   pub cells : (c : Cell) → MayHoldInPart changes d c (image.cells c)
   pub mark : image.mark ≡ d.mark

@@ -14,8 +14,8 @@ use Rattle.harp_store.specs.declared.layers.Layers.{Layers}
 
 -- ---- as callers see it
 
--- the disk at each earlier moment that is told, what the last sync left, what was put or erased since, in order, and
--- the mark
+-- the disk at each earlier moment that is told, what the last sync left, what was put or erased
+-- since, in order, and the mark
 pub record Stored : Type 0 where
   pub past : List Disk
   pub synced : Cells
@@ -39,15 +39,33 @@ moments_of s = record { past = s.past; now = disk_of s }
 
 -- the puts and erasures are made; the disk before is one of the earlier ones
 abbrev pub with_changes : List Unsynced → Stored → Stored
-with_changes more s = record { past = s.past ++ disk_of s ∷ []; synced = s.synced; unsynced = s.unsynced ++ more; mark = s.mark }
+with_changes more s = record {
+  past = s.past ++ disk_of s ∷ [];
+  synced = s.synced;
+  unsynced =
+      s.unsynced ++ more;
+  mark = s.mark;
+}
 
 -- every value is synced
 abbrev pub with_sync : Stored → Stored
-with_sync s = record { past = s.past ++ disk_of s ∷ []; synced = λ c. set_by c s.unsynced (s.synced c); unsynced = []; mark = s.mark }
+with_sync s = record {
+  past = s.past ++ disk_of s ∷ [];
+  synced = λ c. set_by c s.unsynced
+      (s.synced c);
+  unsynced = [];
+  mark = s.mark;
+}
 
 -- the mark is written
 abbrev pub with_mark_written : MarkFields → Stored → Stored
-with_mark_written mark s = record { past = s.past ++ disk_of s ∷ []; synced = s.synced; unsynced = s.unsynced; mark = Some mark }
+with_mark_written mark s = record {
+  past = s.past ++ disk_of s ∷ [];
+  synced = s.synced;
+  unsynced =
+      s.unsynced;
+  mark = Some mark;
+}
 
 -- no earlier moment is told any more
 abbrev pub without_past : Stored → Stored
@@ -55,12 +73,14 @@ without_past s = record { past = []; synced = s.synced; unsynced = s.unsynced; m
 
 -- an erasure of each of these blocks
 abbrev pub erasures : ℕ → List ℕ → List Unsynced
-erasures object blocks = map (λ block. record { cell = cell.Block object block; value = None }) blocks
+erasures object blocks = map (λ block. record { cell = cell.Block object block; value = None })
+    blocks
 
 -- these are the blocks of the object that are there, from the first on, each once and ascending
 pub record AreBlocksFrom (object first : ℕ) (cells : Cells) (blocks : List ℕ) : Type 0 where
   pub ascending : AllPairs (λ a b. a < b) blocks
-  pub those : (block : ℕ) → count_by (λ b. b == block) blocks ≡ (if nat_le first block && is_some (cells (cell.Block object block)) then 1 else 0)
+  pub those : (block : ℕ) → count_by (λ b. b == block) blocks ≡ (if nat_le first block
+      && is_some (cells (cell.Block object block)) then 1 else 0)
 
 -- a block comes before the next one
 abbrev pub is_before : Option ℕ → ℕ → Bool
@@ -68,10 +88,12 @@ is_before None block = true
 is_before (Some next) block = nat_lt block next
 
 -- the same of the blocks before the next one, where there is one
-pub record AreBlocksTo (object first : ℕ) (cells : Cells) (next : Option ℕ) (blocks : List ℕ) : Type 0 where
+pub record AreBlocksTo (object first : ℕ) (cells : Cells) (next : Option ℕ)
+    (blocks : List ℕ) : Type 0 where
   pub ascending : AllPairs (λ a b. a < b) blocks
   pub before : All (λ b. is_before next b ≡ true) blocks
-  pub those : (block : ℕ) → count_by (λ b. b == block) blocks ≡ (if nat_le first block && is_before next block && is_some (cells (cell.Block object block)) then 1 else 0)
+  pub those : (block : ℕ) → count_by (λ b. b == block) blocks ≡ (if nat_le first block
+      && is_before next block && is_some (cells (cell.Block object block)) then 1 else 0)
 
 -- ---- inside
 
@@ -83,7 +105,8 @@ disk_at base changes t = record {
   mark = t.mark;
 }
 
--- what is stored, by the values below, the changes of them, how many of these are synced, the mark and earlier moments
+-- what is stored, by the values below, the changes of them, how many of these are synced, the mark
+-- and earlier moments
 abbrev pub stored_by : Cells → List Unsynced → ℕ → Option MarkFields → List Instant → Stored
 stored_by base changes synced mark past = record {
   past = map (disk_at base changes) past;
@@ -138,7 +161,8 @@ instant_now l = record { made = length l.changes.items; synced = l.synced; mark 
 
 -- a cell reads as the value below, or as the changes make it
 pub record IsOpenTo (entries : Entries) (changes : List Unsynced) : Type 0 where
-  pub each : (c : Cell) → (value_in entries c ≡ base_in entries c) ⊎ (value_in entries c ≡ set_by c changes (base_in entries c))
+  pub each : (c : Cell) → (value_in entries c ≡ base_in entries c) ⊎ (value_in entries c
+      ≡ set_by c changes (base_in entries c))
   pub present : All (λ u. HasEntry (find entries u.cell) u.value) changes
 
 -- a cell after the first change, where it is kept

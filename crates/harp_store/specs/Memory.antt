@@ -23,7 +23,8 @@ nothing_stored = record { past = []; synced = λ c. None; unsynced = []; mark = 
 -- the blocks that were there are erased, one after the other
 abbrev pub BlocksErased : ℕ → ℕ → Stored → Stored → Type 0
 BlocksErased object first old new =
-    (blocks : List ℕ) × AreBlocksFrom object first (reads (disk_of old)) blocks × (new ≡ with_changes (erasures object blocks) old)
+    (blocks : List ℕ) × AreBlocksFrom object first (reads (disk_of old)) blocks × (new
+    ≡ with_changes (erasures object blocks) old)
 
 -- ---- a crash
 
@@ -36,14 +37,22 @@ is_kept (pick.Bits bits) place = slice_index_or bits (place % length bits) false
 -- the last change of a cell that is kept, by its place; without one what is held
 unfoldable pub left_by : (ℕ → Bool) → ℕ → Cell → List Unsynced → Option Value → Option Value
 left_by keeps place c [] held = held
-left_by keeps place c (u ∷ us) held = left_by keeps (place + 1) c us (if keeps place && is_cell u.cell c then u.value else held)
+left_by keeps place c (u ∷ us) held = left_by keeps (place + 1) c us (if keeps place
+    && is_cell u.cell c then u.value else held)
 
 -- a crash keeps some of the unsynced changes
 abbrev pub crashed : Pick → Stored → Stored
-crashed pick s = record { past = []; synced = λ c. left_by (is_kept pick) 0 c s.unsynced (s.synced c); unsynced = []; mark = s.mark }
+crashed pick s = record {
+  past = [];
+  synced = λ c. left_by (is_kept pick) 0 c s.unsynced
+      (s.synced c);
+  unsynced = [];
+  mark = s.mark;
+}
 
 -- the same after so many changes that are kept
 unfoldable pub left_after : Pick → ℕ → ℕ → Cell → List Unsynced → Option Value → Option Value
 left_after pick zero place c us held = left_by (is_kept pick) place c us held
 left_after pick (suc n) place c [] held = held
-left_after pick (suc n) place c (u ∷ us) held = left_after pick n place c us (if is_cell u.cell c then u.value else held)
+left_after pick (suc n) place c (u ∷ us) held = left_after pick n place c us
+    (if is_cell u.cell c then u.value else held)

@@ -37,7 +37,8 @@ impl Model for Saved {
 
     ghost view = { λ s. record { base = s.base; cp = s.cp; top = s.top; ring = s.ring } };
 
-    ghost invariant = { λ s. (s.base < 2 ^ 62) × (s.cp < 2 ^ 62) × (s.top < 2 ^ 62) × IsRing s.ring };
+    ghost invariant = { λ s. (s.base < 2 ^ 62) × (s.cp < 2 ^ 62) × (s.top < 2 ^ 62)
+        × IsRing s.ring };
 
     ghost inverse = { λ s. record { base = s.base; cp = s.cp; top = s.top; ring = s.ring } };
 }
@@ -45,8 +46,10 @@ impl Model for Saved {
 impl Saved {
     /// These numbers, where the indices are below 2^62 and the ring is one of the two.
     pub fn of(base: u64, cp: u64, top: u64, ring: u32) -> Option<Saved>
-        ensures found { IsSome result ↔ ((base < 2 ^ 62) × (cp < 2 ^ 62) × (top < 2 ^ 62) × IsRing ring) }
-        ensures value { IfSome result (λ s. s ≡ record { base = base; cp = cp; top = top; ring = ring }) }
+        ensures found { IsSome result ↔ ((base < 2 ^ 62) × (cp < 2 ^ 62) × (top < 2 ^ 62)
+            × IsRing ring) }
+        ensures value { IfSome result (λ s. s
+            ≡ record { base = base; cp = cp; top = top; ring = ring }) }
     {
         if base < 1 << 62 && cp < 1 << 62 && top < 1 << 62 && (ring == OLD_RING || ring == RING) {
             Some(Saved {
@@ -127,11 +130,27 @@ impl Model for Mark {
 
     ghost Value = { MarkFields };
 
-    ghost view = { λ m. record { promised = m.promised; accepted = m.accepted; role = m.role; lb = m.lb; longest = m.longest; saved = m.saved } };
+    ghost view = { λ m. record {
+      promised = m.promised;
+      accepted = m.accepted;
+      role = m.role;
+      lb =
+          m.lb;
+      longest = m.longest;
+      saved = m.saved;
+    } };
 
-    ghost invariant = { λ m. (m.lb < 2 ^ 62) × (above m.accepted m.promised ≡ false) × IsLongest m.longest };
+    ghost invariant = { λ m. (m.lb < 2 ^ 62) × (above m.accepted m.promised ≡ false)
+        × IsLongest m.longest };
 
-    ghost inverse = { λ m. record { promised = m.promised; accepted = m.accepted; role = m.role; lb = m.lb; longest = m.longest; saved = m.saved } };
+    ghost inverse = { λ m. record {
+      promised = m.promised;
+      accepted = m.accepted;
+      role = m.role;
+      lb = m.lb;
+      longest = m.longest;
+      saved = m.saved;
+    } };
 }
 
 // Whether a mark may have this length of a promise.
@@ -166,9 +185,17 @@ impl Mark {
         longest: Option<u32>,
         saved: Option<Saved>,
     ) -> Option<Mark>
-        ensures found { IsSome result ↔ ((lb < 2 ^ 62) × (above accepted promised ≡ false) × IsLongest longest) }
+        ensures found { IsSome result ↔ ((lb < 2 ^ 62) × (above accepted promised ≡ false)
+            × IsLongest longest) }
         ensures value { IfSome result
-            (λ m. m ≡ record { promised = promised; accepted = accepted; role = role; lb = lb; longest = longest; saved = saved }) }
+            (λ m. m ≡ record {
+              promised = promised;
+              accepted = accepted;
+              role = role;
+              lb = lb;
+              longest = longest;
+              saved = saved;
+            }) }
     {
         if lb < 1 << 62 && !accepted.is_above(promised) && is_longest(longest) {
             Some(Mark {
@@ -196,7 +223,15 @@ impl Mark {
         requires order { above accepted promised ≡ false }
         requires bound { lb < 2 ^ 62 }
         requires longest { IsLongest longest }
-        ensures { result ≡ record { promised = promised; accepted = accepted; role = role; lb = lb; longest = longest; saved = saved } }
+        ensures { result ≡ record {
+          promised = promised;
+          accepted = accepted;
+          role = role;
+          lb =
+              lb;
+          longest = longest;
+          saved = saved;
+        } }
     {
         Mark {
             promised,

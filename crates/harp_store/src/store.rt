@@ -27,8 +27,8 @@ impl From<AllocError> for StoreFault {
     }
 }
 
-/// Cells and a mark on a disk. What is put or erased is on the disk for sure once it is synced; a crash before may
-/// leave any of it, cell by cell. The mark is written whole.
+/// Cells and a mark on a disk. What is put or erased is on the disk for sure once it is synced; a
+/// crash before may leave any of it, cell by cell. The mark is written whole.
 pub trait Store {
     // The disk at each moment, where the store tells it.
     ghost told: { Self → Option Moments };
@@ -51,22 +51,28 @@ pub trait Store {
 
     /// The cell holds the value, whatever it held before.
     fn put(&mut self, alloc: Global, cell: Cell, value: &Value) -> Result<(), StoreFault>
-        ensures put { OnOk result (told self.new ≡ after_step (with_value cell (Some value.now)) (told self.old)) }
-        ensures part { OnErr result (MayHaveMade (with_value cell (Some value.now)) (told self.old) (told self.new)) }
+        ensures put { OnOk result (told self.new
+            ≡ after_step (with_value cell (Some value.now)) (told self.old)) }
+        ensures part { OnErr result (MayHaveMade (with_value cell (Some value.now))
+            (told self.old) (told self.new)) }
         ensures rose { result ≡ Err StoreFault.Failed → Rose (faults self.old) (faults self.new) }
         ensures count { faults self.old ≤ faults self.new };
 
     /// The cell is absent.
     fn erase(&mut self, alloc: Global, cell: Cell) -> Result<(), StoreFault>
-        ensures erased { OnOk result (told self.new ≡ after_step (with_value cell None) (told self.old)) }
-        ensures part { OnErr result (MayHaveMade (with_value cell None) (told self.old) (told self.new)) }
+        ensures erased { OnOk result (told self.new
+            ≡ after_step (with_value cell None) (told self.old)) }
+        ensures part { OnErr result (MayHaveMade (with_value cell None) (told self.old)
+            (told self.new)) }
         ensures rose { result ≡ Err StoreFault.Failed → Rose (faults self.old) (faults self.new) }
         ensures count { faults self.old ≤ faults self.new };
 
     /// All blocks of the object from the first on are absent.
     fn erase_from(&mut self, alloc: Global, object: u32, first: u32) -> Result<(), StoreFault>
-        ensures erased { OnOk result (told self.new ≡ after_step (without_from object first) (told self.old)) }
-        ensures part { OnErr result (MayHaveMade (without_from object first) (told self.old) (told self.new)) }
+        ensures erased { OnOk result (told self.new
+            ≡ after_step (without_from object first) (told self.old)) }
+        ensures part { OnErr result (MayHaveMade (without_from object first) (told self.old)
+            (told self.new)) }
         ensures rose { result ≡ Err StoreFault.Failed → Rose (faults self.old) (faults self.new) }
         ensures count { faults self.old ≤ faults self.new };
 
@@ -84,10 +90,13 @@ pub trait Store {
         ensures rose { (result ≡ Err StoreFault.Failed) → Rose (faults self.old) (faults self.new) }
         ensures count { faults self.old ≤ faults self.new };
 
-    /// Writes the mark whole. A crash in the middle leaves the old mark or this one, and so does a failed call.
+    /// Writes the mark whole. A crash in the middle leaves the old mark or this one, and so does a
+    /// failed call.
     fn write_mark(&mut self, alloc: Global, mark: &Mark) -> Result<(), StoreFault>
-        ensures written { OnOk result (told self.new ≡ after_step (with_mark mark.now) (told self.old)) }
-        ensures part { OnErr result (MayHaveMade (with_mark mark.now) (told self.old) (told self.new)) }
+        ensures written { OnOk result (told self.new
+            ≡ after_step (with_mark mark.now) (told self.old)) }
+        ensures part { OnErr result (MayHaveMade (with_mark mark.now) (told self.old)
+            (told self.new)) }
         ensures rose { result ≡ Err StoreFault.Failed → Rose (faults self.old) (faults self.new) }
         ensures count { faults self.old ≤ faults self.new };
 }

@@ -8,4 +8,5 @@ pub returns-clause-erased : goal.returns-clause-erased
 returns-clause-erased c =
     let h = c.in_ok-erase_from.ensures.erased in
     ap (λ (h : Moments). Some h)
-    (ap moments_of h.2 ∙ erased_history c.args.object c.args.first (stored_in c.args.self.now.layers) h.0 h.1)
+    (ap moments_of h.2 ∙ erased_history c.args.object c.args.first
+    (stored_in c.args.self.now.layers) h.0 h.1)

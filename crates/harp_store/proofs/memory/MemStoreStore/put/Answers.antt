@@ -7,4 +7,6 @@ use Rattle.harp_store.proofs.memory.MemStoreStore.put.Goals as goal
 pub returns-clause-put : goal.returns-clause-put
 returns-clause-put c =
     ap (λ (h : Moments). Some h)
-    (ap moments_of c.in_ok-put.ensures.put ∙ one_change (stored_in c.args.self.now.layers) (record { cell = c.args.cell; value = Some c.args.value.now }))
+    (ap moments_of c.in_ok-put.ensures.put
+    ∙ one_change (stored_in c.args.self.now.layers)
+    (record { cell = c.args.cell; value = Some c.args.value.now }))

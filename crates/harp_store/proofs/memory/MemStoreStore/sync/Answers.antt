@@ -6,4 +6,5 @@ use Rattle.harp_store.proofs.memory.MemStoreStore.sync.Goals as goal
 
 pub returns-clause-synced : goal.returns-clause-synced
 returns-clause-synced c =
-    ap (λ (h : Moments). Some h) (ap moments_of c.in_ok-sync.ensures.synced ∙ one_sync (stored_in c.args.self.now.layers))
+    ap (λ (h : Moments). Some h) (ap moments_of c.in_ok-sync.ensures.synced
+    ∙ one_sync (stored_in c.args.self.now.layers))
