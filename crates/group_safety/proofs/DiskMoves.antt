@@ -106,8 +106,8 @@ heed_disk start s items cp n a b w o Waits e i = let x = w e in omega arith
 heed_disk start s items cp n a b w o Open e i = let x = o (inl e) in omega arith
 heed_disk start s items cp n a b w o Live e i = let x = o (inr e) in omega arith
 
--- what a move of a data server other than to apply starts from: the facts before it, its own conditions, the facts
--- after it, and its disk beside the history before and after the move
+-- what a move of a data server other than to apply starts from: the facts before it, its own
+-- conditions, the facts after it, and its disk beside the history before and after the move
 pub record Turn (g : Group Entry) (q : Place) (s : Server Entry) (m : Move Entry) (n : ℕ) : Type 0
   where
     pub good : Good g q s

@@ -1,4 +1,5 @@
--- How far the disks of the data servers may be ahead of their marks: history beside the servers, which none reads.
+-- How far the disks of the data servers may be ahead of their marks: history beside the servers,
+-- which none reads.
 use Rattle.std.specs.Prelude.{◌≡◌, ℕ, ◌≤◌, ◌⊎◌, false, List, [], ◌∷◌, length, Option, None, Some, max, if◌then◌else◌}
 use Rattle.file_tree.specs.Book.{Entry}
 use Rattle.group_rules.specs.Disk.{apply}
@@ -31,7 +32,8 @@ abbrev pub disks_stepped : (List Entry → Entry → ℕ) → Group Entry → Di
 disks_stepped size g disks q i = if (g.server q).up then disks_by disks q (step_of size g q i) else
     disks
 
--- A step that is cut at a call which changes the disk may have put some of the changes that it was to apply
+-- A step that is cut at a call which changes the disk may have put some of the changes that it was
+-- to apply
 abbrev pub disks_begun : Group Entry → Disks → Place → Input → Disks
 disks_begun g disks q (Does (Apply n)) = disks_by disks q (apply q (g.server q) n)
 disks_begun g disks q i = disks
@@ -54,7 +56,8 @@ abbrev pub disks_cut_delivered : (List Entry → Entry → ℕ) → Group Entry 
 disks_cut_delivered size g disks None = disks
 disks_cut_delivered size g disks (Some p) = disks_cut size g disks p.to (Comes p.from p.body)
 
--- after what happens to a group: a fall, a boot and a change of view leave each disk as far as it was
+-- after what happens to a group: a fall, a boot and a change of view leave each disk as far as it
+-- was
 abbrev pub disks_after : (List Entry → Entry → ℕ) → Group Entry → Disks → Happening → Disks
 disks_after size g disks (At q d) = disks_stepped size g disks q (Does d)
 disks_after size g disks (Deliver which) = disks_delivered size g disks (numbered g.packets which)
@@ -70,8 +73,9 @@ abbrev pub disks_run : (List Entry → Entry → ℕ) → Group Entry → Disks 
 disks_run size g disks [] = disks
 disks_run size g disks (h ∷ hs) = disks_run size (happens size g h) (disks_after size g disks h) hs
 
--- The disk of a data server is as far as its mark and its log say, and no further than what is surely committed in its
--- accepted view; where it waits that is within the view's start, and where it is settled within its CP
+-- The disk of a data server is as far as its mark and its log say, and no further than what is
+-- surely committed in its accepted view; where it waits that is within the view's start, and where
+-- it is settled within its CP
 pub record DiskAt {E : Type 0} (page : ℕ → Page E) (committed : List E) (s : Server E)
     (m : ℕ) : Type 0 where
   pub lb : s.lb ≤ m
@@ -83,8 +87,9 @@ pub record DiskAt {E : Type 0} (page : ℕ → Page E) (committed : List E) (s :
 pub record DisksOk {E : Type 0} (g : Group E) (disks : Disks) : Type 0 where
   pub each : (q : Place) → is_p2 q ≡ false → DiskAt g.page g.committed (g.server q) (disks q)
 
--- what follows at a data server: the first entries of its accepted view's list, as many as its disk may have, are the
--- book's; they are in its log where it holds one, and committed where it is settled
+-- what follows at a data server: the first entries of its accepted view's list, as many as its disk
+-- may have, are the book's; they are in its log where it holds one, and committed where it is
+-- settled
 pub record DiskIsCommitted {E : Type 0} (g : Group E) (q : Place) (m : ℕ) : Type 0 where
   pub lb : (g.server q).lb ≤ m
   pub ap : (g.server q).held ≡ Log → (g.server q).ap ≤ m
@@ -94,8 +99,9 @@ pub record DiskIsCommitted {E : Type 0} (g : Group E) (q : Place) (m : ℕ) : Ty
   pub held : (g.server q).held ≡ Log → m ≤ top (g.server q)
   pub settled : ((g.server q).mode ≡ Open) ⊎ ((g.server q).mode ≡ Live) → m ≤ (g.server q).cp
 
--- EACH DISK IS COMMITTED, after every list of happenings: how far the disks are is kept, and no disk of a data server
--- is ever ahead of the book, of its log where it holds one, nor of its CP where it is settled
+-- EACH DISK IS COMMITTED, after every list of happenings: how far the disks are is kept, and no
+-- disk of a data server is ever ahead of the book, of its log where it holds one, nor of its CP
+-- where it is settled
 pub record DisksAreCommitted (g : Group Entry) (disks : Disks) : Type 0 where
   pub kept : DisksOk g disks
   pub each : (q : Place) → is_p2 q ≡ false → DiskIsCommitted g q (disks q)
