@@ -8,7 +8,7 @@ ghost use Rattle.harp_cells.specs.CellBytes.{cell_form, cell_form_number, cell_f
 use crate::cell::Cell;
 use crate::change::Change;
 use crate::value::Value;
-use harp_base::FieldFault;
+use harp_base::Misread;
 use harp_base::fields::byte_at;
 
 #[derive(Clone, Copy, Debug, PartialEq, Eq)]
@@ -85,36 +85,39 @@ impl ChangeForm {
     }
 }
 
-pub(crate) fn value_form_at(bytes: &[u8], at: usize) -> Result<(ValueForm, usize), FieldFault>
+pub(crate) fn value_form_at(bytes: &[u8], at: usize) -> Result<(ValueForm, usize), Misread>
+    requires { at ≤ length bytes.now }
     ensures step { result ≡ tag_at value_form_number value_forms bytes.now at }
     ensures within { IfOk result (λ x. x.1 ≤ length bytes.now) }
 {
     let (number, next) = byte_at(bytes, at)?;
     match ValueForm::of(number) {
         Some(form) => Ok((form, next)),
-        None => Err(FieldFault::BadTag(at)),
+        None => Err(Misread::BadTag(at)),
     }
 }
 
-pub(crate) fn cell_form_at(bytes: &[u8], at: usize) -> Result<(CellForm, usize), FieldFault>
+pub(crate) fn cell_form_at(bytes: &[u8], at: usize) -> Result<(CellForm, usize), Misread>
+    requires { at ≤ length bytes.now }
     ensures step { result ≡ tag_at cell_form_number cell_forms bytes.now at }
     ensures within { IfOk result (λ x. x.1 ≤ length bytes.now) }
 {
     let (number, next) = byte_at(bytes, at)?;
     match CellForm::of(number) {
         Some(form) => Ok((form, next)),
-        None => Err(FieldFault::BadTag(at)),
+        None => Err(Misread::BadTag(at)),
     }
 }
 
-pub(crate) fn change_form_at(bytes: &[u8], at: usize) -> Result<(ChangeForm, usize), FieldFault>
+pub(crate) fn change_form_at(bytes: &[u8], at: usize) -> Result<(ChangeForm, usize), Misread>
+    requires { at ≤ length bytes.now }
     ensures step { result ≡ tag_at change_form_number change_forms bytes.now at }
     ensures within { IfOk result (λ x. x.1 ≤ length bytes.now) }
 {
     let (number, next) = byte_at(bytes, at)?;
     match ChangeForm::of(number) {
         Some(form) => Ok((form, next)),
-        None => Err(FieldFault::BadTag(at)),
+        None => Err(Misread::BadTag(at)),
     }
 }
 

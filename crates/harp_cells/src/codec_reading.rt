@@ -1,7 +1,7 @@
 //! Values, cells and changes that are read.
 
-ghost use Rattle.std.specs.Prelude.{◌≡◌, ◌≤◌, ◌++◌, ℕ, List, length, IfOk, Ok};
-ghost use Rattle.harp_base.specs.Fields.{Gives, Spells};
+ghost use Rattle.std.specs.Prelude.{◌≡◌, ◌≤◌, ◌+◌, ◌^◌, ◌++◌, ℕ, List, length, IfOk, Ok};
+ghost use Rattle.harp_base.specs.Fields.{Gives, Spells, Tells, at_front, below_at};
 ghost use Rattle.harp_cells.specs.declared.value.Value.{Value};
 ghost use Rattle.harp_cells.specs.declared.codec_forms.ValueForm.TheVariants as form;
 ghost use Rattle.harp_cells.specs.declared.codec_forms.CellForm.TheVariants as named;
@@ -16,32 +16,44 @@ use crate::codec_forms::{
     CellForm, ChangeForm, ValueForm, cell_form_at, change_form_at, value_form_at,
 };
 use crate::value::{Inode, Value};
-use harp_base::fields::{below_at, bytes_at, kind_at, reply_at, time_at, u16_at, u32_at, u64_at};
-use harp_base::{Bounded, FieldFault};
+use harp_base::fields::{
+    below_at, bytes_at, kind_at, reply_at, time_at, told, u16_at, u32_at, u64_at,
+};
+use harp_base::{Bounded, FieldFault, Misread};
 use std::alloc::Global;
 
 // A moment is below this.
 const MOMENTS: u64 = (1 << 62) + 2000;
+
+/// A moment, and the place after it.
+pub fn moment_at(bytes: &[u8], at: usize) -> Result<(Moment, usize), Misread>
+    requires { at ≤ length bytes.now }
+    ensures step { result ≡ below_at (2 ^ 62 + 2000) bytes.now at }
+    ensures within { IfOk result (λ x. x.1 ≤ length bytes.now) }
+{
+    let (millis, next) = below_at(MOMENTS, bytes, at)?;
+    Ok((Moment::new(millis), next))
+}
 
 #[tactic(auto, unfolding(crate::specs::ValueBytes::some_bytes_at))]
 fn some_bytes_at<const MOST: usize>(
     alloc: Global,
     bytes: &[u8],
     at: usize,
-) -> Result<(NonEmpty<MOST>, usize), FieldFault>
+) -> Result<(NonEmpty<MOST>, usize), Misread>
     requires { at ≤ length bytes.now }
     ensures step { Gives result (some_bytes_at MOST bytes.now at) }
     ensures within { IfOk result (λ x. x.1 ≤ length bytes.now) }
 {
     let (items, next): (Bounded<MOST>, usize) = bytes_at(alloc, bytes, at)?;
     if items.is_empty() {
-        return Err(FieldFault::BadTag(at));
+        return Err(Misread::BadTag(at));
     }
     Ok((NonEmpty::new(items.into_vec()), next))
 }
 
 #[tactic(auto, unfolding(crate::specs::ValueBytes::inode_at))]
-fn inode_at(bytes: &[u8], at: usize) -> Result<(Inode, usize), FieldFault>
+fn inode_at(bytes: &[u8], at: usize) -> Result<(Inode, usize), Misread>
     requires { at ≤ length bytes.now }
     ensures step { result ≡ inode_at bytes.now at }
     ensures within { IfOk result (λ x. x.1 ≤ length bytes.now) }
@@ -74,20 +86,19 @@ fn inode_at(bytes: &[u8], at: usize) -> Result<(Inode, usize), FieldFault>
 }
 
 #[tactic(auto, unfolding(crate::specs::ValueBytes::value_fields_at))]
-fn meta_value(bytes: &[u8], at: usize) -> Result<(Value, usize), FieldFault>
+fn meta_value(bytes: &[u8], at: usize) -> Result<(Value, usize), Misread>
     requires { at ≤ length bytes.now }
     ensures step { result ≡ value_fields_at form.Meta bytes.now at }
     ensures within { IfOk result (λ x. x.1 ≤ length bytes.now) }
 {
     let (next, at) = u32_at(bytes, at)?;
     let (used, at) = u32_at(bytes, at)?;
-    let (stamp, at) = below_at(MOMENTS, bytes, at)?;
-    let stamp = Moment::new(stamp);
+    let (stamp, at) = moment_at(bytes, at)?;
     Ok((Value::Meta { next, used, stamp }, at))
 }
 
 #[tactic(auto, unfolding(crate::specs::ValueBytes::value_fields_at))]
-fn object_value(bytes: &[u8], at: usize) -> Result<(Value, usize), FieldFault>
+fn object_value(bytes: &[u8], at: usize) -> Result<(Value, usize), Misread>
     requires { at ≤ length bytes.now }
     ensures step { result ≡ value_fields_at form.Object bytes.now at }
     ensures within { IfOk result (λ x. x.1 ≤ length bytes.now) }
@@ -97,7 +108,7 @@ fn object_value(bytes: &[u8], at: usize) -> Result<(Value, usize), FieldFault>
 }
 
 #[tactic(auto, unfolding(crate::specs::ValueBytes::value_fields_at))]
-fn block_value(alloc: Global, bytes: &[u8], at: usize) -> Result<(Value, usize), FieldFault>
+fn block_value(alloc: Global, bytes: &[u8], at: usize) -> Result<(Value, usize), Misread>
     requires { at ≤ length bytes.now }
     ensures step { Gives result (value_fields_at form.Block bytes.now at) }
     ensures within { IfOk result (λ x. x.1 ≤ length bytes.now) }
@@ -107,7 +118,7 @@ fn block_value(alloc: Global, bytes: &[u8], at: usize) -> Result<(Value, usize),
 }
 
 #[tactic(auto, unfolding(crate::specs::ValueBytes::value_fields_at))]
-fn slot_value(alloc: Global, bytes: &[u8], at: usize) -> Result<(Value, usize), FieldFault>
+fn slot_value(alloc: Global, bytes: &[u8], at: usize) -> Result<(Value, usize), Misread>
     requires { at ≤ length bytes.now }
     ensures step { Gives result (value_fields_at form.Slot bytes.now at) }
     ensures within { IfOk result (λ x. x.1 ≤ length bytes.now) }
@@ -118,7 +129,7 @@ fn slot_value(alloc: Global, bytes: &[u8], at: usize) -> Result<(Value, usize), 
 }
 
 #[tactic(auto, unfolding(crate::specs::ValueBytes::value_fields_at))]
-fn client_value(alloc: Global, bytes: &[u8], at: usize) -> Result<(Value, usize), FieldFault>
+fn client_value(alloc: Global, bytes: &[u8], at: usize) -> Result<(Value, usize), Misread>
     requires { at ≤ length bytes.now }
     ensures step { Gives result (value_fields_at form.Client bytes.now at) }
     ensures within { IfOk result (λ x. x.1 ≤ length bytes.now) }
@@ -135,7 +146,7 @@ fn client_value(alloc: Global, bytes: &[u8], at: usize) -> Result<(Value, usize)
 }
 
 #[tactic(auto, unfolding(crate::specs::ValueBytes::value_fields_at))]
-fn old_saved_value(alloc: Global, bytes: &[u8], at: usize) -> Result<(Value, usize), FieldFault>
+fn old_saved_value(alloc: Global, bytes: &[u8], at: usize) -> Result<(Value, usize), Misread>
     requires { at ≤ length bytes.now }
     ensures step { Gives result (value_fields_at form.Saved bytes.now at) }
     ensures within { IfOk result (λ x. x.1 ≤ length bytes.now) }
@@ -145,7 +156,7 @@ fn old_saved_value(alloc: Global, bytes: &[u8], at: usize) -> Result<(Value, usi
 }
 
 #[tactic(auto, unfolding(crate::specs::ValueBytes::value_fields_at))]
-fn saved_value(alloc: Global, bytes: &[u8], at: usize) -> Result<(Value, usize), FieldFault>
+fn saved_value(alloc: Global, bytes: &[u8], at: usize) -> Result<(Value, usize), Misread>
     requires { at ≤ length bytes.now }
     ensures step { Gives result (value_fields_at form.SavedCred bytes.now at) }
     ensures within { IfOk result (λ x. x.1 ≤ length bytes.now) }
@@ -160,7 +171,7 @@ fn value_fields_at(
     form: ValueForm,
     bytes: &[u8],
     at: usize,
-) -> Result<(Value, usize), FieldFault>
+) -> Result<(Value, usize), Misread>
     requires { at ≤ length bytes.now }
     ensures step { Gives result (value_fields_at form bytes.now at) }
     ensures within { IfOk result (λ x. x.1 ≤ length bytes.now) }
@@ -178,7 +189,7 @@ fn value_fields_at(
 
 /// A value that begins at a place, and the place after it.
 #[tactic(auto, unfolding(crate::specs::ValueBytes::value_at))]
-pub fn value_at(alloc: Global, bytes: &[u8], at: usize) -> Result<(Value, usize), FieldFault>
+pub fn value_at(alloc: Global, bytes: &[u8], at: usize) -> Result<(Value, usize), Misread>
     requires { at ≤ length bytes.now }
     ensures step { Gives result (value_at bytes.now at) }
     ensures within { IfOk result (λ x. x.1 ≤ length bytes.now) }
@@ -188,7 +199,7 @@ pub fn value_at(alloc: Global, bytes: &[u8], at: usize) -> Result<(Value, usize)
 }
 
 #[tactic(auto, unfolding(crate::specs::CellBytes::cell_fields_at))]
-fn object_cell(bytes: &[u8], at: usize) -> Result<(Cell, usize), FieldFault>
+fn object_cell(bytes: &[u8], at: usize) -> Result<(Cell, usize), Misread>
     requires { at ≤ length bytes.now }
     ensures step { result ≡ cell_fields_at named.Object bytes.now at }
     ensures within { IfOk result (λ x. x.1 ≤ length bytes.now) }
@@ -198,7 +209,7 @@ fn object_cell(bytes: &[u8], at: usize) -> Result<(Cell, usize), FieldFault>
 }
 
 #[tactic(auto, unfolding(crate::specs::CellBytes::cell_fields_at))]
-fn block_cell(bytes: &[u8], at: usize) -> Result<(Cell, usize), FieldFault>
+fn block_cell(bytes: &[u8], at: usize) -> Result<(Cell, usize), Misread>
     requires { at ≤ length bytes.now }
     ensures step { result ≡ cell_fields_at named.Block bytes.now at }
     ensures within { IfOk result (λ x. x.1 ≤ length bytes.now) }
@@ -209,7 +220,7 @@ fn block_cell(bytes: &[u8], at: usize) -> Result<(Cell, usize), FieldFault>
 }
 
 #[tactic(auto, unfolding(crate::specs::CellBytes::cell_fields_at))]
-fn slot_cell(bytes: &[u8], at: usize) -> Result<(Cell, usize), FieldFault>
+fn slot_cell(bytes: &[u8], at: usize) -> Result<(Cell, usize), Misread>
     requires { at ≤ length bytes.now }
     ensures step { result ≡ cell_fields_at named.Slot bytes.now at }
     ensures within { IfOk result (λ x. x.1 ≤ length bytes.now) }
@@ -220,7 +231,7 @@ fn slot_cell(bytes: &[u8], at: usize) -> Result<(Cell, usize), FieldFault>
 }
 
 #[tactic(auto, unfolding(crate::specs::CellBytes::cell_fields_at))]
-fn client_cell(bytes: &[u8], at: usize) -> Result<(Cell, usize), FieldFault>
+fn client_cell(bytes: &[u8], at: usize) -> Result<(Cell, usize), Misread>
     requires { at ≤ length bytes.now }
     ensures step { result ≡ cell_fields_at named.Client bytes.now at }
     ensures within { IfOk result (λ x. x.1 ≤ length bytes.now) }
@@ -230,7 +241,7 @@ fn client_cell(bytes: &[u8], at: usize) -> Result<(Cell, usize), FieldFault>
 }
 
 #[tactic(auto, unfolding(crate::specs::CellBytes::cell_fields_at))]
-fn saved_cell(bytes: &[u8], at: usize) -> Result<(Cell, usize), FieldFault>
+fn saved_cell(bytes: &[u8], at: usize) -> Result<(Cell, usize), Misread>
     requires { at ≤ length bytes.now }
     ensures step { result ≡ cell_fields_at named.Saved bytes.now at }
     ensures within { IfOk result (λ x. x.1 ≤ length bytes.now) }
@@ -240,7 +251,7 @@ fn saved_cell(bytes: &[u8], at: usize) -> Result<(Cell, usize), FieldFault>
 }
 
 #[tactic(auto, unfolding(crate::specs::CellBytes::cell_fields_at))]
-fn cell_fields_at(form: CellForm, bytes: &[u8], at: usize) -> Result<(Cell, usize), FieldFault>
+fn cell_fields_at(form: CellForm, bytes: &[u8], at: usize) -> Result<(Cell, usize), Misread>
     requires { at ≤ length bytes.now }
     ensures step { result ≡ cell_fields_at form bytes.now at }
     ensures within { IfOk result (λ x. x.1 ≤ length bytes.now) }
@@ -257,7 +268,7 @@ fn cell_fields_at(form: CellForm, bytes: &[u8], at: usize) -> Result<(Cell, usiz
 
 /// A cell that begins at a place, and the place after it.
 #[tactic(auto, unfolding(crate::specs::CellBytes::cell_at))]
-pub fn cell_at(bytes: &[u8], at: usize) -> Result<(Cell, usize), FieldFault>
+pub fn cell_at(bytes: &[u8], at: usize) -> Result<(Cell, usize), Misread>
     requires { at ≤ length bytes.now }
     ensures step { result ≡ cell_at bytes.now at }
     ensures within { IfOk result (λ x. x.1 ≤ length bytes.now) }
@@ -267,7 +278,7 @@ pub fn cell_at(bytes: &[u8], at: usize) -> Result<(Cell, usize), FieldFault>
 }
 
 #[tactic(auto, unfolding(crate::specs::CellBytes::change_fields_at))]
-fn put_change(alloc: Global, bytes: &[u8], at: usize) -> Result<(Change, usize), FieldFault>
+fn put_change(alloc: Global, bytes: &[u8], at: usize) -> Result<(Change, usize), Misread>
     requires { at ≤ length bytes.now }
     ensures step { Gives result (change_fields_at made.Put bytes.now at) }
     ensures within { IfOk result (λ x. x.1 ≤ length bytes.now) }
@@ -278,7 +289,7 @@ fn put_change(alloc: Global, bytes: &[u8], at: usize) -> Result<(Change, usize),
 }
 
 #[tactic(auto, unfolding(crate::specs::CellBytes::change_fields_at))]
-fn erase_change(bytes: &[u8], at: usize) -> Result<(Change, usize), FieldFault>
+fn erase_change(bytes: &[u8], at: usize) -> Result<(Change, usize), Misread>
     requires { at ≤ length bytes.now }
     ensures step { result ≡ change_fields_at made.Erase bytes.now at }
     ensures within { IfOk result (λ x. x.1 ≤ length bytes.now) }
@@ -288,7 +299,7 @@ fn erase_change(bytes: &[u8], at: usize) -> Result<(Change, usize), FieldFault>
 }
 
 #[tactic(auto, unfolding(crate::specs::CellBytes::change_fields_at))]
-fn erase_from_change(bytes: &[u8], at: usize) -> Result<(Change, usize), FieldFault>
+fn erase_from_change(bytes: &[u8], at: usize) -> Result<(Change, usize), Misread>
     requires { at ≤ length bytes.now }
     ensures step { result ≡ change_fields_at made.EraseFrom bytes.now at }
     ensures within { IfOk result (λ x. x.1 ≤ length bytes.now) }
@@ -304,7 +315,7 @@ fn change_fields_at(
     form: ChangeForm,
     bytes: &[u8],
     at: usize,
-) -> Result<(Change, usize), FieldFault>
+) -> Result<(Change, usize), Misread>
     requires { at ≤ length bytes.now }
     ensures step { Gives result (change_fields_at form bytes.now at) }
     ensures within { IfOk result (λ x. x.1 ≤ length bytes.now) }
@@ -318,7 +329,7 @@ fn change_fields_at(
 
 /// A change that begins at a place, and the place after it.
 #[tactic(auto, unfolding(crate::specs::CellBytes::change_at))]
-pub fn change_at(alloc: Global, bytes: &[u8], at: usize) -> Result<(Change, usize), FieldFault>
+pub fn change_at(alloc: Global, bytes: &[u8], at: usize) -> Result<(Change, usize), Misread>
     requires { at ≤ length bytes.now }
     ensures step { Gives result (change_at bytes.now at) }
     ensures within { IfOk result (λ x. x.1 ≤ length bytes.now) }
@@ -334,9 +345,9 @@ pub fn read_value(alloc: Global, bytes: &[u8]) -> Result<(Value, usize), FieldFa
     ensures found { IfOk result (λ x. Spells bytes.now 0 (value_bytes x.0) x.1 × ValueFits x.0) }
     // What is spelled so is read, whatever follows, unless memory runs out.
     ensures only { (v : Value) (rest : List ℕ) → ValueFits v → bytes.now ≡ value_bytes v ++ rest
-        → Gives result (Ok (v, length (value_bytes v))) }
+        → Tells result (Ok (v, length (value_bytes v))) }
     // Which fault it is, and where.
-    ensures exact { Gives result (value_at bytes.now 0) }
+    ensures exact { Tells result (at_front value_at bytes.now) }
 {
-    value_at(alloc, bytes, 0)
+    told(value_at(alloc, bytes, 0), bytes.len())
 }
