@@ -1,8 +1,8 @@
 -- Fields of one kind, read and written one after the other.
 use Rattle.std.proofs.Common.{◌≡◌, ℕ, zero, suc, ◌+◌, ◌-◌, ◌<◌, ◌^◌, List, [], ◌∷◌, ◌++◌, length, drop, Ok, Err, refl, sym, ap, subst, ◌∙◌, append_assoc, arith, length-append}
 use Rattle.std.specs.Prelude.{Result, IsErr, IsErrAnd}
-use Rattle.harp_base.specs.declared.field.FieldFault.{FieldFault}
-use Rattle.harp_base.specs.declared.field.FieldFault.TheVariants.{Short, BadTag, TooLong, NoMemory}
+use Rattle.harp_base.specs.declared.field.Misread.{Misread}
+use Rattle.harp_base.specs.declared.field.Misread.TheVariants.{Ends, BadTag, TooLong, NoMemory}
 use Rattle.harp_base.specs.Fields.{Read, Reader, Spells, Fails, GivesAs, ◌>>=◌, fields_by_tag, u16_at, u16_bytes, many_at, many_bytes, AllFit}
 use Rattle.harp_base.proofs.Codec.{IsBytes, IsCodec, bind_ok, ok_is, drop_past, Spells-then, u16_codec}
 
@@ -31,19 +31,19 @@ many_more r (suc n) done bytes at x next lt is = let one : suc n - 1 ≡ n = ome
     rw (is, one) (after_one done x (many_at r n bytes next))
 
 many_fails : {A : Type 0} (r : Reader A) (n : ℕ) (done : List A) (bytes : List ℕ) (at : ℕ)
-    (e : FieldFault) → 0 < n → r bytes at ≡ Err e
+    (e : Misread) → 0 < n → r bytes at ≡ Err e
     → after_fields done (many_at r n bytes at) ≡ Err e
 unfolding many_at
 many_fails r zero done bytes at e lt is = absurd (omega arith)
 many_fails r (suc n) done bytes at e lt is = rw is refl
 
 -- a fault of the next field is the fault of all
-pub many_faults : {A : Type 0} (r : Reader A) (e : FieldFault) (n : ℕ) (done : List A)
+pub many_faults : {A : Type 0} (r : Reader A) (e : Misread) (n : ℕ) (done : List A)
     (bytes : List ℕ) (at : ℕ) (all : Read (List A)) → all ≡ after_fields done (many_at r n bytes at)
     → 0 < n → Fails e (r bytes at) → Fails e all
 many_faults r NoMemory n done bytes at all is lt fails = tt
-many_faults r (Short k) n done bytes at all is lt fails = is
-    ∙ many_fails r n done bytes at (Short k) lt fails
+many_faults r (Ends k l) n done bytes at all is lt fails = is
+    ∙ many_fails r n done bytes at (Ends k l) lt fails
 many_faults r (BadTag k) n done bytes at all is lt fails = is
     ∙ many_fails r n done bytes at (BadTag k) lt fails
 many_faults r (TooLong k) n done bytes at all is lt fails = is
@@ -51,11 +51,11 @@ many_faults r (TooLong k) n done bytes at all is lt fails = is
 
 -- a fault that `?` hands on
 pub handed_on : {X Y : Type 0} (view : X
-    → Y) (r : Result X FieldFault) (e : FieldFault) (read : Result Y FieldFault) → IsErr r
+    → Y) (r : Result X Misread) (e : Misread) (read : Result Y Misread) → IsErr r
     → IsErrAnd r (λ f. f ≡ e) → Fails e read → GivesAs view r read
 handed_on view (Ok x) e read is same fails = absurd cc
 handed_on view (Err f) e read is same fails =
-    subst (λ (g : FieldFault). Fails g read) (sym same) fails
+    subst (λ (g : Misread). Fails g read) (sym same) fails
 
 -- ---- laws
 

@@ -1,5 +1,5 @@
 -- Servers, views and credentials undo their bytes.
-use Rattle.std.proofs.Common.{◌≡◌, ◌<◌, ◌≤◌, ◌^◌, [], ◌∷◌, Some, refl, arith}
+use Rattle.std.proofs.Common.{◌≡◌, ◌^◌, [], ◌∷◌, Some, refl, arith}
 use Rattle.harp_base.specs.declared.server.ServerId.{ServerId}
 use Rattle.harp_base.specs.declared.server.ServerId.TheVariants.{Zero, One, Two}
 use Rattle.harp_base.specs.Server.{number_of}

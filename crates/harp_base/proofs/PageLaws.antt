@@ -1,5 +1,5 @@
 -- The entries of a page undo their bytes.
-use Rattle.std.proofs.Common.{◌≡◌, arith, refl}
+use Rattle.std.proofs.Common.{arith, refl}
 use Rattle.harp_base.specs.Replies.{EntryFits, EntriesFit, entry_bytes, entry_at, entries_bytes, entries_at}
 use Rattle.harp_base.proofs.Codec.{IsCodec, u32_codec, counted_codec, field_as_codec}
 use Rattle.harp_base.proofs.AttributeLaws.{then}

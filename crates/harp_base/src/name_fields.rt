@@ -4,12 +4,13 @@ ghost use Rattle.std.specs.Prelude.{◌≡◌, ◌≤◌, ◌++◌, length, IfOk
 ghost use Rattle.harp_base.specs.Names.{server_at, view_at, view_bytes, ViewFits, cred_at, cred_bytes, CredFits};
 
 use crate::cred::Cred;
-use crate::field::{FieldFault, below_at, byte_at, put_u32, put_u64, u32_at};
+use crate::field::{Misread, below_at, byte_at, put_u32, put_u64, u32_at};
 use crate::server::{ServerId, ViewNo};
 use std::alloc::AllocError;
 
 /// A server, and the place after it.
-pub fn server_at(bytes: &[u8], at: usize) -> Result<(ServerId, usize), FieldFault>
+pub fn server_at(bytes: &[u8], at: usize) -> Result<(ServerId, usize), Misread>
+    requires { at ≤ length bytes.now }
     ensures step { result ≡ server_at bytes.now at }
     ensures within { IfOk result (λ x. x.1 ≤ length bytes.now) }
 {
@@ -18,13 +19,13 @@ pub fn server_at(bytes: &[u8], at: usize) -> Result<(ServerId, usize), FieldFaul
         0 => Ok((ServerId::Zero, next)),
         1 => Ok((ServerId::One, next)),
         2 => Ok((ServerId::Two, next)),
-        _ => Err(FieldFault::BadTag(at)),
+        _ => Err(Misread::BadTag(at)),
     }
 }
 
 /// The number of a view, and the place after it.
 #[tactic(auto, unfolding(crate::specs::Names::view_at))]
-pub fn view_at(bytes: &[u8], at: usize) -> Result<(ViewNo, usize), FieldFault>
+pub fn view_at(bytes: &[u8], at: usize) -> Result<(ViewNo, usize), Misread>
     requires { at ≤ length bytes.now }
     ensures step { result ≡ view_at bytes.now at }
     ensures within { IfOk result (λ x. x.1 ≤ length bytes.now) }
@@ -36,7 +37,7 @@ pub fn view_at(bytes: &[u8], at: usize) -> Result<(ViewNo, usize), FieldFault>
 
 /// A credential, and the place after it.
 #[tactic(auto, unfolding(crate::specs::Names::cred_at))]
-pub fn cred_at(bytes: &[u8], at: usize) -> Result<(Cred, usize), FieldFault>
+pub fn cred_at(bytes: &[u8], at: usize) -> Result<(Cred, usize), Misread>
     requires { at ≤ length bytes.now }
     ensures step { result ≡ cred_at bytes.now at }
     ensures within { IfOk result (λ x. x.1 ≤ length bytes.now) }
