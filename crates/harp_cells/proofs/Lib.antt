@@ -1,3 +1,3 @@
 pub mod CellLemmas
-mod KeyOrder
+pub mod KeyOrder
 pub mod TreeLaws

@@ -11,7 +11,7 @@ mod reads;
 mod value;
 
 pub use bounds::{Moment, NonEmpty};
-pub use cell::Cell;
+pub use cell::{Cell, Key};
 pub use change::Change;
 pub use laws::cell_laws;
 pub use memory::MemCells;
