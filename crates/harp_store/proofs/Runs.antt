@@ -122,7 +122,7 @@ take_both (suc m) (suc n) (x ∷ changes) =
     (suc rest.0, omega (arith, le), ap (λ (cs : List Change). x ∷ cs) rest.2)
 
 -- what may be left after a first part may be left in the middle of all
-part_in_part : (changes : List Change) (n : ℕ) (d : Disk) (c : Cell) (v : Option Value)
+pub part_in_part : (changes : List Change) (n : ℕ) (d : Disk) (c : Cell) (v : Option Value)
     → MayHoldInPart (take n changes) d c v → MayHoldInPart changes d c v
 part_in_part changes n d c v (inl h) = inl h
 part_in_part changes n d c v (inr (m, le, e)) =
