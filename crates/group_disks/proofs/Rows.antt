@@ -1,4 +1,4 @@
--- The worked row of an apply that is cut.
+-- The worked rows of an apply and of a save that are cut.
 use Rattle.std.proofs.Common.{refl}
 use Rattle.harp_cells.specs.Effect.{is_block_from, is_cell}
 use Rattle.cell_changes.specs.Table.{loses, moves, tree_changes}
@@ -17,7 +17,7 @@ use Rattle.group_trace.specs.Run.{bytes_of}
 use Rattle.group_trace.specs.Scene.{first_scene}
 use Rattle.group_disks.specs.Calls.{after_calls, all_calls, measures_of, saved_puts}
 use Rattle.group_disks.specs.Picks.{all_counted, erases_there, kept, most_blocks}
-use Rattle.group_disks.specs.Rows.{CutApply, cut_apply_steps, plain_spellings}
+use Rattle.group_disks.specs.Rows.{CutApply, CutSave, cut_apply_steps, cut_save_steps, plain_spellings}
 use Rattle.group_disks.specs.Run.{disk_run}
 
 pub cut_apply : CutApply
@@ -36,4 +36,21 @@ cut_apply =
       directory = refl;
       object = refl;
       totals = refl;
+      client = refl;
+    }
+
+pub cut_save : CutSave
+unfolding all_of limit room give_bytes attr_at used_blocks names_of links_of holder_from parent_of
+    entry_from free_from with_entry lost_entry with_size set_fields set_attr create_again
+    create_new add_entry get_attr remove make_dir room_for entered_lines packet_lines same_state
+    calls_of changes_of bytes_of net_limit objects_from slot_lines block_lines all_zero living
+    disk_run all_calls after_calls saved_puts kept all_counted erases_there most_blocks
+    history_from tree_changes loses moves is_cell is_block_from
+cut_save =
+    record {
+      taken = taken (measures_of plain_spellings) first_scene cut_save_steps refl;
+      lb = refl;
+      slot = refl;
+      client = refl;
+      saved = refl;
     }

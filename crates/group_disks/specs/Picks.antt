@@ -20,7 +20,7 @@ keeps pick.All k = true
 keeps pick.None k = false
 keeps (pick.Bits bits) k = bit_at bits k
 
--- one more block than a file has at most
+-- the number of each block of a file is below this
 unfoldable pub most_blocks : ℕ
 most_blocks = 524288
 

@@ -2,10 +2,11 @@
 //! of its server's disk, and what a stop and a crash leave of them. No code stands here.
 #![tactic(auto)]
 
-ghost use Rattle.group_disks.specs.Rows.{CutApply};
+ghost use Rattle.group_disks.specs.Rows.{CutApply, CutSave};
 
-/// A worked row: a stop cuts an apply, and its pick keeps the first and the third of three
-/// changes.
-pub fn worked_row()
+/// Worked rows: a stop cuts an apply, and its pick keeps the first and the third of three changes;
+/// and a power failure is cut after the first Put of its save, which its pick keeps.
+pub fn worked_rows()
     ensures cut_apply { CutApply }
+    ensures cut_save { CutSave }
 {}

@@ -3,7 +3,7 @@ use Rattle.std.proofs.Common.{◌≡◌, ℕ, suc, ◌+◌, ◌-◌, ◌≤◌, 
 use Rattle.std.proofs.lemmas.List.{length-take}
 use Rattle.file_tree.specs.Book.{Entry}
 use Rattle.group_rules.specs.Form.{accept_moves, adopted, fits, form_moves, keeps, on_form, on_give, pull_tests, role_of, wanted}
-use Rattle.group_rules.specs.Limits.{by_held, can_have, give_bytes, is_joins, is_pulls, room}
+use Rattle.group_rules.specs.Limits.{by_held, can_have, give_bytes, is_joins, is_log, is_pulls, room}
 use Rattle.group_rules.specs.Misfits.{given_tests}
 use Rattle.group_rules.specs.Moves.{Accepting, Pulling, Staging, act, moved}
 use Rattle.group_rules.specs.Places.{IsIn, Zero, One, Two, Pair, Place, S01, S02, S12, all_of, is_p2, partner, same}
@@ -23,6 +23,18 @@ use Rattle.group_safety.proofs.Sends.{goes_if, goes_send, goes_where, partner_lb
 
 pub adopted_lb : (q : Place) (s : Server Entry) (plan : Plan) → is_p2 q ≡ false → s.lb ≤ (if is_p2 q then plan.base else s.lb)
 adopted_lb q s plan f = by_if (λ (n : ℕ). s.lb ≤ n) (is_p2 q) plan.base s.lb (λ t. absurd (true≢false (sym t ∙ f))) (λ _. le_refl _)
+
+-- a data server's LB and AP stay, and its AP is its LB where its log was lost
+adopted_numbers : (q : Place) (s : Server Entry) (plan : Plan) → is_p2 q ≡ false
+    → ((if is_p2 q then plan.base else s.lb) ≡ s.lb)
+    × ((if is_p2 q then plan.base else (if is_log s.held then s.ap else s.lb))
+    ≡ (if is_log s.held then s.ap else s.lb))
+adopted_numbers q s plan f = (
+  by_if (λ (n : ℕ). n ≡ s.lb) (is_p2 q) plan.base s.lb (λ t. absurd (true≢false (sym t ∙ f)))
+      (λ _. refl),
+  by_if (λ (n : ℕ). n ≡ (if is_log s.held then s.ap else s.lb)) (is_p2 q) plan.base
+      (if is_log s.held then s.ap else s.lb) (λ t. absurd (true≢false (sym t ∙ f))) (λ _. refl),
+)
 
 -- a storer's role is one that a choice gives
 role_can : (pair : Pair) (q : Place) → IsIn pair q → can_have q (role_of pair q) ≡ true
@@ -56,7 +68,7 @@ accepts g q s h plan staged j f known fit pulled =
     let inside : IsIn plan.storers q = subst (λ (p : Plan). IsIn p.storers q)
     (sym known) may.storer in
     goes_more g q s (Accepting plan role n) _ h (
-      tt,
+      adopted_numbers q s plan,
       (
         f,
         subst (λ (p : Plan). Under (lbs_of g.server) p.base) (sym known)

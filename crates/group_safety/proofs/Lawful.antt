@@ -26,7 +26,7 @@ use Rattle.group_safety.proofs.Steps.{Known, falls}
 use Rattle.group_safety.proofs.Safe.{boot_goes, good_of, happens_whole, input_goes, sent_known}
 
 -- what is sure in a view is within the start of each later one
-sure_starts : {E : Type 0} (g : Group E) → Ok g → (v w c : ℕ) → v < w → (g.page w).formed ≡ true → Sure g.page g.committed v c → c ≤ (g.page w).plan.start
+pub sure_starts : {E : Type 0} (g : Group E) → Ok g → (v w c : ℕ) → v < w → (g.page w).formed ≡ true → Sure g.page g.committed v c → c ≤ (g.page w).plan.start
 sure_starts g ok v w c lt f s = le_trans s.held_twice (ok.pair s.twice w (lt_of_le_of_lt s.not_above lt) s.formed f).kept_start
 
 -- what is sure in a held server's accepted view is in its log

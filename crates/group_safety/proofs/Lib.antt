@@ -35,5 +35,7 @@ pub mod Safe
 pub mod Starting
 pub mod NamedFacts
 pub mod Lawful
+pub mod DiskMoves
+pub mod Disks
 pub mod Records
 pub mod AtOnce

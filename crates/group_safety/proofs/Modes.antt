@@ -1,5 +1,5 @@
 -- What the rules' tests say of modes, storers and places.
-use Rattle.std.proofs.Common.{◌≡◌, true, refl, sym, true≢false}
+use Rattle.std.proofs.Common.{◌≡◌, ◌⊎◌, true, inl, inr, refl, sym, true≢false}
 use Rattle.group_rules.specs.Form.{role_of}
 use Rattle.group_rules.specs.Limits.{is_active, is_joining, is_joins, is_open, is_pulls, is_settled, is_waits}
 use Rattle.group_rules.specs.Places.{IsIn, Zero, One, Two, Pair, Place, S01, S02, S12, is_in, is_p2, is_s01}
@@ -53,6 +53,14 @@ settled_is Pulls e = absurd (true≢false (sym e))
 settled_is Waits e = absurd (true≢false (sym e))
 settled_is Open e = tt
 settled_is Live e = tt
+
+pub settles_is : (m : Mode) → is_settled m ≡ true → (m ≡ Open) ⊎ (m ≡ Live)
+settles_is Rests e = absurd (true≢false (sym e))
+settles_is Joins e = absurd (true≢false (sym e))
+settles_is Pulls e = absurd (true≢false (sym e))
+settles_is Waits e = absurd (true≢false (sym e))
+settles_is Open e = inl refl
+settles_is Live e = inr refl
 
 pub joining_is : (m : Mode) → is_joining m ≡ true → IsJoining m
 joining_is Rests e = absurd (true≢false (sym e))

@@ -1,10 +1,10 @@
 -- The moves keep what is said of settled servers and the book's length.
 use Rattle.std.proofs.Common.{◌≡◌, ℕ, ◌+◌, ◌<◌, ◌≤◌, Bool, true, false, List, [], ◌∷◌, ◌++◌, length, Option, None, Some, take, max, min, refl, sym, ap, ◌∙◌, subst, inl, inr, arith, le_trans, true≢false, ⊎_elim, lt_irrefl, le_of_eq, le_refl, nat_lt, ◌&&◌}
-use Rattle.std.specs.Prelude.{⊤}
+use Rattle.std.specs.Prelude.{⊤, ◌⊎◌, if◌then◌else◌}
 use Rattle.std.proofs.lemmas.Bool.{cases_order}
 use Rattle.group_rules.specs.Effects.{booted, demoted_by, lengthened, load_tests, loaded}
 use Rattle.group_safety.specs.Facts.{Ok, PairOk}
-use Rattle.group_rules.specs.Limits.{can_have, is_outside}
+use Rattle.group_rules.specs.Limits.{can_have, is_log, is_outside}
 use Rattle.group_rules.specs.Moves.{Accepting, Appending, Applying, Basing, Booting, Choosing, Collecting, Committing, Demoting, Falling, Flushing, Hearing, Heeding, Joining, Move, Noting, Opening, Pulling, Reading, Saving, Saying, Sending, Staging, act, entered, into_page, moved, new_page, raised_page}
 use Rattle.group_rules.specs.Places.{Place, all_of, at, is_p2, leader, put}
 use Rattle.group_safety.specs.Settled.{Settled, SettledAt, SettledBody}
@@ -58,14 +58,14 @@ SettledMay g q s (Choosing plan from) = (g.page s.promised).formed ≡ false
 SettledMay g q s (Pulling plan first) = ⊤
 SettledMay g q s (Staging items) = ⊤
 SettledMay g q s (Hearing x lb) = ⊤
-SettledMay g q s (Accepting plan role n) = ⊤
+SettledMay g q s (Accepting plan role n) = is_p2 q ≡ false → (n.lb ≡ s.lb) × (n.ap ≡ (if is_log s.held then s.ap else s.lb))
 SettledMay g q s (Opening lb) = (s.mode ≡ Waits) × (q ≡ leader (g.page s.accepted).plan.storers)
 SettledMay g q s (Heeding items cp base) = ((g.page s.accepted).plan.start ≤ cp) × IsActive s.mode × (length s.items ≤ length items)
 SettledMay g q s (Appending e) = ⊤
 SettledMay g q s (Noting top lb until) = ⊤
 SettledMay g q s (Committing n) = (s.mode ≡ Open) × (s.cp ≤ n) × (n ≤ (g.page s.accepted).held_twice)
 SettledMay g q s (Basing n) = ⊤
-SettledMay g q s (Applying n) = ⊤
+SettledMay g q s (Applying n) = ((s.mode ≡ Open) ⊎ (s.mode ≡ Live)) × (s.ap ≤ n)
 SettledMay g q s Flushing = ⊤
 SettledMay g q s (Demoting v) = s.accepted < v
 SettledMay g q s Saving = ⊤

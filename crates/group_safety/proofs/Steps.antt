@@ -14,7 +14,7 @@ use Rattle.group_rules.specs.Places.{is_p2, Place, all_of, coordinator, number, 
 use Rattle.group_rules.specs.State.{Ack, Beat, Demote, Event, Fetch, Form, Formed, Give, Group, Invite, Join, Lists, Message, Server, top}
 use Rattle.group_rules.specs.Step.{Apply, Ask, Comes, Crash, Deed, Does, Flush, Input, ListTree, Power, Suspect, Tick, does, on_message, rule, step}
 use Rattle.group_rules.proofs.Tests.{Each', each_of, not_false, is_le, is_lt}
-use Rattle.group_safety.proofs.Modes.{settled_is, p2_is}
+use Rattle.group_safety.proofs.Modes.{p2_is, settled_is, settles_is}
 use Rattle.group_safety.proofs.Quiet.{apply_kept, flush_kept, fall_kept, save_kept, demote_kept}
 use Rattle.group_safety.proofs.Moving.{Good, its, Goes, goes_done, goes_one}
 use Rattle.group_safety.proofs.Adopting.{if_true}
@@ -63,10 +63,12 @@ does_goes g q s h up list e Tick = ticks g q s h
 does_goes g q s h up list e Suspect = suspects g q s h up
 does_goes g q s h up list e (Ask client number cred c) = asked g q s h list e client number cred c
 does_goes g q s h up list e (Apply n) = goes_where g q s (all_of (settled_tests q s)) _ h (λ t.
-    let a = settled_is s.mode (each_of (settled_tests q s) t).0 in
+    let settled = (each_of (settled_tests q s) t).0 in
+    let a = settled_is s.mode settled in
     let order = (its h).logs.order ((its h).modes.active a).0 in
     let o = order.2 in
-    goes_one g q s _ h (tt, tt, ((its h).modes.active a).0, a)
+    goes_one g q s _ h
+    ((settles_is s.mode settled, omega arith), tt, ((its h).modes.active a).0, a)
     (apply_kept g h.ok q s h.is (min (s.ap + n) s.cp) (omega arith) (omega arith)))
 does_goes g q s h up list e Flush = goes_where g q s (all_of (flush_tests q s)) _ h (λ t.
     let a = settled_is s.mode (each_of (flush_tests q s) t).0 in

@@ -6,3 +6,4 @@ pub mod Reported
 pub mod Entered
 pub mod NamedFacts
 pub mod Laws
+pub mod Disks

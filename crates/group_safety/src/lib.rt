@@ -9,6 +9,7 @@ ghost use Rattle.group_rules.specs.State.{Group, Packet, Server, mark_of};
 ghost use Rattle.group_rules.specs.Effects.{down, booted};
 ghost use Rattle.group_rules.specs.FixedStart.{fixed_start};
 ghost use Rattle.group_safety.specs.NamedFacts.{NamedFacts};
+ghost use Rattle.group_safety.specs.Disks.{DisksOk, DisksStay, empty_disks};
 ghost use Rattle.group_safety.specs.Entered.{Tidy};
 ghost use Rattle.group_safety.specs.Laws.{Whole, Always, with_old_marks, EveryLaterView};
 ghost use Rattle.group_safety.specs.Laws.{CommittedSurvives, ReadsAlone, OneBook};
@@ -76,6 +77,15 @@ pub fn one_book()
 /// of both data servers.
 pub fn bases_on_both_disks()
     ensures bases { Always BasesOnBothDisks }
+{}
+
+/// What the disks of the data servers may have had of records' changes is committed in the book,
+/// held by the log and within CP where the server is settled, whatever is applied, cut off,
+/// crashed and booted.
+pub fn disks_are_committed()
+    ensures first { DisksOk first_group empty_disks }
+    ensures fixed { DisksOk fixed_start empty_disks }
+    ensures committed { DisksStay }
 {}
 
 /// Each log stands for the entries of its view's list.

@@ -6,9 +6,12 @@ pub mod Refusals
 pub mod Run
 pub mod Pump
 pub mod RowWords
+pub mod RowsOfOpening
 pub mod RowOfAnUpdate
-pub mod RowOfALateAck
-pub mod RowOfPromises
-pub mod RowOfAPowerFailure
-pub mod RowOfAnAbandonedView
-pub mod RowOfPromiseLengths
+pub mod RowsOfAsks
+pub mod RowsOfViews
+pub mod RowOfTheWitness
+pub mod RowsOfPowerFailures
+pub mod RowsOfStops
+pub mod RowsOfDisks
+pub mod RowsOfPromises

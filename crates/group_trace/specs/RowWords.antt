@@ -5,11 +5,15 @@ use Rattle.harp_base.specs.declared.attr.Attr.{Attr}
 use Rattle.harp_base.specs.declared.attr.Kind.TheVariants as kind
 use Rattle.harp_base.specs.declared.attr.SetAttr.{SetAttr}
 use Rattle.harp_base.specs.declared.attr.Time.{Time}
+use Rattle.harp_base.specs.declared.call.Call.{Call}
+use Rattle.harp_base.specs.declared.cred.TheConstants.{SUPERUSER}
+use Rattle.harp_base.specs.declared.reply.Reply.{Reply}
 use Rattle.harp_base.specs.declared.server.ServerId.{ServerId}
 use Rattle.harp_base.specs.declared.server.ServerId.TheVariants as server
 use Rattle.harp_base.specs.declared.state.Held.{Held}
 use Rattle.harp_base.specs.declared.state.Mode.{Mode}
 use Rattle.harp_base.specs.declared.state.Role.{Role}
+use Rattle.trace_types.specs.declared.line.BookEntry.{BookEntry}
 use Rattle.trace_types.specs.declared.line.Line.{Line}
 use Rattle.trace_types.specs.declared.line.Line.TheVariants as line
 use Rattle.group_trace.specs.Scene.{Measures}
@@ -72,6 +76,18 @@ directory mode links size blocks fileid atime mtime ctime = record {
   atime = atime;
   mtime = mtime;
   ctime = ctime;
+}
+
+-- an entry that a superuser asked for
+abbrev pub entry : ℕ → ℕ → ℕ → ℕ → Call → Reply → BookEntry
+entry index client number stamp call reply = record {
+  index = index;
+  client = client;
+  number = number;
+  cred = SUPERUSER;
+  stamp = stamp;
+  call = call;
+  reply = reply;
 }
 
 -- a server's state line

@@ -1,3 +1,5 @@
 pub mod CellLemmas
 pub mod KeyOrder
 pub mod TreeLaws
+pub mod ValueLaws
+pub mod ChangeLaws

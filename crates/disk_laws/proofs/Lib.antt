@@ -1,0 +1,12 @@
+pub mod Tables
+pub mod Between
+pub mod Moved
+pub mod StoreRuns
+pub mod Crashes
+pub mod Keeping
+pub mod Counts
+pub mod Diskless
+pub mod Calls
+pub mod Steps
+pub mod Blocks
+pub mod DiskRuns
