@@ -17,6 +17,18 @@ unfolding after_changes
 after_both [] more told = refl
 after_both (x ∷ changes) more told = after_both changes more (after_step (changed_by x) told)
 
+-- where changes lead
+pub after_some : (changes : List Change) (h : Moments) → (k : Moments)
+    × (after_changes changes (Some h) ≡ Some k) × (k.now ≡ changed_by_all changes h.now)
+unfolding after_changes changed_by_all
+after_some [] h = (h, refl, refl)
+after_some (x ∷ changes) h = after_some changes (then_disk (changed_by x h.now) h)
+
+pub after_none : (changes : List Change) → after_changes changes None ≡ None
+unfolding after_changes
+after_none [] = refl
+after_none (x ∷ changes) = after_none changes
+
 -- one change more
 pub after_more : (changes : List Change) (i : ℕ) (d : Change) (told : Option Moments)
     → i < length changes

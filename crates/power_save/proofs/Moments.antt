@@ -6,21 +6,9 @@ use Rattle.harp_store.specs.Mark.{MarkFields}
 use Rattle.harp_store.specs.Disk.{AfterPart, AtEachMoment, Disk, Moments, IsAfterPart, MayHaveMade, Now, after_changes, after_step, changed_by, changed_by_all, reads, synced_whole, then_disk, with_mark}
 use Rattle.harp_store.proofs.Changes.{reads_changed_all}
 use Rattle.harp_store.proofs.Moments.{follows, may_step, runs_join}
-use Rattle.harp_store.proofs.Runs.{all_is_part, mark_stays, moments_of_part}
+use Rattle.harp_store.proofs.Runs.{after_none, after_some, all_is_part, mark_stays, moments_of_part}
 use Rattle.power_save.specs.Saved.{AreInOrder, AreMeant, IsUnsaved, IsUnsavedOrSaved, SavedOn, cell_in, puts_of, record_in, room}
 use Rattle.power_save.proofs.Saves.{puts_hold}
-
--- where changes lead
-after_some : (changes : List Change) (h : Moments) → (k : Moments)
-    × (after_changes changes (Some h) ≡ Some k) × (k.now ≡ changed_by_all changes h.now)
-unfolding after_changes changed_by_all
-after_some [] h = (h, refl, refl)
-after_some (x ∷ changes) h = after_some changes (then_disk (changed_by x h.now) h)
-
-after_none : (changes : List Change) → after_changes changes None ≡ None
-unfolding after_changes
-after_none [] = refl
-after_none (x ∷ changes) = after_none changes
 
 module _ {R : Type 0} (index_of : R → ℕ) (spelling : R → Value) (meaning : Value
     → Option R) (base : ℕ) (items : List R) (mark : MarkFields) where
