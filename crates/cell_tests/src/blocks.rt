@@ -18,7 +18,7 @@ struct Watched {
 }
 
 impl CellRead for Watched {
-    ghost use Rattle.std.specs.Prelude.{None, if◌then◌else◌};
+    ghost use Rattle.std.specs.Prelude.{None, Unit, tt, if◌then◌else◌};
     ghost use Rattle.harp_cells.specs.Memory.{fetched_in};
 
     ghost cells = { λ w. None };
@@ -26,6 +26,10 @@ impl CellRead for Watched {
     ghost found = { λ w. if w.has_failed then None else fetched_in w.cells };
 
     ghost faults = { λ w. w.faults };
+
+    ghost Left = { Unit {0} };
+
+    ghost left = { λ w. tt };
 
     fn fetch(&mut self, cell: Cell) -> Result<(), CellFault> {
         self.fetches = self.fetches.saturating_add(1);

@@ -1,6 +1,6 @@
 //! Directories in cells: known entries, slots, ways up and pages.
 
-ghost use Rattle.std.specs.Prelude.{None, Option, if◌then◌else◌};
+ghost use Rattle.std.specs.Prelude.{None, Option, Unit, tt, if◌then◌else◌};
 ghost use Rattle.harp_cells.specs.declared.value.Value.{Value as CellValue};
 ghost use Rattle.harp_cells.specs.Memory.{fetched_in};
 
@@ -25,6 +25,10 @@ impl CellRead for Limited {
     ghost found = { λ m. if◌then◌else◌ {A = Option CellValue} m.failed None (fetched_in m.cells) };
 
     ghost faults = { λ m. m.faults };
+
+    ghost Left = { Unit {0} };
+
+    ghost left = { λ m. tt };
 
     fn fetch(&mut self, cell: Cell) -> Result<(), CellFault> {
         self.failed = self.left == 0;

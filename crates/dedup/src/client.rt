@@ -60,7 +60,8 @@ fn seen_in(alloc: Global, value: &Value, number: u64, cp: u64) -> Result<Seen, A
         | Value::Object { .. }
         | Value::Block { .. }
         | Value::Slot { .. }
-        | Value::Saved { .. } => Ok(Seen::New),
+        | Value::Saved { .. }
+        | Value::SavedCred { .. } => Ok(Seen::New),
     }
 }
 
@@ -93,6 +94,7 @@ pub fn seen<R: CellRead>(
         → held (cell.Client client) ≡ client_value (last_of client entries)
         → IfOk result (λ s. s ≡ seen_after (last_of client entries) number cp) }
     ensures kept { R.cells cells.new ≡ R.cells cells.old }
+    ensures left { R.left cells.new ≡ R.left cells.old }
     ensures rose { result ≡ Err CellFault.StoreFailed
         → Rose (R.faults cells.old) (R.faults cells.new) }
     ensures count { R.faults cells.old ≤ R.faults cells.new }

@@ -123,7 +123,7 @@ not_before kind object first block Equal Greater r2 a b d h = absurd (omega (ari
 not_before kind object first block Greater r1 r2 a b d h = absurd (omega (arith, a))
 
 -- a block from a number on doesn't stand before the block of this number
-blocks_from : (object first : ℕ) (q : ℕ × ℕ × ℕ) → is_block_key object first q ≡ true
+pub blocks_from : (object first : ℕ) (q : ℕ × ℕ × ℕ) → is_block_key object first q ≡ true
     → is_gt (key_cmp (3, object, first) q) ≡ false
 blocks_from object first (a, b, block) is =
     let h : (a ≡ 3) × (b ≡ object) × (first ≤ block) =
@@ -144,7 +144,7 @@ unfolding is_block_from
 no_values object first m from h e c is = sym (at_key m.entries c)
     ∙ h.5 e (key c) (blocks_from object first (key c) is, tt)
 
-absent : (o : Option Value) → (IsSome o → ⊥) → o ≡ None
+pub absent : (o : Option Value) → (IsSome o → ⊥) → o ≡ None
 absent None h = refl
 absent (Some v) h = absurd (h refl)
 

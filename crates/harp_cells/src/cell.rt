@@ -21,10 +21,11 @@ pub enum Cell {
 }
 
 /// The kind of a cell, and the numbers that name it among its kind.
-pub(crate) type Key = (u8, u32, u32);
+pub type Key = (u8, u32, u32);
 
 impl Cell {
-    pub(crate) fn key(self) -> Key
+    /// The kind of the cell, and the numbers that name it among its kind.
+    pub fn key(self) -> Key
         ensures { result ≡ key self }
     {
         match self {

@@ -5,15 +5,21 @@
 mod bounds;
 mod cell;
 mod change;
+mod codec_forms;
+mod codec_reading;
+mod codec_writing;
+pub mod fields;
 mod laws;
 mod memory;
 mod reads;
 mod value;
 
 pub use bounds::{Moment, NonEmpty};
-pub use cell::Cell;
+pub use cell::{Cell, Key};
 pub use change::Change;
+pub use codec_reading::read_value;
+pub use codec_writing::write_value;
 pub use laws::cell_laws;
 pub use memory::MemCells;
 pub use reads::{CellFault, CellRead, ChangeLog};
-pub use value::{Inode, Value};
+pub use value::{Inode, LONGEST_OLD_RECORD, LONGEST_RECORD, Value};

@@ -7,7 +7,7 @@ ghost use Rattle.harp_cells.specs.declared.cell.Cell.{Cell as CellName};
 ghost use Rattle.harp_cells.specs.declared.cell.Cell.TheVariants as cell;
 ghost use Rattle.harp_cells.specs.declared.change.Change.TheVariants as change;
 ghost use Rattle.harp_cells.specs.Effect.{is_cell, is_block_from, Reads};
-ghost use Rattle.harp_cells.specs.Memory.{cell_in, held, fetched_in, HoldsNothing, BecomesBy, BecomesByPart};
+ghost use Rattle.harp_cells.specs.Memory.{Entries, cell_in, held, fetched_in, HoldsNothing, BecomesBy, BecomesByPart};
 
 use crate::cell::{Cell, Key};
 use crate::change::Change;
@@ -133,11 +133,16 @@ impl CellRead for MemCells {
 
     ghost faults = { λ m. 0 };
 
+    ghost Left = { Entries };
+
+    ghost left = { λ m. m.entries };
+
     /// It always succeeds.
     fn fetch(&mut self, cell: Cell) -> Result<(), CellFault>
         ensures found { OnOk result (Reads (Some (held self.old)) cell (fetched_in self.new)) }
         ensures none { OnErr result (fetched_in self.new ≡ None) }
         ensures kept { Some (held self.new) ≡ Some (held self.old) }
+        ensures left { self.new.entries ≡ self.old.entries }
         ensures rose { result ≡ Err CellFault.StoreFailed → Rose 0 0 }
         ensures count { 0 ≤ 0 }
 

@@ -43,11 +43,18 @@ pub trait CellRead {
     // How many calls of the store failed, which never falls.
     ghost faults: { Self → ℕ };
 
+    // What reads leave as it is; of a reader that borrows what lies under it, also which value it
+    // borrows.
+    ghost Left: { Type 0 };
+
+    ghost left: { Self → Self.Left };
+
     /// Fetches what a cell holds. It changes no cell.
     fn fetch(&mut self, cell: Cell) -> Result<(), CellFault>
         ensures found { OnOk result (Reads (cells self.old) cell (found self.new)) }
         ensures none { OnErr result (found self.new ≡ None) }
         ensures kept { cells self.new ≡ cells self.old }
+        ensures left { left self.new ≡ left self.old }
         ensures rose { result ≡ Err CellFault.StoreFailed
             → Rose (faults self.old) (faults self.new) }
         ensures count { faults self.old ≤ faults self.new };

@@ -27,6 +27,7 @@ fn kept_part<R: CellRead>(
     ensures least { IfOk result (λ kept. IfSome kept (λ v. 1 ≤ length v.items)) }
     ensures most { IfOk result (λ kept. IfSome kept (λ v. length v.items ≤ block_size)) }
     ensures kept { R.cells cells.new ≡ R.cells cells.old }
+    ensures left { R.left cells.new ≡ R.left cells.old }
     ensures rose { result ≡ Err CellFault.StoreFailed
         → Rose (R.faults cells.old) (R.faults cells.new) }
     ensures count { R.faults cells.old ≤ R.faults cells.new }
@@ -109,6 +110,7 @@ pub fn cut_to<R: CellRead>(
     ensures still { size ≤ wanted → changes.new.items ≡ changes.old.items }
     ensures front { BeginsWith changes.new.items changes.old.items }
     ensures kept { R.cells cells.new ≡ R.cells cells.old }
+    ensures left { R.left cells.new ≡ R.left cells.old }
     ensures rose { result ≡ Err CellFault.StoreFailed
         → Rose (R.faults cells.old) (R.faults cells.new) }
     ensures count { R.faults cells.old ≤ R.faults cells.new }

@@ -26,6 +26,7 @@ fn read_part<R: CellRead>(
         ++ resized (drop within (stored (held cell))) count) }
     ensures size { OnOk result (length bytes.new.items ≡ length bytes.old.items + count) }
     ensures kept { R.cells cells.new ≡ R.cells cells.old }
+    ensures left { R.left cells.new ≡ R.left cells.old }
     ensures rose { result ≡ Err CellFault.StoreFailed
         → Rose (R.faults cells.old) (R.faults cells.new) }
     ensures count { R.faults cells.old ≤ R.faults cells.new }
@@ -55,6 +56,7 @@ pub fn read_bytes<R: CellRead>(
         → IfOk result (λ r. r ≡ take count (drop offset bytes)) }
     ensures size { IfOk result (λ r. length r ≡ min count (size - offset)) }
     ensures kept { R.cells cells.new ≡ R.cells cells.old }
+    ensures left { R.left cells.new ≡ R.left cells.old }
     ensures rose { result ≡ Err CellFault.StoreFailed
         → Rose (R.faults cells.old) (R.faults cells.new) }
     ensures count { R.faults cells.old ≤ R.faults cells.new }

@@ -58,6 +58,7 @@ fn block_bytes<R: CellRead>(
     ensures size { IfOk result (λ v. (within + length bytes.now ≤ length v.items)
         × (length v.items ≤ block_size)) }
     ensures kept { R.cells cells.new ≡ R.cells cells.old }
+    ensures left { R.left cells.new ≡ R.left cells.old }
     ensures rose { result ≡ Err CellFault.StoreFailed
         → Rose (R.faults cells.old) (R.faults cells.new) }
     ensures count { R.faults cells.old ≤ R.faults cells.new }
@@ -94,6 +95,7 @@ pub fn write_bytes<R: CellRead>(
     ensures nothing { length bytes.now ≡ 0 → OnOk result (changes.new.items ≡ changes.old.items) }
     ensures front { BeginsWith changes.new.items changes.old.items }
     ensures kept { R.cells cells.new ≡ R.cells cells.old }
+    ensures left { R.left cells.new ≡ R.left cells.old }
     ensures rose { result ≡ Err CellFault.StoreFailed
         → Rose (R.faults cells.old) (R.faults cells.new) }
     ensures count { R.faults cells.old ≤ R.faults cells.new }

@@ -20,6 +20,7 @@ pub fn find<R: CellRead>(
         → IfOk result (λ x. x ≡ entry held name.now) }
     ensures within { IfOk result (λ x. IfSome x (λ entry. entry.0 < slots)) }
     ensures kept { R.cells cells.new ≡ R.cells cells.old }
+    ensures left { R.left cells.new ≡ R.left cells.old }
     ensures rose { result ≡ Err CellFault.StoreFailed
         → Rose (R.faults cells.old) (R.faults cells.new) }
     ensures count { R.faults cells.old ≤ R.faults cells.new }
@@ -39,6 +40,7 @@ pub fn slot_for<R: CellRead>(cells: &mut R, dir: u32, slots: u32) -> Result<u32,
         → IfOk result (λ slot. slot ≡ free_from 0 held) }
     ensures within { IfOk result (λ slot. slot ≤ slots) }
     ensures kept { R.cells cells.new ≡ R.cells cells.old }
+    ensures left { R.left cells.new ≡ R.left cells.old }
     ensures rose { result ≡ Err CellFault.StoreFailed
         → Rose (R.faults cells.old) (R.faults cells.new) }
     ensures count { R.faults cells.old ≤ R.faults cells.new }

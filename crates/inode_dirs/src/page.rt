@@ -120,6 +120,7 @@ fn list_slots<R: CellRead>(
         (entries_from 3 held)
         ≡ (page.new.entries.items, eof)) }
     ensures kept { R.cells cells.new ≡ R.cells cells.old }
+    ensures left { R.left cells.new ≡ R.left cells.old }
     ensures rose { result ≡ Err CellFault.StoreFailed
         → Rose (R.faults cells.old) (R.faults cells.new) }
     ensures count { R.faults cells.old ≤ R.faults cells.new }
@@ -153,6 +154,7 @@ pub fn list_from<R: CellRead>(
         ≡ page_of cookie (min count longest_transfer) (entries_under dir parent held)) }
     ensures few { IfOk result (λ page. length page.entries.items ≤ 512) }
     ensures kept { R.cells cells.new ≡ R.cells cells.old }
+    ensures left { R.left cells.new ≡ R.left cells.old }
     ensures rose { result ≡ Err CellFault.StoreFailed
         → Rose (R.faults cells.old) (R.faults cells.new) }
     ensures count { R.faults cells.old ≤ R.faults cells.new }

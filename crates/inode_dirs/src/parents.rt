@@ -18,7 +18,8 @@ fn parent_in(number: u32, value: &Value) -> u32
         | Value::Block { .. }
         | Value::Slot { .. }
         | Value::Client { .. }
-        | Value::Saved { .. } => 0,
+        | Value::Saved { .. }
+        | Value::SavedCred { .. } => 0,
     }
 }
 
@@ -37,6 +38,7 @@ fn parent_at<R: CellRead>(cells: &mut R, number: u32) -> Result<u32, CellFault>
     ensures parent { (tree : Tree) → TellsParents (R.cells cells.old) tree
         → IfOk result (λ parent. parent ≡ parent_of tree number) }
     ensures kept { R.cells cells.new ≡ R.cells cells.old }
+    ensures left { R.left cells.new ≡ R.left cells.old }
     ensures rose { result ≡ Err CellFault.StoreFailed
         → Rose (R.faults cells.old) (R.faults cells.new) }
     ensures count { R.faults cells.old ≤ R.faults cells.new }
@@ -57,6 +59,7 @@ pub fn is_below<R: CellRead>(cells: &mut R, dir: u32, top: u32) -> Result<bool, 
         → TellsParents (R.cells cells.old) tree
         → IfOk result (λ below. below ≡ is_above (length tree) tree top dir) }
     ensures kept { R.cells cells.new ≡ R.cells cells.old }
+    ensures left { R.left cells.new ≡ R.left cells.old }
     ensures rose { result ≡ Err CellFault.StoreFailed
         → Rose (R.faults cells.old) (R.faults cells.new) }
     ensures count { R.faults cells.old ≤ R.faults cells.new }

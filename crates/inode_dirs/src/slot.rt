@@ -27,7 +27,8 @@ fn object_in(value: &Value, name: &[u8]) -> Option<u32>
         | Value::Object { .. }
         | Value::Block { .. }
         | Value::Client { .. }
-        | Value::Saved { .. } => None,
+        | Value::Saved { .. }
+        | Value::SavedCred { .. } => None,
     }
 }
 
@@ -47,6 +48,7 @@ pub fn object_at<R: CellRead>(
     ensures found { (s : Option Slot) → TellsSlot (R.cells cells.old) dir slot s
         → IfOk result (λ x. x ≡ object_named name.now s) }
     ensures kept { R.cells cells.new ≡ R.cells cells.old }
+    ensures left { R.left cells.new ≡ R.left cells.old }
     ensures rose { result ≡ Err CellFault.StoreFailed
         → Rose (R.faults cells.old) (R.faults cells.new) }
     ensures count { R.faults cells.old ≤ R.faults cells.new }
@@ -60,6 +62,7 @@ pub fn is_free_at<R: CellRead>(cells: &mut R, dir: u32, slot: u32) -> Result<boo
     ensures free { (s : Option Slot) → TellsSlot (R.cells cells.old) dir slot s
         → IfOk result (λ free. free ≡ not (is_some s)) }
     ensures kept { R.cells cells.new ≡ R.cells cells.old }
+    ensures left { R.left cells.new ≡ R.left cells.old }
     ensures rose { result ≡ Err CellFault.StoreFailed
         → Rose (R.faults cells.old) (R.faults cells.new) }
     ensures count { R.faults cells.old ≤ R.faults cells.new }
@@ -85,7 +88,8 @@ fn entry_in(alloc: Global, value: &Value, cookie: u32) -> Result<Option<DirEntry
         | Value::Object { .. }
         | Value::Block { .. }
         | Value::Client { .. }
-        | Value::Saved { .. } => Ok(None),
+        | Value::Saved { .. }
+        | Value::SavedCred { .. } => Ok(None),
     }
 }
 
@@ -112,6 +116,7 @@ pub fn entry_of_slot<R: CellRead>(
     ensures entry { (s : Option Slot) → TellsSlot (R.cells cells.old) dir slot s → slot + 3 < 2 ^ 32
         → IfOk result (λ e. entry_list e ≡ entry_at (slot + 3) s) }
     ensures kept { R.cells cells.new ≡ R.cells cells.old }
+    ensures left { R.left cells.new ≡ R.left cells.old }
     ensures rose { result ≡ Err CellFault.StoreFailed
         → Rose (R.faults cells.old) (R.faults cells.new) }
     ensures count { R.faults cells.old ≤ R.faults cells.new }

@@ -2,8 +2,10 @@
 
 ghost use Rattle.std.specs.Prelude.{◌≡◌, ℕ, ◌+◌, ◌<◌, ◌≤◌, ◌^◌, ◌↔◌, length, IfOk, IfErr, IfSome, IsErr, IsSome, OnOk};
 ghost use Rattle.std.specs.Option.{option_copied};
-ghost use Rattle.volatile_log.specs.Log.{IsLog, LogValue, committed_to, empty_log, record_at, room, top, with_record};
+ghost use Rattle.volatile_log.specs.Log.{IsLog, LogValue, applied_to, committed_to, dropped_to, empty_log, lowered_to, record_at, room, top, with_record};
 
+use crate::frozen::FrozenLog;
+use crate::records::drop_front;
 use event_record::Record;
 use harp_base::LOG_ROOM;
 use std::alloc::{AllocError, Global};
@@ -20,11 +22,11 @@ pub struct LogFull;
 /// to CP are committed (Harp paper). The room is taken when the log is made.
 #[derive(Drop)]
 pub struct ActiveLog {
-    base: u64,
-    lb: u64,
-    ap: u64,
-    cp: u64,
-    records: VecDeque<Record>,
+    pub(crate) base: u64,
+    pub(crate) lb: u64,
+    pub(crate) ap: u64,
+    pub(crate) cp: u64,
+    pub(crate) records: VecDeque<Record>,
 }
 
 impl Model for ActiveLog {
@@ -88,6 +90,44 @@ impl ActiveLog {
         ensures { self.new ≡ committed_to self.old n }
     {
         self.cp = n;
+    }
+
+    /// Applies the records up to this index, which is from AP to CP.
+    pub fn applied_to(&mut self, n: u64)
+        requires { (self.old.ap ≤ n) × (n ≤ self.old.cp) }
+        ensures { self.new ≡ applied_to self.old n }
+    {
+        self.ap = n;
+    }
+
+    /// Keeps that the records up to this index, which is from LB to AP, are on this server's disk.
+    pub fn lower_to(&mut self, n: u64)
+        requires { (self.old.lb ≤ n) × (n ≤ self.old.ap) }
+        ensures { self.new ≡ lowered_to self.old n }
+    {
+        self.lb = n;
+    }
+
+    /// Drops the records up to this index, which is from the base to LB.
+    pub fn drop_to(&mut self, n: u64)
+        requires { (self.old.base ≤ n) × (n ≤ self.old.lb) }
+        ensures { self.new ≡ dropped_to self.old n }
+    {
+        drop_front(&mut self.records, (n - self.base) as usize);
+        self.base = n;
+    }
+
+    /// The same log, to which nothing is added and in which nothing is committed any more.
+    pub fn freeze(self) -> FrozenLog
+        ensures { result ≡ self }
+    {
+        FrozenLog {
+            base: self.base,
+            lb: self.lb,
+            ap: self.ap,
+            cp: self.cp,
+            records: self.records,
+        }
     }
 
     /// The record of an index, None exactly outside base + 1 to top.

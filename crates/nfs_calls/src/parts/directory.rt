@@ -35,6 +35,7 @@ pub fn directory<R: CellRead>(cells: &mut R, number: u32) -> Result<Inode, CallE
     ensures inode { (t : TreeCells) → R.cells cells.old ≡ Some t.cells
         → IfOk result (IsInode t.tree number) }
     ensures kept { R.cells cells.new ≡ R.cells cells.old }
+    ensures left { R.left cells.new ≡ R.left cells.old }
     ensures rose { result ≡ Err (CallError.Fault CellFault.StoreFailed)
         → Rose (R.faults cells.old) (R.faults cells.new) }
     ensures count { R.faults cells.old ≤ R.faults cells.new }
@@ -56,6 +57,7 @@ pub fn entry<R: CellRead>(
         → IfOk result (λ x. x ≡ entry (slots_of (place t.tree dir)) name.now) }
     ensures within { IfOk result (λ x. IfSome x (λ entry. entry.0 < inode.now.slots)) }
     ensures kept { R.cells cells.new ≡ R.cells cells.old }
+    ensures left { R.left cells.new ≡ R.left cells.old }
     ensures rose { result ≡ Err CellFault.StoreFailed
         → Rose (R.faults cells.old) (R.faults cells.new) }
     ensures count { R.faults cells.old ≤ R.faults cells.new }
@@ -75,6 +77,7 @@ pub fn find<R: CellRead>(
         → Gives (λ x. x) result (find (slots_of (place t.tree dir)) name.now) }
     ensures within { IfOk result (λ x. x.0 < inode.now.slots) }
     ensures kept { R.cells cells.new ≡ R.cells cells.old }
+    ensures left { R.left cells.new ≡ R.left cells.old }
     ensures rose { result ≡ Err (CallError.Fault CellFault.StoreFailed)
         → Rose (R.faults cells.old) (R.faults cells.new) }
     ensures count { R.faults cells.old ≤ R.faults cells.new }
@@ -97,6 +100,7 @@ pub fn resolve<R: CellRead>(
         → IsDirectory t.tree dir inode.now
         → Gives (λ x. x) result (resolve t.tree dir (slots_of (place t.tree dir)) name.now) }
     ensures kept { R.cells cells.new ≡ R.cells cells.old }
+    ensures left { R.left cells.new ≡ R.left cells.old }
     ensures rose { result ≡ Err (CallError.Fault CellFault.StoreFailed)
         → Rose (R.faults cells.old) (R.faults cells.new) }
     ensures count { R.faults cells.old ≤ R.faults cells.new }

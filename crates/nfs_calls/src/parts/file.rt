@@ -57,6 +57,7 @@ pub fn content<R: CellRead>(
         → IfOk result (λ b. b ≡ take count (drop offset (content_of (place t.tree number)))) }
     ensures most { IfOk result (λ b. length b ≤ count) }
     ensures kept { R.cells cells.new ≡ R.cells cells.old }
+    ensures left { R.left cells.new ≡ R.left cells.old }
     ensures rose { result ≡ Err CellFault.StoreFailed
         → Rose (R.faults cells.old) (R.faults cells.new) }
     ensures count { R.faults cells.old ≤ R.faults cells.new }

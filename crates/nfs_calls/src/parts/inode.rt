@@ -45,7 +45,8 @@ fn inode_in(value: &Value) -> Option<Inode>
         | Value::Block { .. }
         | Value::Slot { .. }
         | Value::Client { .. }
-        | Value::Saved { .. } => None,
+        | Value::Saved { .. }
+        | Value::SavedCred { .. } => None,
     }
 }
 
@@ -65,6 +66,7 @@ pub fn inode_at<R: CellRead>(cells: &mut R, number: u32) -> Result<Option<Inode>
     ensures inode { (t : TreeCells) → R.cells cells.old ≡ Some t.cells
         → IfOk result (λ i. i ≡ inode_placed t.tree number) }
     ensures kept { R.cells cells.new ≡ R.cells cells.old }
+    ensures left { R.left cells.new ≡ R.left cells.old }
     ensures rose { result ≡ Err CellFault.StoreFailed
         → Rose (R.faults cells.old) (R.faults cells.new) }
     ensures count { R.faults cells.old ≤ R.faults cells.new }
@@ -80,6 +82,7 @@ pub fn live<R: CellRead>(cells: &mut R, number: u32) -> Result<Inode, CallError>
     ensures inode { (t : TreeCells) → R.cells cells.old ≡ Some t.cells
         → IfOk result (IsInode t.tree number) }
     ensures kept { R.cells cells.new ≡ R.cells cells.old }
+    ensures left { R.left cells.new ≡ R.left cells.old }
     ensures rose { result ≡ Err (CallError.Fault CellFault.StoreFailed)
         → Rose (R.faults cells.old) (R.faults cells.new) }
     ensures count { R.faults cells.old ≤ R.faults cells.new }
@@ -137,6 +140,7 @@ pub fn attr_at<R: CellRead>(cells: &mut R, number: u32) -> Result<Attr, CellFaul
     ensures attr { (t : TreeCells) → R.cells cells.old ≡ Some t.cells
         → IfOk result (λ a. a ≡ attr_at t.tree number) }
     ensures kept { R.cells cells.new ≡ R.cells cells.old }
+    ensures left { R.left cells.new ≡ R.left cells.old }
     ensures rose { result ≡ Err CellFault.StoreFailed
         → Rose (R.faults cells.old) (R.faults cells.new) }
     ensures count { R.faults cells.old ≤ R.faults cells.new }

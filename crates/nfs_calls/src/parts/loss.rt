@@ -137,6 +137,7 @@ pub fn named<R: CellRead>(cells: &mut R, number: u32) -> Result<Inode, CellFault
         → entry (slots_of (place t.tree dir)) name ≡ Some (slot, number)
         → IfOk result (IsInode t.tree number) }
     ensures kept { R.cells cells.new ≡ R.cells cells.old }
+    ensures left { R.left cells.new ≡ R.left cells.old }
     ensures rose { result ≡ Err CellFault.StoreFailed
         → Rose (R.faults cells.old) (R.faults cells.new) }
     ensures count { R.faults cells.old ≤ R.faults cells.new }

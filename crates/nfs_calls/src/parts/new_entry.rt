@@ -32,6 +32,7 @@ pub fn has_entry<R: CellRead>(
         → IsDirectory t.tree dir inode.now
         → IfOk result (λ has. has ≡ has_entry (slots_of (place t.tree dir)) name.now) }
     ensures kept { R.cells cells.new ≡ R.cells cells.old }
+    ensures left { R.left cells.new ≡ R.left cells.old }
     ensures rose { result ≡ Err CellFault.StoreFailed
         → Rose (R.faults cells.old) (R.faults cells.new) }
     ensures count { R.faults cells.old ≤ R.faults cells.new }
@@ -52,6 +53,7 @@ pub fn free_name<R: CellRead>(
         → Gives (λ x. x) result (free_name (slots_of (place t.tree dir)) name.now) }
     ensures fits { IfOk result (λ _. FitsName name.now) }
     ensures kept { R.cells cells.new ≡ R.cells cells.old }
+    ensures left { R.left cells.new ≡ R.left cells.old }
     ensures rose { result ≡ Err (CallError.Fault CellFault.StoreFailed)
         → Rose (R.faults cells.old) (R.faults cells.new) }
     ensures count { R.faults cells.old ≤ R.faults cells.new }
@@ -89,6 +91,7 @@ pub fn room_in<R: CellRead>(
         → IfOk result (IsRoom (slots_of (place t.tree dir))) }
     ensures bound { IfOk result (λ room. room.slots < 2 ^ 40) }
     ensures kept { R.cells cells.new ≡ R.cells cells.old }
+    ensures left { R.left cells.new ≡ R.left cells.old }
     ensures rose { result ≡ Err (CallError.Fault CellFault.StoreFailed)
         → Rose (R.faults cells.old) (R.faults cells.new) }
     ensures count { R.faults cells.old ≤ R.faults cells.new }

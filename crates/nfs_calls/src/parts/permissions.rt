@@ -35,6 +35,7 @@ pub fn searched<R: CellRead>(cells: &mut R, cred: Cred, number: u32) -> Result<I
     ensures directory { (t : TreeCells) → R.cells cells.old ≡ Some t.cells
         → IfOk result (IsDirectory t.tree number) }
     ensures kept { R.cells cells.new ≡ R.cells cells.old }
+    ensures left { R.left cells.new ≡ R.left cells.old }
     ensures rose { result ≡ Err (CallError.Fault CellFault.StoreFailed)
         → Rose (R.faults cells.old) (R.faults cells.new) }
     ensures count { R.faults cells.old ≤ R.faults cells.new }

@@ -28,7 +28,8 @@ fn totals_in(value: &Value) -> Totals
         | Value::Block { .. }
         | Value::Slot { .. }
         | Value::Client { .. }
-        | Value::Saved { .. } => Totals { next: 2, used: 0 },
+        | Value::Saved { .. }
+        | Value::SavedCred { .. } => Totals { next: 2, used: 0 },
     }
 }
 
@@ -47,6 +48,7 @@ pub fn read_totals<R: CellRead>(cells: &mut R) -> Result<Totals, CellFault>
     ensures totals { (t : TreeCells) → R.cells cells.old ≡ Some t.cells
         → IfOk result (λ m. m ≡ record { next = length t.tree; used = used_blocks t.tree }) }
     ensures kept { R.cells cells.new ≡ R.cells cells.old }
+    ensures left { R.left cells.new ≡ R.left cells.old }
     ensures rose { result ≡ Err CellFault.StoreFailed
         → Rose (R.faults cells.old) (R.faults cells.new) }
     ensures count { R.faults cells.old ≤ R.faults cells.new }

@@ -27,6 +27,7 @@ fn answered<R: CellRead>(
         → Gives (λ r. (r, t.tree)) result (answered t.tree cred call.now now) }
     ensures form { IfOk result (λ r. form r ≡ form_given call.now) }
     ensures kept { R.cells cells.new ≡ R.cells cells.old }
+    ensures left { R.left cells.new ≡ R.left cells.old }
     ensures rose { result ≡ Err (CallError.Fault CellFault.StoreFailed)
         → Rose (R.faults cells.old) (R.faults cells.new) }
     ensures count { R.faults cells.old ≤ R.faults cells.new }
@@ -63,6 +64,7 @@ pub fn answer<R: CellRead>(
     // Over any cells: a refusal, or what the call gives.
     ensures form { IfOk result (IsReplyTo call.now) }
     ensures kept { R.cells cells.new ≡ R.cells cells.old }
+    ensures left { R.left cells.new ≡ R.left cells.old }
     ensures rose { result ≡ Err CellFault.StoreFailed
         → Rose (R.faults cells.old) (R.faults cells.new) }
     ensures count { R.faults cells.old ≤ R.faults cells.new }

@@ -30,6 +30,7 @@ pub fn get_attr<R: CellRead>(cells: &mut R, handle: u32) -> Result<Reply, CallEr
         → Gives (λ r. (r, t.tree)) result (get_attr t.tree handle) }
     ensures form { IfOk result (λ r. form r ≡ attr_form) }
     ensures kept { R.cells cells.new ≡ R.cells cells.old }
+    ensures left { R.left cells.new ≡ R.left cells.old }
     ensures rose { result ≡ Err (CallError.Fault CellFault.StoreFailed)
         → Rose (R.faults cells.old) (R.faults cells.new) }
     ensures count { R.faults cells.old ≤ R.faults cells.new }
@@ -52,6 +53,7 @@ pub fn lookup<R: CellRead>(
         → Gives (λ r. (r, t.tree)) result (lookup t.tree cred dir name.now) }
     ensures form { IfOk result (λ r. form r ≡ node_form) }
     ensures kept { R.cells cells.new ≡ R.cells cells.old }
+    ensures left { R.left cells.new ≡ R.left cells.old }
     ensures rose { result ≡ Err (CallError.Fault CellFault.StoreFailed)
         → Rose (R.faults cells.old) (R.faults cells.new) }
     ensures count { R.faults cells.old ≤ R.faults cells.new }
@@ -72,6 +74,7 @@ pub fn read_link<R: CellRead>(alloc: Global, cells: &mut R, handle: u32) -> Resu
         → Gives (λ r. (r, t.tree)) result (read_link t.tree handle) }
     ensures form { IfOk result (λ r. form r ≡ path_form) }
     ensures kept { R.cells cells.new ≡ R.cells cells.old }
+    ensures left { R.left cells.new ≡ R.left cells.old }
     ensures rose { result ≡ Err (CallError.Fault CellFault.StoreFailed)
         → Rose (R.faults cells.old) (R.faults cells.new) }
     ensures count { R.faults cells.old ≤ R.faults cells.new }
@@ -98,6 +101,7 @@ pub fn read<R: CellRead>(
         → Gives (λ r. (r, t.tree)) result (read t.tree cred handle offset count) }
     ensures form { IfOk result (λ r. form r ≡ bytes_form) }
     ensures kept { R.cells cells.new ≡ R.cells cells.old }
+    ensures left { R.left cells.new ≡ R.left cells.old }
     ensures rose { result ≡ Err (CallError.Fault CellFault.StoreFailed)
         → Rose (R.faults cells.old) (R.faults cells.new) }
     ensures count { R.faults cells.old ≤ R.faults cells.new }
@@ -133,6 +137,7 @@ pub fn read_dir<R: CellRead>(
         → Gives (λ r. (r, t.tree)) result (read_dir t.tree cred dir cookie count) }
     ensures form { IfOk result (λ r. form r ≡ page_form) }
     ensures kept { R.cells cells.new ≡ R.cells cells.old }
+    ensures left { R.left cells.new ≡ R.left cells.old }
     ensures rose { result ≡ Err (CallError.Fault CellFault.StoreFailed)
         → Rose (R.faults cells.old) (R.faults cells.new) }
     ensures count { R.faults cells.old ≤ R.faults cells.new }
@@ -153,6 +158,7 @@ pub fn stat_fs<R: CellRead>(cells: &mut R, handle: u32) -> Result<Reply, CallErr
         → Gives (λ r. (r, t.tree)) result (stat_fs t.tree handle) }
     ensures form { IfOk result (λ r. form r ≡ space_form) }
     ensures kept { R.cells cells.new ≡ R.cells cells.old }
+    ensures left { R.left cells.new ≡ R.left cells.old }
     ensures rose { result ≡ Err (CallError.Fault CellFault.StoreFailed)
         → Rose (R.faults cells.old) (R.faults cells.new) }
     ensures count { R.faults cells.old ≤ R.faults cells.new }

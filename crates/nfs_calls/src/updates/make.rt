@@ -58,6 +58,7 @@ pub fn room_for<R: CellRead>(
     ensures bound { IfOk result (λ room. room.slots < 2 ^ 40) }
     ensures few { IfOk result (λ _. totals.next < object_numbers) }
     ensures kept { R.cells cells.new ≡ R.cells cells.old }
+    ensures left { R.left cells.new ≡ R.left cells.old }
     ensures rose { result ≡ Err (CallError.Fault CellFault.StoreFailed)
         → Rose (R.faults cells.old) (R.faults cells.new) }
     ensures count { R.faults cells.old ≤ R.faults cells.new }
@@ -183,6 +184,7 @@ pub fn make_dir<R: CellRead>(
     ensures short { IfOk result (λ p. AreShort 13 p.changes.items) }
     ensures form { IfOk result (λ p. form p.reply ≡ node_form) }
     ensures kept { R.cells cells.new ≡ R.cells cells.old }
+    ensures left { R.left cells.new ≡ R.left cells.old }
     ensures rose { result ≡ Err (CallError.Fault CellFault.StoreFailed)
         → Rose (R.faults cells.old) (R.faults cells.new) }
     ensures count { R.faults cells.old ≤ R.faults cells.new }
@@ -233,6 +235,7 @@ pub fn make_link<R: CellRead>(
     ensures short { IfOk result (λ p. AreShort 13 p.changes.items) }
     ensures form { IfOk result (λ p. form p.reply ≡ done_form) }
     ensures kept { R.cells cells.new ≡ R.cells cells.old }
+    ensures left { R.left cells.new ≡ R.left cells.old }
     ensures rose { result ≡ Err (CallError.Fault CellFault.StoreFailed)
         → Rose (R.faults cells.old) (R.faults cells.new) }
     ensures count { R.faults cells.old ≤ R.faults cells.new }

@@ -43,6 +43,7 @@ pub fn doomed<R: CellRead>(
         → IsDirectory t.tree dir inode.now
         → IfOk result (λ x. entry (slots_of (place t.tree dir)) name.now ≡ Some x) }
     ensures kept { R.cells cells.new ≡ R.cells cells.old }
+    ensures left { R.left cells.new ≡ R.left cells.old }
     ensures rose { result ≡ Err (CallError.Fault CellFault.StoreFailed)
         → Rose (R.faults cells.old) (R.faults cells.new) }
     ensures count { R.faults cells.old ≤ R.faults cells.new }
@@ -63,6 +64,7 @@ pub fn is_empty<R: CellRead>(
         → IsInode t.tree number inode.now
         → IfOk result (λ empty. empty ≡ has_no_entry (slots_of (place t.tree number))) }
     ensures kept { R.cells cells.new ≡ R.cells cells.old }
+    ensures left { R.left cells.new ≡ R.left cells.old }
     ensures rose { result ≡ Err CellFault.StoreFailed
         → Rose (R.faults cells.old) (R.faults cells.new) }
     ensures count { R.faults cells.old ≤ R.faults cells.new }
@@ -119,6 +121,7 @@ pub fn remove<R: CellRead>(
     ensures short { IfOk result (λ p. AreShort 13 p.changes.items) }
     ensures form { IfOk result (λ p. form p.reply ≡ done_form) }
     ensures kept { R.cells cells.new ≡ R.cells cells.old }
+    ensures left { R.left cells.new ≡ R.left cells.old }
     ensures rose { result ≡ Err (CallError.Fault CellFault.StoreFailed)
         → Rose (R.faults cells.old) (R.faults cells.new) }
     ensures count { R.faults cells.old ≤ R.faults cells.new }
@@ -150,6 +153,7 @@ pub fn remove_dir<R: CellRead>(
     ensures short { IfOk result (λ p. AreShort 13 p.changes.items) }
     ensures form { IfOk result (λ p. form p.reply ≡ done_form) }
     ensures kept { R.cells cells.new ≡ R.cells cells.old }
+    ensures left { R.left cells.new ≡ R.left cells.old }
     ensures rose { result ≡ Err (CallError.Fault CellFault.StoreFailed)
         → Rose (R.faults cells.old) (R.faults cells.new) }
     ensures count { R.faults cells.old ≤ R.faults cells.new }

@@ -15,5 +15,6 @@ loop-at-preserved g c = record {
       (c.loop-at.invariant.range held old told holds is)
       (c.in_ok-read_part.ensures.part held (c.loop-at.invariant.kept ∙ told));
   kept = c.in_ok-read_part.ensures.kept ∙ c.loop-at.invariant.kept;
+  left = c.in_ok-read_part.ensures.left ∙ c.loop-at.invariant.left;
   count = omega (arith, c.in_ok-read_part.ensures.count);
 }

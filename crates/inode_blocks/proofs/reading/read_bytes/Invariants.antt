@@ -12,6 +12,7 @@ invariant-loop-at g l = record {
       → HoldsBytes held l.fn.object old → length old ≡ l.fn.size
       → l.bytes.items ≡ take (l.at - l.fn.offset) (drop l.fn.offset old);
   kept : g.R.CellRead.cells l.cells ≡ g.R.CellRead.cells l.fn.cells;
+  left : g.R.CellRead.left l.cells ≡ g.R.CellRead.left l.fn.cells;
   count : g.R.CellRead.faults l.fn.cells ≤ g.R.CellRead.faults l.cells;
 }
 

@@ -32,6 +32,7 @@ loop-block-preserved g c = record {
       c.append_put.new.changes.items
       c.loop-block.invariant.front c.in_ok-append_put.ensures.ok;
   kept = c.in_ok-new.ensures.kept ∙ c.loop-block.invariant.kept;
+  left = c.in_ok-new.ensures.left ∙ c.loop-block.invariant.left;
   count = omega (arith, c.in_ok-new.ensures.count);
 }
 

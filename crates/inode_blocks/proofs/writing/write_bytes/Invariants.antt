@@ -16,5 +16,6 @@ invariant-loop-block g l = record {
       (range_with_len (l.fn.offset / 4096) (l.block - l.fn.offset / 4096));
   front : BeginsWith l.changes.items l.fn.changes.items;
   kept : g.R.CellRead.cells l.cells ≡ g.R.CellRead.cells l.fn.cells;
+  left : g.R.CellRead.left l.cells ≡ g.R.CellRead.left l.fn.cells;
   count : g.R.CellRead.faults l.fn.cells ≤ g.R.CellRead.faults l.cells;
 }

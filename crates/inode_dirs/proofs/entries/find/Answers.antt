@@ -15,6 +15,7 @@ returns-in-Some-clause-found g c held t =
 pub loop-slot-preserved : goal.loop-slot-preserved
 loop-slot-preserved g c = record {
   kept = c.object_at.ensures.kept ∙ c.loop-slot.invariant.kept;
+  left = c.object_at.ensures.left ∙ c.loop-slot.invariant.left;
   count = omega (arith, c.object_at.ensures.count, c.loop-slot.invariant.count);
   found = λ held t.
       let at = c.loop-slot.slot in

@@ -14,6 +14,7 @@ returns-then-branch-clause-free g c held t =
 pub loop-slot-preserved : goal.loop-slot-preserved
 loop-slot-preserved g c = record {
   kept = c.is_free_at.ensures.kept ∙ c.loop-slot.invariant.kept;
+  left = c.is_free_at.ensures.left ∙ c.loop-slot.invariant.left;
   count = omega (arith, c.is_free_at.ensures.count, c.loop-slot.invariant.count);
   free = λ held t.
       let at = c.loop-slot.slot in

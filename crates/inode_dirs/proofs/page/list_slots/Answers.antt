@@ -7,6 +7,7 @@ use Rattle.inode_dirs.proofs.page.list_slots.Goals as goal
 pub loop-slot-init : goal.loop-slot-init
 loop-slot-init g c = record {
   kept = refl;
+  left = refl;
   count = omega arith;
   page = λ held t fits.
       let page = c.args.page.now in
@@ -30,6 +31,7 @@ returns-then-not-branch-clause-page g c held t fits =
 pub loop-slot-preserved : goal.loop-slot-preserved
 loop-slot-preserved g c = record {
   kept = c.entry_of_slot.ensures.kept ∙ c.loop-slot.invariant.kept;
+  left = c.entry_of_slot.ensures.left ∙ c.loop-slot.invariant.left;
   count = omega (arith, c.entry_of_slot.ensures.count, c.loop-slot.invariant.count);
   page = λ held t fits.
       let page = c.loop-slot.page in

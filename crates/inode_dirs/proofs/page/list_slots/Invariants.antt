@@ -8,6 +8,7 @@ use Rattle.inode_dirs.proofs.page.list_slots.Given as goal
 abbrev pub invariant-loop-slot : goal.invariant-loop-slot
 invariant-loop-slot g l = record {
   kept : g.R.CellRead.cells l.cells ≡ g.R.CellRead.cells l.fn.cells;
+  left : g.R.CellRead.left l.cells ≡ g.R.CellRead.left l.fn.cells;
   count : g.R.CellRead.faults l.fn.cells ≤ g.R.CellRead.faults l.cells;
   page : (held : Slots) → TellsSlots (g.R.CellRead.cells l.fn.cells) l.dir l.slots held
       → l.slots + 2 < 2 ^ 32

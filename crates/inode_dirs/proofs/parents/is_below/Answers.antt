@@ -7,6 +7,7 @@ use Rattle.inode_dirs.proofs.parents.is_below.Goals as goal
 pub loop-init : goal.loop-init
 loop-init g c = record {
   kept = refl;
+  left = refl;
   count = omega arith;
   above = λ tree is d t. enough_levels 65536 tree c.args.top c.args.dir (omega arith) is d;
 }
@@ -27,6 +28,7 @@ returns-then-parent-at-clause-below g c tree is d t =
 pub loop-preserved : goal.loop-preserved
 loop-preserved g c = record {
   kept = c.parent_at.ensures.kept ∙ c.loop.invariant.kept;
+  left = c.parent_at.ensures.left ∙ c.loop.invariant.left;
   count = omega (arith, c.parent_at.ensures.count, c.loop.invariant.count);
   above = λ tree is d t.
       let parent =

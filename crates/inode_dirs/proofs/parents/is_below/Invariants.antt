@@ -8,6 +8,7 @@ use Rattle.inode_dirs.proofs.parents.is_below.Given as goal
 abbrev pub invariant-loop : goal.invariant-loop
 invariant-loop g l = record {
   kept : g.R.CellRead.cells l.cells ≡ g.R.CellRead.cells l.fn.cells;
+  left : g.R.CellRead.left l.cells ≡ g.R.CellRead.left l.fn.cells;
   count : g.R.CellRead.faults l.fn.cells ≤ g.R.CellRead.faults l.cells;
   above : (tree : Tree) → IsSound tree → is_directory_at (place tree l.dir) ≡ true
       → TellsParents (g.R.CellRead.cells l.fn.cells) tree

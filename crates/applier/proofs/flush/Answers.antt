@@ -1,0 +1,25 @@
+use Rattle.std.proofs.Common.{inr}
+use Rattle.applier.proofs.Fuzzy.{flush_marked, flush_synced}
+use Rattle.applier.proofs.flush.Goals as goal
+
+pub returns-in_err-sync-clause-fuzzy : goal.returns-in_err-sync-clause-fuzzy
+returns-in_err-sync-clause-fuzzy g c = λ history m h told here fuzzy.
+    flush_synced history c.args.ap m h c.args.mark.now here fuzzy
+    (g.D.Store.told c.args.store.now) (g.D.Store.told c.sync.new.self) told
+    c.in_err-sync.ensures.part
+
+pub returns-in_err-write_mark-clause-fuzzy : goal.returns-in_err-write_mark-clause-fuzzy
+returns-in_err-write_mark-clause-fuzzy g c = λ history m h told here fuzzy.
+    flush_marked history c.args.ap m h c.args.mark.now here fuzzy
+    c.with_lb-lowered.result c.with_lb-lowered.ensures
+    (g.D.Store.told c.args.store.now) (g.D.Store.told c.sync.new.self)
+    (g.D.Store.told c.write_mark.new.self) told c.in_ok-sync.ensures.synced
+    c.in_err-write_mark.ensures.part
+
+pub returns-clause-fuzzy : goal.returns-clause-fuzzy
+returns-clause-fuzzy g c = λ history m h told here fuzzy.
+    flush_marked history c.args.ap m h c.args.mark.now here fuzzy
+    c.with_lb-lowered.result c.with_lb-lowered.ensures
+    (g.D.Store.told c.args.store.now) (g.D.Store.told c.sync.new.self)
+    (g.D.Store.told c.write_mark.new.self) told c.in_ok-sync.ensures.synced
+    (inr c.in_ok-write_mark.ensures.written)

@@ -1,0 +1,16 @@
+use Rattle.fuzzy_disks.proofs.FuzzyDisks.{applied, crashed, cut_off, exact, images, marked, new_disks, prolonged, saved, synced}
+use Rattle.fuzzy_disks.proofs.laws.fuzzy_disk_laws.Goals as goal
+
+pub returns : goal.returns
+returns c = record {
+  first = new_disks;
+  applied = applied;
+  cut_off = cut_off;
+  exact = exact;
+  synced = synced;
+  marked = marked;
+  images = images;
+  crashed = crashed;
+  saved = saved;
+  prolonged = prolonged;
+}

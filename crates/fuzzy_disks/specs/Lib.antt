@@ -1,0 +1,2 @@
+pub mod FuzzyDisk
+pub mod Laws

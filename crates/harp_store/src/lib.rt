@@ -1,0 +1,20 @@
+//! Stores: cells and a mark on a disk that may crash at any moment.
+#![tactic(auto)]
+
+mod failing;
+mod laws;
+mod layers;
+mod mark;
+mod mem_store;
+mod memory;
+mod pick;
+mod store;
+mod table;
+
+pub use failing::{Failing, Stop};
+pub use laws::{change_laws, moment_laws};
+pub use layers::Unsynced;
+pub use mark::{LONGEST_PROMISE, Mark, OLD_RING, RING, SHORTEST_PROMISE, Saved};
+pub use mem_store::MemStore;
+pub use pick::{Bits, Pick};
+pub use store::{Store, StoreFault};

@@ -1,0 +1,17 @@
+//! Saved logs: the log of a server that loses power, in the cells of its store, and that log again
+//! when it boots.
+#![tactic(auto)]
+
+mod fault;
+mod laws;
+mod loading;
+mod log;
+mod record;
+mod saving;
+
+pub use fault::SaveFault;
+pub use laws::crash_laws;
+pub use loading::load;
+pub use log::FrozenLog;
+pub use record::SavedRecord;
+pub use saving::save;

@@ -1,0 +1,4 @@
+pub mod Views
+pub mod Sources
+pub mod Choices
+pub mod Unique

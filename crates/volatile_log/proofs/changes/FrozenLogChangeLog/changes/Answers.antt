@@ -1,0 +1,6 @@
+use Rattle.std.proofs.Common.{◌∙◌}
+use Rattle.volatile_log.proofs.RecordChanges.{changes_at}
+use Rattle.volatile_log.proofs.changes.FrozenLogChangeLog.changes.Goals as goal
+
+pub returns : goal.returns
+returns c = c.as_slice.ensures.value ∙ changes_at c.args.self.now c.args.index c.in-Some.item.now c.requires.from c.in-Some.ensures.value
