@@ -30,11 +30,6 @@ use Rattle.disk_laws.proofs.Between.{again_from, between_same, prolong, same_fro
 in_log : (s : Server Entry) → s.held ≡ Log → applied_in s ≡ s.ap
 in_log s e = ap (λ (h : Held). if is_log h then s.ap else s.lb) e
 
--- a server without a log: LB is
-without_log : (s : Server Entry) (h : Held) → is_log h ≡ false → (if is_log h then s.ap else s.lb)
-    ≡ s.lb
-without_log s h e = ap (λ (b : Bool). if b then s.ap else s.lb) e
-
 -- a boot of a data server keeps LB, and begins a log with AP = LB
 boot_numbers : (q : Place) (c d : ℕ) (s : Server Entry) → is_p2 q ≡ false
     → ((booted q c d (mark_of s)).lb ≡ s.lb) × (applied_in (booted q c d (mark_of s)) ≡ s.lb)

@@ -23,9 +23,6 @@ abbrev pub AllSetTo : Cells → List Change → Type 0
 AllSetTo f [] = Unit {0}
 AllSetTo f (x ∷ changes) = SetsTo f x × AllSetTo f changes
 
-pub all_none : (f : Cells) → AllSetTo f []
-all_none f = tt
-
 pub all_more : (f : Cells) (x : Change) (changes : List Change) → SetsTo f x → AllSetTo f changes
     → AllSetTo f (x ∷ changes)
 all_more f x changes h k = (h, k)

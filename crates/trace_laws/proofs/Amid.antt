@@ -78,9 +78,6 @@ demoted_idle g q s h v lt true e a =
     absurd (omega arith)
 demoted_idle g q s h v lt false e a = a
 
-open_active : (s : Server Entry) → s.mode ≡ Open → IsActive s.mode
-open_active s o = subst IsActive (sym o) tt
-
 -- ---- roles
 
 -- an active server's role is that of its view, which isn't the first one

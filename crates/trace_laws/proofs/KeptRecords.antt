@@ -18,9 +18,7 @@ use Rattle.group_safety.specs.Words.{IsActive}
 use Rattle.group_safety.proofs.Moving.{Goes, Good, May, its}
 use Rattle.trace_laws.proofs.After.{acts_both, moved_clock}
 use Rattle.trace_laws.proofs.Amid.{goes_later, goes_may, goes_now, goes_rest, goes_first}
-use Rattle.trace_laws.proofs.MoveKinds.{each-append}
-use Rattle.trace_laws.proofs.StepCalls.{once_steady, IsSteady, Once, calls, free, rule_once}
-use Rattle.trace_laws.proofs.StopLaws.{AreFree, IsFree}
+use Rattle.trace_laws.proofs.StepCalls.{once_steady, IsSteady, rule_once}
 use Rattle.trace_laws.proofs.Turns.{Made, boot, fell, whole}
 
 -- ---- the records that a boot would give back
