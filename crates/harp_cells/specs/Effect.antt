@@ -33,6 +33,12 @@ is_block_from object first c = is_block_key object first (key c)
 abbrev pub Cells : Type 0
 Cells = Cell → Option Value
 
+-- a change sets a cell, to a value or to none
+unfoldable pub sets : Change → Cell → Bool
+sets (change.Put cell value) c = is_cell cell c
+sets (change.Erase cell) c = is_cell cell c
+sets (change.EraseFrom object first) c = is_block_from object first c
+
 -- what a cell holds after a change
 abbrev pub changed : Cell → Option Value → Change → Option Value
 changed c held (change.Put cell value) = if is_cell cell c then Some value else held

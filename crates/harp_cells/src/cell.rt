@@ -1,10 +1,10 @@
 //! The places of values.
 
 ghost use Rattle.std.specs.Prelude.{◌≡◌};
-ghost use Rattle.harp_cells.specs.Effect.{key};
+ghost use Rattle.harp_cells.specs.Effect.{key, is_cell, is_block_from};
 
 /// A place that holds a value or is absent. Objects and clients are named by their numbers.
-#[derive(Clone, Copy, Debug, PartialEq, Eq, PartialOrd, Ord)]
+#[derive(Clone, Copy, Debug, PartialEq, Eq, PartialOrd, Ord, Hash)]
 pub enum Cell {
     /// What holds of the whole tree.
     Meta,
@@ -36,5 +36,23 @@ impl Cell {
             Cell::Client { client } => (5, client, 0),
             Cell::Saved { place } => (6, place, 0),
         }
+    }
+    // Whether it is this cell.
+    #[tactic(auto, unfolding(crate::specs::Effect::is_cell))]
+    pub(crate) fn is(self, other: Cell) -> bool
+        ensures { result ≡ is_cell self other }
+    {
+        let (kind, first, second) = self.key();
+        let (other_kind, other_first, other_second) = other.key();
+        kind == other_kind && first == other_first && second == other_second
+    }
+
+    // Whether it is a block of the object, from the first on.
+    #[tactic(auto, unfolding(crate::specs::Effect::is_block_from))]
+    pub(crate) fn is_block_from(self, object: u32, first: u32) -> bool
+        ensures { result ≡ is_block_from object first self }
+    {
+        let (kind, owner, block) = self.key();
+        kind == 3 && owner == object && first <= block
     }
 }

@@ -1,6 +1,7 @@
 //! Changes of cells.
 
 ghost use Rattle.std.specs.Prelude.{◌≡◌, IfOk};
+ghost use Rattle.harp_cells.specs.Effect.{sets};
 
 use crate::cell::Cell;
 use crate::value::Value;
@@ -32,6 +33,17 @@ impl Change {
                 object: *object,
                 first: *first,
             }),
+        }
+    }
+    /// Whether the change sets the cell, to a value or to none.
+    #[tactic(auto, unfolding(crate::specs::Effect::sets))]
+    pub fn sets(&self, cell: Cell) -> bool
+        ensures { result ≡ sets self.now cell }
+    {
+        match self {
+            Change::Put { cell: at, .. } => at.is(cell),
+            Change::Erase { cell: at } => at.is(cell),
+            Change::EraseFrom { object, first } => cell.is_block_from(*object, *first),
         }
     }
 }
