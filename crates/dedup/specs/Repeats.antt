@@ -33,3 +33,4 @@ seen_in (Some (value.Object inode)) number commit_point = New
 seen_in (Some (value.Block bytes)) number commit_point = New
 seen_in (Some (value.Slot object name)) number commit_point = New
 seen_in (Some (value.Saved bytes)) number commit_point = New
+seen_in (Some (value.SavedCred bytes)) number commit_point = New

@@ -60,7 +60,8 @@ fn seen_in(alloc: Global, value: &Value, number: u64, cp: u64) -> Result<Seen, A
         | Value::Object { .. }
         | Value::Block { .. }
         | Value::Slot { .. }
-        | Value::Saved { .. } => Ok(Seen::New),
+        | Value::Saved { .. }
+        | Value::SavedCred { .. } => Ok(Seen::New),
     }
 }
 

@@ -8,7 +8,7 @@ use Rattle.file_tree.specs.Book.{Entry}
 use Rattle.harp_cells.specs.declared.change.Change.{Change}
 use Rattle.harp_cells.specs.Effect.{Cells, changed, after}
 use Rattle.harp_cells.specs.CellsOfTree.{StandForBook}
-use Rattle.event_record.specs.declared.record.Record.{Record}
+use Rattle.event_record.specs.declared.record.RecordFields.{RecordFields}
 use Rattle.event_record.specs.Record.{entry_of, StandsFor, AllStandFor, changes_of}
 
 -- changes in a row are made one list after the other
@@ -17,19 +17,19 @@ pub after_both : (changes more : List Change) (cells : Cells)
 after_both changes more cells = fun_ext (λ c. fold-append (changed c) (cells c) changes more)
 
 -- the changes of one more record
-pub changes_push : (rs : List Record) (r : Record)
+pub changes_push : (rs : List RecordFields) (r : RecordFields)
     → changes_of (rs ++ r ∷ []) ≡ changes_of rs ++ r.changes
 changes_push [] r = append-nil r.changes
 changes_push (x ∷ rs) r = ap (λ (cs : List Change). x.changes ++ cs) (changes_push rs r)
     ∙ sym (append_assoc x.changes (changes_of rs) r.changes)
 
-pub cells_push : (rs : List Record) (r : Record) (cells : Cells)
+pub cells_push : (rs : List RecordFields) (r : RecordFields) (cells : Cells)
     → after (changes_of (rs ++ r ∷ [])) cells ≡ after r.changes (after (changes_of rs) cells)
 cells_push rs r cells = ap (λ (cs : List Change). after cs cells) (changes_push rs r)
     ∙ after_both (changes_of rs) r.changes cells
 
 -- records that stand for their entries lead to cells that stand for the whole book
-pub all_lead : (cells : Cells) (earlier : List Entry) (rs : List Record)
+pub all_lead : (cells : Cells) (earlier : List Entry) (rs : List RecordFields)
     → AllStandFor cells earlier rs
     → StandForBook cells earlier
     → StandForBook (after (changes_of rs) cells) (earlier ++ map entry_of rs)
@@ -46,7 +46,7 @@ all_lead cells earlier (r ∷ rs) all stand =
     (all_lead (after r.changes cells) (earlier ++ entry_of r ∷ []) rs all.1 (all.0 stand)))
 
 -- a first part of them stands too
-pub front_stands : (cells : Cells) (earlier : List Entry) (n : ℕ) (rs : List Record)
+pub front_stands : (cells : Cells) (earlier : List Entry) (n : ℕ) (rs : List RecordFields)
     → AllStandFor cells earlier rs
     → AllStandFor cells earlier (take n rs)
 front_stands cells earlier zero rs all = tt
@@ -58,7 +58,7 @@ front_stands cells earlier (suc n) (r ∷ rs) all = (
 )
 
 -- one more of them
-pub all_push : (cells : Cells) (earlier : List Entry) (rs : List Record) (r : Record)
+pub all_push : (cells : Cells) (earlier : List Entry) (rs : List RecordFields) (r : RecordFields)
     → AllStandFor cells earlier rs
     → StandsFor (after (changes_of rs) cells) (earlier ++ map entry_of rs) r
     → AllStandFor cells earlier (rs ++ r ∷ [])

@@ -7,7 +7,7 @@ use std::alloc::{AllocError, Global};
 use std::marker::Model;
 
 /// How many changes an update makes at most.
-const MOST: usize = 16;
+pub(crate) const MOST_CHANGES: usize = 16;
 
 /// The changes of cells that an update makes, in their order, at most 16.
 #[derive(Debug, Drop)]
@@ -40,7 +40,7 @@ impl Changes {
         ensures found { IsSome result ↔ (length items.items ≤ 16) }
         ensures value { IfSome result (λ c. c ≡ items.items) }
     {
-        if items.len() <= MOST {
+        if items.len() <= MOST_CHANGES {
             Some(Changes { items })
         } else {
             None

@@ -1,17 +1,21 @@
 //! Event records.
 
-ghost use Rattle.std.specs.Prelude.{◌≡◌, IfOk};
+ghost use Rattle.std.specs.Prelude.{◌≡◌, ◌≤◌, ◌↔◌, length, IfOk, IfSome, IsSome, OnOk};
+ghost use Rattle.event_record.specs.Bytes.{FieldsFit, record_bytes};
+ghost use Rattle.harp_cells.specs.ValueBytes.{longest_record};
 
 use crate::changes::Changes;
 use crate::numbers::Index;
+use crate::writing::put_fields;
 use harp_base::{Call, Cred, Reply, ViewNo};
-use harp_cells::Moment;
+use harp_cells::{LONGEST_RECORD, Moment};
 use std::alloc::{AllocError, Global};
+use std::marker::Model;
 
-/// An update in the log, with the reply that its client gets once the record is committed (Harp
-/// paper).
+/// What an event record holds: an update in the log, with the reply that its client gets once the
+/// record is committed (Harp paper).
 #[derive(Debug, Drop)]
-pub struct Record {
+pub struct RecordFields {
     /// The view in which the record was appended.
     pub stamped: ViewNo,
     /// The place in the log, from 1 to 2^62 - 1.
@@ -30,12 +34,12 @@ pub struct Record {
     pub changes: Changes,
 }
 
-impl Record {
-    /// An equal record.
-    pub fn copy(&self, alloc: Global) -> Result<Record, AllocError>
+impl RecordFields {
+    /// Equal fields.
+    pub fn copy(&self, alloc: Global) -> Result<RecordFields, AllocError>
         ensures { IfOk result (λ copy. copy ≡ self.now) }
     {
-        Ok(Record {
+        Ok(RecordFields {
             stamped: self.stamped,
             index: self.index,
             client: self.client,
@@ -45,6 +49,76 @@ impl Record {
             stamp: self.stamp,
             reply: self.reply.copy(alloc)?,
             changes: self.changes.copy(alloc)?,
+        })
+    }
+}
+
+/// An event record: fields whose bytes are at most 60,008. Contracts see it as its fields.
+#[derive(Debug, Drop)]
+pub struct Record {
+    fields: RecordFields,
+}
+
+impl Model for Record {
+    ghost use Rattle.std.specs.Prelude.{length, ◌≤◌};
+    ghost use Rattle.event_record.specs.declared.record.RecordFields.{RecordFields};
+    ghost use Rattle.event_record.specs.Bytes.{record_bytes};
+    ghost use Rattle.harp_cells.specs.ValueBytes.{longest_record};
+
+    ghost Value = { RecordFields };
+
+    ghost view = { λ r. r.fields };
+
+    ghost invariant = { λ r. length (record_bytes r.fields) ≤ longest_record };
+}
+
+impl Record {
+    /// The record of fields, where their bytes are at most 60,008. The fields aren't copied; their
+    /// bytes are written to be counted.
+    pub fn of(alloc: Global, fields: RecordFields) -> Result<Option<Record>, AllocError>
+        ensures found { IfOk result
+            (λ found. IsSome found ↔ (length (record_bytes fields) ≤ longest_record)) }
+        ensures value { IfOk result (λ found. IfSome found (λ r. r ≡ fields)) }
+        ensures fits { OnOk result (FieldsFit fields) }
+    {
+        let mut bytes = Vec::new(alloc);
+        put_fields(&mut bytes, &fields)?;
+        if bytes.len() <= LONGEST_RECORD {
+            Ok(Some(Record { fields }))
+        } else {
+            Ok(None)
+        }
+    }
+
+    /// The record of fields whose bytes are known to be at most 60,008. They aren't copied.
+    pub fn new(fields: RecordFields) -> Record
+        requires { length (record_bytes fields) ≤ longest_record }
+        ensures { result ≡ fields }
+    {
+        Record { fields }
+    }
+
+    /// The fields.
+    pub fn fields(&self) -> &RecordFields
+        ensures value { result.now ≡ self.now }
+        ensures bound { length (record_bytes self.now) ≤ longest_record }
+    {
+        &self.fields
+    }
+
+    /// The place in the log.
+    pub fn index(&self) -> Index
+        ensures { result ≡ self.now.index }
+    {
+        self.fields.index
+    }
+
+    /// An equal record.
+    pub fn copy(&self, alloc: Global) -> Result<Record, AllocError>
+        ensures { IfOk result (λ copy. copy ≡ self.now) }
+    {
+        Ok(Record {
+            fields: self.fields.copy(alloc)?,
         })
     }
 }

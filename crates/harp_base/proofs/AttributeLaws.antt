@@ -28,7 +28,7 @@ set_attr_codec =
     (λ a. refl) (λ x f. (refl, (f.0.0.0.0.0, f.0.0.0.0.1, f.0.0.0.1, f.0.0.1, f.0.1, f.1)))
     (λ a f. (refl, (((((f.0, f.1), f.2), f.3), f.4), f.5)))
 
-whole_kind : (k : Kind) → value_with_number kind_number kinds (kind_number k) ≡ Some k
+pub whole_kind : (k : Kind) → value_with_number kind_number kinds (kind_number k) ≡ Some k
 whole_kind Regular = refl
 whole_kind Directory = refl
 whole_kind Link = refl

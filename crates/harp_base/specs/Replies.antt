@@ -1,5 +1,5 @@
 -- The one spelling of a reply, and reading it.
-use Rattle.std.specs.Prelude.{ℕ, zero, suc, ◌<◌, ◌≤◌, ◌^◌, Bool, true, false, List, [], ◌∷◌, ◌++◌, length, Ok}
+use Rattle.std.specs.Prelude.{ℕ, ◌<◌, ◌≤◌, ◌^◌, Bool, true, false, List, [], ◌∷◌, ◌++◌, length, Ok}
 use Rattle.harp_base.specs.declared.reply.Status.{Status}
 use Rattle.harp_base.specs.declared.reply.Status.TheVariants as status
 use Rattle.harp_base.specs.declared.reply.DirEntry.{DirEntry}
@@ -8,7 +8,7 @@ use Rattle.harp_base.specs.declared.reply.Reply.TheVariants as reply
 use Rattle.harp_base.specs.declared.reply_form.ReplyForm.{ReplyForm}
 use Rattle.harp_base.specs.declared.reply_form.ReplyForm.TheVariants as form
 use Rattle.harp_base.specs.Limits.{longest_name, longest_path, longest_transfer}
-use Rattle.harp_base.specs.Fields.{Reader, ◌>>=◌, ◌⊗◌, field_as, fields_by_tag, tag_at, u16_at, u32_at, bytes_at, u16_bytes, u32_bytes, counted_bytes}
+use Rattle.harp_base.specs.Fields.{Reader, ◌⊗◌, field_as, fields_by_tag, tag_at, u16_at, u32_at, bytes_at, many_at, u16_bytes, u32_bytes, counted_bytes, many_bytes, AllFit}
 use Rattle.harp_base.specs.Attributes.{AttrFits, attr_at, attr_bytes}
 
 -- ---- statuses
@@ -48,31 +48,15 @@ entry_at =
     field_as (λ x. record { fileid = x.0.0; name = x.0.1; cookie = x.1 })
     (u32_at ⊗ bytes_at longest_name ⊗ u32_at)
 
-abbrev pub EachFits : List DirEntry → Type 0
-EachFits [] = Unit {0}
-EachFits (e ∷ entries) = EntryFits e × EachFits entries
-
 abbrev pub EntriesFit : List DirEntry → Type 0
-EntriesFit entries = (length entries < 2 ^ 16) × EachFits entries
-
-unfoldable pub each_bytes : List DirEntry → List ℕ
-each_bytes [] = []
-each_bytes (e ∷ entries) = entry_bytes e ++ each_bytes entries
-
--- so many entries
-unfoldable pub each_at : ℕ → Reader (List DirEntry)
-each_at zero bytes at = Ok ([], at)
-each_at (suc n) bytes at = do
-  e ← entry_at bytes at
-  rest ← each_at n bytes e.1
-  Ok (e.0 ∷ rest.0, rest.1)
+EntriesFit entries = (length entries < 2 ^ 16) × AllFit EntryFits entries
 
 -- a u16 number of entries, and the entries
 unfoldable pub entries_bytes : List DirEntry → List ℕ
-entries_bytes entries = u16_bytes (length entries) ++ each_bytes entries
+entries_bytes entries = u16_bytes (length entries) ++ many_bytes entry_bytes entries
 
 unfoldable pub entries_at : Reader (List DirEntry)
-entries_at = fields_by_tag u16_at each_at
+entries_at = fields_by_tag u16_at (many_at entry_at)
 
 abbrev pub flag_number : Bool → ℕ
 flag_number false = 0

@@ -5,11 +5,12 @@ ghost use Rattle.harp_base.specs.Fields.{tag_at};
 ghost use Rattle.harp_base.specs.Attributes.{TimeFits, SetAttrFits, AttrFits, kind_number, kinds, time_at, time_bytes, set_attr_at, set_attr_bytes, attr_at, attr_bytes};
 
 use crate::attr::{Attr, Kind, SetAttr, Time};
-use crate::field::{FieldFault, byte_at, put_u16, put_u32, u16_at, u32_at};
+use crate::field::{Misread, byte_at, put_u16, put_u32, u16_at, u32_at};
 use std::alloc::AllocError;
 
+/// A time, and the place after it.
 #[tactic(auto, unfolding(crate::specs::Attributes::time_at))]
-fn time_at(bytes: &[u8], at: usize) -> Result<(Time, usize), FieldFault>
+pub fn time_at(bytes: &[u8], at: usize) -> Result<(Time, usize), Misread>
     requires { at ≤ length bytes.now }
     ensures step { result ≡ time_at bytes.now at }
     ensures within { IfOk result (λ x. x.1 ≤ length bytes.now) }
@@ -20,7 +21,7 @@ fn time_at(bytes: &[u8], at: usize) -> Result<(Time, usize), FieldFault>
 }
 
 #[tactic(auto, unfolding(crate::specs::Attributes::set_attr_at))]
-pub(crate) fn set_attr_at(bytes: &[u8], at: usize) -> Result<(SetAttr, usize), FieldFault>
+pub(crate) fn set_attr_at(bytes: &[u8], at: usize) -> Result<(SetAttr, usize), Misread>
     requires { at ≤ length bytes.now }
     ensures step { result ≡ set_attr_at bytes.now at }
     ensures within { IfOk result (λ x. x.1 ≤ length bytes.now) }
@@ -42,19 +43,22 @@ pub(crate) fn set_attr_at(bytes: &[u8], at: usize) -> Result<(SetAttr, usize), F
     Ok((attr, at))
 }
 
-fn kind_at(bytes: &[u8], at: usize) -> Result<(Kind, usize), FieldFault>
+/// The kind of an object, and the place after it.
+pub fn kind_at(bytes: &[u8], at: usize) -> Result<(Kind, usize), Misread>
+    requires { at ≤ length bytes.now }
     ensures step { result ≡ tag_at kind_number kinds bytes.now at }
     ensures within { IfOk result (λ x. x.1 ≤ length bytes.now) }
 {
     let (number, next) = byte_at(bytes, at)?;
     match Kind::of(number) {
         Some(kind) => Ok((kind, next)),
-        None => Err(FieldFault::BadTag(at)),
+        None => Err(Misread::BadTag(at)),
     }
 }
 
 #[tactic(auto, unfolding(crate::specs::Attributes::attr_at))]
-pub(crate) fn attr_at(bytes: &[u8], at: usize) -> Result<(Attr, usize), FieldFault>
+pub(crate) fn attr_at(bytes: &[u8], at: usize) -> Result<(Attr, usize), Misread>
+    requires { at ≤ length bytes.now }
     ensures step { result ≡ attr_at bytes.now at }
     ensures within { IfOk result (λ x. x.1 ≤ length bytes.now) }
 {
@@ -85,8 +89,9 @@ pub(crate) fn attr_at(bytes: &[u8], at: usize) -> Result<(Attr, usize), FieldFau
     Ok((attr, at))
 }
 
+/// Appends a time.
 #[tactic(auto, unfolding(crate::specs::Attributes::time_bytes))]
-fn put_time(out: &mut Vec<u8>, time: &Time) -> Result<(), AllocError>
+pub fn put_time(out: &mut Vec<u8>, time: &Time) -> Result<(), AllocError>
     ensures value { OnOk result (out.new.items ≡ out.old.items ++ time_bytes time.now) }
     ensures fits { OnOk result (TimeFits time.now) }
 {

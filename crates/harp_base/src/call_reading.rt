@@ -3,17 +3,17 @@
 ghost use Rattle.std.specs.Prelude.{◌≡◌, ◌≤◌, ◌++◌, ℕ, List, length, IfOk, Ok};
 ghost use Rattle.harp_base.specs.declared.call.Call.{Call};
 ghost use Rattle.harp_base.specs.declared.procedure.Procedure.TheVariants as procedure;
-ghost use Rattle.harp_base.specs.Fields.{Gives, Spells};
+ghost use Rattle.harp_base.specs.Fields.{Gives, Spells, Tells, at_front};
 ghost use Rattle.harp_base.specs.Calls.{fields_at, call_at, call_bytes, CallFits};
 
 use crate::attr_fields::set_attr_at;
 use crate::call::Call;
-use crate::field::{FieldFault, bytes_at, u32_at};
+use crate::field::{FieldFault, Misread, bytes_at, told, u32_at};
 use crate::procedure::{Procedure, procedure_at};
 use std::alloc::Global;
 
 #[tactic(auto, unfolding(crate::specs::Calls::fields_at))]
-fn get_attr_call(bytes: &[u8], at: usize) -> Result<(Call, usize), FieldFault>
+fn get_attr_call(bytes: &[u8], at: usize) -> Result<(Call, usize), Misread>
     requires { at ≤ length bytes.now }
     ensures { result ≡ fields_at procedure.GetAttr bytes.now at }
 {
@@ -22,7 +22,7 @@ fn get_attr_call(bytes: &[u8], at: usize) -> Result<(Call, usize), FieldFault>
 }
 
 #[tactic(auto, unfolding(crate::specs::Calls::fields_at))]
-fn set_attr_call(bytes: &[u8], at: usize) -> Result<(Call, usize), FieldFault>
+fn set_attr_call(bytes: &[u8], at: usize) -> Result<(Call, usize), Misread>
     requires { at ≤ length bytes.now }
     ensures { result ≡ fields_at procedure.SetAttr bytes.now at }
 {
@@ -32,7 +32,7 @@ fn set_attr_call(bytes: &[u8], at: usize) -> Result<(Call, usize), FieldFault>
 }
 
 #[tactic(auto, unfolding(crate::specs::Calls::fields_at))]
-fn lookup_call(alloc: Global, bytes: &[u8], at: usize) -> Result<(Call, usize), FieldFault>
+fn lookup_call(alloc: Global, bytes: &[u8], at: usize) -> Result<(Call, usize), Misread>
     requires { at ≤ length bytes.now }
     ensures { Gives result (fields_at procedure.Lookup bytes.now at) }
 {
@@ -42,7 +42,7 @@ fn lookup_call(alloc: Global, bytes: &[u8], at: usize) -> Result<(Call, usize), 
 }
 
 #[tactic(auto, unfolding(crate::specs::Calls::fields_at))]
-fn read_link_call(bytes: &[u8], at: usize) -> Result<(Call, usize), FieldFault>
+fn read_link_call(bytes: &[u8], at: usize) -> Result<(Call, usize), Misread>
     requires { at ≤ length bytes.now }
     ensures { result ≡ fields_at procedure.ReadLink bytes.now at }
 {
@@ -51,7 +51,7 @@ fn read_link_call(bytes: &[u8], at: usize) -> Result<(Call, usize), FieldFault>
 }
 
 #[tactic(auto, unfolding(crate::specs::Calls::fields_at))]
-fn read_file_call(bytes: &[u8], at: usize) -> Result<(Call, usize), FieldFault>
+fn read_file_call(bytes: &[u8], at: usize) -> Result<(Call, usize), Misread>
     requires { at ≤ length bytes.now }
     ensures { result ≡ fields_at procedure.Read bytes.now at }
 {
@@ -69,7 +69,7 @@ fn read_file_call(bytes: &[u8], at: usize) -> Result<(Call, usize), FieldFault>
 }
 
 #[tactic(auto, unfolding(crate::specs::Calls::fields_at))]
-fn write_file_call(alloc: Global, bytes: &[u8], at: usize) -> Result<(Call, usize), FieldFault>
+fn write_file_call(alloc: Global, bytes: &[u8], at: usize) -> Result<(Call, usize), Misread>
     requires { at ≤ length bytes.now }
     ensures { Gives result (fields_at procedure.Write bytes.now at) }
 {
@@ -87,7 +87,7 @@ fn write_file_call(alloc: Global, bytes: &[u8], at: usize) -> Result<(Call, usiz
 }
 
 #[tactic(auto, unfolding(crate::specs::Calls::fields_at))]
-fn create_call(alloc: Global, bytes: &[u8], at: usize) -> Result<(Call, usize), FieldFault>
+fn create_call(alloc: Global, bytes: &[u8], at: usize) -> Result<(Call, usize), Misread>
     requires { at ≤ length bytes.now }
     ensures { Gives result (fields_at procedure.Create bytes.now at) }
 {
@@ -98,7 +98,7 @@ fn create_call(alloc: Global, bytes: &[u8], at: usize) -> Result<(Call, usize), 
 }
 
 #[tactic(auto, unfolding(crate::specs::Calls::fields_at))]
-fn remove_call(alloc: Global, bytes: &[u8], at: usize) -> Result<(Call, usize), FieldFault>
+fn remove_call(alloc: Global, bytes: &[u8], at: usize) -> Result<(Call, usize), Misread>
     requires { at ≤ length bytes.now }
     ensures { Gives result (fields_at procedure.Remove bytes.now at) }
 {
@@ -108,7 +108,7 @@ fn remove_call(alloc: Global, bytes: &[u8], at: usize) -> Result<(Call, usize), 
 }
 
 #[tactic(auto, unfolding(crate::specs::Calls::fields_at))]
-fn rename_call(alloc: Global, bytes: &[u8], at: usize) -> Result<(Call, usize), FieldFault>
+fn rename_call(alloc: Global, bytes: &[u8], at: usize) -> Result<(Call, usize), Misread>
     requires { at ≤ length bytes.now }
     ensures { Gives result (fields_at procedure.Rename bytes.now at) }
 {
@@ -128,7 +128,7 @@ fn rename_call(alloc: Global, bytes: &[u8], at: usize) -> Result<(Call, usize), 
 }
 
 #[tactic(auto, unfolding(crate::specs::Calls::fields_at))]
-fn link_call(alloc: Global, bytes: &[u8], at: usize) -> Result<(Call, usize), FieldFault>
+fn link_call(alloc: Global, bytes: &[u8], at: usize) -> Result<(Call, usize), Misread>
     requires { at ≤ length bytes.now }
     ensures { Gives result (fields_at procedure.Link bytes.now at) }
 {
@@ -139,7 +139,7 @@ fn link_call(alloc: Global, bytes: &[u8], at: usize) -> Result<(Call, usize), Fi
 }
 
 #[tactic(auto, unfolding(crate::specs::Calls::fields_at))]
-fn symlink_call(alloc: Global, bytes: &[u8], at: usize) -> Result<(Call, usize), FieldFault>
+fn symlink_call(alloc: Global, bytes: &[u8], at: usize) -> Result<(Call, usize), Misread>
     requires { at ≤ length bytes.now }
     ensures { Gives result (fields_at procedure.SymLink bytes.now at) }
 {
@@ -159,7 +159,7 @@ fn symlink_call(alloc: Global, bytes: &[u8], at: usize) -> Result<(Call, usize),
 }
 
 #[tactic(auto, unfolding(crate::specs::Calls::fields_at))]
-fn mkdir_call(alloc: Global, bytes: &[u8], at: usize) -> Result<(Call, usize), FieldFault>
+fn mkdir_call(alloc: Global, bytes: &[u8], at: usize) -> Result<(Call, usize), Misread>
     requires { at ≤ length bytes.now }
     ensures { Gives result (fields_at procedure.MkDir bytes.now at) }
 {
@@ -170,7 +170,7 @@ fn mkdir_call(alloc: Global, bytes: &[u8], at: usize) -> Result<(Call, usize), F
 }
 
 #[tactic(auto, unfolding(crate::specs::Calls::fields_at))]
-fn rmdir_call(alloc: Global, bytes: &[u8], at: usize) -> Result<(Call, usize), FieldFault>
+fn rmdir_call(alloc: Global, bytes: &[u8], at: usize) -> Result<(Call, usize), Misread>
     requires { at ≤ length bytes.now }
     ensures { Gives result (fields_at procedure.RmDir bytes.now at) }
 {
@@ -180,7 +180,7 @@ fn rmdir_call(alloc: Global, bytes: &[u8], at: usize) -> Result<(Call, usize), F
 }
 
 #[tactic(auto, unfolding(crate::specs::Calls::fields_at))]
-fn read_dir_call(bytes: &[u8], at: usize) -> Result<(Call, usize), FieldFault>
+fn read_dir_call(bytes: &[u8], at: usize) -> Result<(Call, usize), Misread>
     requires { at ≤ length bytes.now }
     ensures { result ≡ fields_at procedure.ReadDir bytes.now at }
 {
@@ -191,7 +191,7 @@ fn read_dir_call(bytes: &[u8], at: usize) -> Result<(Call, usize), FieldFault>
 }
 
 #[tactic(auto, unfolding(crate::specs::Calls::fields_at))]
-fn stat_fs_call(bytes: &[u8], at: usize) -> Result<(Call, usize), FieldFault>
+fn stat_fs_call(bytes: &[u8], at: usize) -> Result<(Call, usize), Misread>
     requires { at ≤ length bytes.now }
     ensures { result ≡ fields_at procedure.StatFs bytes.now at }
 {
@@ -205,7 +205,7 @@ fn fields_at(
     procedure: Procedure,
     bytes: &[u8],
     at: usize,
-) -> Result<(Call, usize), FieldFault>
+) -> Result<(Call, usize), Misread>
     requires { at ≤ length bytes.now }
     ensures { Gives result (fields_at procedure bytes.now at) }
 {
@@ -229,9 +229,12 @@ fn fields_at(
     }
 }
 
+/// A call that begins at a place, and the place after it.
 #[tactic(auto, unfolding(crate::specs::Calls::call_at))]
-fn call_at(alloc: Global, bytes: &[u8], at: usize) -> Result<(Call, usize), FieldFault>
-    ensures { Gives result (call_at bytes.now at) }
+pub fn call_at(alloc: Global, bytes: &[u8], at: usize) -> Result<(Call, usize), Misread>
+    requires { at ≤ length bytes.now }
+    ensures step { Gives result (call_at bytes.now at) }
+    ensures within { IfOk result (λ x. x.1 ≤ length bytes.now) }
 {
     let (procedure, at) = procedure_at(bytes, at)?;
     fields_at(alloc, procedure, bytes, at)
@@ -243,9 +246,9 @@ pub fn read_call(alloc: Global, bytes: &[u8]) -> Result<(Call, usize), FieldFaul
     ensures found { IfOk result (λ x. Spells bytes.now 0 (call_bytes x.0) x.1 × CallFits x.0) }
     // What is spelled so is read, whatever follows, unless memory runs out.
     ensures only { (c : Call) (rest : List ℕ) → CallFits c → bytes.now ≡ call_bytes c ++ rest
-        → Gives result (Ok (c, length (call_bytes c))) }
+        → Tells result (Ok (c, length (call_bytes c))) }
     // Which fault it is, and where.
-    ensures exact { Gives result (call_at bytes.now 0) }
+    ensures exact { Tells result (at_front call_at bytes.now) }
 {
-    call_at(alloc, bytes, 0)
+    told(call_at(alloc, bytes, 0), bytes.len())
 }

@@ -135,14 +135,13 @@ fn put_fields(out: &mut Vec<u8>, call: &Call) -> Result<(), AllocError>
     }
 }
 
-fn spelled(alloc: Global, call: &Call) -> Result<Vec<u8>, AllocError>
-    ensures value { IfOk result (λ bytes. bytes.items ≡ call_bytes call.now) }
+/// Appends the one spelling of a call. Where memory runs out, any bytes may have been appended.
+pub fn put_call(out: &mut Vec<u8>, call: &Call) -> Result<(), AllocError>
+    ensures value { OnOk result (out.new.items ≡ out.old.items ++ call_bytes call.now) }
     ensures fits { OnOk result (CallFits call.now) }
 {
-    let mut out = Vec::new(alloc);
     out.push(Procedure::of(call).number())?;
-    put_fields(&mut out, call)?;
-    Ok(out)
+    put_fields(out, call)
 }
 
 /// Appends the one spelling of a call. Where memory runs out, nothing is appended.
@@ -151,6 +150,7 @@ pub fn write_call(alloc: Global, call: &Call, into: &mut Bytes) -> Result<(), Al
     ensures fits { OnOk result (CallFits call.now) }
     ensures kept { OnErr result (into.new ≡ into.old) }
 {
-    let spelled = spelled(alloc, call)?;
+    let mut spelled = Vec::new(alloc);
+    put_call(&mut spelled, call)?;
     into.extend(&spelled)
 }

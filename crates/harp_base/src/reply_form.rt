@@ -4,7 +4,7 @@ ghost use Rattle.std.specs.Prelude.{◌≡◌, ◌≤◌, length, IfOk};
 ghost use Rattle.harp_base.specs.Fields.{value_with_number, tag_at};
 ghost use Rattle.harp_base.specs.Replies.{form_of, form_number, forms};
 
-use crate::field::{FieldFault, byte_at};
+use crate::field::{Misread, byte_at};
 use crate::reply::Reply;
 
 #[derive(Clone, Copy, Debug, PartialEq, Eq)]
@@ -37,14 +37,15 @@ impl ReplyForm {
     }
 }
 
-pub(crate) fn form_at(bytes: &[u8], at: usize) -> Result<(ReplyForm, usize), FieldFault>
+pub(crate) fn form_at(bytes: &[u8], at: usize) -> Result<(ReplyForm, usize), Misread>
+    requires { at ≤ length bytes.now }
     ensures step { result ≡ tag_at form_number forms bytes.now at }
     ensures within { IfOk result (λ x. x.1 ≤ length bytes.now) }
 {
     let (number, next) = byte_at(bytes, at)?;
     match ReplyForm::of(number) {
         Some(form) => Ok((form, next)),
-        None => Err(FieldFault::BadTag(at)),
+        None => Err(Misread::BadTag(at)),
     }
 }
 

@@ -3,38 +3,40 @@
 ghost use Rattle.std.specs.Prelude.{◌≡◌, ◌≤◌, ◌<◌, ◌++◌, ℕ, List, length, IfOk, Ok};
 ghost use Rattle.harp_base.specs.declared.reply.Reply.{Reply};
 ghost use Rattle.harp_base.specs.declared.reply_form.ReplyForm.TheVariants as form;
-ghost use Rattle.harp_base.specs.Fields.{Gives, GivesAs, Spells, tag_at};
-ghost use Rattle.harp_base.specs.Replies.{status_number, statuses, flag_number, flags, entry_at, each_at, entries_at, reply_fields_at, reply_at, reply_bytes, ReplyFits};
+ghost use Rattle.harp_base.specs.Fields.{Gives, GivesAs, Spells, Tells, at_front, tag_at, many_at};
+ghost use Rattle.harp_base.specs.Replies.{status_number, statuses, flag_number, flags, entry_at, entries_at, reply_fields_at, reply_at, reply_bytes, ReplyFits};
 
 use crate::attr_fields::attr_at;
-use crate::field::{FieldFault, byte_at, bytes_at, u16_at, u32_at};
+use crate::field::{FieldFault, Misread, byte_at, bytes_at, told, u16_at, u32_at};
 use crate::reply::{DirEntry, Entries, Reply, Status};
 use crate::reply_form::{ReplyForm, form_at};
 use std::alloc::Global;
 
-fn status_at(bytes: &[u8], at: usize) -> Result<(Status, usize), FieldFault>
+fn status_at(bytes: &[u8], at: usize) -> Result<(Status, usize), Misread>
+    requires { at ≤ length bytes.now }
     ensures { result ≡ tag_at status_number statuses bytes.now at }
 {
     let (number, next) = byte_at(bytes, at)?;
     match Status::of(number) {
         Some(status) => Ok((status, next)),
-        None => Err(FieldFault::BadTag(at)),
+        None => Err(Misread::BadTag(at)),
     }
 }
 
-fn flag_at(bytes: &[u8], at: usize) -> Result<(bool, usize), FieldFault>
+fn flag_at(bytes: &[u8], at: usize) -> Result<(bool, usize), Misread>
+    requires { at ≤ length bytes.now }
     ensures { result ≡ tag_at flag_number flags bytes.now at }
 {
     let (number, next) = byte_at(bytes, at)?;
     match number {
         0 => Ok((false, next)),
         1 => Ok((true, next)),
-        _ => Err(FieldFault::BadTag(at)),
+        _ => Err(Misread::BadTag(at)),
     }
 }
 
 #[tactic(auto, unfolding(crate::specs::Replies::entry_at))]
-fn entry_at(alloc: Global, bytes: &[u8], at: usize) -> Result<(DirEntry, usize), FieldFault>
+fn entry_at(alloc: Global, bytes: &[u8], at: usize) -> Result<(DirEntry, usize), Misread>
     requires { at ≤ length bytes.now }
     ensures step { Gives result (entry_at bytes.now at) }
     ensures within { IfOk result (λ x. x.1 ≤ length bytes.now) }
@@ -50,15 +52,15 @@ fn entry_at(alloc: Global, bytes: &[u8], at: usize) -> Result<(DirEntry, usize),
     Ok((entry, at))
 }
 
-#[tactic(auto, unfolding(crate::specs::Replies::each_at))]
+#[tactic(auto, unfolding(crate::specs::Fields::many_at))]
 fn each_at(
     alloc: Global,
     count: u16,
     bytes: &[u8],
     from: usize,
-) -> Result<(Vec<DirEntry>, usize), FieldFault>
+) -> Result<(Vec<DirEntry>, usize), Misread>
     requires { from ≤ length bytes.now }
-    ensures step { GivesAs (λ x. (x.0.items, x.1)) result (each_at count bytes.now from) }
+    ensures step { GivesAs (λ x. (x.0.items, x.1)) result (many_at entry_at count bytes.now from) }
     ensures count { IfOk result (λ x. length x.0.items ≡ count) }
     ensures within { IfOk result (λ x. x.1 ≤ length bytes.now) }
 {
@@ -73,7 +75,7 @@ fn each_at(
 }
 
 #[tactic(auto, unfolding(crate::specs::Replies::entries_at))]
-fn entries_at(alloc: Global, bytes: &[u8], at: usize) -> Result<(Entries, usize), FieldFault>
+fn entries_at(alloc: Global, bytes: &[u8], at: usize) -> Result<(Entries, usize), Misread>
     requires { at ≤ length bytes.now }
     ensures step { Gives result (entries_at bytes.now at) }
     ensures within { IfOk result (λ x. x.1 ≤ length bytes.now) }
@@ -84,7 +86,7 @@ fn entries_at(alloc: Global, bytes: &[u8], at: usize) -> Result<(Entries, usize)
 }
 
 #[tactic(auto, unfolding(crate::specs::Replies::reply_fields_at))]
-fn page_reply(alloc: Global, bytes: &[u8], at: usize) -> Result<(Reply, usize), FieldFault>
+fn page_reply(alloc: Global, bytes: &[u8], at: usize) -> Result<(Reply, usize), Misread>
     requires { at ≤ length bytes.now }
     ensures { Gives result (reply_fields_at form.Page bytes.now at) }
 {
@@ -94,7 +96,8 @@ fn page_reply(alloc: Global, bytes: &[u8], at: usize) -> Result<(Reply, usize), 
 }
 
 #[tactic(auto, unfolding(crate::specs::Replies::reply_fields_at))]
-fn refused_reply(bytes: &[u8], at: usize) -> Result<(Reply, usize), FieldFault>
+fn refused_reply(bytes: &[u8], at: usize) -> Result<(Reply, usize), Misread>
+    requires { at ≤ length bytes.now }
     ensures { result ≡ reply_fields_at form.Refused bytes.now at }
 {
     let (status, at) = status_at(bytes, at)?;
@@ -102,7 +105,8 @@ fn refused_reply(bytes: &[u8], at: usize) -> Result<(Reply, usize), FieldFault>
 }
 
 #[tactic(auto, unfolding(crate::specs::Replies::reply_fields_at))]
-fn attr_reply(bytes: &[u8], at: usize) -> Result<(Reply, usize), FieldFault>
+fn attr_reply(bytes: &[u8], at: usize) -> Result<(Reply, usize), Misread>
+    requires { at ≤ length bytes.now }
     ensures { result ≡ reply_fields_at form.Attr bytes.now at }
 {
     let (attr, at) = attr_at(bytes, at)?;
@@ -110,7 +114,7 @@ fn attr_reply(bytes: &[u8], at: usize) -> Result<(Reply, usize), FieldFault>
 }
 
 #[tactic(auto, unfolding(crate::specs::Replies::reply_fields_at))]
-fn node_reply(bytes: &[u8], at: usize) -> Result<(Reply, usize), FieldFault>
+fn node_reply(bytes: &[u8], at: usize) -> Result<(Reply, usize), Misread>
     requires { at ≤ length bytes.now }
     ensures { result ≡ reply_fields_at form.Node bytes.now at }
 {
@@ -120,7 +124,7 @@ fn node_reply(bytes: &[u8], at: usize) -> Result<(Reply, usize), FieldFault>
 }
 
 #[tactic(auto, unfolding(crate::specs::Replies::reply_fields_at))]
-fn path_reply(alloc: Global, bytes: &[u8], at: usize) -> Result<(Reply, usize), FieldFault>
+fn path_reply(alloc: Global, bytes: &[u8], at: usize) -> Result<(Reply, usize), Misread>
     requires { at ≤ length bytes.now }
     ensures { Gives result (reply_fields_at form.Path bytes.now at) }
 {
@@ -129,7 +133,8 @@ fn path_reply(alloc: Global, bytes: &[u8], at: usize) -> Result<(Reply, usize), 
 }
 
 #[tactic(auto, unfolding(crate::specs::Replies::reply_fields_at))]
-fn bytes_reply(alloc: Global, bytes: &[u8], at: usize) -> Result<(Reply, usize), FieldFault>
+fn bytes_reply(alloc: Global, bytes: &[u8], at: usize) -> Result<(Reply, usize), Misread>
+    requires { at ≤ length bytes.now }
     ensures { Gives result (reply_fields_at form.Bytes bytes.now at) }
 {
     let (attr, at) = attr_at(bytes, at)?;
@@ -138,7 +143,7 @@ fn bytes_reply(alloc: Global, bytes: &[u8], at: usize) -> Result<(Reply, usize),
 }
 
 #[tactic(auto, unfolding(crate::specs::Replies::reply_fields_at))]
-fn space_reply(bytes: &[u8], at: usize) -> Result<(Reply, usize), FieldFault>
+fn space_reply(bytes: &[u8], at: usize) -> Result<(Reply, usize), Misread>
     requires { at ≤ length bytes.now }
     ensures { result ≡ reply_fields_at form.Space bytes.now at }
 {
@@ -163,7 +168,7 @@ fn fields_at(
     form: ReplyForm,
     bytes: &[u8],
     at: usize,
-) -> Result<(Reply, usize), FieldFault>
+) -> Result<(Reply, usize), Misread>
     requires { at ≤ length bytes.now }
     ensures { Gives result (reply_fields_at form bytes.now at) }
 {
@@ -179,9 +184,12 @@ fn fields_at(
     }
 }
 
+/// A reply that begins at a place, and the place after it.
 #[tactic(auto, unfolding(crate::specs::Replies::reply_at))]
-fn reply_at(alloc: Global, bytes: &[u8], at: usize) -> Result<(Reply, usize), FieldFault>
-    ensures { Gives result (reply_at bytes.now at) }
+pub fn reply_at(alloc: Global, bytes: &[u8], at: usize) -> Result<(Reply, usize), Misread>
+    requires { at ≤ length bytes.now }
+    ensures step { Gives result (reply_at bytes.now at) }
+    ensures within { IfOk result (λ x. x.1 ≤ length bytes.now) }
 {
     let (form, at) = form_at(bytes, at)?;
     fields_at(alloc, form, bytes, at)
@@ -193,9 +201,9 @@ pub fn read_reply(alloc: Global, bytes: &[u8]) -> Result<(Reply, usize), FieldFa
     ensures found { IfOk result (λ x. Spells bytes.now 0 (reply_bytes x.0) x.1 × ReplyFits x.0) }
     // What is spelled so is read, whatever follows, unless memory runs out.
     ensures only { (r : Reply) (rest : List ℕ) → ReplyFits r → bytes.now ≡ reply_bytes r ++ rest
-        → Gives result (Ok (r, length (reply_bytes r))) }
+        → Tells result (Ok (r, length (reply_bytes r))) }
     // Which fault it is, and where.
-    ensures exact { Gives result (reply_at bytes.now 0) }
+    ensures exact { Tells result (at_front reply_at bytes.now) }
 {
-    reply_at(alloc, bytes, 0)
+    told(reply_at(alloc, bytes, 0), bytes.len())
 }

@@ -1,7 +1,8 @@
 //! Replies that are written.
 
 ghost use Rattle.std.specs.Prelude.{◌≡◌, ◌++◌, ◌<◌, ◌^◌, length, OnOk, OnErr, IfOk};
-ghost use Rattle.harp_base.specs.Replies.{entry_bytes, each_bytes, entries_bytes, EntryFits, EachFits, EntriesFit, reply_fields_of, reply_bytes, ReplyFits};
+ghost use Rattle.harp_base.specs.Fields.{many_bytes, AllFit};
+ghost use Rattle.harp_base.specs.Replies.{entry_bytes, entries_bytes, EntryFits, EntriesFit, reply_fields_of, reply_bytes, ReplyFits};
 
 use crate::attr_fields::put_attr;
 use crate::bytes::Bytes;
@@ -21,10 +22,10 @@ fn put_entry(out: &mut Vec<u8>, entry: &DirEntry) -> Result<(), AllocError>
     Ok(())
 }
 
-#[tactic(auto, unfolding(crate::specs::Replies::each_bytes))]
+#[tactic(auto, unfolding(crate::specs::Fields::many_bytes))]
 fn put_each(out: &mut Vec<u8>, entries: &[DirEntry]) -> Result<(), AllocError>
-    ensures value { OnOk result (out.new.items ≡ out.old.items ++ each_bytes entries.now) }
-    ensures fits { OnOk result (EachFits entries.now) }
+    ensures value { OnOk result (out.new.items ≡ out.old.items ++ many_bytes entry_bytes entries.now) }
+    ensures fits { OnOk result (AllFit EntryFits entries.now) }
 {
     for entry in entries {
         put_entry(out, entry)?;
@@ -81,14 +82,13 @@ fn put_fields(out: &mut Vec<u8>, reply: &Reply) -> Result<(), AllocError>
     Ok(())
 }
 
-fn spelled(alloc: Global, reply: &Reply) -> Result<Vec<u8>, AllocError>
-    ensures value { IfOk result (λ bytes. bytes.items ≡ reply_bytes reply.now) }
+/// Appends the one spelling of a reply. Where memory runs out, any bytes may have been appended.
+pub fn put_reply(out: &mut Vec<u8>, reply: &Reply) -> Result<(), AllocError>
+    ensures value { OnOk result (out.new.items ≡ out.old.items ++ reply_bytes reply.now) }
     ensures fits { OnOk result (ReplyFits reply.now) }
 {
-    let mut out = Vec::new(alloc);
     out.push(form_number(reply))?;
-    put_fields(&mut out, reply)?;
-    Ok(out)
+    put_fields(out, reply)
 }
 
 /// Appends the one spelling of a reply. Where memory runs out, nothing is appended.
@@ -97,6 +97,7 @@ pub fn write_reply(alloc: Global, reply: &Reply, into: &mut Bytes) -> Result<(),
     ensures fits { OnOk result (ReplyFits reply.now) }
     ensures kept { OnErr result (into.new ≡ into.old) }
 {
-    let spelled = spelled(alloc, reply)?;
+    let mut spelled = Vec::new(alloc);
+    put_reply(&mut spelled, reply)?;
     into.extend(&spelled)
 }

@@ -4,7 +4,7 @@ use Rattle.std.specs.Prelude.{nat_le}
 use Rattle.std.proofs.lemmas.Bool.{and_parts, and_from, eqb-true, eq-eqb, leb-true}
 use Rattle.harp_cells.specs.declared.cell.Cell.{Cell}
 use Rattle.harp_cells.specs.declared.cell.Cell.TheVariants.{Meta, Object, Block, Slot, Client, Saved}
-use Rattle.harp_cells.specs.Effect.{key, is_key, is_cell, is_block_key, is_block_from}
+use Rattle.harp_cells.specs.Effect.{key, is_key, is_cell, is_block_key}
 
 -- ---- the same cell
 

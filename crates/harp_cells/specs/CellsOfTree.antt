@@ -117,6 +117,7 @@ full_value (value.Object inode) = value.Object inode
 full_value (value.Slot object name) = value.Slot object name
 full_value (value.Client number index reply) = value.Client number index reply
 full_value (value.Saved bytes) = value.Saved bytes
+full_value (value.SavedCred bytes) = value.SavedCred bytes
 
 abbrev pub is_regular_at : Option Object → Bool
 is_regular_at None = false

@@ -1,4 +1,6 @@
 pub mod Effect
+pub mod ValueBytes
+pub mod CellBytes
 pub mod Memory
 pub mod CellsOfTree
 pub mod Laws

@@ -3,11 +3,17 @@
 ghost use Rattle.std.specs.Prelude.{◌≡◌, IfOk};
 
 use crate::bounds::{Moment, NonEmpty};
-use harp_base::{BLOCK_SIZE, Bounded, Kind, LONGEST_NAME, Reply, Time};
+use harp_base::{BLOCK_SIZE, Kind, LONGEST_NAME, Reply, Time};
 use std::alloc::{AllocError, Global};
 
 // The most bytes of a block.
 const BLOCK_BYTES: usize = BLOCK_SIZE as usize;
+
+/// The most bytes of a record.
+pub const LONGEST_RECORD: usize = 60_008;
+
+/// The most bytes of a record of the old form, which has no credential.
+pub const LONGEST_OLD_RECORD: usize = 60_000;
 
 /// The attributes of an object. The mode has 12 bits, the parent is 0 of what is no directory, the
 /// size is in bytes, and the slots are those of a directory, free ones too.
@@ -55,9 +61,13 @@ pub enum Value {
         index: u64,
         reply: Reply,
     },
-    /// The bytes of a record.
+    /// The bytes of a record of the old form, which has no credential.
     Saved {
-        bytes: Bounded<60000>,
+        bytes: NonEmpty<LONGEST_OLD_RECORD>,
+    },
+    /// The bytes of a record.
+    SavedCred {
+        bytes: NonEmpty<LONGEST_RECORD>,
     },
 }
 
@@ -90,6 +100,9 @@ impl Value {
                 reply: reply.copy(alloc)?,
             }),
             Value::Saved { bytes } => Ok(Value::Saved {
+                bytes: bytes.copy(alloc)?,
+            }),
+            Value::SavedCred { bytes } => Ok(Value::SavedCred {
                 bytes: bytes.copy(alloc)?,
             }),
         }

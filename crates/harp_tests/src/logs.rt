@@ -2,7 +2,7 @@
 
 ghost use Rattle.std.specs.Prelude.{◌≡◌, IfOk};
 
-use event_record::{Changes, Index, Moment, Record};
+use event_record::{Changes, Index, Moment, Record, RecordFields};
 use harp_base::{Bounded, Call, LOG_ROOM, Reply, SUPERUSER, ServerId, ViewNo};
 use harp_cells::Change;
 use std::alloc::Global;
@@ -21,7 +21,7 @@ fn record(alloc: Global, index: Index) -> Result<Record, Fail>
         object: 2,
         first: 1,
     })?;
-    Ok(Record {
+    let fields = RecordFields {
         stamped,
         index,
         client: 7,
@@ -35,7 +35,8 @@ fn record(alloc: Global, index: Index) -> Result<Record, Fail>
         stamp: Moment::new(2050),
         reply: Reply::Done,
         changes: Changes::of(changes).ok_or("too many changes")?,
-    })
+    };
+    Ok(Record::of(alloc, fields)?.ok_or("too long")?)
 }
 
 #[test]
@@ -44,17 +45,17 @@ fn keeps_a_record(rt: HostRuntime) -> Result<(), Fail> {
     let mut log = ActiveLog::start(alloc)?;
     let item = record(alloc, Index::new(1))?;
     assert!(rt; log.append(item.copy(alloc)?).is_ok());
-    assert!(rt; matches!(log.item(1), Some(kept) if kept.client == 7));
-    assert!(rt; matches!(log.item(1), Some(kept) if kept.changes.as_slice().len() == 1));
+    assert!(rt; matches!(log.item(1), Some(kept) if kept.fields().client == 7));
+    assert!(rt; matches!(log.item(1), Some(kept) if kept.fields().changes.as_slice().len() == 1));
     assert!(rt; log.item(2).is_none());
     let message = Message::Event {
-        view: item.stamped,
+        view: item.fields().stamped,
         cp: 0,
         base: 0,
         record: item,
     };
     assert!(rt;
-        matches!(message.copy(alloc)?, Message::Event { record, .. } if record.number == 1)
+        matches!(message.copy(alloc)?, Message::Event { record, .. } if record.fields().number == 1)
     );
     Ok(())
 }
@@ -74,10 +75,10 @@ fn gives_the_record_back_where_the_log_is_full(rt: HostRuntime) -> Result<(), Fa
     let item = record(alloc, Index::new(next))?;
     let given_back = match log.append(item) {
         Ok(()) => None,
-        Err((LogFull, back)) => Some(back.index.get()),
+        Err((LogFull, back)) => Some(back.index().get()),
     };
     assert_eq!(rt; given_back, Some(32_769));
     assert_eq!(rt; log.top(), 32_768);
-    assert!(rt; matches!(log.item(32_768), Some(last) if last.index.get() == 32_768));
+    assert!(rt; matches!(log.item(32_768), Some(last) if last.index().get() == 32_768));
     Ok(())
 }

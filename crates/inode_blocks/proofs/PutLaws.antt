@@ -61,6 +61,7 @@ stored_fits (Some (value.Object inode)) = omega arith
 stored_fits (Some (value.Slot object name)) = omega arith
 stored_fits (Some (value.Client number index reply)) = omega arith
 stored_fits (Some (value.Saved bytes)) = omega arith
+stored_fits (Some (value.SavedCred bytes)) = omega arith
 
 stored_in_cases : (b : Bool) (xs : List ℕ) → length xs ≤ 4096
     → length (if◌then◌else◌ {A = List ℕ} b xs []) ≤ 4096

@@ -77,6 +77,7 @@ raw (value.Object inode) = []
 raw (value.Slot object name) = []
 raw (value.Client number index reply) = []
 raw (value.Saved bytes) = []
+raw (value.SavedCred bytes) = []
 
 -- a cell of a block holds these bytes
 record HoldsBlock (v : Option Value) (bytes : List ℕ) : Type 0 where
@@ -106,6 +107,7 @@ by_full (Some (value.Object inode)) bytes short e = absurd cc
 by_full (Some (value.Slot object name)) bytes short e = absurd cc
 by_full (Some (value.Client number index reply)) bytes short e = absurd cc
 by_full (Some (value.Saved b)) bytes short e = absurd cc
+by_full (Some (value.SavedCred b)) bytes short e = absurd cc
 
 block_value_holds : (bytes : List ℕ) → length bytes ≤ 4096 → HoldsBlock (block_value bytes) bytes
 block_value_holds [] short = record { kind = tt; byte = λ at within. refl }
@@ -167,6 +169,7 @@ full_of (Some (value.Object inode)) bytes short h = absurd h.kind
 full_of (Some (value.Slot object name)) bytes short h = absurd h.kind
 full_of (Some (value.Client number index reply)) bytes short h = absurd h.kind
 full_of (Some (value.Saved b)) bytes short h = absurd h.kind
+full_of (Some (value.SavedCred b)) bytes short h = absurd h.kind
 
 file_block : (cells : Cells) (object : ℕ) (bytes : List ℕ) (block : ℕ)
     → HoldsBytes cells object bytes

@@ -14,6 +14,7 @@ bytes_within (value.Object inode) = []
 bytes_within (value.Slot object name) = []
 bytes_within (value.Client number index reply) = []
 bytes_within (value.Saved bytes) = []
+bytes_within (value.SavedCred bytes) = []
 
 -- none where the cell is absent
 abbrev pub stored : Option Value → List ℕ
@@ -27,6 +28,7 @@ IsBlockValue (value.Object inode) = ⊥
 IsBlockValue (value.Slot object name) = ⊥
 IsBlockValue (value.Client number index reply) = ⊥
 IsBlockValue (value.Saved bytes) = ⊥
+IsBlockValue (value.SavedCred bytes) = ⊥
 
 -- absent, or a block
 abbrev pub IsBlock : Option Value → Type 0

@@ -15,6 +15,7 @@ parent_by number (Some (value.Block bytes)) = 0
 parent_by number (Some (value.Slot object name)) = 0
 parent_by number (Some (value.Client n index reply)) = 0
 parent_by number (Some (value.Saved bytes)) = 0
+parent_by number (Some (value.SavedCred bytes)) = 0
 
 -- cells hold the parent of each directory of a tree
 abbrev pub HoldsParents : Cells → Tree → Type 0

@@ -41,6 +41,7 @@ slot_of (Some (value.Object inode)) = None
 slot_of (Some (value.Block bytes)) = None
 slot_of (Some (value.Client number index reply)) = None
 slot_of (Some (value.Saved bytes)) = None
+slot_of (Some (value.SavedCred bytes)) = None
 
 -- the object that a slot names by a name
 abbrev pub object_named : List ℕ → Option Slot → Option ℕ

@@ -18,7 +18,8 @@ fn parent_in(number: u32, value: &Value) -> u32
         | Value::Block { .. }
         | Value::Slot { .. }
         | Value::Client { .. }
-        | Value::Saved { .. } => 0,
+        | Value::Saved { .. }
+        | Value::SavedCred { .. } => 0,
     }
 }
 

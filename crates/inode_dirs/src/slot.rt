@@ -27,7 +27,8 @@ fn object_in(value: &Value, name: &[u8]) -> Option<u32>
         | Value::Object { .. }
         | Value::Block { .. }
         | Value::Client { .. }
-        | Value::Saved { .. } => None,
+        | Value::Saved { .. }
+        | Value::SavedCred { .. } => None,
     }
 }
 
@@ -85,7 +86,8 @@ fn entry_in(alloc: Global, value: &Value, cookie: u32) -> Result<Option<DirEntry
         | Value::Object { .. }
         | Value::Block { .. }
         | Value::Client { .. }
-        | Value::Saved { .. } => Ok(None),
+        | Value::Saved { .. }
+        | Value::SavedCred { .. } => Ok(None),
     }
 }
 

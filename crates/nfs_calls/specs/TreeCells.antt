@@ -40,6 +40,7 @@ inode_found number (Some (value.Block bytes)) = None
 inode_found number (Some (value.Slot object name)) = None
 inode_found number (Some (value.Client n index reply)) = None
 inode_found number (Some (value.Saved bytes)) = None
+inode_found number (Some (value.SavedCred bytes)) = None
 
 abbrev pub inode_of_some : Tree → ℕ → Option Object → Option Inode
 inode_of_some tree number None = None
@@ -112,6 +113,7 @@ totals_found (Some (value.Block bytes)) = first_totals
 totals_found (Some (value.Slot object name)) = first_totals
 totals_found (Some (value.Client n index reply)) = first_totals
 totals_found (Some (value.Saved bytes)) = first_totals
+totals_found (Some (value.SavedCred bytes)) = first_totals
 
 -- a file's bytes, or a link's text
 abbrev pub bytes_within : Body → List ℕ

@@ -11,7 +11,7 @@ use Rattle.file_tree.proofs.SoundLaws.{book_sound}
 use Rattle.harp_cells.specs.CellsOfTree.{StandForBook}
 use Rattle.harp_cells.specs.Effect.{Cells, after}
 use Rattle.harp_cells.proofs.TreeLaws.{no_values_are_first}
-use Rattle.event_record.specs.declared.record.Record.{Record}
+use Rattle.event_record.specs.declared.record.RecordFields.{RecordFields as Record}
 use Rattle.event_record.specs.Record.{AllStandFor, StandsFor, entry_of}
 use Rattle.event_record.proofs.Standing.{all_lead, all_push, cells_push, front_stands}
 use Rattle.cell_changes.specs.TreeCells.{TreeCells}

@@ -6,7 +6,7 @@ use Rattle.std.proofs.lemmas.Bool.{lt-ltb}
 use Rattle.std.proofs.lemmas.List.{append-nil, drop-map}
 use Rattle.std.proofs.lemmas.Option.{same_Some}
 use Rattle.event_record.specs.Record.{entry_of}
-use Rattle.event_record.specs.declared.record.Record.{Record}
+use Rattle.event_record.specs.declared.record.RecordFields.{RecordFields as Record}
 use Rattle.file_tree.specs.Book.{Entry}
 use Rattle.group_rules.specs.FixedStart.{view_one}
 use Rattle.group_rules.specs.Moves.{Move, Sending, acts}

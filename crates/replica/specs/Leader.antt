@@ -1,7 +1,7 @@
 -- What the leader keeps beside its log.
 use Rattle.std.specs.Prelude.{◌≡◌, ℕ, ◌+◌, ◌-◌, ◌<◌, ◌^◌, List, [], ◌∷◌, ◌++◌, length, take, drop, map, Option, false}
 use Rattle.harp_base.specs.declared.peer.Peer.{Peer}
-use Rattle.event_record.specs.declared.record.Record.{Record}
+use Rattle.event_record.specs.declared.record.RecordFields.{RecordFields as Record}
 use Rattle.event_record.specs.Record.{AllStandFor, entry_of}
 use Rattle.file_tree.specs.Book.{Entry, last_stamp}
 use Rattle.group_rules.specs.Replicate.{answers}

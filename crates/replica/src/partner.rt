@@ -163,7 +163,7 @@ impl Partner {
         requires { length (taken self.old item.index (entry_of item)) ≤ room }
         ensures { self.new ≡ record self.old { items = taken self.old item.index (entry_of item) } }
     {
-        if item.index.get() == self.log.top() + 1 {
+        if item.index().get() == self.log.top() + 1 {
             match self.log.append(item) {
                 Ok(()) => {}
                 Err(_) => unreachable!(),

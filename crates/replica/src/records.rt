@@ -14,7 +14,7 @@ use crate::cells::plan;
 use crate::outputs::Asker;
 use crate::view::view_one;
 use dedup::keep;
-use event_record::{Changes, Index, Moment, Record};
+use event_record::{Changes, Index, Moment, Record, RecordFields};
 use harp_base::{Call, LOG_ROOM};
 use harp_cells::MemCells;
 use nfs_calls::Prepared;
@@ -70,7 +70,7 @@ pub(crate) fn next_record(
 {
     let Prepared { reply, mut changes } = plan(alloc, cells, asker.cred, call, stamp)?;
     changes.push(keep(alloc, asker.client, asker.number, index.get(), &reply)?)?;
-    Ok(Record {
+    let fields = RecordFields {
         stamped: view_one(),
         index,
         client: asker.client,
@@ -80,13 +80,19 @@ pub(crate) fn next_record(
         stamp,
         reply,
         changes: Changes::new(changes),
-    })
+    };
+    // No update of the tables makes so many bytes.
+    match Record::of(alloc, fields)? {
+        Some(record) => Ok(record),
+        None => Err(AllocError),
+    }
 }
 
 /// The entry of the book for a record.
 pub(crate) fn entry_copy(alloc: Global, item: &Record) -> Result<BookEntry, AllocError>
     ensures { IfOk result (λ entry. entered entry ≡ entry_of item.now) }
 {
+    let item = item.fields();
     Ok(BookEntry {
         index: item.index.get(),
         client: item.client,

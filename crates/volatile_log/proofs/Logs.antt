@@ -1,7 +1,7 @@
 -- Logs that others become stand in order too.
 use Rattle.std.proofs.Common.{◌≡◌, ℕ, ◌+◌, ◌-◌, ◌<◌, ◌≤◌, List, [], ◌∷◌, ◌++◌, length, take, drop, max, Bool, true, false, arith, if◌then◌else◌}
 use Rattle.std.proofs.lemmas.List.{length-append, length-drop, length-take}
-use Rattle.event_record.specs.declared.record.Record.{Record}
+use Rattle.event_record.specs.declared.record.RecordFields.{RecordFields as Record}
 use Rattle.volatile_log.specs.Log.{AreNumberedAfter, IsLog, IsStaged, LogValue, StagedValue, dropped_to, next, resumed_log, room, top}
 use Rattle.volatile_log.proofs.Numbers.{numbered_append, numbered_drop, numbered_take, renumbered, staged_after, staged_more}
 

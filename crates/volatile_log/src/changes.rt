@@ -21,7 +21,7 @@ impl ChangeLog for ActiveLog {
 
     fn changes(&self, index: u64) -> &[Change] {
         match self.item(index) {
-            Some(item) => item.changes.as_slice(),
+            Some(item) => item.fields().changes.as_slice(),
             None => unreachable!(),
         }
     }
@@ -42,7 +42,7 @@ impl ChangeLog for FrozenLog {
 
     fn changes(&self, index: u64) -> &[Change] {
         match self.item(index) {
-            Some(item) => item.changes.as_slice(),
+            Some(item) => item.fields().changes.as_slice(),
             None => unreachable!(),
         }
     }

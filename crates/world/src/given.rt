@@ -175,14 +175,17 @@ fn shown(message: &Message) -> ShownMessage
             cp,
             base,
             record,
-        } => ShownMessage::Event {
-            view: *view,
-            index: record.index.get(),
-            cp: *cp,
-            base: *base,
-            client: record.client,
-            number: record.number,
-        },
+        } => {
+            let record = record.fields();
+            ShownMessage::Event {
+                view: *view,
+                index: record.index.get(),
+                cp: *cp,
+                base: *base,
+                client: record.client,
+                number: record.number,
+            }
+        }
         Message::Beat { view, cp, base } => ShownMessage::Beat {
             view: *view,
             cp: *cp,

@@ -45,7 +45,8 @@ fn inode_in(value: &Value) -> Option<Inode>
         | Value::Block { .. }
         | Value::Slot { .. }
         | Value::Client { .. }
-        | Value::Saved { .. } => None,
+        | Value::Saved { .. }
+        | Value::SavedCred { .. } => None,
     }
 }
 

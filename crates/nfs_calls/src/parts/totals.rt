@@ -28,7 +28,8 @@ fn totals_in(value: &Value) -> Totals
         | Value::Block { .. }
         | Value::Slot { .. }
         | Value::Client { .. }
-        | Value::Saved { .. } => Totals { next: 2, used: 0 },
+        | Value::Saved { .. }
+        | Value::SavedCred { .. } => Totals { next: 2, used: 0 },
     }
 }
 

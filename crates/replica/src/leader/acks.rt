@@ -76,17 +76,18 @@ impl Leader {
     {
         let cp = self.log.cp();
         let item = record_after(&self.log, cp);
+        let fields = item.fields();
         let answer = Answered {
             peer: first_of(&self.waiting),
-            client: item.client,
-            number: item.number,
+            client: fields.client,
+            number: fields.number,
             index: cp + 1,
-            reply: item.reply.copy(alloc)?,
+            reply: fields.reply.copy(alloc)?,
             asked: None,
         };
         outs.commit(entry_copy(alloc, item)?)?;
         outs.answer(answer)?;
-        make_changes(alloc, &mut self.committed, item.changes.as_slice())?;
+        make_changes(alloc, &mut self.committed, fields.changes.as_slice())?;
         self.waiting.pop_front();
         self.log.commit_to(cp + 1);
         Ok(())

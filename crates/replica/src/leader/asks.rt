@@ -191,7 +191,7 @@ impl Leader {
         let item = next_record(alloc, &mut self.appended, asker, call, index, moment)?;
         let event = event_of(self.log.cp(), item.copy(alloc)?);
         outs.send(ServerId::One, event)?;
-        make_changes(alloc, &mut self.appended, item.changes.as_slice())?;
+        make_changes(alloc, &mut self.appended, item.fields().changes.as_slice())?;
         self.last_stamp = stamp;
         self.waiting.push_back_reserved(asker.peer);
         match self.log.append(item) {

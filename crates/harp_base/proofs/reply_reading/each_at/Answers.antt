@@ -1,5 +1,5 @@
 use Rattle.std.proofs.Common.{◌≡◌, ◌<◌, ◌+◌, ◌-◌, ap, arith, ◌∙◌, length, length-append}
-use Rattle.harp_base.proofs.PageLaws.{each_faults, each_more, handed_on}
+use Rattle.harp_base.proofs.ListLaws.{many_faults, many_more, handed_on}
 use Rattle.harp_base.proofs.reply_reading.each_at.Goals as goal
 
 pub returns-in_err-entry-clause-step : goal.returns-in_err-entry-clause-step
@@ -7,7 +7,7 @@ returns-in_err-entry-clause-step c =
     let h = c.from_residual.ensures in
     let left : 0 < c.args.count - c.loop.counter = omega arith in
     handed_on _ c.from_residual.result c.in_err-entry.field-0.0 _ h.0 h.1
-    (each_faults _ _ _ _ _ _ c.loop.invariant.step left c.in_err-entry.ensures.step)
+    (many_faults _ _ _ _ _ _ _ c.loop.invariant.step left c.in_err-entry.ensures.step)
 
 pub loop-preserved : goal.loop-preserved
 loop-preserved c =
@@ -15,7 +15,7 @@ loop-preserved c =
     let left : 0 < c.args.count - c.loop.counter = omega arith in
     let one : c.args.count - c.loop.counter - 1 ≡ c.args.count - (c.loop.counter + 1) =
     omega arith in
-    let more = each_more _ c.loop.entries.items _ _ _ _ left c.in_ok-entry.ensures.step in
+    let more = many_more _ _ c.loop.entries.items _ _ _ _ left c.in_ok-entry.ensures.step in
     record {
       count = omega (arith, simp length-append at (ap length items));
       within = omega (arith, c.in_ok-entry.ensures.within);

@@ -2,7 +2,7 @@ use Rattle.std.proofs.Common.{◌≡◌, ◌+◌, ◌∙◌, ◌++◌, ◌∷◌
 use Rattle.std.specs.Prelude.{map, max}
 use Rattle.std.specs.Option.{option_map}
 use Rattle.std.proofs.lemmas.List.{length-append, length-map, map-append}
-use Rattle.event_record.specs.declared.record.Record.{Record}
+use Rattle.event_record.specs.declared.record.RecordFields.{RecordFields as Record}
 use Rattle.event_record.specs.Record.{entry_of}
 use Rattle.file_tree.specs.Book.{Entry}
 use Rattle.group_rules.specs.Ask.{new_entry}
@@ -43,7 +43,7 @@ invariant_of-self-2 c =
     let item = c.in_ok-item.item in
     let items = map entry_of l.log.records in
     let made = c.in_ok-make_changes.ensures.made ∙ ap (λ changes. option_map (after changes) (held_in
-    c.next_record.new.cells)) c.as_slice.ensures.value
+    c.next_record.new.cells)) (c.as_slice.ensures.value ∙ ap (λ (r : Record). r.changes) c.fields.ensures.value)
     ∙ ap (option_map (after item.changes)) c.next_record.ensures.same in
     let stamp : item.stamp ≡ c.max-stamp.result = ap (λ (e : Entry). e.stamp) (is_new c) ∙ sym (c.max-stamp.ensures
     ∙ ap (max c.args.now) h.5.stamp_is) in

@@ -11,7 +11,7 @@ use Rattle.group_rules.specs.Effects.{taken}
 use Rattle.group_rules.specs.Replicate.{on_event}
 use Rattle.replica.specs.Heeding.{heeds_event}
 use Rattle.replica.specs.Said.{Makes}
-use Rattle.event_record.specs.declared.record.Record.{Record}
+use Rattle.event_record.specs.declared.record.RecordFields.{RecordFields as Record}
 use Rattle.world.proofs.Making.{event_brief, nothing_made, partner_made}
 use Rattle.world.proofs.world.World.hear_event.Goals as goal
 
@@ -25,7 +25,7 @@ returns-then-not-heeds_event c =
     (entry_of a.item.now))) c.new.result) c.self.view_is
     (rw (sym ((c.heeds_event.ensures.tests a.cp (entry_of a.item.now)
     ∙ ap (λ n. heeds_event One w.partner (place_of a.from) (number_of_view a.view) n a.cp a.base
-    (entry_of a.item.now)) c.get.ensures.value)) ∙ c.if-not-heeds_event.true)
+    (entry_of a.item.now)) (c.get.ensures.value ∙ c.index.ensures))) ∙ c.if-not-heeds_event.true)
     (nothing_made w One c.new.result (record {
       committed = fresh.committed;
       answers = fresh.answers;
@@ -44,7 +44,7 @@ returns c =
     let heeds : heeds_event One w.partner (place_of a.from) v a.item.now.index a.cp a.base
     (entry_of a.item.now) ≡ true = sym ((c.heeds_event.ensures.tests a.cp (entry_of a.item.now)
     ∙ ap (λ n. heeds_event One w.partner (place_of a.from) (number_of_view a.view) n a.cp a.base
-    (entry_of a.item.now)) c.get.ensures.value)) ∙ c.if-not-heeds_event.false in
+    (entry_of a.item.now)) (c.get.ensures.value ∙ c.index.ensures))) ∙ c.if-not-heeds_event.false in
     let from : place_of a.from ≡ Zero = c.heeds_event.ensures.from c.if-not-heeds_event.false in
     let view : v ≡ view_one = c.heeds_event.ensures.view c.if-not-heeds_event.false in
     let moves : on_event One now w.partner Zero view_one a.cp a.base
