@@ -3,7 +3,7 @@ use Rattle.std.proofs.Common.{◌≡◌, ℕ, ◌+◌, ◌-◌, ◌≤◌, ◌==
 use Rattle.std.specs.Prelude.{◌&&◌, map, nat_lt, option_map}
 use Rattle.std.proofs.lemmas.List.{drop-append-le, drop-map, length-append, length-drop, length-map, map-append, take-map}
 use Rattle.event_record.specs.Record.{entry_of}
-use Rattle.event_record.specs.declared.record.Record.{Record}
+use Rattle.event_record.specs.declared.record.RecordFields.{RecordFields}
 use Rattle.file_tree.specs.Book.{Entry}
 use Rattle.group_rules.specs.Effects.{NewLog, heeding, opening}
 use Rattle.group_rules.specs.Limits.{by_held, give_bytes, is_log}
@@ -104,7 +104,7 @@ drops_at clock s l base cp h low =
     ap (λ xs. record (live clock (with_log s l)) { base = n; items = xs; cp = max l.cp (min cp (l.base + length es)) }) items
     ∙ ap (λ c. record (live clock (with_log s l)) { base = n; items = map entry_of (drop (n - l.base) l.records); cp = c }) cps
 
-heeds_at : (b : Bool) (clock : ℕ) (s : Server Entry) (l : LogValue) (base cp : ℕ) (r : Record)
+heeds_at : (b : Bool) (clock : ℕ) (s : Server Entry) (l : LogValue) (base cp : ℕ) (r : RecordFields)
     → IsLog l → base ≤ l.lb
     → heeding (with_log s l) (if b then map entry_of l.records ++ entry_of r ∷ [] else map entry_of l.records) cp base clock
     ≡ with_log (live clock s) (raised_log (if b then with_record (dropped_to l (max l.base base)) r
@@ -142,11 +142,11 @@ heeds_beats q clock s l base cp h low = drops_at clock s l base cp h low
 
 -- ---- serving
 
-map_if : (b : Bool) (xs : List Record) (ys : List Entry) → map entry_of xs ≡ ys → map entry_of (if b then xs else []) ≡ (if b then ys else [])
+map_if : (b : Bool) (xs : List RecordFields) (ys : List Entry) → map entry_of xs ≡ ys → map entry_of (if b then xs else []) ≡ (if b then ys else [])
 map_if true xs ys h = h
 map_if false xs ys h = refl
 
-fronts : (size : List Entry → Entry → ℕ) (each : Record → ℕ) (before : List Entry) (used : ℕ) (rs : List Record) → Sized size each before rs
+fronts : (size : List Entry → Entry → ℕ) (each : RecordFields → ℕ) (before : List Entry) (used : ℕ) (rs : List RecordFields) → Sized size each before rs
     → map entry_of (front each used rs) ≡ filled size before used (map entry_of rs)
 unfolding give_bytes
 fronts size each before used [] h = refl
@@ -155,7 +155,7 @@ fronts size each before used (r ∷ rs) h =
     (ap (λ es. entry_of r ∷ es) (fronts size each (before ++ entry_of r ∷ []) (used + each r) rs h.1))
     ∙ ap (λ n. if nat_le (used + n) 48000 then entry_of r ∷ filled size (before ++ entry_of r ∷ []) (used + n) (map entry_of rs) else []) (sym h.0)
 
-more : (size : List Entry → Entry → ℕ) (each : Record → ℕ) (before : List Entry) (rs : List Record) → Sized size each before rs
+more : (size : List Entry → Entry → ℕ) (each : RecordFields → ℕ) (before : List Entry) (rs : List RecordFields) → Sized size each before rs
     → map entry_of (at_least_one each rs) ≡ one_or_more size before (map entry_of rs)
 more size each before [] h = refl
 more size each before (r ∷ rs) h =
@@ -163,7 +163,7 @@ more size each before (r ∷ rs) h =
     ∙ ap (λ n. filled size (before ++ entry_of r ∷ []) n (map entry_of rs)) (sym h.0))
 
 -- the test of the log is that of the machine
-tested : (a b : Bool) (rs : List Record) (es : List Entry) → map entry_of rs ≡ es
+tested : (a b : Bool) (rs : List RecordFields) (es : List Entry) → map entry_of rs ≡ es
     → option_map (map entry_of) (if a && b then Some rs else None) ≡ (if all_of (a ∷ b ∷ []) then Some es else None)
 unfolding all_of
 tested true true rs es h = ap Some h

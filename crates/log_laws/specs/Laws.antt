@@ -1,7 +1,7 @@
 -- The typed logs beside the group's machine.
 use Rattle.std.specs.Prelude.{◌≡◌, ℕ, ◌+◌, ◌-◌, ◌≤◌, ◌⊎◌, ◌==◌, true, false, List, [], ◌∷◌, ◌++◌, map, max, min, take, None, Some, option_map, if◌then◌else◌}
 use Rattle.event_record.specs.Record.{entry_of}
-use Rattle.event_record.specs.declared.record.Record.{Record}
+use Rattle.event_record.specs.declared.record.RecordFields.{RecordFields}
 use Rattle.file_tree.specs.Book.{Entry}
 use Rattle.group_rules.specs.Effects.{NewLog, joined_server, opening, report_of, taken}
 use Rattle.group_rules.specs.Form.{adopted}
@@ -31,27 +31,27 @@ Resumes = (q : Place) (s : Server Entry) (l : LogValue) (plan : Plan)
 
 -- A held data server that isn't the source has what it adopts
 abbrev pub AdoptsHeld : Type 0
-AdoptsHeld = (q : Place) (s : Server Entry) (l : LogValue) (plan : Plan) (staged : List Record)
+AdoptsHeld = (q : Place) (s : Server Entry) (l : LogValue) (plan : Plan) (staged : List RecordFields)
     → IsLog l → same q plan.source ≡ false → is_p2 q ≡ false → plan.base ≤ l.lb
     → new_log (adopted_log l staged plan.base plan.cp) ≡ adopted q (with_log s l) plan (map entry_of staged)
 
 -- so has a lost one
 abbrev pub AdoptsLost : Type 0
-AdoptsLost = (q : Place) (s : Server Entry) (plan : Plan) (staged : List Record)
+AdoptsLost = (q : Place) (s : Server Entry) (plan : Plan) (staged : List RecordFields)
     → same q plan.source ≡ false → is_p2 q ≡ false → plan.base ≤ s.lb
     → new_log (adopted_by_lost s.lb staged plan.base plan.cp)
     ≡ adopted q (record s { held = Lost }) plan (map entry_of staged)
 
 -- and so has the witness, whatever it held before, with the greater of its CP and the view's
 abbrev pub AdoptsAtWitness : Type 0
-AdoptsAtWitness = (q : Place) (s : Server Entry) (plan : Plan) (staged : List Record)
+AdoptsAtWitness = (q : Place) (s : Server Entry) (plan : Plan) (staged : List RecordFields)
     → same q plan.source ≡ false → is_p2 q ≡ true
     → new_log (adopted_by_empty staged plan.base (max (by_held s.held s.cp s.lb) plan.cp))
     ≡ adopted q s plan (map entry_of staged)
 
 -- an active log takes a record
 abbrev pub Puts : Type 0
-Puts = (q : Place) (clock : ℕ) (s : Server Entry) (l : LogValue) (r : Record)
+Puts = (q : Place) (clock : ℕ) (s : Server Entry) (l : LogValue) (r : RecordFields)
     → act q clock (with_log s l) (Appending (entry_of r)) ≡ with_log s (with_record l r)
 
 -- it commits, applies, and keeps what is on the disk
@@ -66,7 +66,7 @@ Drops = (q : Place) (clock : ℕ) (s : Server Entry) (l : LogValue) (n : ℕ)
     → act q clock (with_log s l) (Basing n) ≡ with_log s (dropped_to l n)
 
 -- the log with the next record; others aren't taken
-abbrev pub taken_log : LogValue → Record → LogValue
+abbrev pub taken_log : LogValue → RecordFields → LogValue
 taken_log l r = if r.index == top l + 1 then with_record l r else l
 
 -- committed as far as told
@@ -79,7 +79,7 @@ live clock s = record s { mode = Live; heard = nobody; horizon = max s.horizon (
 
 -- A partner that heeds an Event drops to the base first, then takes the record, and then commits as far as told
 abbrev pub Heeds : Type 0
-Heeds = (q : Place) (clock : ℕ) (s : Server Entry) (l : LogValue) (base cp : ℕ) (r : Record)
+Heeds = (q : Place) (clock : ℕ) (s : Server Entry) (l : LogValue) (base cp : ℕ) (r : RecordFields)
     → IsLog l → base ≤ l.lb
     → act q clock (with_log s l) (Heeding (taken (with_log s l) r.index (entry_of r)) cp base)
     ≡ with_log (live clock s) (raised_log (taken_log (dropped_to l (max l.base base)) r) cp)
@@ -113,14 +113,14 @@ Reports = (s : Server Entry) (l : LogValue) → report_of (with_log s l) ≡ rec
 }
 
 -- the sizes of these records are those of their entries in a list that begins with `before`
-abbrev pub Sized : (List Entry → Entry → ℕ) → (Record → ℕ) → List Entry → List Record → Type 0
+abbrev pub Sized : (List Entry → Entry → ℕ) → (RecordFields → ℕ) → List Entry → List RecordFields → Type 0
 Sized size each before [] = Unit {0}
 Sized size each before (r ∷ rs) = (size before (entry_of r) ≡ each r) × Sized size each (before ++ entry_of r ∷ []) rs
 
 -- A fetch is served what the machine serves, where the sizes of the records are those of their entries in the list: the
 -- log's records from the asked one on, up to `last`, where it is held and among them
 abbrev pub Serves : Type 0
-Serves = (size : List Entry → Entry → ℕ) (each : Record → ℕ) (list : List Entry) (s : Server Entry) (l : LogValue)
+Serves = (size : List Entry → Entry → ℕ) (each : RecordFields → ℕ) (list : List Entry) (s : Server Entry) (l : LogValue)
     (index last : ℕ) → last ≤ top l → Sized size each (take (index - 1) list) (asked l index last)
     → option_map (map entry_of) (given each l index last) ≡ (if all_of (held_tests (with_log s l) index last)
     then Some (one_or_more size (take (index - 1) list) (asked_for (with_log s l) index last)) else None)

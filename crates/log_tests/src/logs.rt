@@ -18,7 +18,7 @@ fn keeps_its_numbers_while_it_is_frozen(rt: HostRuntime) -> Result<(), Fail> {
     assert!(rt; frozen.base() == 1 && frozen.lb() == 2 && frozen.ap() == 3);
     assert!(rt; frozen.cp() == 4 && frozen.top() == 5);
     assert!(rt; frozen.item(1).is_none());
-    assert!(rt; matches!(frozen.item(5), Some(last) if last.index.get() == 5));
+    assert!(rt; matches!(frozen.item(5), Some(last) if last.index().get() == 5));
     assert_eq!(rt; frozen.first(), 2);
     assert_eq!(rt; frozen.last(), 5);
     Ok(())
@@ -31,7 +31,7 @@ fn goes_on_where_it_is_the_source(rt: HostRuntime) -> Result<(), Fail> {
     match frozen.resume(2) {
         Err(_) => return Err(Fail::from("no memory")),
         Ok(mut log) => {
-            append_next(rt.alloc(), &mut log)?;
+            append_next(rt.alloc(), &mut log, 1)?;
             assert!(rt; numbers(&log) == [2, 2, 3, 4, 6]);
             assert_eq!(rt; log.first(), 3);
             assert_eq!(rt; log.last(), 6);

@@ -1,25 +1,10 @@
 //! What a fetch of a log with the records 3 to 5 is given.
 
-use crate::records::{five, take_next};
-use event_record::Record;
+use crate::records::{append_next, five, take_next};
 use std::alloc::Global;
 use std::test::Fail;
-use volatile_log::{EmptyLog, FrozenLog, Staged};
-use witness::{Sizes, demote, promote, serve, serve_active};
-
-/// Each record takes this many bytes.
-#[derive(Clone, Copy)]
-struct Each {
-    bytes: u64,
-}
-
-impl Sizes for Each {
-    ghost size = { λ each _. each.bytes };
-
-    fn size(&self, _item: &Record) -> u64 {
-        self.bytes
-    }
-}
+use volatile_log::{ActiveLog, EmptyLog, FrozenLog, Staged};
+use witness::{demote, promote, serve, serve_active};
 
 /// A log with the records 3 to 5.
 fn three(alloc: Global) -> Result<FrozenLog, Fail> {
@@ -32,37 +17,45 @@ fn three(alloc: Global) -> Result<FrozenLog, Fail> {
 }
 
 /// How many records the log gives, None where it gives nothing.
-fn given(alloc: Global, bytes: u64, first: u64, start: u64) -> Result<Option<usize>, Fail> {
-    let log = three(alloc)?;
-    match serve(alloc, &Each { bytes }, &log, first, start)? {
+fn given(alloc: Global, first: u64, start: u64) -> Result<Option<usize>, Fail> {
+    match serve(alloc, &three(alloc)?, first, start)? {
         None => Ok(None),
         Some(records) => Ok(Some(records.len())),
     }
 }
 
 #[test]
-fn gives_the_records_that_are_held_and_fit(rt: HostRuntime) -> Result<(), Fail> {
-    for (bytes, first, start, count) in [
-        (100, 3, 5, Some(3)),
-        (100, 2, 5, None),
-        (100, 6, 5, None),
-        (100, 3, 4, Some(2)),
-        (24_000, 3, 5, Some(2)),
-        (24_001, 3, 5, Some(1)),
-        (60_000, 3, 5, Some(1)),
-    ] {
-        assert!(rt; given(rt.alloc(), bytes, first, start)? == count);
+fn gives_the_records_that_are_held(rt: HostRuntime) -> Result<(), Fail> {
+    for (first, start, count) in [(3, 5, Some(3)), (2, 5, None), (6, 5, None), (3, 4, Some(2))] {
+        assert!(rt; given(rt.alloc(), first, start)? == count);
     }
     Ok(())
+}
+
+/// A record of 8192 bytes takes less than 8300 as it is spelled: five are within 48,000 bytes, and
+/// six aren't.
+#[test]
+fn gives_what_has_space(rt: HostRuntime) -> Result<(), Fail> {
+    let mut log = ActiveLog::start(rt.alloc())?;
+    for _ in 0..7 {
+        append_next(rt.alloc(), &mut log, 8192)?;
+    }
+    match serve_active(rt.alloc(), &log, 1, 7)? {
+        None => Err(Fail::from("nothing")),
+        Some(records) => {
+            assert_eq!(rt; records.len(), 5);
+            Ok(())
+        }
+    }
 }
 
 #[test]
 fn gives_those_of_an_active_log(rt: HostRuntime) -> Result<(), Fail> {
     let log = five(rt.alloc())?;
-    match serve_active(rt.alloc(), &Each { bytes: 1 }, &log, 4, 5)? {
+    match serve_active(rt.alloc(), &log, 4, 5)? {
         None => Err(Fail::from("nothing")),
         Some(records) => {
-            assert!(rt; records.len() == 2 && records[0].index.get() == 4);
+            assert!(rt; records.len() == 2 && records[0].index().get() == 4);
             Ok(())
         }
     }

@@ -6,4 +6,4 @@ mod part;
 mod serving;
 
 pub use part::{demote, promote};
-pub use serving::{Sizes, serve, serve_active};
+pub use serving::{serve, serve_active};

@@ -2,23 +2,13 @@
 
 ghost use Rattle.std.specs.Prelude.{◌≡◌, ℕ, ◌+◌, ◌<◌, ◌≤◌, ◌^◌, ◌↔◌, IfOk, IsSome, Some, option_map, min};
 ghost use Rattle.std.specs.Option.{option_copied};
-ghost use Rattle.event_record.specs.declared.record.Record.{Record as Told};
 ghost use Rattle.volatile_log.specs.Log.{LogValue, record_at, top};
-ghost use Rattle.witness.specs.Serving.{asked_for, given, one_or_more};
+ghost use Rattle.witness.specs.Serving.{asked_for, given, one_or_more, record_size};
 
 use event_record::Record;
+use event_record::fields::put_item;
 use std::alloc::{AllocError, Global};
 use volatile_log::{ActiveLog, FrozenLog};
-
-/// How many bytes the encoding of a record has.
-pub trait Sizes {
-    // The size of each record.
-    ghost size: { Self → Told → ℕ };
-
-    /// The size of this record.
-    fn size(&self, item: &Record) -> u64
-        ensures { result ≡ size self.now item.now };
-}
 
 /// A log whose records are read.
 trait Holds {
@@ -73,45 +63,45 @@ impl Holds for ActiveLog {
 }
 
 /// The most bytes of records that are given at once.
-const MOST: u64 = 48000;
+const MOST: usize = 48_000;
 
 /// The records from `first` on that a server gives which joined a view, or accepted it, up to `start`:
-/// as many as take at most 48,000 bytes, and at least one. None exactly where the log doesn't hold the
-/// first one, or where it comes after `start`.
-pub fn serve<Z: Sizes>(
+/// as many as their spellings take at most 48,000 bytes, and at least one. None exactly where the log
+/// doesn't hold the first one, or where it comes after `start`.
+pub fn serve(
     alloc: Global,
-    sizes: &Z,
     log: &FrozenLog,
     first: u64,
     start: u64,
 ) -> Result<Option<Vec<Record>>, AllocError>
-    ensures { IfOk result (λ found. option_map (λ v. v.items) found ≡ given (Z.size sizes.now) log.now first start) }
+    ensures { IfOk result (λ found.
+        option_map (λ v. v.items) found ≡ given record_size log.now first start) }
 {
-    collect(alloc, sizes, log, first, start)
+    collect(alloc, log, first, start)
 }
 
 /// The same of a server that is active.
-pub fn serve_active<Z: Sizes>(
+pub fn serve_active(
     alloc: Global,
-    sizes: &Z,
     log: &ActiveLog,
     first: u64,
     start: u64,
 ) -> Result<Option<Vec<Record>>, AllocError>
-    ensures { IfOk result (λ found. option_map (λ v. v.items) found ≡ given (Z.size sizes.now) log.now first start) }
+    ensures { IfOk result (λ found.
+        option_map (λ v. v.items) found ≡ given record_size log.now first start) }
 {
-    collect(alloc, sizes, log, first, start)
+    collect(alloc, log, first, start)
 }
 
 /// The records from `first` on, up to `start`.
-fn collect<Z: Sizes, L: Holds>(
+fn collect<L: Holds>(
     alloc: Global,
-    sizes: &Z,
     log: &L,
     first: u64,
     start: u64,
 ) -> Result<Option<Vec<Record>>, AllocError>
-    ensures { IfOk result (λ found. option_map (λ v. v.items) found ≡ given (Z.size sizes.now) (L.log log.now) first start) }
+    ensures { IfOk result (λ found.
+        option_map (λ v. v.items) found ≡ given record_size (L.log log.now) first start) }
 {
     let last = start.min(log.last());
     if first <= log.before() || last < first {
@@ -119,14 +109,13 @@ fn collect<Z: Sizes, L: Holds>(
     }
     match log.held(first) {
         None => unreachable!(),
-        Some(item) => Ok(Some(beginning(alloc, sizes, log, item, first, last)?)),
+        Some(item) => Ok(Some(beginning(alloc, log, item, first, last)?)),
     }
 }
 
-/// The record of an index that is held, and those after it.
-fn beginning<Z: Sizes, L: Holds>(
+/// The record of an index that is held, and those after it. The records are spelled to be counted.
+fn beginning<L: Holds>(
     alloc: Global,
-    sizes: &Z,
     log: &L,
     item: &Record,
     first: u64,
@@ -135,17 +124,19 @@ fn beginning<Z: Sizes, L: Holds>(
     requires first { record_at (L.log log.now) first ≡ Some item.now }
     requires within { ((L.log log.now).base < first) × (first ≤ last) }
     requires last { (last ≤ top (L.log log.now)) × (last < 2 ^ 62) }
-    ensures { IfOk result (λ v. v.items ≡ one_or_more (Z.size sizes.now) (asked_for (L.log log.now) first last)) }
+    ensures { IfOk result (λ v.
+        v.items ≡ one_or_more record_size (asked_for (L.log log.now) first last)) }
 {
     let mut given = Vec::new(alloc);
     given.push(item.copy(alloc)?)?;
-    let mut used = sizes.size(item);
+    let mut spelled = Vec::new(alloc);
+    put_item(&mut spelled, item)?;
     for index in first + 1..last + 1 {
         match log.held(index) {
             None => unreachable!(),
             Some(item) => {
-                used = sizes.size(item).saturating_add(used);
-                if used > MOST {
+                put_item(&mut spelled, item)?;
+                if spelled.len() > MOST {
                     return Ok(given);
                 }
                 given.push(item.copy(alloc)?)?;
