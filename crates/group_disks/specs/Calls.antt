@@ -62,7 +62,7 @@ after_calls (c ∷ cs) disk = after_calls cs (disk_called disk c)
 unfoldable pub saved_puts : Spellings → List Entry → ℕ → List Entry → List Change
 saved_puts f list n [] = []
 saved_puts f list n (e ∷ es) =
-    change.Put (cell.Saved ((n + 1) % 32768)) (value.Saved (f.record_bytes (take n list) e))
+    change.Put (cell.Saved ((n + 1) % 32768)) (value.SavedCred (f.record_bytes (take n list) e))
     ∷ saved_puts f list (n + 1) es
 
 -- the calls of a move; `list` is the server's list of entries up to its top

@@ -79,4 +79,4 @@ pub record CutSave : Type 0 where
   pub client : (cut_save_scene.disks Zero).synced (cell.Client 7) ≡
       Some (value.Client 1 1 (reply.Node 2 made))
   pub saved : (cut_save_scene.disks Zero).synced (cell.Saved 1) ≡
-      Some (value.Saved (replicate 100 0))
+      Some (value.SavedCred (replicate 100 0))
