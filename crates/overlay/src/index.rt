@@ -1,0 +1,148 @@
+//! An index over the records of a log.
+
+ghost use Rattle.std.specs.Prelude.{◌≡◌, ℕ, Bool, ◌+◌, ◌-◌, ◌<◌, ◌≤◌, ◌==◌, ◌&&◌, ◌||◌, ◌∷◌, ◌++◌, [], false, length, drop, nat_lt, OnOk, IfSome, IfNone};
+ghost use Rattle.fuzzy_cells.specs.History.{History};
+ghost use Rattle.overlay.specs.Index.{Place, blocks_of, place_of, names, is_entry, mirrors, changes_at, IsIndexOf, IsLast, may_set};
+
+use harp_cells::{Cell, Change, Key};
+use std::alloc::{AllocError, Global};
+use std::collections::BTreeSet;
+use std::marker::Model;
+
+/// Which records of a log change what: per cell the ascending indices of those that put or erase
+/// it, and per object the indices of those that erase its blocks from some one on. A look-up costs
+/// a logarithm.
+#[derive(Drop)]
+pub struct CellIndex {
+    places: BTreeSet<(Key, u64)>,
+    // Each of these pairs the other way round, so that the records that go are found.
+    mirror: BTreeSet<(u64, Key)>,
+}
+
+impl Model for CellIndex {
+    ghost use Rattle.overlay.specs.Index.{Entries, AreMirrored};
+
+    ghost Value = { Entries };
+
+    ghost view = { λ x. x.places.keys };
+
+    ghost invariant = { λ x. AreMirrored x.places.keys x.mirror.keys };
+}
+
+// The place of the blocks of an object.
+fn blocks_of(object: u32) -> Key
+    ensures { result ≡ blocks_of object }
+{
+    (7, object, 0)
+}
+
+fn place_of(change: &Change) -> Key
+    ensures { result ≡ place_of change.now }
+{
+    match change {
+        Change::Put { cell, .. } => cell.key(),
+        Change::Erase { cell } => cell.key(),
+        Change::EraseFrom { object, .. } => blocks_of(*object),
+    }
+}
+
+// The later of two records.
+fn later(one: Option<u64>, other: Option<u64>) -> Option<u64>
+    ensures { (p q : ℕ → Bool) (upto : ℕ) → IsLast p upto one → IsLast q upto other
+        → IsLast (λ j. p j || q j) upto result }
+{
+    match (one, other) {
+        (Some(i), Some(j)) => Some(i.max(j)),
+        (Some(i), None) => Some(i),
+        (None, last) => last,
+    }
+}
+
+// The last entry of a place up to an index.
+fn last_at(places: &BTreeSet<(Key, u64)>, place: Key, upto: u64) -> Option<u64>
+    ensures { IsLast (names places.now.keys place) upto result }
+{
+    let (_, index) = places.range((place, 0)..=(place, upto)).next_back()?;
+    Some(*index)
+}
+
+// Takes the first entry out that is of an index up to n.
+fn take_up_to(mirror: &mut BTreeSet<(u64, Key)>, n: u64) -> Option<(u64, Key)>
+    ensures few { IfSome result (λ e. e.0 ≤ n) }
+    ensures fewer { IfSome result (λ _. length mirror.new.keys < length mirror.old.keys) }
+    ensures others { IfSome result (λ e. (p : Place) (i : ℕ) → is_entry e.1 e.0 (p, i) ≡ false
+        → mirrors mirror.new.keys p i ≡ mirrors mirror.old.keys p i) }
+    ensures same { IfNone result (mirror.new.keys ≡ mirror.old.keys) }
+    ensures none { IfNone result ((p : Place) (i : ℕ) → i ≤ n
+        → mirrors mirror.new.keys p i ≡ false) }
+{
+    let (index, place) = *mirror.first()?;
+    if index > n {
+        return None;
+    }
+    mirror.pop_first()
+}
+
+impl CellIndex {
+    /// An index over no records.
+    pub fn new(alloc: Global) -> CellIndex
+        ensures { (base : ℕ) → IsIndexOf result base [] }
+    {
+        CellIndex {
+            places: BTreeSet::new(alloc),
+            mirror: BTreeSet::new(alloc),
+        }
+    }
+
+    fn add_place(&mut self, place: Key, index: u64) -> Result<(), AllocError>
+        ensures { OnOk result ((p : Place) (i : ℕ) → names self.new p i
+            ≡ (is_entry place index (p, i) || names self.old p i)) }
+    {
+        self.mirror.insert((index, place))?;
+        self.places.insert((place, index))?;
+        Ok(())
+    }
+
+    /// The record with this index has these changes.
+    pub fn add(&mut self, index: u64, changes: &[Change]) -> Result<(), AllocError>
+        ensures added { OnOk result ((p : Place) (i : ℕ) → names self.new p i
+            ≡ ((index == i) && changes_at changes.now p || names self.old p i)) }
+        ensures follows { OnOk result ((base : ℕ) (records : History)
+            → IsIndexOf self.old base records → index ≡ base + length records + 1
+            → IsIndexOf self.new base (records ++ changes.now ∷ [])) }
+    {
+        for change in changes {
+            self.add_place(place_of(change), index)?;
+        }
+        Ok(())
+    }
+
+    /// The records up to n go, as where a log drops them.
+    pub fn drop_to(&mut self, n: u64)
+        ensures dropped { (p : Place) (i : ℕ) → names self.new p i
+            ≡ (nat_lt n i && names self.old p i) }
+        ensures follows { (base : ℕ) (records : History) → IsIndexOf self.old base records
+            → base ≤ n → IsIndexOf self.new n (drop (n - base) records) }
+    {
+        while let Some((index, place)) = take_up_to(&mut self.mirror, n) {
+            self.places.remove(&(place, index));
+        }
+    }
+
+    // The last record up to an index that may set the cell.
+    pub(crate) fn last_for(&self, cell: Cell, upto: u64) -> Option<u64>
+        ensures { IsLast (may_set self.now cell) upto result }
+    {
+        let own = last_at(&self.places, cell.key(), upto);
+        match cell {
+            Cell::Block { object, .. } => {
+                later(own, last_at(&self.places, blocks_of(object), upto))
+            }
+            Cell::Meta
+            | Cell::Object { .. }
+            | Cell::Slot { .. }
+            | Cell::Client { .. }
+            | Cell::Saved { .. } => own,
+        }
+    }
+}
