@@ -35,6 +35,7 @@ pub record IsFuzzyAt (g : Group Entry) (q : Place) (stores : Stores) : Type 0 wh
   pub left : (n : ℕ) → IsFuzzy (history_of g.committed) (g.server q).lb far
       (after (take n (stores q).changes) (stores q).synced)
 
+-- each disk that is between is fuzzy
 abbrev pub StoresAreFuzzy : Type 0
 StoresAreFuzzy = (g : Group Entry) → Whole g → (disks : Disks) → DisksOk g disks
     → (stores : Stores) → StoresOk g disks stores
@@ -51,15 +52,16 @@ pub record ReadsRightly (g : Group Entry) (q : Place) (stores : Stores) (upto : 
       (g.server q).base upto) (reads (stores q)))
       (take upto (g.page (g.server q).accepted).list)
 
+-- from how far the disk may be up to top, so at top, and at CP where it is settled
 pub record ServerReads (g : Group Entry) (disks : Disks) (stores : Stores)
     (q : Place) : Type 0 where
   pub upto : (g.server q).held ≡ Log → (upto : ℕ) → disks q ≤ upto → upto ≤ top (g.server q)
       → ReadsRightly g q stores upto
-  -- so at top, and at CP where it is settled
   pub at_top : (g.server q).held ≡ Log → ReadsRightly g q stores (top (g.server q))
   pub at_cp_open : (g.server q).mode ≡ Open → ReadsRightly g q stores (g.server q).cp
   pub at_cp_live : (g.server q).mode ≡ Live → ReadsRightly g q stores (g.server q).cp
 
+-- each data server does
 abbrev pub ServersReadExactly : Type 0
 ServersReadExactly = (g : Group Entry) → Whole g → (disks : Disks) → DisksOk g disks
     → (stores : Stores) → StoresOk g disks stores

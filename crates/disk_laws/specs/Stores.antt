@@ -46,6 +46,7 @@ StoreMoved list s Saving disk new = Saves s disk new
 StoreMoved list s Falling disk new = Falls disk new
 StoreMoved list s m disk new = new ≡ disk
 
+-- moves, one after the other
 abbrev pub StoreBy : Group Entry → Place → Server Entry → List (Move Entry) → Disk → Disk → Type 0
 StoreBy g q s [] disk new = new ≡ disk
 StoreBy g q s (m ∷ ms) disk new = (next : Disk) × StoreMoved (g.page s.accepted).list s m disk next
@@ -53,6 +54,7 @@ StoreBy g q s (m ∷ ms) disk new = (next : Disk) × StoreMoved (g.page s.accept
 
 -- ---- what happens to the disk of a server
 
+-- a step of a server that is up, with all its moves
 abbrev pub StoreStepped : (List Entry → Entry → ℕ) → Group Entry → Place → Input → Disk → Disk
     → Type 0
 StoreStepped size g q i disk new =
@@ -80,21 +82,25 @@ pub record OneDisk (q : Place) (Changes : Disk → Disk → Type 0) (old new : S
   pub own : Changes (old q) (new q)
   pub others : (x : Place) → (x ≡ q → ⊥) → new x ≡ old x
 
+-- no disk changes
 abbrev pub AllStay : Stores → Stores → Type 0
 AllStay old new = (x : Place) → new x ≡ old x
 
+-- a delivery steps the server that the packet is for
 abbrev pub StoresDelivered : (List Entry → Entry → ℕ) → Group Entry → Option (Packet Entry)
     → Stores → Stores → Type 0
 StoresDelivered size g None old new = AllStay old new
 StoresDelivered size g (Some p) old new =
     OneDisk p.to (StoreStepped size g p.to (Comes p.from p.body)) old new
 
+-- a delivery that is cut
 abbrev pub StoresCutDelivered : (List Entry → Entry → ℕ) → Group Entry → Option (Packet Entry)
     → Stores → Stores → Type 0
 StoresCutDelivered size g None old new = AllStay old new
 StoresCutDelivered size g (Some p) old new =
     OneDisk p.to (StoreCut size g p.to (Comes p.from p.body)) old new
 
+-- WHAT A HAPPENING MAY DO to the disks: at most one changes
 abbrev pub StoresAfter : (List Entry → Entry → ℕ) → Group Entry → Happening → Stores → Stores
     → Type 0
 StoresAfter size g (At q d) old new = OneDisk q (StoreStepped size g q (Does d)) old new

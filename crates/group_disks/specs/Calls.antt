@@ -54,6 +54,7 @@ disk_called disk (Changing x) = with_changes disk (x ∷ [])
 disk_called disk Syncing = synced_to (reads disk)
 disk_called disk Marking = disk
 
+-- the disk after calls, one after the other
 unfoldable pub after_calls : List DiskCall → Disk → Disk
 after_calls [] disk = disk
 after_calls (c ∷ cs) disk = after_calls cs (disk_called disk c)

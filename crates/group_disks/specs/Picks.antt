@@ -15,6 +15,7 @@ bit_at bits k = elim (slice_get bits (k % length bits)) [
   | None ↦ false
 ]
 
+-- whether a pick keeps the change at a place
 abbrev pub keeps : Pick → ℕ → Bool
 keeps pick.All k = true
 keeps pick.None k = false
@@ -39,6 +40,7 @@ counted cells (change.EraseFrom object first) =
     erases_there (most_blocks - first) cells object first
 counted cells x = x ∷ []
 
+-- changes as a pick counts them, each with the cells that those before it leave
 unfoldable pub all_counted : Cells → List Change → List Change
 all_counted cells [] = []
 all_counted cells (x ∷ xs) = counted cells x ++ all_counted (after (x ∷ []) cells) xs

@@ -31,6 +31,7 @@ pub record DiskScene : Type 0 where
   pub disks : Stores
   pub picks : Place → Pick
 
+-- new disks, and no stop
 abbrev pub first_disk_scene : DiskScene
 first_disk_scene = record { scene = first_scene; disks = empty_stores; picks = λ q. pick.None }
 
@@ -52,6 +53,7 @@ abbrev pub passing : Option ℕ → List DiskCall → List DiskCall
 passing None calls = calls
 passing (Some most) calls = take most calls
 
+-- a crash, whose pick is its own
 abbrev pub is_crash : Input → Bool
 is_crash (Does Crash) = true
 is_crash i = false
@@ -63,12 +65,14 @@ disk_after f g stop pick q i disk =
     if is_whole f g stop q i && not (is_crash i) then after_calls (calls_at f g q i) disk
     else crashed_by pick (after_calls (passing stop (calls_at f g q i)) disk)
 
+-- the disks after a step of one server: the others stay
 abbrev pub disks_after_at : Spellings → DiskScene → Option ℕ → Pick → Place → Input → Stores
 disks_after_at f w stop pick q i =
     at w.disks q (disk_after f w.scene.group stop pick q i (w.disks q))
 
 -- ---- a step
 
+-- after a delivery: a server that is down takes nothing
 abbrev pub disks_came : Spellings → DiskScene → Option (Packet Entry) → Stores
 disks_came f w None = w.disks
 disks_came f w (Some p) = if (w.scene.group.server p.to).up
@@ -79,6 +83,7 @@ disks_came f w (Some p) = if (w.scene.group.server p.to).up
 abbrev pub disks_done : Spellings → DiskScene → Place → Input → Stores
 disks_done f w q i = disks_after_at f w (w.scene.armed q) (w.picks q) q i
 
+-- the disks after each form of a step
 abbrev pub disks_next : Spellings → DiskScene → Step → Stores
 disks_next f w (step.Ask server client number cred call) = disks_done f w (place_of server)
     (Does (Ask client number cred call))
@@ -96,10 +101,12 @@ disks_next f w (step.Crash server pick) = disks_after_at f w None pick (place_of
     (Does Crash)
 disks_next f w s = w.disks
 
+-- a stop brings its pick
 abbrev pub picks_next : DiskScene → Step → Place → Pick
 picks_next w (step.Stop server calls pick) = at w.picks (place_of server) pick
 picks_next w s = w.picks
 
+-- what a step leaves
 abbrev pub disk_next : Spellings → DiskScene → Step → DiskScene
 disk_next f w s = record {
   scene = next (measures_of f) w.scene s;
@@ -108,6 +115,7 @@ disk_next f w s = record {
   picks = picks_next w s;
 }
 
+-- what steps leave, one after the other
 unfoldable pub disk_run : Spellings → DiskScene → List Step → DiskScene
 disk_run f w [] = w
 disk_run f w (s ∷ ss) = disk_run f (disk_next f w s) ss

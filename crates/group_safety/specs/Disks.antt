@@ -23,6 +23,7 @@ abbrev pub disks_moved : {E : Type 0} → Disks → Place → Move E → Disks
 disks_moved disks q (Applying n) = at disks q (max (disks q) n)
 disks_moved disks q m = disks
 
+-- after moves, one after the other
 abbrev pub disks_by : {E : Type 0} → Disks → Place → List (Move E) → Disks
 disks_by disks q [] = disks
 disks_by disks q (m ∷ ms) = disks_by (disks_moved disks q m) q ms
@@ -38,6 +39,7 @@ abbrev pub disks_begun : Group Entry → Disks → Place → Input → Disks
 disks_begun g disks q (Does (Apply n)) = disks_by disks q (apply q (g.server q) n)
 disks_begun g disks q i = disks
 
+-- after a step that is cut
 abbrev pub disks_cut : (List Entry → Entry → ℕ) → Group Entry → Disks → Place → Input → Disks
 disks_cut size g disks q i =
     if (g.server q).up
@@ -46,11 +48,13 @@ disks_cut size g disks q i =
     else disks_by disks q (step_of size g q i))
     else disks
 
+-- after a delivery, if the packet was sent
 abbrev pub disks_delivered : (List Entry → Entry → ℕ) → Group Entry → Disks → Option (Packet Entry)
     → Disks
 disks_delivered size g disks None = disks
 disks_delivered size g disks (Some p) = disks_stepped size g disks p.to (Comes p.from p.body)
 
+-- after a delivery that is cut
 abbrev pub disks_cut_delivered : (List Entry → Entry → ℕ) → Group Entry → Disks
     → Option (Packet Entry) → Disks
 disks_cut_delivered size g disks None = disks
@@ -69,6 +73,7 @@ disks_after size g disks (Clock q t) = disks
 disks_after size g disks (Advance d) = disks
 disks_after size g disks (Delta d) = disks
 
+-- after a list of happenings
 abbrev pub disks_run : (List Entry → Entry → ℕ) → Group Entry → Disks → List Happening → Disks
 disks_run size g disks [] = disks
 disks_run size g disks (h ∷ hs) = disks_run size (happens size g h) (disks_after size g disks h) hs
@@ -84,6 +89,7 @@ pub record DiskAt {E : Type 0} (page : ℕ → Page E) (committed : List E) (s :
   pub waits : s.mode ≡ Waits → m ≤ (page s.accepted).plan.start
   pub settled : (s.mode ≡ Open) ⊎ (s.mode ≡ Live) → m ≤ s.cp
 
+-- each data server's disk is so
 pub record DisksOk {E : Type 0} (g : Group E) (disks : Disks) : Type 0 where
   pub each : (q : Place) → is_p2 q ≡ false → DiskAt g.page g.committed (g.server q) (disks q)
 
@@ -106,6 +112,7 @@ pub record DisksAreCommitted (g : Group Entry) (disks : Disks) : Type 0 where
   pub kept : DisksOk g disks
   pub each : (q : Place) → is_p2 q ≡ false → DiskIsCommitted g q (disks q)
 
+-- what is kept, is kept over every list of happenings
 abbrev pub DisksStay : Type 0
 DisksStay = (size : List Entry → Entry → ℕ) (g : Group Entry) → Whole g → (disks : Disks)
     → DisksOk g disks
