@@ -18,7 +18,7 @@ use Rattle.wire.specs.Parts.{byte, deadline_at, held_number, held_at, storers_by
 
 abbrev pub form_of : Message → Form
 form_of (message.Invite view) = form.Invite
-form_of (message.Join view held accepted base lb cp top horizon) = form.Join
+form_of (message.Join view has accepted base lb cp top horizon) = form.Join
 form_of (message.Form view storers source base cp start horizon) = form.Form
 form_of (message.Fetch view first) = form.Fetch
 form_of (message.Give view first records) = form.Give
@@ -54,8 +54,8 @@ forms = form.Invite ∷ form.Join ∷ form.Form ∷ form.Fetch ∷ form.Formed �
 -- the fields in their order
 abbrev pub message_fields : Message → List ℕ
 message_fields (message.Invite view) = view_bytes view
-message_fields (message.Join view held accepted base lb cp top horizon) =
-    view_bytes view ++ byte (held_number held) ++ view_bytes accepted ++ u64_bytes base
+message_fields (message.Join view has accepted base lb cp top horizon) =
+    view_bytes view ++ byte (held_number has) ++ view_bytes accepted ++ u64_bytes base
     ++ u64_bytes lb ++ u64_bytes cp ++ u64_bytes top ++ u64_bytes horizon
 message_fields (message.Form view storers source base cp start horizon) =
     view_bytes view ++ storers_bytes storers ++ byte (number_of source) ++ u64_bytes base
@@ -84,7 +84,7 @@ message_bytes m = form_number (form_of m) ∷ message_fields m
 -- the bounds of the fields
 abbrev pub MessageFits : Message → Type 0
 MessageFits (message.Invite view) = ViewFits view
-MessageFits (message.Join view held accepted base lb cp top horizon) =
+MessageFits (message.Join view has accepted base lb cp top horizon) =
     ViewFits view × ViewFits accepted × (base < 2 ^ 64) × (lb < 2 ^ 64) × (cp < 2 ^ 64)
     × (top < 2 ^ 64) × (horizon < 2 ^ 62 + 100000)
 MessageFits (message.Form view storers source base cp start horizon) =
