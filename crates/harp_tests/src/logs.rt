@@ -8,7 +8,7 @@ use harp_cells::Change;
 use std::alloc::Global;
 use std::test::Fail;
 use volatile_log::{ActiveLog, LogFull};
-use wire::Message;
+use wire::one_view::Message;
 
 /// The update with this number, a write of one byte. It has one change.
 fn record(alloc: Global, index: Index) -> Result<Record, Fail>

@@ -11,8 +11,8 @@ use Rattle.group_rules.specs.Said.{Answer, Refusal, answers_said, committed_of, 
 use Rattle.group_rules.specs.Shown.{cause_of}
 use Rattle.group_rules.specs.State.{Ack, Beat, Event, Message, Server}
 use Rattle.trace_lines.specs.declared.line.BookEntry.{BookEntry}
-use Rattle.wire.specs.declared.message.Message.{Message as Wire}
-use Rattle.wire.specs.declared.message.Message.TheVariants as wire
+use Rattle.wire.specs.declared.one_view.Message.{Message as Wire}
+use Rattle.wire.specs.declared.one_view.Message.TheVariants as wire
 use Rattle.replica.specs.declared.outputs.Answered.{Answered}
 use Rattle.replica.specs.declared.outputs.Outputs.{Outputs}
 use Rattle.replica.specs.declared.outputs.Refused.{Refused}

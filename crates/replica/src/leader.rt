@@ -25,7 +25,7 @@ use std::alloc::{AllocError, Global};
 use std::collections::VecDeque;
 use std::marker::Model;
 use volatile_log::ActiveLog;
-use wire::Message;
+use wire::one_view::Message;
 
 /// How many records a tick sends again at most.
 const SENT_AGAIN: u64 = 64;

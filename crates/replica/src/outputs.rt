@@ -7,7 +7,7 @@ ghost use Rattle.replica.specs.Said.{entered, heard, sent};
 use harp_base::{Call, Cred, Peer, Reply, ServerId};
 use std::alloc::{AllocError, Global};
 use trace_lines::{BookEntry, Cause};
-use wire::Message;
+use wire::one_view::Message;
 
 /// An answer to an ask.
 #[derive(Debug, Drop)]

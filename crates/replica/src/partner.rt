@@ -23,7 +23,7 @@ use harp_base::{FIRST_PROMISE, Held, Mode, Role, ServerId, StateLine, ViewNo};
 use std::alloc::{AllocError, Global};
 use std::marker::Model;
 use volatile_log::ActiveLog;
-use wire::Message;
+use wire::one_view::Message;
 
 /// How long a promise runs, in milliseconds.
 const PROMISE: u64 = FIRST_PROMISE;

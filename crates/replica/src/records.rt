@@ -21,7 +21,7 @@ use nfs_calls::Prepared;
 use std::alloc::{AllocError, Global};
 use trace_lines::BookEntry;
 use volatile_log::ActiveLog;
-use wire::Message;
+use wire::one_view::Message;
 
 /// How many records a log has room for.
 pub(crate) const ROOM: u64 = LOG_ROOM as u64;

@@ -1,6 +1,19 @@
-//! The messages that the servers of a group send to each other.
+//! The messages of a group, between its servers and between clients and servers, and their bytes.
 #![tactic(auto)]
 
+mod decoding;
+mod encoding;
+mod forms;
 mod message;
+pub mod one_view;
+mod parts;
+mod records;
+mod storers;
 
+pub use decoding::{DecodeFault, decode};
+pub use encoding::encode;
 pub use message::Message;
+pub use promise::Deadline;
+pub use records::Records;
+pub use storers::Storers;
+pub use trace_lines::Cause;

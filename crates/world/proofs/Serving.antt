@@ -21,8 +21,8 @@ use Rattle.harp_base.specs.declared.server.ServerId.TheVariants as server
 use Rattle.replica.specs.Said.{heard, sent}
 use Rattle.replica.specs.declared.outputs.Outputs.{Outputs}
 use Rattle.replica.specs.declared.outputs.Sent.{Sent}
-use Rattle.wire.specs.declared.message.Message.{Message as Wire}
-use Rattle.wire.specs.declared.message.Message.TheVariants as wire
+use Rattle.wire.specs.declared.one_view.Message.{Message as Wire}
+use Rattle.wire.specs.declared.one_view.Message.TheVariants as wire
 use Rattle.world.specs.Given.{answered_lines as answered_lines_of}
 use Rattle.world.specs.Given.{refused_lines as refused_lines_of, sent_lines as sent_lines_of}
 use Rattle.world.specs.Given.{shown_of}

@@ -10,8 +10,8 @@ use Rattle.file_tree.specs.Book.{Entry}
 use Rattle.replica.specs.declared.outputs.Answered.{Answered}
 use Rattle.replica.specs.declared.outputs.Refused.{Refused}
 use Rattle.replica.specs.declared.outputs.Sent.{Sent}
-use Rattle.wire.specs.declared.message.Message.{Message}
-use Rattle.wire.specs.declared.message.Message.TheVariants as wire
+use Rattle.wire.specs.declared.one_view.Message.{Message}
+use Rattle.wire.specs.declared.one_view.Message.TheVariants as wire
 
 -- a read is entered with the answer that it gets
 abbrev pub read_in : Answered → List Entry

@@ -13,7 +13,7 @@ use harp_base::{ServerId, StateLine};
 use replica::{Answered, Outputs, Refused, Sent};
 use std::alloc::{AllocError, Global};
 use trace_lines::{BookEntry, Line, ShownMessage};
-use wire::Message;
+use wire::one_view::Message;
 
 /// Enters a call in the book, with its line.
 fn enter(

@@ -7,7 +7,7 @@ ghost use Rattle.group_run.specs.Run.{is_among};
 ghost use Rattle.world.specs.Packets.{AreSettled, IsFirstDue, packet_of, was_delivered};
 
 use harp_base::ServerId;
-use wire::Message;
+use wire::one_view::Message;
 
 /// A message on its way from one server to another.
 #[derive(Debug, Drop)]

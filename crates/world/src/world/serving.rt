@@ -16,7 +16,7 @@ use harp_base::{Call, Cred, LAST_CLIENT, Peer, ServerId, ViewNo};
 use replica::{Outputs, Refused};
 use std::alloc::{AllocError, Global};
 use trace_lines::Cause;
-use wire::Message;
+use wire::one_view::Message;
 
 /// The peer that all asks of a schedule come from.
 const CLIENT: Peer = Peer::Other {

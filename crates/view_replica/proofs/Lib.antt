@@ -1,0 +1,7 @@
+pub mod Lists
+pub mod Leads
+pub mod Follows
+pub mod Spoken
+pub mod Committing
+pub mod Ticking
+pub mod Opening

@@ -1,0 +1,17 @@
+use Rattle.std.proofs.Common.{◌≡◌, ◌+◌, ◌-◌, ◌++◌, take}
+use Rattle.std.specs.Prelude.{max}
+use Rattle.outputs.specs.Said.{said}
+use Rattle.view_replica.specs.Commits.{above}
+use Rattle.view_replica.proofs.Ticking.{events_sent}
+use Rattle.view_replica.proofs.leader.Leader.send_again.Given as goal
+
+abbrev pub invariant-loop-n : goal.invariant-loop-n
+invariant-loop-n l = record (said l.outs) {
+  sends = (said l.outs).sends ++ events_sent l.self l.n
+      (take (max l.self.log.base l.self.told_top + 64 - l.n) (above l.n l.self));
+}
+    ≡ record (said l.initial.outs) {
+      sends = (said l.initial.outs).sends ++ events_sent l.self
+          (max l.self.log.base l.self.told_top) (take 64 (above
+          (max l.self.log.base l.self.told_top) l.self));
+    }

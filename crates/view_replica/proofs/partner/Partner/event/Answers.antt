@@ -1,0 +1,16 @@
+use Rattle.std.proofs.lemmas.Result.{on_ok_weaker}
+use Rattle.view_replica.proofs.Follows.{heeds_event, room_left}
+use Rattle.view_replica.proofs.partner.Partner.event.Goals as goal
+
+pub take-requires : goal.take-requires
+take-requires c = room_left c.args.self.now c.drop_to.new.self c.args.base c.args.item.index
+    c.drop_to.ensures.log c.drop_to.ensures.within c.requires.room
+
+pub returns : goal.returns
+returns c = on_ok_weaker c.acknowledge.result
+    (λ told. heeds_event c.args.self.now c.drop_to.new.self c.take.new.self c.acknowledge.new.self
+    c.args.horizon.now c.acknowledge.new.horizon
+    c.args.now c.args.cp c.args.base c.args.item c.args.outs.now c.acknowledge.new.outs
+    c.drop_to.ensures.log c.take.ensures
+    c.acknowledge.ensures.state c.acknowledge.ensures.horizon c.drop_to.ensures.within told)
+    c.acknowledge.ensures.said

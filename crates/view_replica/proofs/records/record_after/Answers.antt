@@ -1,0 +1,6 @@
+use Rattle.view_replica.proofs.Lists.{record_next}
+use Rattle.view_replica.proofs.records.record_after.Goals as goal
+
+pub returns-clause-next : goal.returns-clause-next
+returns-clause-next c = record_next c.args.log.now c.args.n c.in-Some.item.now c.requires.from
+    c.in-Some.ensures.value

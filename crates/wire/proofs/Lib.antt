@@ -1,0 +1,3 @@
+mod PartLaws
+pub mod MessageLaws
+mod DecodeLaws

@@ -1,0 +1,3 @@
+pub mod Storers
+pub mod Parts
+pub mod Messages

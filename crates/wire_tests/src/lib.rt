@@ -1,0 +1,5 @@
+//! Messages and their bytes.
+#![tactic(auto)]
+
+#[cfg(test)]
+mod messages;
