@@ -70,18 +70,19 @@ fn each_form_is_short_where_it_is_cut(rt: HostRuntime) -> Result<(), Fail> {
 
 const BEAT: &[u8] = b"\x08\0\0\0\0\0\0\0\x01\0\0\0\0\0\0\0\0\0\0\0\0\0\0\0\0\0";
 
+/// Whether it is the Beat of the first view, with nothing committed and nothing dropped.
+fn is_first_beat(message: &Message) -> bool {
+    match message {
+        Message::Beat { view, cp, base } => Some(*view) == first_view() && *cp == 0 && *base == 0,
+        _ => false,
+    }
+}
+
 #[test]
 fn a_beat_is_read(rt: HostRuntime) -> Result<(), Fail> {
-    let message = decode(rt.alloc(), BEAT).ok();
-    let is_beat = match message {
-        Some(
-            Message::Beat {
-                view,
-                cp: 0,
-                base: 0,
-            },
-        ) => Some(view) == first_view(),
-        _ => false,
+    let is_beat = match decode(rt.alloc(), BEAT) {
+        Ok(message) => is_first_beat(&message),
+        Err(_) => false,
     };
     assert!(rt; is_beat);
     Ok(())
