@@ -15,7 +15,7 @@ invariant_of-self-2 c =
     ap (λ n. drop n l.log.records) (sym c.cp-cp.ensures.value) ∙ c.record_after-item.ensures.there in
     let first = c.first_of.ensures ∙ ap (λ ps. c.first_of.result ∷ ps) (sym c.pop_front.ensures.rest) in
     let made = c.in_ok-make_changes.ensures.made ∙ ap (λ changes. option_map (after changes) (held_in l.committed))
-    (c.as_slice.ensures.value ∙ ap (λ (r : Record). r.changes) c.fields.ensures.value) in
+    (c.as_slice.ensures.value ∙ ap (λ (r : Record). r.changes) c.fields-fields.ensures.value) in
     let stands = stands_on l.log.records l.log.cp (held_in l.committed) (held_in c.make_changes.new.cells) (held_in
     l.appended)
     l.last_stamp c.first_of.result l.waiting.items c.pop_front.new.self.items item _ next first made h.5 in
