@@ -203,7 +203,10 @@ impl World {
             (server_in self.old One) (place_of from)
             (Event (number_of_view view) item.now.index cp base (entry_of item.now))) outs) }
     {
-        if !self.partner.heeds_event(from, view, item.index().get(), base) {
+        if !self
+            .partner
+            .heeds_event(from, view, item.index().get(), base)
+        {
             return Ok(Outputs::new(alloc));
         }
         let now = self.clocks.one;
