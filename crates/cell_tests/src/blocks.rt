@@ -18,7 +18,7 @@ struct Watched {
 }
 
 impl CellRead for Watched {
-    ghost use Rattle.std.specs.Prelude.{None, tt, if◌then◌else◌};
+    ghost use Rattle.std.specs.Prelude.{None, if◌then◌else◌};
     ghost use Rattle.harp_cells.specs.Memory.{fetched_in};
 
     ghost cells = { λ w. None };

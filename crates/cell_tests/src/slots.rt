@@ -1,6 +1,6 @@
 //! Directories in cells: known entries, slots, ways up and pages.
 
-ghost use Rattle.std.specs.Prelude.{None, Option, tt, if◌then◌else◌};
+ghost use Rattle.std.specs.Prelude.{None, Option, if◌then◌else◌};
 ghost use Rattle.harp_cells.specs.declared.value.Value.{Value as CellValue};
 ghost use Rattle.harp_cells.specs.Memory.{fetched_in};
 
