@@ -101,7 +101,7 @@ impl Partner {
         }
     }
 
-    /// The log. Each of its records stands for its entry.
+    /// The log, just as it stands.
     pub fn log(&self) -> &ActiveLog
         ensures { result.now ≡ self.now.log }
     {
