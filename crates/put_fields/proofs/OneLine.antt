@@ -323,7 +323,7 @@ role_line (role.Follows leader) =
     (number (number_of leader), tt)
 role_line role.Outside = known (codes "outside -") refl
 
-held_line : (h : Held) → IsOneLine (held_text h)
+pub held_line : (h : Held) → IsOneLine (held_text h)
 held_line held.Empty = known (codes "empty") refl
 held_line held.Held = known (codes "held") refl
 held_line held.Lost = known (codes "lost") refl

@@ -14,4 +14,4 @@ pub use put::{
 pub use write_attr::put_attr;
 pub use write_call::put_call;
 pub use write_reply::put_reply;
-pub use write_state::{put_in_view, put_state, put_view};
+pub use write_state::{put_held, put_in_view, put_state, put_view};

@@ -59,7 +59,7 @@ fn put_role(out: &mut Vec<u8>, role: Role) -> Result<(), AllocError>
     }
 }
 
-fn put_held(out: &mut Vec<u8>, held: Held) -> Result<(), AllocError>
+pub fn put_held(out: &mut Vec<u8>, held: Held) -> Result<(), AllocError>
     ensures { OnOk result (out.new.items ≡ out.old.items ++ spaced (held_text held)) }
 {
     match held {

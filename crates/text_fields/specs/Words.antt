@@ -5,7 +5,7 @@ use Rattle.text_fields.specs.declared.fault.TextFault.TheVariants.{Grammar}
 use Rattle.text_fields.specs.Fields.{Reader, ◌>>=◌, word_at, number_at, hex_at}
 
 -- how far a word goes along with a name, where it went so far along with others
-abbrev pub farther : List ℕ → List ℕ → ℕ → ℕ
+unfoldable pub farther : List ℕ → List ℕ → ℕ → ℕ
 farther name word reached =
     if nat_lt reached (common_prefix_len nat_eq name word) then common_prefix_len nat_eq name word
     else reached

@@ -28,6 +28,7 @@ fn common_len(name: &[u8], word: &[u8]) -> usize
 }
 
 /// How far a word goes along with a name, where it went so far along with others.
+#[tactic(auto, unfolding(crate::specs::Words::farther))]
 pub fn farther(name: &[u8], word: &[u8], reached: usize) -> usize
     requires { reached ≤ length word.now }
     ensures value { result ≡ farther name.now word.now reached }
