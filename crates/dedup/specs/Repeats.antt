@@ -30,6 +30,7 @@ seen_in (Some (value.Client last index reply)) number commit_point =
     seen_beside last index reply number commit_point
 seen_in (Some (value.Meta next used stamp)) number commit_point = New
 seen_in (Some (value.Object inode)) number commit_point = New
+seen_in (Some (value.Unformed inode)) number commit_point = New
 seen_in (Some (value.Block bytes)) number commit_point = New
 seen_in (Some (value.Slot object name)) number commit_point = New
 seen_in (Some (value.Saved bytes)) number commit_point = New

@@ -60,6 +60,7 @@ fn seen_in(alloc: Global, value: &Value, number: u64, cp: u64) -> Result<Seen, A
         | Value::Object { .. }
         | Value::Block { .. }
         | Value::Slot { .. }
+        | Value::Unformed { .. }
         | Value::Saved { .. }
         | Value::SavedCred { .. } => Ok(Seen::New),
     }

@@ -114,6 +114,7 @@ abbrev pub full_value : Value → Value
 full_value (value.Block bytes) = value.Block (bytes ++ replicate (block_size - length bytes) 0)
 full_value (value.Meta next used stamp) = value.Meta next used stamp
 full_value (value.Object inode) = value.Object inode
+full_value (value.Unformed inode) = value.Unformed inode
 full_value (value.Slot object name) = value.Slot object name
 full_value (value.Client number index reply) = value.Client number index reply
 full_value (value.Saved bytes) = value.Saved bytes

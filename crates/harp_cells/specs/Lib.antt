@@ -4,3 +4,4 @@ pub mod CellBytes
 pub mod Memory
 pub mod CellsOfTree
 pub mod Laws
+pub mod Kinds

@@ -1,7 +1,9 @@
 //! Bounds that the fields of values keep.
 
-ghost use Rattle.std.specs.Prelude.{◌≡◌, ◌<◌, ◌≤◌, ◌+◌, ◌^◌, ◌↔◌, length, IfOk, IfSome, IsSome};
+ghost use Rattle.std.specs.Prelude.{◌≡◌, ◌<◌, ◌≤◌, ◌+◌, ◌^◌, ◌↔◌, length, true, is_some, IfOk, IfSome, IsSome};
+ghost use Rattle.harp_cells.specs.Kinds.{is_other_kind};
 
+use harp_base::Kind;
 use std::alloc::{AllocError, Global};
 use std::marker::Model;
 
@@ -51,6 +53,47 @@ impl Moment {
         ensures bound { self < 2 ^ 62 + 2000 }
     {
         self.millis
+    }
+}
+
+/// The kind of what is no object that a call makes: a byte that is the number of no `Kind`.
+#[derive(Clone, Copy, Debug, PartialEq, Eq)]
+pub struct OtherKind {
+    number: u8,
+}
+
+impl Model for OtherKind {
+    ghost use Rattle.std.specs.Prelude.{ℕ, ◌≡◌, true};
+    ghost use Rattle.harp_cells.specs.Kinds.{is_other_kind};
+
+    ghost Value = { ℕ };
+
+    ghost view = { λ k. k.number };
+
+    ghost invariant = { λ k. is_other_kind k.number ≡ true };
+
+    ghost inverse = { λ n. record { number = n } };
+}
+
+impl OtherKind {
+    /// The kind of a byte, where it is the number of no `Kind`.
+    pub fn of(number: u8) -> Option<OtherKind>
+        ensures found { is_some result ≡ is_other_kind number }
+        ensures value { IfSome result (λ k. k ≡ number) }
+    {
+        if Kind::of(number).is_none() {
+            Some(OtherKind { number })
+        } else {
+            None
+        }
+    }
+
+    /// The byte.
+    pub fn number(self) -> u8
+        ensures value { result ≡ self }
+        ensures other { is_other_kind self ≡ true }
+    {
+        self.number
     }
 }
 

@@ -127,7 +127,7 @@ pub(crate) fn value_form_number(value: &Value) -> u8
 {
     match value {
         Value::Meta { .. } => 1,
-        Value::Object { .. } => 2,
+        Value::Object { .. } | Value::Unformed { .. } => 2,
         Value::Block { .. } => 3,
         Value::Slot { .. } => 4,
         Value::Client { .. } => 5,

@@ -6,18 +6,18 @@ ghost use Rattle.harp_cells.specs.declared.value.Value.{Value};
 ghost use Rattle.harp_cells.specs.declared.codec_forms.ValueForm.TheVariants as form;
 ghost use Rattle.harp_cells.specs.declared.codec_forms.CellForm.TheVariants as named;
 ghost use Rattle.harp_cells.specs.declared.codec_forms.ChangeForm.TheVariants as made;
-ghost use Rattle.harp_cells.specs.ValueBytes.{some_bytes_at, inode_at, value_fields_at, value_at, value_bytes, ValueFits};
+ghost use Rattle.harp_cells.specs.ValueBytes.{some_bytes_at, has_other_kind, inode_at, other_kind_at, unformed_at, value_fields_at, value_at, value_bytes, ValueFits};
 ghost use Rattle.harp_cells.specs.CellBytes.{cell_fields_at, cell_at, change_fields_at, change_at};
 
-use crate::bounds::{Moment, NonEmpty};
+use crate::bounds::{Moment, NonEmpty, OtherKind};
 use crate::cell::Cell;
 use crate::change::Change;
 use crate::codec_forms::{
     CellForm, ChangeForm, ValueForm, cell_form_at, change_form_at, value_form_at,
 };
-use crate::value::{Inode, Value};
+use crate::value::{Inode, UnformedInode, Value};
 use harp_base::fields::{
-    below_at, bytes_at, kind_at, reply_at, time_at, told, u16_at, u32_at, u64_at,
+    below_at, byte_at, bytes_at, kind_at, reply_at, time_at, told, u16_at, u32_at, u64_at,
 };
 use harp_base::{Bounded, FieldFault, Misread};
 use std::alloc::Global;
@@ -85,6 +85,63 @@ fn inode_at(bytes: &[u8], at: usize) -> Result<(Inode, usize), Misread>
     Ok((inode, at))
 }
 
+fn other_kind_at(bytes: &[u8], at: usize) -> Result<(OtherKind, usize), Misread>
+    requires { at ≤ length bytes.now }
+    ensures step { result ≡ other_kind_at bytes.now at }
+    ensures within { IfOk result (λ x. x.1 ≤ length bytes.now) }
+{
+    let (number, next) = byte_at(bytes, at)?;
+    match OtherKind::of(number) {
+        Some(kind) => Ok((kind, next)),
+        None => Err(Misread::BadTag(at)),
+    }
+}
+
+#[tactic(auto, unfolding(crate::specs::ValueBytes::unformed_at))]
+fn unformed_at(bytes: &[u8], at: usize) -> Result<(UnformedInode, usize), Misread>
+    requires { at ≤ length bytes.now }
+    ensures step { result ≡ unformed_at bytes.now at }
+    ensures within { IfOk result (λ x. x.1 ≤ length bytes.now) }
+{
+    let (kind, at) = other_kind_at(bytes, at)?;
+    let (mode, at) = u16_at(bytes, at)?;
+    let (uid, at) = u32_at(bytes, at)?;
+    let (gid, at) = u32_at(bytes, at)?;
+    let (links, at) = u32_at(bytes, at)?;
+    let (parent, at) = u32_at(bytes, at)?;
+    let (size, at) = u32_at(bytes, at)?;
+    let (slots, at) = u32_at(bytes, at)?;
+    let (atime, at) = time_at(bytes, at)?;
+    let (mtime, at) = time_at(bytes, at)?;
+    let (ctime, at) = time_at(bytes, at)?;
+    let inode = UnformedInode {
+        kind,
+        mode,
+        uid,
+        gid,
+        links,
+        parent,
+        size,
+        slots,
+        atime,
+        mtime,
+        ctime,
+    };
+    Ok((inode, at))
+}
+
+// Whether the byte at a place is the number of no kind of object.
+#[tactic(auto, unfolding(crate::specs::ValueBytes::has_other_kind))]
+fn has_other_kind(bytes: &[u8], at: usize) -> bool
+    requires { at ≤ length bytes.now }
+    ensures { result ≡ has_other_kind bytes.now at }
+{
+    match byte_at(bytes, at) {
+        Ok((number, _)) => OtherKind::of(number).is_some(),
+        Err(_) => false,
+    }
+}
+
 #[tactic(auto, unfolding(crate::specs::ValueBytes::value_fields_at))]
 fn meta_value(bytes: &[u8], at: usize) -> Result<(Value, usize), Misread>
     requires { at ≤ length bytes.now }
@@ -103,6 +160,10 @@ fn object_value(bytes: &[u8], at: usize) -> Result<(Value, usize), Misread>
     ensures step { result ≡ value_fields_at form.Object bytes.now at }
     ensures within { IfOk result (λ x. x.1 ≤ length bytes.now) }
 {
+    if has_other_kind(bytes, at) {
+        let (inode, at) = unformed_at(bytes, at)?;
+        return Ok((Value::Unformed { inode }, at));
+    }
     let (inode, at) = inode_at(bytes, at)?;
     Ok((Value::Object { inode }, at))
 }

@@ -2,14 +2,14 @@
 
 ghost use Rattle.std.specs.Prelude.{◌≡◌, ◌++◌, ◌<◌, ◌^◌, ◌≤◌, length, OnOk, OnErr};
 ghost use Rattle.harp_base.specs.Fields.{counted_bytes};
-ghost use Rattle.harp_cells.specs.ValueBytes.{SomeFit, InodeFits, inode_bytes, value_fields, value_bytes, ValueFits};
+ghost use Rattle.harp_cells.specs.ValueBytes.{SomeFit, InodeFits, UnformedFits, inode_bytes, unformed_bytes, value_fields, value_bytes, ValueFits};
 ghost use Rattle.harp_cells.specs.CellBytes.{cell_fields, cell_bytes, CellFits, change_fields, change_bytes, ChangeFits};
 
 use crate::bounds::NonEmpty;
 use crate::cell::Cell;
 use crate::change::Change;
 use crate::codec_forms::{cell_form_number, change_form_number, value_form_number};
-use crate::value::{Inode, Value};
+use crate::value::{Inode, UnformedInode, Value};
 use harp_base::Bytes;
 use harp_base::fields::{put_reply, put_time, put_u16, put_u32, put_u64};
 use std::alloc::{AllocError, Global};
@@ -47,6 +47,25 @@ fn put_inode(out: &mut Vec<u8>, inode: &Inode) -> Result<(), AllocError>
     Ok(())
 }
 
+#[tactic(auto, unfolding(crate::specs::ValueBytes::unformed_bytes))]
+fn put_unformed(out: &mut Vec<u8>, inode: &UnformedInode) -> Result<(), AllocError>
+    ensures value { OnOk result (out.new.items ≡ out.old.items ++ unformed_bytes inode.now) }
+    ensures fits { OnOk result (UnformedFits inode.now) }
+{
+    out.push(inode.kind.number())?;
+    put_u16(out, inode.mode)?;
+    put_u32(out, inode.uid)?;
+    put_u32(out, inode.gid)?;
+    put_u32(out, inode.links)?;
+    put_u32(out, inode.parent)?;
+    put_u32(out, inode.size)?;
+    put_u32(out, inode.slots)?;
+    put_time(out, &inode.atime)?;
+    put_time(out, &inode.mtime)?;
+    put_time(out, &inode.ctime)?;
+    Ok(())
+}
+
 fn put_value_fields(out: &mut Vec<u8>, value: &Value) -> Result<(), AllocError>
     ensures value { OnOk result (out.new.items ≡ out.old.items ++ value_fields value.now) }
     ensures fits { OnOk result (ValueFits value.now) }
@@ -58,6 +77,7 @@ fn put_value_fields(out: &mut Vec<u8>, value: &Value) -> Result<(), AllocError>
             put_u64(out, stamp.get())
         }
         Value::Object { inode } => put_inode(out, inode),
+        Value::Unformed { inode } => put_unformed(out, inode),
         Value::Block { bytes } => put_some_bytes(out, bytes),
         Value::Slot { object, name } => {
             put_u32(out, *object)?;

@@ -14,7 +14,7 @@ mod memory;
 mod reads;
 mod value;
 
-pub use bounds::{Moment, NonEmpty};
+pub use bounds::{Moment, NonEmpty, OtherKind};
 pub use cell::{Cell, Key};
 pub use change::Change;
 pub use codec_reading::read_value;
@@ -22,4 +22,4 @@ pub use codec_writing::write_value;
 pub use laws::cell_laws;
 pub use memory::MemCells;
 pub use reads::{CellFault, CellRead, ChangeLog};
-pub use value::{Inode, LONGEST_OLD_RECORD, LONGEST_RECORD, Value};
+pub use value::{Inode, LONGEST_OLD_RECORD, LONGEST_RECORD, UnformedInode, Value};

@@ -2,7 +2,7 @@
 
 ghost use Rattle.std.specs.Prelude.{◌≡◌, IfOk};
 
-use crate::bounds::{Moment, NonEmpty};
+use crate::bounds::{Moment, NonEmpty, OtherKind};
 use harp_base::{BLOCK_SIZE, Kind, LONGEST_NAME, Reply, Time};
 use std::alloc::{AllocError, Global};
 
@@ -32,6 +32,22 @@ pub struct Inode {
     pub ctime: Time,
 }
 
+/// The attributes of an object whose kind is none of the three. No call makes such an object.
+#[derive(Clone, Copy, Debug, PartialEq, Eq)]
+pub struct UnformedInode {
+    pub kind: OtherKind,
+    pub mode: u16,
+    pub uid: u32,
+    pub gid: u32,
+    pub links: u32,
+    pub parent: u32,
+    pub size: u32,
+    pub slots: u32,
+    pub atime: Time,
+    pub mtime: Time,
+    pub ctime: Time,
+}
+
 /// The value of a cell.
 #[derive(Debug, Drop)]
 pub enum Value {
@@ -44,6 +60,10 @@ pub enum Value {
     /// An object's attributes.
     Object {
         inode: Inode,
+    },
+    /// Attributes that are those of no object.
+    Unformed {
+        inode: UnformedInode,
     },
     /// Bytes of a block. Those missing at its end are zeros.
     Block {
@@ -83,6 +103,7 @@ impl Value {
                 stamp: *stamp,
             }),
             Value::Object { inode } => Ok(Value::Object { inode: *inode }),
+            Value::Unformed { inode } => Ok(Value::Unformed { inode: *inode }),
             Value::Block { bytes } => Ok(Value::Block {
                 bytes: bytes.copy(alloc)?,
             }),

@@ -58,6 +58,7 @@ stored_fits None = omega arith
 stored_fits (Some (value.Block bytes)) = omega (arith, length-take 4096 bytes)
 stored_fits (Some (value.Meta next used stamp)) = omega arith
 stored_fits (Some (value.Object inode)) = omega arith
+stored_fits (Some (value.Unformed inode)) = omega arith
 stored_fits (Some (value.Slot object name)) = omega arith
 stored_fits (Some (value.Client number index reply)) = omega arith
 stored_fits (Some (value.Saved bytes)) = omega arith

@@ -74,6 +74,7 @@ raw : Value → List ℕ
 raw (value.Block bytes) = bytes
 raw (value.Meta next used stamp) = []
 raw (value.Object inode) = []
+raw (value.Unformed inode) = []
 raw (value.Slot object name) = []
 raw (value.Client number index reply) = []
 raw (value.Saved bytes) = []
@@ -104,6 +105,7 @@ by_full None bytes short e = record {
 by_full (Some (value.Block b)) bytes short e = by_bytes b bytes (ap raw e) short
 by_full (Some (value.Meta next used stamp)) bytes short e = absurd cc
 by_full (Some (value.Object inode)) bytes short e = absurd cc
+by_full (Some (value.Unformed inode)) bytes short e = absurd cc
 by_full (Some (value.Slot object name)) bytes short e = absurd cc
 by_full (Some (value.Client number index reply)) bytes short e = absurd cc
 by_full (Some (value.Saved b)) bytes short e = absurd cc
@@ -166,6 +168,7 @@ full_of (Some (value.Block b)) bytes short h = full_stored b
     (λ at within. sym (get_or-take 4096 b at 0 within) ∙ h.byte at within))
 full_of (Some (value.Meta next used stamp)) bytes short h = absurd h.kind
 full_of (Some (value.Object inode)) bytes short h = absurd h.kind
+full_of (Some (value.Unformed inode)) bytes short h = absurd h.kind
 full_of (Some (value.Slot object name)) bytes short h = absurd h.kind
 full_of (Some (value.Client number index reply)) bytes short h = absurd h.kind
 full_of (Some (value.Saved b)) bytes short h = absurd h.kind

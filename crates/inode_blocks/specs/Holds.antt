@@ -11,6 +11,7 @@ abbrev pub bytes_within : Value → List ℕ
 bytes_within (value.Block bytes) = take block_size bytes
 bytes_within (value.Meta next used stamp) = []
 bytes_within (value.Object inode) = []
+bytes_within (value.Unformed inode) = []
 bytes_within (value.Slot object name) = []
 bytes_within (value.Client number index reply) = []
 bytes_within (value.Saved bytes) = []
@@ -25,6 +26,7 @@ abbrev pub IsBlockValue : Value → Type 0
 IsBlockValue (value.Block bytes) = length bytes ≤ block_size
 IsBlockValue (value.Meta next used stamp) = ⊥
 IsBlockValue (value.Object inode) = ⊥
+IsBlockValue (value.Unformed inode) = ⊥
 IsBlockValue (value.Slot object name) = ⊥
 IsBlockValue (value.Client number index reply) = ⊥
 IsBlockValue (value.Saved bytes) = ⊥

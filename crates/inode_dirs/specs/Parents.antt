@@ -11,6 +11,7 @@ abbrev pub parent_by : ℕ → Option Value → ℕ
 parent_by number None = if number == 1 then 1 else 0
 parent_by number (Some (value.Object inode)) = inode.parent
 parent_by number (Some (value.Meta next used stamp)) = 0
+parent_by number (Some (value.Unformed inode)) = 0
 parent_by number (Some (value.Block bytes)) = 0
 parent_by number (Some (value.Slot object name)) = 0
 parent_by number (Some (value.Client n index reply)) = 0

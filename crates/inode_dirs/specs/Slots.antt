@@ -38,6 +38,7 @@ slot_of None = None
 slot_of (Some (value.Slot object name)) = Some (record { name = name; number = object })
 slot_of (Some (value.Meta next used stamp)) = None
 slot_of (Some (value.Object inode)) = None
+slot_of (Some (value.Unformed inode)) = None
 slot_of (Some (value.Block bytes)) = None
 slot_of (Some (value.Client number index reply)) = None
 slot_of (Some (value.Saved bytes)) = None

@@ -18,6 +18,7 @@ fn parent_in(number: u32, value: &Value) -> u32
         | Value::Block { .. }
         | Value::Slot { .. }
         | Value::Client { .. }
+        | Value::Unformed { .. }
         | Value::Saved { .. }
         | Value::SavedCred { .. } => 0,
     }

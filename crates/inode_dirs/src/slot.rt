@@ -27,6 +27,7 @@ fn object_in(value: &Value, name: &[u8]) -> Option<u32>
         | Value::Object { .. }
         | Value::Block { .. }
         | Value::Client { .. }
+        | Value::Unformed { .. }
         | Value::Saved { .. }
         | Value::SavedCred { .. } => None,
     }
@@ -88,6 +89,7 @@ fn entry_in(alloc: Global, value: &Value, cookie: u32) -> Result<Option<DirEntry
         | Value::Object { .. }
         | Value::Block { .. }
         | Value::Client { .. }
+        | Value::Unformed { .. }
         | Value::Saved { .. }
         | Value::SavedCred { .. } => Ok(None),
     }

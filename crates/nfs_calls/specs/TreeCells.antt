@@ -36,6 +36,7 @@ abbrev pub inode_found : ℕ → Option Value → Option Inode
 inode_found number None = if number == 1 then Some root_inode else None
 inode_found number (Some (value.Object inode)) = Some inode
 inode_found number (Some (value.Meta next used stamp)) = None
+inode_found number (Some (value.Unformed inode)) = None
 inode_found number (Some (value.Block bytes)) = None
 inode_found number (Some (value.Slot object name)) = None
 inode_found number (Some (value.Client n index reply)) = None
@@ -109,6 +110,7 @@ abbrev pub totals_found : Option Value → Totals
 totals_found (Some (value.Meta next used stamp)) = record { next = next; used = used }
 totals_found None = first_totals
 totals_found (Some (value.Object inode)) = first_totals
+totals_found (Some (value.Unformed inode)) = first_totals
 totals_found (Some (value.Block bytes)) = first_totals
 totals_found (Some (value.Slot object name)) = first_totals
 totals_found (Some (value.Client n index reply)) = first_totals

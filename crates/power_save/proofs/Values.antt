@@ -59,6 +59,7 @@ one_value (value.Saved bytes) x y h g =
     ∙ old_item_codec.again bytes 0 y [] g.1 (g.0 ∙ sym (append-nil (old_record_bytes y))))
 one_value (value.Meta next used stamp) x y h g = absurd h
 one_value (value.Object inode) x y h g = absurd h
+one_value (value.Unformed inode) x y h g = absurd h
 one_value (value.Block bytes) x y h g = absurd h
 one_value (value.Slot object name) x y h g = absurd h
 one_value (value.Client number index reply) x y h g = absurd h

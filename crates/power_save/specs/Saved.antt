@@ -33,6 +33,7 @@ IsValueOf (value.SavedCred bytes) r = (bytes ≡ record_bytes r) × RecordFits r
 IsValueOf (value.Saved bytes) r = (bytes ≡ old_record_bytes r) × OldRecordFits r
 IsValueOf (value.Meta next used stamp) r = ⊥
 IsValueOf (value.Object inode) r = ⊥
+IsValueOf (value.Unformed inode) r = ⊥
 IsValueOf (value.Block bytes) r = ⊥
 IsValueOf (value.Slot object name) r = ⊥
 IsValueOf (value.Client number index reply) r = ⊥

@@ -83,6 +83,7 @@ fn record_in(alloc: Global, value: &Option<Value>) -> Result<Option<Record>, All
         Value::Saved { bytes } => whole_old_record(alloc, bytes.as_slice()),
         Value::Meta { .. }
         | Value::Object { .. }
+        | Value::Unformed { .. }
         | Value::Block { .. }
         | Value::Slot { .. }
         | Value::Client { .. } => Ok(None),

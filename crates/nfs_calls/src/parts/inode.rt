@@ -45,6 +45,7 @@ fn inode_in(value: &Value) -> Option<Inode>
         | Value::Block { .. }
         | Value::Slot { .. }
         | Value::Client { .. }
+        | Value::Unformed { .. }
         | Value::Saved { .. }
         | Value::SavedCred { .. } => None,
     }

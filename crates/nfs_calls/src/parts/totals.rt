@@ -28,6 +28,7 @@ fn totals_in(value: &Value) -> Totals
         | Value::Block { .. }
         | Value::Slot { .. }
         | Value::Client { .. }
+        | Value::Unformed { .. }
         | Value::Saved { .. }
         | Value::SavedCred { .. } => Totals { next: 2, used: 0 },
     }
