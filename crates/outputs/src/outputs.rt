@@ -3,6 +3,7 @@
 ghost use Rattle.std.specs.Prelude.{◌≡◌, ◌++◌, ◌∷◌, [], Some, OnOk};
 ghost use Rattle.group_rules.specs.Names.{number_of_view, place_of};
 ghost use Rattle.outputs.specs.Messages.{heard};
+ghost use Rattle.outputs.specs.Records.{carried, records_sent};
 ghost use Rattle.outputs.specs.Said.{entered, nothing, said};
 
 use crate::listing::Listing;
@@ -86,7 +87,8 @@ pub struct Outputs {
 impl Outputs {
     /// No outputs.
     pub fn new(alloc: Global) -> Outputs
-        ensures { said result ≡ nothing }
+        ensures said { said result ≡ nothing }
+        ensures records { records_sent result ≡ [] }
     {
         Outputs {
             committed: Vec::new(alloc),
@@ -101,9 +103,11 @@ impl Outputs {
 
     /// A message is sent.
     pub fn send(&mut self, to: ServerId, message: Message) -> Result<(), AllocError>
-        ensures { OnOk result (said self.new ≡ record (said self.old) {
+        ensures said { OnOk result (said self.new ≡ record (said self.old) {
           sends = (said self.old).sends ++ (place_of to, heard message) ∷ [];
         }) }
+        ensures records { OnOk result (records_sent self.new
+            ≡ records_sent self.old ++ carried message) }
     {
         self.sends.push(Sent { to, message })?;
         Ok(())
@@ -111,7 +115,7 @@ impl Outputs {
 
     /// An ask is refused.
     pub fn refuse(&mut self, asker: Asker, cause: Cause) -> Result<(), AllocError>
-        ensures { OnOk result (said self.new ≡ record (said self.old) {
+        ensures said { OnOk result (said self.new ≡ record (said self.old) {
           refusals = (said self.old).refusals ++ (record {
             peer = asker.peer;
             client = asker.client;
@@ -119,6 +123,7 @@ impl Outputs {
             cause = cause;
           }) ∷ [];
         }) }
+        ensures records { records_sent self.new ≡ records_sent self.old }
     {
         let Asker {
             peer,
@@ -137,9 +142,10 @@ impl Outputs {
 
     /// An ask is answered.
     pub fn answer(&mut self, answer: Answered) -> Result<(), AllocError>
-        ensures { OnOk result (said self.new ≡ record (said self.old) {
+        ensures said { OnOk result (said self.new ≡ record (said self.old) {
           answers = (said self.old).answers ++ answer ∷ [];
         }) }
+        ensures records { records_sent self.new ≡ records_sent self.old }
     {
         self.answers.push(answer)?;
         Ok(())
@@ -147,9 +153,10 @@ impl Outputs {
 
     /// An update is committed.
     pub fn commit(&mut self, entry: BookEntry) -> Result<(), AllocError>
-        ensures { OnOk result (said self.new ≡ record (said self.old) {
+        ensures said { OnOk result (said self.new ≡ record (said self.old) {
           committed = (said self.old).committed ++ entered entry ∷ [];
         }) }
+        ensures records { records_sent self.new ≡ records_sent self.old }
     {
         self.committed.push(entry)?;
         Ok(())
@@ -157,16 +164,20 @@ impl Outputs {
 
     /// A view is opened.
     pub fn open(&mut self, view: ViewNo)
-        ensures { said self.new ≡ record (said self.old) { opened = Some (number_of_view view) } }
+        ensures said { said self.new ≡ record (said self.old) {
+          opened = Some (number_of_view view);
+        } }
+        ensures records { records_sent self.new ≡ records_sent self.old }
     {
         self.opened = Some(view);
     }
 
     /// A view is chosen, which starts from another one.
     pub fn choose(&mut self, view: ViewNo, from: ViewNo)
-        ensures { said self.new ≡ record (said self.old) {
+        ensures said { said self.new ≡ record (said self.old) {
           chosen = Some (number_of_view view, number_of_view from);
         } }
+        ensures records { records_sent self.new ≡ records_sent self.old }
     {
         self.chosen = Some(Chosen { view, from });
     }
@@ -175,6 +186,7 @@ impl Outputs {
     pub fn list(&mut self, listing: Listing)
         ensures said { said self.new ≡ record (said self.old) { listed = Some listing.cp } }
         ensures listing { self.new.listing ≡ Some listing }
+        ensures records { records_sent self.new ≡ records_sent self.old }
     {
         self.listing = Some(listing);
     }

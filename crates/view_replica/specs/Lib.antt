@@ -1,3 +1,4 @@
+pub mod Resending
 pub mod Leading
 pub mod Following
 pub mod Commits

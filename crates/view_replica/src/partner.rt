@@ -128,7 +128,11 @@ impl Partner {
     ) -> Result<(), AllocError>
         requires base { base ≤ self.old.log.lb }
         requires now { now < 2 ^ 62 }
-        ensures { OnOk result ((o : Outer) → let s = followed self.old (at_horizon o horizon.old) in
+        ensures log { self.new ≡ settled (record self.old {
+          log = dropped_to self.old.log (max self.old.log.base base);
+        }) cp }
+        ensures makes { OnOk result ((o : Outer)
+            → let s = followed self.old (at_horizon o horizon.old) in
             let q = place_followed self.old o in
             Makes q now (on_event q now s (leader_of self.old.ahead) s.accepted cp base s.items) []
             s (followed self.new (at_horizon o horizon.new)) outs.old outs.new) }
@@ -186,7 +190,7 @@ impl Partner {
 
     /// Deals with an Event of the view, whose base is at most the log's LB and for whose record the
     /// log has room where it is the next one: the record goes to the log where it is, and then all
-    /// is as with a Beat.
+    /// is as with a Beat. It is the very record that came.
     pub fn event(
         &mut self,
         cp: u64,
@@ -200,7 +204,11 @@ impl Partner {
         requires room { item.index ≡ top self.old.log + 1
             → length self.old.log.records < room + (base - self.old.log.base) }
         requires now { now < 2 ^ 62 }
-        ensures { OnOk result ((o : Outer) → let s = followed self.old (at_horizon o horizon.old) in
+        ensures log { self.new ≡ settled (record self.old {
+          log = with_next (dropped_to self.old.log (max self.old.log.base base)) item;
+        }) cp }
+        ensures makes { OnOk result ((o : Outer)
+            → let s = followed self.old (at_horizon o horizon.old) in
             let q = place_followed self.old o in
             Makes q now (on_event q now s (leader_of self.old.ahead) s.accepted cp base
             (taken s item.index (entry_of item))) [] s (followed self.new

@@ -1,10 +1,11 @@
 //! Records as entries and as messages.
 
-ghost use Rattle.std.specs.Prelude.{◌≡◌, ◌+◌, ◌-◌, ◌<◌, ◌≤◌, ◌∷◌, drop, Some, IfOk};
+ghost use Rattle.std.specs.Prelude.{◌≡◌, ◌+◌, ◌-◌, ◌<◌, ◌≤◌, ◌∷◌, [], drop, Some, IfOk};
 ghost use Rattle.event_record.specs.Record.{entry_of};
 ghost use Rattle.group_rules.specs.Names.{number_of_view};
 ghost use Rattle.group_rules.specs.State.{Event};
 ghost use Rattle.outputs.specs.Messages.{heard};
+ghost use Rattle.outputs.specs.Records.{carried};
 ghost use Rattle.outputs.specs.Said.{entered};
 ghost use Rattle.view_replica.specs.Leading.{entries};
 ghost use Rattle.volatile_log.specs.Log.{top};
@@ -22,6 +23,8 @@ pub(crate) fn record_after(log: &ActiveLog, n: u64) -> &Record
     requires within { n < top log.now }
     ensures next { drop (n - log.now.base) (entries log.now)
         ≡ entry_of result.now ∷ drop (n + 1 - log.now.base) (entries log.now) }
+    ensures there { drop (n - log.now.base) log.now.records
+        ≡ result.now ∷ drop (n + 1 - log.now.base) log.now.records }
     ensures index { result.now.index ≡ n + 1 }
 {
     let _ = log.top();
@@ -49,7 +52,9 @@ pub(crate) fn entry_copy(alloc: Global, item: &Record) -> Result<BookEntry, Allo
 
 /// The Event of a record in this view, with this CP and base.
 pub(crate) fn event_of(view: ViewNo, cp: u64, base: u64, item: Record) -> Message
-    ensures { heard result ≡ Some (Event (number_of_view view) item.index cp base (entry_of item)) }
+    ensures heard { heard result
+        ≡ Some (Event (number_of_view view) item.index cp base (entry_of item)) }
+    ensures record { carried result ≡ item ∷ [] }
 {
     let record = item;
     Message::Event {

@@ -8,9 +8,11 @@ ghost use Rattle.group_rules.specs.State.{Beat};
 ghost use Rattle.group_rules.specs.Tick.{beats, events};
 ghost use Rattle.outputs.specs.Makes.{Makes};
 ghost use Rattle.outputs.specs.Messages.{as_heard, heard};
+ghost use Rattle.outputs.specs.Records.{carried, records_sent};
 ghost use Rattle.outputs.specs.Said.{said};
 ghost use Rattle.view_replica.specs.Commits.{above};
 ghost use Rattle.view_replica.specs.Leading.{Outer, led, partner_of, place_led};
+ghost use Rattle.view_replica.specs.Resending.{records_after, sent_again};
 ghost use Rattle.volatile_log.specs.Log.{top};
 
 use crate::leader::Leader;
@@ -30,6 +32,8 @@ impl Leader {
             → let s = led self.old o in let q = place_led self.old o in
             Makes q now (if is_open s.mode then beats s else try_open q now s) [] s
             (led self.new o) outs.old outs.new) }
+        ensures records { OnOk result (self.old.opened ≡ true
+            → records_sent outs.new ≡ records_sent outs.old ++ sent_again self.old) }
         ensures peers { OnOk result (self.new.peers ≡ self.old.peers) }
     {
         if !self.opened {
@@ -40,8 +44,10 @@ impl Leader {
 
     /// A Beat, and the Events of what the partner hasn't acknowledged.
     fn beat_and_events(&self, alloc: Global, outs: &mut Outputs) -> Result<(), AllocError>
-        ensures { OnOk result ((o : Outer) (clock : ℕ) → let s = led self.now o in
+        ensures makes { OnOk result ((o : Outer) (clock : ℕ) → let s = led self.now o in
             Makes (place_led self.now o) clock (beats s) [] s s outs.old outs.new) }
+        ensures records { OnOk result (records_sent outs.new
+            ≡ records_sent outs.old ++ sent_again self.now) }
     {
         outs.send(self.beside.partner(), self.beat())?;
         self.send_again(alloc, outs)
@@ -49,7 +55,9 @@ impl Leader {
 
     /// The Beat of this moment.
     pub(crate) fn beat(&self) -> Message
-        ensures { heard result ≡ Some (Beat self.now.view self.now.log.cp self.now.log.base) }
+        ensures heard { heard result
+            ≡ Some (Beat self.now.view self.now.log.cp self.now.log.base) }
+        ensures record { carried result ≡ [] }
     {
         Message::Beat {
             view: self.view,
@@ -60,12 +68,14 @@ impl Leader {
 
     /// Sends the records that the partner hasn't acknowledged, at most 64.
     fn send_again(&self, alloc: Global, outs: &mut Outputs) -> Result<(), AllocError>
-        ensures { OnOk result (let l = self.now in let n = max l.log.base l.told_top in
+        ensures said { OnOk result (let l = self.now in let n = max l.log.base l.told_top in
             said outs.new ≡ record (said outs.old) {
               sends = (said outs.old).sends ++ map as_heard (sends_said
                   (events (partner_of l.beside) l.view l.log.cp l.log.base n (take 64
                   (above n l))));
             }) }
+        ensures records { OnOk result (records_sent outs.new
+            ≡ records_sent outs.old ++ sent_again self.now) }
     {
         let first = self.log.base().max(self.told_top);
         let end = self.log.top().min(first + SENT_AGAIN);
@@ -79,10 +89,12 @@ impl Leader {
     fn send_record(&self, alloc: Global, n: u64, outs: &mut Outputs) -> Result<(), AllocError>
         requires from { self.now.log.base ≤ n }
         requires within { n < top self.now.log }
-        ensures { OnOk result (let l = self.now in said outs.new ≡ record (said outs.old) {
+        ensures said { OnOk result (let l = self.now in said outs.new ≡ record (said outs.old) {
           sends = (said outs.old).sends ++ map as_heard (sends_said
               (events (partner_of l.beside) l.view l.log.cp l.log.base n (take 1 (above n l))));
         }) }
+        ensures records { OnOk result (records_sent outs.new
+            ≡ records_sent outs.old ++ take 1 (records_after n self.now)) }
     {
         let item = record_after(&self.log, n).copy(alloc)?;
         let cp = self.log.cp();

@@ -9,17 +9,17 @@ use Rattle.view_replica.proofs.Ticking.{ticked}
 use Rattle.view_replica.specs.Leading.{Leading, partner_of}
 use Rattle.view_replica.proofs.leader.Leader.beat_and_events.Goals as goal
 
-pub returns : goal.returns
-returns c =
+pub returns-clause-makes : goal.returns-clause-makes
+returns-clause-makes c =
     let l = c.args.self.now in
     let b = said c.args.outs.now in
     let to = c.partner.ensures ∙ ap (λ (l : Leading). partner_of l.beside) c.self.view_is in
-    let beat = c.in_ok-send.ensures
+    let beat = c.in_ok-send.ensures.said
     ∙ ap (λ (p : Place). record b { sends = b.sends ++ (p, heard c.beat.result) ∷ [] }) to
     ∙ ap (λ (m : Option (Message Entry)). record b {
       sends = b.sends ++
           (partner_of l.beside, m) ∷ [];
-    }) c.beat.ensures in
+    }) c.beat.ensures.heard in
     on_ok_weaker c.send_again.result
     (λ again o clock. ticked l o clock c.args.outs.now c.send.new.self c.send_again.new.outs beat
-    again) c.send_again.ensures
+    again) c.send_again.ensures.said

@@ -15,4 +15,4 @@ returns-clause-makes c = on_ok_weaker c.beat_and_events.result
     (sym (ticks_open c.args.self.now o c.args.now (ap (λ (l : Leading). l.opened)
     (sym c.self.view_is) ∙ search rules)))
     (made o c.args.now))
-    c.beat_and_events.ensures
+    c.beat_and_events.ensures.makes

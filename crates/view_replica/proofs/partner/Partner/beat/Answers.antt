@@ -2,8 +2,8 @@ use Rattle.std.proofs.lemmas.Result.{on_ok_weaker}
 use Rattle.view_replica.proofs.Follows.{heeds_beat}
 use Rattle.view_replica.proofs.partner.Partner.beat.Goals as goal
 
-pub returns : goal.returns
-returns c = on_ok_weaker c.acknowledge.result
+pub returns-clause-makes : goal.returns-clause-makes
+returns-clause-makes c = on_ok_weaker c.acknowledge.result
     (λ told. heeds_beat c.args.self.now c.drop_to.new.self c.acknowledge.new.self
     c.args.horizon.now c.acknowledge.new.horizon
     c.args.now c.args.cp c.args.base c.args.outs.now c.acknowledge.new.outs c.drop_to.ensures.log

@@ -6,8 +6,8 @@ pub take-requires : goal.take-requires
 take-requires c = room_left c.args.self.now c.drop_to.new.self c.args.base c.args.item.index
     c.drop_to.ensures.log c.drop_to.ensures.within c.requires.room
 
-pub returns : goal.returns
-returns c = on_ok_weaker c.acknowledge.result
+pub returns-clause-makes : goal.returns-clause-makes
+returns-clause-makes c = on_ok_weaker c.acknowledge.result
     (λ told. heeds_event c.args.self.now c.drop_to.new.self c.take.new.self c.acknowledge.new.self
     c.args.horizon.now c.acknowledge.new.horizon
     c.args.now c.args.cp c.args.base c.args.item c.args.outs.now c.acknowledge.new.outs
