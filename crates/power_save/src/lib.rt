@@ -5,13 +5,10 @@
 mod fault;
 mod laws;
 mod loading;
-mod log;
 mod record;
 mod saving;
 
 pub use fault::SaveFault;
 pub use laws::crash_laws;
 pub use loading::load;
-pub use log::FrozenLog;
-pub use record::SavedRecord;
 pub use saving::save;

@@ -1,77 +1,72 @@
 //! Loading a log.
 
 ghost use Rattle.std.specs.Prelude.{◌≡◌, ℕ, ◌≤◌, ◌+◌, ◌<◌, ◌^◌, List, length, false, true, Option, Some, None, IfOk, OnOk, OnErr, Err, IsErr};
+ghost use Rattle.event_record.specs.declared.record.RecordFields.{RecordFields};
+ghost use Rattle.file_tree.specs.Book.{Entry};
+ghost use Rattle.group_rules.specs.Effects.{load_tests};
+ghost use Rattle.group_rules.specs.Places.{all_of};
+ghost use Rattle.group_rules.specs.State.{Saved as SavedLog};
 ghost use Rattle.harp_base.specs.Streams.{Rose};
 ghost use Rattle.harp_cells.specs.Effect.{Cells};
 ghost use Rattle.harp_store.specs.Disk.{cells_told};
 ghost use Rattle.harp_store.specs.Mark.{MarkFields, SavedNumbers};
 ghost use Rattle.power_save.specs.declared.fault.SaveFault.TheVariants.{StoreFailed, NotSaved};
-ghost use Rattle.power_save.specs.Saved.{AreInOrder, HasNumbers, HoldRecords, IsLog, IsNotSaved, IsSavedAs, fits_log, record_in, saved_mark};
+ghost use Rattle.power_save.specs.Entries.{HoldEntries, IsLoaded};
+ghost use Rattle.power_save.specs.Saved.{HasNumbers, HoldRecords, IsNotSaved, IsSavedAs, fits_log, saved_mark};
+ghost use Rattle.volatile_log.specs.Log.{AreNumberedAfter, IsLog, LogValue};
 
 use crate::fault::SaveFault;
-use crate::log::FrozenLog;
-use crate::record::SavedRecord;
+use crate::record::record_of;
+use event_record::Record;
 use harp_base::LOG_ROOM;
-use harp_cells::{Cell, Value};
+use harp_cells::Cell;
 use harp_store::{Mark, Saved, Store};
-use std::alloc::{AllocError, Global};
-
-// The record that a cell stands for.
-fn record_in<R: SavedRecord>(alloc: Global, value: &Option<Value>) -> Result<Option<R>, AllocError>
-    ensures { IfOk result (λ item. item ≡ record_in R.meaning value.now) }
-{
-    match value {
-        Some(value) => R::read(alloc, value),
-        None => Ok(None),
-    }
-}
+use std::alloc::Global;
+use volatile_log::FrozenLog;
 
 // Reads the record of an index.
-fn read_record<R: SavedRecord, D: Store>(
+fn read_record<D: Store>(
     alloc: Global,
     ring: u32,
     index: u64,
     store: &mut D,
-) -> Result<R, SaveFault>
+) -> Result<Record, SaveFault>
     requires { 0 < ring }
     ensures item { (cells : Cells) → cells_told (D.told store.old) ≡ Some cells
-        → IfOk result (λ r. IsSavedAs R.index_of R.meaning ring cells index r) }
-    ensures index { IfOk result (λ r. R.index_of r ≡ index) }
+        → IfOk result (λ r. IsSavedAs ring cells index r) }
+    ensures index { IfOk result (λ r. r.index ≡ index) }
     ensures none { (cells : Cells) → cells_told (D.told store.old) ≡ Some cells → result
-        ≡ Err NotSaved → (r : R) → IsSavedAs R.index_of R.meaning ring cells index r → ⊥ }
+        ≡ Err NotSaved → (r : RecordFields) → IsSavedAs ring cells index r → ⊥ }
     ensures kept { D.told store.new ≡ D.told store.old }
     ensures rose { result ≡ Err StoreFailed → Rose (D.faults store.old) (D.faults store.new) }
     ensures count { D.faults store.old ≤ D.faults store.new }
 {
     let place = (index % u64::from(ring)) as u32;
     let value = store.read(alloc, Cell::Saved { place })?;
-    let Some(record) = record_in::<R>(alloc, &value)? else {
-        return Err(SaveFault::NotSaved);
-    };
-    if record.index() != index {
-        return Err(SaveFault::NotSaved);
+    match record_of(alloc, &value, index)? {
+        Some(record) => Ok(record),
+        None => Err(SaveFault::NotSaved),
     }
-    Ok(record)
 }
 
 // Reads the records of the indices behind one, up to another.
-fn read_records<R: SavedRecord, D: Store>(
+fn read_records<D: Store>(
     alloc: Global,
     ring: u32,
     base: u64,
     top: u64,
     store: &mut D,
-) -> Result<Vec<R>, SaveFault>
+) -> Result<Vec<Record>, SaveFault>
     requires order { base ≤ top }
     requires ring { 0 < ring }
     ensures records { (cells : Cells) → cells_told (D.told store.old) ≡ Some cells
-        → IfOk result (λ records. HoldRecords R.index_of R.meaning ring cells base records.items) }
+        → IfOk result (λ records. HoldRecords ring cells base records.items) }
     ensures length { IfOk result (λ records. base + length records.items ≡ top) }
-    ensures indices { IfOk result (λ records. AreInOrder R.index_of base records.items) }
+    ensures indices { IfOk result (λ records. AreNumberedAfter base records.items) }
     ensures lacks { (cells : Cells) → cells_told (D.told store.old) ≡ Some cells → result
         ≡ Err NotSaved
-        → (index : ℕ) × (base < index) × (index ≤ top) × ((r : R)
-        → IsSavedAs R.index_of R.meaning ring cells index r → ⊥) }
+        → (index : ℕ) × (base < index) × (index ≤ top) × ((r : RecordFields)
+        → IsSavedAs ring cells index r → ⊥) }
     ensures kept { D.told store.new ≡ D.told store.old }
     ensures rose { result ≡ Err StoreFailed → Rose (D.faults store.old) (D.faults store.new) }
     ensures count { D.faults store.old ≤ D.faults store.new }
@@ -79,7 +74,7 @@ fn read_records<R: SavedRecord, D: Store>(
     let mut records = Vec::new(alloc);
     let mut index = base;
     while index < top {
-        let record = read_record::<R, D>(alloc, ring, index + 1, store)?;
+        let record = read_record::<D>(alloc, ring, index + 1, store)?;
         records.push(record)?;
         index += 1;
     }
@@ -97,36 +92,37 @@ fn fits_log(lb: u64, saved: Saved) -> bool
 }
 
 /// The log that was saved by this mark, with AP = LB. NotSaved comes where the mark hasn't the
-/// numbers of a log, or a cell isn't the record of its index.
-pub fn load<R: SavedRecord, D: Store>(
-    alloc: Global,
-    mark: &Mark,
-    store: &mut D,
-) -> Result<FrozenLog<R>, SaveFault>
-    ensures numbers { IfOk result (λ log. HasNumbers log.base log.lb log.ap log.cp
-        (log.base + length log.records.items) mark.now) }
-    ensures order { IfOk result (λ log. IsLog R.index_of log.base log.lb log.ap log.cp
-        log.records.items) }
+/// numbers of a log, or a cell isn't the record of its index. Records are read in their old form
+/// too, and from the ring of the mark. Where the cells and the mark have the log that the group's
+/// machine saved, it is this log, and NotSaved comes only where the machine doesn't take it.
+pub fn load<D: Store>(alloc: Global, mark: &Mark, store: &mut D) -> Result<FrozenLog, SaveFault>
+    ensures numbers { IfOk result (λ log. HasNumbers log mark.now) }
+    ensures order { IfOk result (λ log. IsLog log) }
     ensures records { (cells : Cells) → cells_told (D.told store.old) ≡ Some cells
         → IfOk result (λ log. (s : SavedNumbers) → mark.now.saved ≡ Some s
-        → HoldRecords R.index_of R.meaning s.ring cells log.base log.records.items) }
+        → HoldRecords s.ring cells log.base log.records) }
     ensures unsaved { (cells : Cells) → cells_told (D.told store.old) ≡ Some cells → result
-        ≡ Err NotSaved → IsNotSaved R.index_of R.meaning cells mark.now }
+        ≡ Err NotSaved → IsNotSaved cells mark.now }
     ensures whole { (cells : Cells) → cells_told (D.told store.old) ≡ Some cells
-        → IsNotSaved R.index_of R.meaning cells mark.now → IsErr result }
-    ensures found { (cells : Cells) (ring base lb ap cp : ℕ) (records : List R)
-        (before : MarkFields) → cells_told (D.told store.old) ≡ Some cells
-        → IsLog R.index_of base lb ap cp records
-        → HoldRecords R.index_of R.meaning ring cells base records → mark.now
-        ≡ saved_mark ring base ap cp (base + length records) before
-        → result ≡ Err NotSaved → ⊥ }
-    ensures again { (cells : Cells) (ring base lb ap cp : ℕ) (records : List R)
-        (before : MarkFields) → cells_told (D.told store.old) ≡ Some cells
-        → IsLog R.index_of base lb ap cp records
-        → HoldRecords R.index_of R.meaning ring cells base records → mark.now
-        ≡ saved_mark ring base ap cp (base + length records) before
-        → IfOk result (λ log. (log.base ≡ base) × (log.lb ≡ ap) × (log.ap ≡ ap) × (log.cp ≡ cp)
-        × (log.records.items ≡ records)) }
+        → IsNotSaved cells mark.now → IsErr result }
+    ensures found { (cells : Cells) (ring : ℕ) (saved : LogValue) (before : MarkFields)
+        → cells_told (D.told store.old) ≡ Some cells → IsLog saved
+        → HoldRecords ring cells saved.base saved.records
+        → mark.now ≡ saved_mark ring saved before → result ≡ Err NotSaved → ⊥ }
+    ensures again { (cells : Cells) (ring : ℕ) (saved : LogValue) (before : MarkFields)
+        → cells_told (D.told store.old) ≡ Some cells → IsLog saved
+        → HoldRecords ring cells saved.base saved.records
+        → mark.now ≡ saved_mark ring saved before
+        → IfOk result (λ log. log ≡ record saved { lb = saved.ap }) }
+    ensures entries { (cells : Cells) (saved : SavedLog Entry)
+        → cells_told (D.told store.old) ≡ Some cells → HoldEntries cells mark.now saved
+        → IfOk result (λ log. IsLoaded saved mark.now.lb log) }
+    ensures taken { (cells : Cells) (saved : SavedLog Entry)
+        → cells_told (D.told store.old) ≡ Some cells → HoldEntries cells mark.now saved
+        → OnOk result (all_of (load_tests mark.now.lb saved) ≡ true) }
+    ensures refused { (cells : Cells) (saved : SavedLog Entry)
+        → cells_told (D.told store.old) ≡ Some cells → HoldEntries cells mark.now saved
+        → result ≡ Err NotSaved → all_of (load_tests mark.now.lb saved) ≡ false }
     ensures misfit { fits_log mark.now.lb mark.now.saved ≡ false → result ≡ Err NotSaved }
     ensures kept { D.told store.new ≡ D.told store.old }
     ensures rose { result ≡ Err StoreFailed → Rose (D.faults store.old) (D.faults store.new) }
@@ -139,12 +135,6 @@ pub fn load<R: SavedRecord, D: Store>(
     if !fits_log(lb, saved) {
         return Err(SaveFault::NotSaved);
     }
-    let records = read_records::<R, D>(alloc, saved.ring(), saved.base(), saved.top(), store)?;
-    Ok(FrozenLog {
-        base: saved.base(),
-        lb,
-        ap: lb,
-        cp: saved.cp(),
-        records,
-    })
+    let records = read_records::<D>(alloc, saved.ring(), saved.base(), saved.top(), store)?;
+    Ok(FrozenLog::of(saved.base(), lb, lb, saved.cp(), records))
 }

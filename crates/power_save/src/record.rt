@@ -1,33 +1,111 @@
-//! How records stand in the cells of a saved log.
+//! Records as values of cells.
 
-ghost use Rattle.std.specs.Prelude.{◌≡◌, ℕ, Option, Some, IfOk};
-ghost use Rattle.harp_cells.specs.declared.value.Value.{Value as CellValue};
+ghost use Rattle.std.specs.Prelude.{◌≡◌, ◌≤◌, length, Option, Some, None, IfOk, IfSome, OnOk};
+ghost use Rattle.event_record.specs.Bytes.{OldRecordFits, RecordFits, old_record_bytes, record_bytes};
+ghost use Rattle.event_record.specs.declared.record.RecordFields.{RecordFields};
+ghost use Rattle.harp_cells.specs.declared.value.Value.TheVariants.{SavedCred};
+ghost use Rattle.power_save.specs.Saved.{HasRecord};
 
-use harp_cells::Value;
+use event_record::fields::put_item;
+use event_record::{Record, read_item, read_old_item};
+use harp_base::FieldFault;
+use harp_cells::{NonEmpty, Value};
 use std::alloc::{AllocError, Global};
 
-/// Records with an index, and values of cells that stand for them. Several values may stand for one
-/// record, as those of an older form do, and one of them is written.
-pub trait SavedRecord: Sized + Drop {
-    // The index of a record.
-    ghost index_of: { Self → ℕ };
+/// The value that is written for a record: its bytes.
+pub(crate) fn value_of(alloc: Global, item: &Record) -> Result<Value, AllocError>
+    ensures value { IfOk result (λ value. value ≡ SavedCred (record_bytes item.now)) }
+    ensures fits { OnOk result (RecordFits item.now) }
+{
+    let mut bytes = Vec::new(alloc);
+    put_item(&mut bytes, item)?;
+    let _ = item.fields();
+    Ok(Value::SavedCred {
+        bytes: NonEmpty::new(bytes),
+    })
+}
 
-    // The value that is written for a record.
-    ghost spelling: { Self → CellValue };
+/// The record that these bytes are, None where they aren't exactly one.
+fn whole_record(alloc: Global, bytes: &[u8]) -> Result<Option<Record>, AllocError>
+    ensures found { IfOk result (λ item. IfSome item
+        (λ r. (bytes.now ≡ record_bytes r) × RecordFits r)) }
+    ensures none { IfOk result (λ item. item ≡ None → (r : RecordFields)
+        → bytes.now ≡ record_bytes r → RecordFits r → ⊥) }
+{
+    match read_item(alloc, bytes) {
+        Ok((record, length)) => {
+            if length == bytes.len() {
+                Ok(Some(record))
+            } else {
+                Ok(None)
+            }
+        }
+        Err(FieldFault::NoMemory) => Err(AllocError),
+        Err(FieldFault::Short(_)) => Ok(None),
+        Err(FieldFault::BadTag(_)) => Ok(None),
+        Err(FieldFault::TooLong(_)) => Ok(None),
+    }
+}
 
-    // The record that a value stands for, where it stands for one.
-    ghost meaning: { CellValue → Option Self };
+/// The record of the old form that these bytes are, None where they aren't exactly one.
+fn whole_old_record(alloc: Global, bytes: &[u8]) -> Result<Option<Record>, AllocError>
+    ensures found { IfOk result (λ item. IfSome item
+        (λ r. (bytes.now ≡ old_record_bytes r) × OldRecordFits r)) }
+    ensures none { IfOk result (λ item. item ≡ None → (r : RecordFields)
+        → bytes.now ≡ old_record_bytes r → OldRecordFits r → ⊥) }
+{
+    match read_old_item(alloc, bytes) {
+        Ok((record, end)) => {
+            if end == bytes.len() {
+                Ok(Some(record))
+            } else {
+                Ok(None)
+            }
+        }
+        Err(FieldFault::NoMemory) => Err(AllocError),
+        Err(FieldFault::Short(_)) => Ok(None),
+        Err(FieldFault::BadTag(_)) => Ok(None),
+        Err(FieldFault::TooLong(_)) => Ok(None),
+    }
+}
 
-    /// The index of the record.
-    fn index(&self) -> u64
-        ensures { result ≡ index_of self.now };
+/// The record that a cell has, None where it has none.
+fn record_in(alloc: Global, value: &Option<Value>) -> Result<Option<Record>, AllocError>
+    ensures found { IfOk result (λ item. IfSome item (λ r. HasRecord value.now r)) }
+    ensures none { IfOk result (λ item. item ≡ None → (r : RecordFields)
+        → HasRecord value.now r → ⊥) }
+{
+    let Some(value) = value else {
+        return Ok(None);
+    };
+    match value {
+        Value::SavedCred { bytes } => whole_record(alloc, bytes.as_slice()),
+        Value::Saved { bytes } => whole_old_record(alloc, bytes.as_slice()),
+        Value::Meta { .. }
+        | Value::Object { .. }
+        | Value::Block { .. }
+        | Value::Slot { .. }
+        | Value::Client { .. } => Ok(None),
+    }
+}
 
-    /// The value that is written for the record.
-    fn write(&self, alloc: Global) -> Result<Value, AllocError>
-        ensures spelled { IfOk result (λ value. value ≡ spelling self.now) }
-        ensures meant { meaning (spelling self.now) ≡ Some self.now };
-
-    /// The record that a value stands for, None where it stands for none.
-    fn read(alloc: Global, value: &Value) -> Result<Option<Self>, AllocError>
-        ensures { IfOk result (λ item. item ≡ meaning value.now) };
+/// The record of an index that a cell has, None where it hasn't one of this index.
+pub(crate) fn record_of(
+    alloc: Global,
+    value: &Option<Value>,
+    index: u64,
+) -> Result<Option<Record>, AllocError>
+    ensures found { IfOk result (λ item. IfSome item
+        (λ r. HasRecord value.now r × (r.index ≡ index))) }
+    ensures none { IfOk result (λ item. item ≡ None → (r : RecordFields)
+        → HasRecord value.now r → r.index ≡ index → ⊥) }
+{
+    let Some(record) = record_in(alloc, value)? else {
+        return Ok(None);
+    };
+    if record.index().get() == index {
+        Ok(Some(record))
+    } else {
+        Ok(None)
+    }
 }

@@ -1,69 +1,82 @@
-use Rattle.std.proofs.Common.{rules, ◌≡◌, ℕ, ◌+◌, length, true, Some, arith, sym, subst, ap, ◌∙◌}
-use Rattle.harp_store.specs.Mark.{MarkFields, SavedNumbers}
-use Rattle.power_save.specs.Saved.{HoldRecords, IsSavedAs, fits_log}
-use Rattle.power_save.proofs.Records.{held_at, is_saved, numbers_are, same_log}
+use Rattle.std.proofs.Common.{rules, ◌≡◌, true, false, Some, sym, subst, ap, ◌∙◌}
+use Rattle.harp_store.specs.Mark.{SavedNumbers}
+use Rattle.power_save.specs.Saved.{HoldRecords, fits_log}
+use Rattle.power_save.proofs.Entries.{fits_are}
+use Rattle.power_save.proofs.Loads.{IsRead, held_by_entries, held_by_mark, no_lack, read_again, read_entries, read_is_whole, was_read}
+use Rattle.power_save.proofs.Records.{numbers_are}
 use Rattle.power_save.proofs.loading.load.Goals as goal
 
 pub returns-in_err-records-clause-found : goal.returns-in_err-records-clause-found
-returns-in_err-records-clause-found g c = λ cells ring base lb ap' cp records before told log held
-    is failed.
-    let saved : c.args.mark.now.saved ≡ Some c.in-Some.saved = sym c.saved.ensures ∙ c.in-Some.is in
-    let numbers = numbers_are c.in-Some.saved c.args.mark.now before ring base ap' cp
-    (base + length records) saved is in
-    let low : c.base.result ≡ base = c.base.ensures.value
-    ∙ ap (λ (s : SavedNumbers). s.base) numbers in
-    let high : c.top.result ≡ base + length records = c.top.ensures.value
-    ∙ ap (λ (s : SavedNumbers). s.top) numbers in
-    let lacks = c.in_err-records.ensures.lacks cells told (search rules) in
-    let lt = lacks.1 in
-    let le = lacks.2 in
-    let found = held_at g.R.SavedRecord.index_of g.R.SavedRecord.meaning ring cells base records
-    lacks.0 held (omega (arith, lt, low)) (omega (arith, le, high)) in
-    let round : c.ring.result ≡ ring = c.ring.ensures.value
-    ∙ ap (λ (s : SavedNumbers). s.ring) numbers in
-    lacks.3 found.0 (subst (λ (n : ℕ). IsSavedAs g.R.SavedRecord.index_of g.R.SavedRecord.meaning
-    n cells lacks.0 found.0) (sym round) found.1)
+returns-in_err-records-clause-found g c = λ cells ring saved before told log held is failed.
+    let at : c.args.mark.now.saved ≡ Some c.in-Some.saved = sym c.saved.ensures ∙ c.in-Some.is in
+    no_lack cells c.in-Some.saved c.base.result c.top.result c.ring.result saved.records
+    c.base.ensures.value c.top.ensures.value c.ring.ensures.value
+    (held_by_mark cells c.in-Some.saved c.args.mark.now ring saved before at is held)
+    (c.in_err-records.ensures.lacks cells told (search rules))
+
+pub returns-in_err-records-clause-refused : goal.returns-in_err-records-clause-refused
+returns-in_err-records-clause-refused g c = λ cells saved told h failed.
+    let at : c.args.mark.now.saved ≡ Some c.in-Some.saved = sym c.saved.ensures ∙ c.in-Some.is in
+    absurd (no_lack cells c.in-Some.saved c.base.result c.top.result c.ring.result h.records
+    c.base.ensures.value c.top.ensures.value c.ring.ensures.value
+    (held_by_entries cells c.in-Some.saved c.args.mark.now saved at h)
+    (c.in_err-records.ensures.lacks cells told (search rules)))
+
+pub returns-then-not-fits_log-clause-refused : goal.returns-then-not-fits_log-clause-refused
+returns-then-not-fits_log-clause-refused g c = λ cells saved told h failed.
+    let at : c.args.mark.now.saved ≡ Some c.in-Some.saved = sym c.saved.ensures ∙ c.in-Some.is in
+    let misfit : fits_log c.args.mark.now.lb (Some c.in-Some.saved) ≡ false = search rules in
+    sym (fits_are c.args.mark.now saved cells h) ∙ ap (fits_log c.args.mark.now.lb) at ∙ misfit
+
+pub returns-clause-taken : goal.returns-clause-taken
+returns-clause-taken g c = λ cells saved told h.
+    let at : c.args.mark.now.saved ≡ Some c.in-Some.saved = sym c.saved.ensures ∙ c.in-Some.is in
+    let fits : fits_log c.args.mark.now.lb (Some c.in-Some.saved) ≡ true = search rules in
+    sym (fits_are c.args.mark.now saved cells h) ∙ ap (fits_log c.args.mark.now.lb) at ∙ fits
+
+pub returns-clause-records : goal.returns-clause-records
+returns-clause-records g c = λ cells told s is.
+    let at : c.args.mark.now.saved ≡ Some c.in-Some.saved = sym c.saved.ensures ∙ c.in-Some.is in
+    let read : IsRead cells c.args.mark.now c.in-Some.saved c.of.result =
+    was_read cells c.args.mark.now c.in-Some.saved c.of.result c.base.result c.base-2.result
+    c.lb-lb.result c.cp.result c.top.result c.ring.result c.in_ok-records.records.items at
+    c.of.ensures c.base.ensures.value c.base-2.ensures.value c.lb-lb.ensures.value
+    c.cp.ensures.value c.top.ensures.value c.ring.ensures.value c.in_ok-records.ensures.length
+    (c.in_ok-records.ensures.records cells told) in
+    let same : c.in-Some.saved ≡ s = numbers_are c.in-Some.saved s c.args.mark.now.saved at is in
+    subst (λ (n : SavedNumbers). HoldRecords n.ring cells c.of.result.base c.of.result.records)
+    same read.held
 
 pub returns-clause-whole : goal.returns-clause-whole
 returns-clause-whole g c = λ cells told not.
-    let saved : c.args.mark.now.saved ≡ Some c.in-Some.saved = sym c.saved.ensures ∙ c.in-Some.is in
-    let base = c.base.ensures.value in
-    let top = c.top.ensures.value in
-    let long = c.in_ok-records.ensures.length in
+    let at : c.args.mark.now.saved ≡ Some c.in-Some.saved = sym c.saved.ensures ∙ c.in-Some.is in
+    let read : IsRead cells c.args.mark.now c.in-Some.saved c.of.result =
+    was_read cells c.args.mark.now c.in-Some.saved c.of.result c.base.result c.base-2.result
+    c.lb-lb.result c.cp.result c.top.result c.ring.result c.in_ok-records.records.items at
+    c.of.ensures c.base.ensures.value c.base-2.ensures.value c.lb-lb.ensures.value
+    c.cp.ensures.value c.top.ensures.value c.ring.ensures.value c.in_ok-records.ensures.length
+    (c.in_ok-records.ensures.records cells told) in
     let fits : fits_log c.args.mark.now.lb (Some c.in-Some.saved) ≡ true = search rules in
-    absurd (is_saved g.R.SavedRecord.index_of g.R.SavedRecord.meaning cells c.in-Some.saved
-    c.args.mark.now c.in_ok-records.records.items saved fits
-    (subst (λ (n : ℕ). HoldRecords g.R.SavedRecord.index_of g.R.SavedRecord.meaning
-    c.in-Some.saved.ring cells n c.in_ok-records.records.items) base (subst (λ
-    (m : ℕ). HoldRecords g.R.SavedRecord.index_of g.R.SavedRecord.meaning m cells
-    c.base.result c.in_ok-records.records.items) c.ring.ensures.value
-    (c.in_ok-records.ensures.records cells told)))
-    (omega (arith, base, top, long)) not)
+    absurd (read_is_whole cells c.args.mark.now c.in-Some.saved c.of.result read fits not)
 
 pub returns-clause-again : goal.returns-clause-again
-returns-clause-again g c = λ cells ring base lb ap' cp records before told log held is.
-    let saved : c.args.mark.now.saved ≡ Some c.in-Some.saved = sym c.saved.ensures ∙ c.in-Some.is in
-    let numbers = numbers_are c.in-Some.saved c.args.mark.now before ring base ap' cp
-    (base + length records) saved is in
-    let low : c.base.result ≡ base = c.base.ensures.value
-    ∙ ap (λ (s : SavedNumbers). s.base) numbers in
-    let high : c.top.result ≡ base + length records = c.top.ensures.value
-    ∙ ap (λ (s : SavedNumbers). s.top) numbers in
-    let first : c.base-2.result ≡ base = c.base-2.ensures.value
-    ∙ ap (λ (s : SavedNumbers). s.base) numbers in
-    let applied : c.lb-lb.result ≡ ap' = c.lb-lb.ensures.value ∙ ap (λ (m : MarkFields). m.lb) is in
-    let round : c.ring.result ≡ ring = c.ring.ensures.value
-    ∙ ap (λ (s : SavedNumbers). s.ring) numbers in
-    let long = c.in_ok-records.ensures.length in (
-      first,
-      applied,
-      applied,
-      c.cp.ensures.value ∙ ap (λ (s : SavedNumbers). s.cp) numbers,
-      same_log g.R.SavedRecord.index_of g.R.SavedRecord.meaning ring cells base
-          c.in_ok-records.records.items records (omega (arith, long, low, high))
-          (subst (λ (n : ℕ). HoldRecords g.R.SavedRecord.index_of g.R.SavedRecord.meaning ring
-          cells n c.in_ok-records.records.items) low (subst (λ
-          (m : ℕ). HoldRecords g.R.SavedRecord.index_of g.R.SavedRecord.meaning m cells
-          c.base.result c.in_ok-records.records.items) round
-          (c.in_ok-records.ensures.records cells told))) held,
-    )
+returns-clause-again g c = λ cells ring saved before told log held is.
+    let at : c.args.mark.now.saved ≡ Some c.in-Some.saved = sym c.saved.ensures ∙ c.in-Some.is in
+    let read : IsRead cells c.args.mark.now c.in-Some.saved c.of.result =
+    was_read cells c.args.mark.now c.in-Some.saved c.of.result c.base.result c.base-2.result
+    c.lb-lb.result c.cp.result c.top.result c.ring.result c.in_ok-records.records.items at
+    c.of.ensures c.base.ensures.value c.base-2.ensures.value c.lb-lb.ensures.value
+    c.cp.ensures.value c.top.ensures.value c.ring.ensures.value c.in_ok-records.ensures.length
+    (c.in_ok-records.ensures.records cells told) in
+    read_again cells c.args.mark.now c.in-Some.saved c.of.result ring saved before read held is
+
+pub returns-clause-entries : goal.returns-clause-entries
+returns-clause-entries g c = λ cells saved told h.
+    let at : c.args.mark.now.saved ≡ Some c.in-Some.saved = sym c.saved.ensures ∙ c.in-Some.is in
+    let read : IsRead cells c.args.mark.now c.in-Some.saved c.of.result =
+    was_read cells c.args.mark.now c.in-Some.saved c.of.result c.base.result c.base-2.result
+    c.lb-lb.result c.cp.result c.top.result c.ring.result c.in_ok-records.records.items at
+    c.of.ensures c.base.ensures.value c.base-2.ensures.value c.lb-lb.ensures.value
+    c.cp.ensures.value c.top.ensures.value c.ring.ensures.value c.in_ok-records.ensures.length
+    (c.in_ok-records.ensures.records cells told) in
+    read_entries cells c.args.mark.now c.in-Some.saved c.of.result saved read h
