@@ -1,21 +1,18 @@
 //! What a server holds after a boot or a demotion, and what a power failure saves of it.
 
-ghost use Rattle.std.specs.Prelude.{◌≡◌, ℕ, Some, None, map, is_some, true, false, IfSome, []};
-ghost use Rattle.event_record.specs.Record.{entry_of};
+ghost use Rattle.std.specs.Prelude.{◌≡◌, ℕ, Some, is_some, true, false, IfSome, []};
 ghost use Rattle.file_tree.specs.Book.{Entry};
 ghost use Rattle.group_rules.specs.Effects.{rested};
 ghost use Rattle.group_rules.specs.Limits.{can_have, is_log};
 ghost use Rattle.group_rules.specs.Names.{place_of};
 ghost use Rattle.group_rules.specs.Places.{Place, is_p2};
 ghost use Rattle.group_rules.specs.State.{Empty, Mark, Server};
-ghost use Rattle.kept_log.specs.Boots.{rests, role_of, takes_saved};
+ghost use Rattle.kept_log.specs.Boots.{rests, role_of, saved_of, takes_saved};
 ghost use Rattle.kept_log.specs.Kept.{IsPlaced, held_in, with_kept};
 ghost use Rattle.kept_log.specs.declared.kept.Kept.TheVariants as kept;
-ghost use Rattle.volatile_log.specs.Log.{IsLog};
 
 use crate::form::is_witness;
 use crate::kept::Kept;
-use event_record::Record;
 use harp_base::{Role, ServerId};
 use volatile_log::{EmptyLog, FrozenLog, LostLog};
 
@@ -56,26 +53,20 @@ impl Kept {
         }
     }
 
-    /// What a boot has of a mark with this LB and of the saved log that it takes: a data server's
-    /// log is applied up to LB, and at server 2 LB and AP stand at the base. It takes no memory.
-    pub fn loaded(me: ServerId, base: u64, lb: u64, cp: u64, records: Vec<Record>) -> Kept
-        requires { IsLog (record {
-          base = base;
-          lb = lb;
-          ap = lb;
-          cp = cp;
-          records = records.items;
-        }) }
+    /// What a boot has of a mark whose saved log it takes, from that log with LB and AP of the
+    /// mark: a data server just that, and server 2 the log with LB and AP at the base. It takes no
+    /// memory.
+    pub fn loaded(me: ServerId, log: FrozenLog) -> Kept
         ensures boots { (clock delta : ℕ) (m : Mark Entry) → can_have (place_of me) m.role ≡ true
-            → m.lb ≡ lb
-            → m.saved ≡ Some (record { base = base; cp = cp; items = map entry_of records.items })
+            → log.lb ≡ m.lb → log.ap ≡ m.lb → m.saved ≡ Some (saved_of log)
             → rested (place_of me) clock delta m ≡ rests clock delta m result }
         ensures placed { IsPlaced (place_of me) result }
     {
+        let _ = log.cp();
         if is_witness(me) {
-            return Kept::Held(FrozenLog::of(base, base, base, cp, records));
+            return Kept::Held(log.at_base());
         }
-        Kept::Held(FrozenLog::of(base, lb, lb, cp, records))
+        Kept::Held(log)
     }
 
     /// Nothing, as server 2 has that is demoted.
