@@ -15,25 +15,44 @@ use Rattle.witness.specs.Serving.{asked_for as asked, given}
 
 -- the numbers and entries of a log
 abbrev pub new_log : LogValue → NewLog Entry
-new_log l = record { base = l.base; lb = l.lb; ap = l.ap; cp = l.cp; items = map entry_of l.records }
+new_log l = record {
+  base = l.base;
+  lb = l.lb;
+  ap = l.ap;
+  cp = l.cp;
+  items = map entry_of
+      l.records;
+}
 
 -- the server with this log
 abbrev pub with_log : Server Entry → LogValue → Server Entry
-with_log s l = record s { held = Log; lb = l.lb; base = l.base; ap = l.ap; cp = l.cp; items = map entry_of l.records }
+with_log s l = record s {
+  held = Log;
+  lb = l.lb;
+  base = l.base;
+  ap = l.ap;
+  cp = l.cp;
+  items = map
+      entry_of l.records;
+}
 
--- A source has what it resumes, with CP raised to the view's. At the witness LB and AP stand at the base
+-- A source has what it resumes, with CP raised to the view's. At the witness LB and AP stand at
+-- the base
 abbrev pub Resumes : Type 0
 Resumes = (q : Place) (s : Server Entry) (l : LogValue) (plan : Plan)
     → IsLog l → same q plan.source ≡ true → l.base ≤ plan.base
-    → ((is_p2 q ≡ false) × (plan.base ≤ l.lb)) ⊎ ((is_p2 q ≡ true) × (l.lb ≡ l.base) × (l.ap ≡ l.base))
+    → ((is_p2 q ≡ false) × (plan.base ≤ l.lb)) ⊎ ((is_p2 q ≡ true) × (l.lb ≡ l.base) × (l.ap
+    ≡ l.base))
     → new_log (committed_to (resumed_log l plan.base) (max (resumed_log l plan.base).cp plan.cp))
     ≡ adopted q (with_log s l) plan []
 
 -- A held data server that isn't the source has what it adopts
 abbrev pub AdoptsHeld : Type 0
-AdoptsHeld = (q : Place) (s : Server Entry) (l : LogValue) (plan : Plan) (staged : List RecordFields)
+AdoptsHeld = (q : Place) (s : Server Entry) (l : LogValue) (plan : Plan)
+    (staged : List RecordFields)
     → IsLog l → same q plan.source ≡ false → is_p2 q ≡ false → plan.base ≤ l.lb
-    → new_log (adopted_log l staged plan.base plan.cp) ≡ adopted q (with_log s l) plan (map entry_of staged)
+    → new_log (adopted_log l staged plan.base plan.cp)
+    ≡ adopted q (with_log s l) plan (map entry_of staged)
 
 -- so has a lost one
 abbrev pub AdoptsLost : Type 0
@@ -77,7 +96,8 @@ raised_log l cp = committed_to l (max l.cp (min cp (top l)))
 abbrev pub live : ℕ → Server Entry → Server Entry
 live clock s = record s { mode = Live; heard = nobody; horizon = max s.horizon (clock + s.delta) }
 
--- A partner that heeds an Event drops to the base first, then takes the record, and then commits as far as told
+-- A partner that heeds an Event drops to the base first, then takes the record, and then commits
+-- as far as told
 abbrev pub Heeds : Type 0
 Heeds = (q : Place) (clock : ℕ) (s : Server Entry) (l : LogValue) (base cp : ℕ) (r : RecordFields)
     → IsLog l → base ≤ l.lb
@@ -94,7 +114,8 @@ HeedsBeats = (q : Place) (clock : ℕ) (s : Server Entry) (l : LogValue) (base c
 -- a leader that opens commits all that its log has
 abbrev pub Opens : Type 0
 Opens = (q : Place) (clock : ℕ) (s : Server Entry) (l : LogValue) (lb : ℕ)
-    → act q clock (with_log s l) (Opening lb) ≡ with_log (opening s s.plan.start lb) (committed_to l (top l))
+    → act q clock (with_log s l) (Opening lb)
+    ≡ with_log (opening s s.plan.start lb) (committed_to l (top l))
 
 -- joining a higher view leaves the log, and reports its numbers
 abbrev pub Freezes : Type 0
@@ -113,14 +134,20 @@ Reports = (s : Server Entry) (l : LogValue) → report_of (with_log s l) ≡ rec
 }
 
 -- the sizes of these records are those of their entries in a list that begins with `before`
-abbrev pub Sized : (List Entry → Entry → ℕ) → (RecordFields → ℕ) → List Entry → List RecordFields → Type 0
+abbrev pub Sized : (List Entry → Entry → ℕ) → (RecordFields → ℕ) → List Entry
+    → List RecordFields → Type 0
 Sized size each before [] = Unit {0}
-Sized size each before (r ∷ rs) = (size before (entry_of r) ≡ each r) × Sized size each (before ++ entry_of r ∷ []) rs
+Sized size each before (r ∷ rs) = (size before (entry_of r)
+    ≡ each r) × Sized size each (before ++ entry_of r ∷ []) rs
 
--- A fetch is served what the machine serves, where the sizes of the records are those of their entries in the list: the
--- log's records from the asked one on, up to `last`, where it is held and among them
+-- A fetch is served what the machine serves, where the sizes of the records are those of their
+-- entries in the list: the log's records from the asked one on, up to `last`, where it is held and
+-- among them
 abbrev pub Serves : Type 0
-Serves = (size : List Entry → Entry → ℕ) (each : RecordFields → ℕ) (list : List Entry) (s : Server Entry) (l : LogValue)
+Serves = (size : List Entry → Entry → ℕ) (each : RecordFields
+    → ℕ) (list : List Entry) (s : Server Entry) (l : LogValue)
     (index last : ℕ) → last ≤ top l → Sized size each (take (index - 1) list) (asked l index last)
-    → option_map (map entry_of) (given each l index last) ≡ (if all_of (held_tests (with_log s l) index last)
-    then Some (one_or_more size (take (index - 1) list) (asked_for (with_log s l) index last)) else None)
+    → option_map (map entry_of) (given each l index last)
+    ≡ (if all_of (held_tests (with_log s l) index last)
+    then Some (one_or_more size (take (index - 1) list) (asked_for
+    (with_log s l) index last)) else None)

@@ -76,4 +76,5 @@ collected c from join =
 
 -- the choice that it allows, where it is the first that allows one
 abbrev pub chosen_at : Collected → ServerId → JoinInfo → Option Plan
-chosen_at c from join = if is_some (choice c.joins) then None else choice (with_value c.joins from (Some join))
+chosen_at c from join = if is_some (choice c.joins) then None else choice
+    (with_value c.joins from (Some join))

@@ -12,10 +12,10 @@ use crate::plan::{Plan, Storers};
 use harp_base::{Held, ServerId, Trio, ViewNo};
 use promise::Deadline;
 
-/// The choice that these joins allow: the storers (0,1) where both joined, else (0,2) or (1,2); the
-/// source, the held server with the greatest accepted view of all joins and of these the one with the
-/// greatest top. None exactly where fewer than two joined, or no held server has that view. It takes no
-/// memory.
+/// The choice that these joins allow: the storers (0,1) where both joined, else (0,2) or (1,2);
+/// the source, the held server with the greatest accepted view of all joins and of these the one
+/// with the greatest top. None exactly where fewer than two joined, or no held server has that
+/// view. It takes no memory.
 #[tactic(auto, using(crate::proofs::Views::view_back))]
 pub fn choose(joins: &Trio<Option<JoinInfo>>) -> Option<Plan>
     ensures { result ≡ choice joins.now }
@@ -37,7 +37,9 @@ pub fn choose(joins: &Trio<Option<JoinInfo>>) -> Option<Plan>
 
 /// The storers.
 fn storers(joins: &Trio<Option<JoinInfo>>) -> Option<Storers>
-    ensures { option_map pair result ≡ pair_of (reports joins.now).zero_th (reports joins.now).one_th (reports joins.now).two_th }
+    ensures { option_map pair result
+        ≡ pair_of (reports joins.now).zero_th (reports joins.now).one_th
+        (reports joins.now).two_th }
 {
     match (joins.zero, joins.one, joins.two) {
         (Some(_), Some(_), _) => Some(Storers::ZeroOne),
@@ -103,7 +105,9 @@ fn better(
     server: ServerId,
     join: Option<JoinInfo>,
 ) -> Option<(ServerId, JoinInfo)>
-    ensures { option_map source result ≡ better (number_of_view from) (option_map source best) (place_of server) (option_map report join) }
+    ensures { option_map source result
+        ≡ better (number_of_view from) (option_map source best) (place_of server)
+        (option_map report join) }
 {
     match join {
         None => best,
@@ -119,7 +123,8 @@ fn better(
 
 /// Whether a join is that of a held server with this view.
 fn is_of(join: &JoinInfo, from: ViewNo) -> bool
-    ensures { result ≡ is_log (report join.now).held && ((report join.now).accepted == number_of_view from) }
+    ensures { result ≡ is_log (report join.now).held &&
+        ((report join.now).accepted == number_of_view from) }
 {
     match join.held {
         Held::Held => join.accepted.is_same(from),
@@ -134,7 +139,8 @@ fn longer(
     server: ServerId,
     join: &JoinInfo,
 ) -> Option<(ServerId, JoinInfo)>
-    ensures { option_map source result ≡ longer (place_of server) (report join.now) (option_map source best) }
+    ensures { option_map source result
+        ≡ longer (place_of server) (report join.now) (option_map source best) }
 {
     match best {
         None => Some((server, *join)),
@@ -185,7 +191,8 @@ fn horizon_of(join: Option<JoinInfo>) -> Deadline
 
 /// The greatest horizon of all joins.
 fn horizon(joins: &Trio<Option<JoinInfo>>) -> Deadline
-    ensures { result ≡ max (horizon_of (reports joins.now).zero_th) (max (horizon_of (reports joins.now).one_th) (horizon_of (reports joins.now).two_th)) }
+    ensures { result ≡ max (horizon_of (reports joins.now).zero_th) (max (horizon_of
+        (reports joins.now).one_th) (horizon_of (reports joins.now).two_th)) }
 {
     horizon_of(joins.zero).later(horizon_of(joins.one).later(horizon_of(joins.two)))
 }

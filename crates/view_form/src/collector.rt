@@ -10,8 +10,8 @@ use crate::plan::Plan;
 use harp_base::{ServerId, Trio, ViewNo};
 use std::marker::Model;
 
-/// What a coordinator has of the joins of its view, its own from the first on. Joins after the first
-/// that allows a choice are ignored.
+/// What a coordinator has of the joins of its view, its own from the first on. Joins after the
+/// first that allows a choice are ignored.
 #[derive(Debug, Drop)]
 pub struct Collector {
     view: ViewNo,
@@ -31,7 +31,8 @@ impl Collector {
     pub fn new(view: ViewNo, own: JoinInfo) -> Collector
         ensures { result ≡ record {
           view = view;
-          joins = with_value (record { zero = None; one = None; two = None }) view.coordinator (Some own);
+          joins = with_value (record { zero = None; one = None; two = None }) view.coordinator
+              (Some own);
         } }
     {
         let mut collector = Collector {
@@ -46,7 +47,8 @@ impl Collector {
         collector
     }
 
-    /// Takes a join of a server. Some exactly at the first join after which the joins allow a choice.
+    /// Takes a join of a server. Some exactly at the first join after which the joins allow a
+    /// choice.
     pub fn join(&mut self, from: ServerId, info: JoinInfo) -> Option<Plan>
         ensures joins { self.new ≡ collected self.old from info }
         ensures plan { result ≡ chosen_at self.old from info }
@@ -60,7 +62,10 @@ impl Collector {
 
     /// Keeps a join.
     fn put(&mut self, from: ServerId, info: JoinInfo)
-        ensures { self.new ≡ record self.old { joins = with_value self.old.joins from (Some info) } }
+        ensures { self.new ≡ record self.old {
+          joins = with_value self.old.joins from
+              (Some info);
+        } }
     {
         match from {
             ServerId::Zero => self.joins.zero = Some(info),

@@ -116,6 +116,19 @@ impl FrozenLog {
         })
     }
 
+    /// The same log with LB and AP at the base, as a witness has it.
+    pub fn at_base(self) -> FrozenLog
+        ensures { result ≡ record self { lb = self.base; ap = self.base } }
+    {
+        FrozenLog {
+            base: self.base,
+            lb: self.base,
+            ap: self.base,
+            cp: self.cp,
+            records: self.records,
+        }
+    }
+
     /// Nothing, as a server has that becomes a witness or is demoted.
     pub fn forget(self) -> EmptyLog {
         EmptyLog

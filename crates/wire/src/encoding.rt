@@ -26,8 +26,11 @@ fn put_join(
     top: u64,
     horizon: Deadline,
 ) -> Result<(), AllocError>
-    ensures value { OnOk result (out.new.items ≡ out.old.items ++ message_fields (message.Join view held accepted base lb cp top horizon)) }
-    ensures fits { OnOk result (MessageFits (message.Join view held accepted base lb cp top horizon)) }
+    ensures value { OnOk result (out.new.items
+        ≡ out.old.items ++ message_fields
+        (message.Join view held accepted base lb cp top horizon)) }
+    ensures fits { OnOk result (MessageFits
+        (message.Join view held accepted base lb cp top horizon)) }
 {
     put_view(out, view)?;
     out.push(held_number(held))?;
@@ -50,8 +53,11 @@ fn put_choice(
     start: u64,
     horizon: Deadline,
 ) -> Result<(), AllocError>
-    ensures value { OnOk result (out.new.items ≡ out.old.items ++ message_fields (message.Form view storers source base cp start horizon)) }
-    ensures fits { OnOk result (MessageFits (message.Form view storers source base cp start horizon)) }
+    ensures value { OnOk result (out.new.items
+        ≡ out.old.items ++ message_fields
+        (message.Form view storers source base cp start horizon)) }
+    ensures fits { OnOk result (MessageFits
+        (message.Form view storers source base cp start horizon)) }
 {
     put_view(out, view)?;
     put_storers(out, storers)?;

@@ -1,4 +1,5 @@
-//! The messages of one view between a leader and its partner, as the program of one view sends them.
+//! The messages of one view between a leader and its partner, as the program of one view sends
+//! them.
 
 ghost use Rattle.std.specs.Prelude.{◌≡◌, IfOk};
 
@@ -19,8 +20,8 @@ pub enum Message {
         base: u64,
         record: Record,
     },
-    /// What an Event tells beside its record. It is sent from time to time, so that the backup hears
-    /// of commits, and renews its promise, where no calls come (Harp paper).
+    /// What an Event tells beside its record. It is sent from time to time, so that the backup
+    /// hears of commits, and renews its promise, where no calls come (Harp paper).
     Beat {
         view: ViewNo,
         /// The index up to which the primary has committed.

@@ -17,7 +17,8 @@ trait Holds {
 
     /// The record of an index.
     fn held(&self, index: u64) -> Option<&Record>
-        ensures found { IsSome result ↔ (((log self.now).base < index) × (index ≤ top (log self.now))) }
+        ensures found { IsSome result ↔ (((log self.now).base < index) × (index ≤ top
+            (log self.now))) }
         ensures value { option_copied result ≡ record_at (log self.now) index };
 
     /// The index before the first record.
@@ -65,9 +66,9 @@ impl Holds for ActiveLog {
 /// The most bytes of records that are given at once.
 const MOST: usize = 48_000;
 
-/// The records from `first` on that a server gives which joined a view, or accepted it, up to `start`:
-/// as many as their spellings take at most 48,000 bytes, and at least one. None exactly where the log
-/// doesn't hold the first one, or where it comes after `start`.
+/// The records from `first` on that a server gives which joined a view, or accepted it, up to
+/// `start`: as many as their spellings take at most 48,000 bytes, and at least one. None exactly
+/// where the log doesn't hold the first one, or where it comes after `start`.
 pub fn serve(
     alloc: Global,
     log: &FrozenLog,

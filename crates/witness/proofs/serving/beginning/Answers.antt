@@ -6,8 +6,10 @@ use Rattle.witness.proofs.serving.beginning.Goals as goal
 pub loop-index-init : goal.loop-index-init
 loop-index-init g c =
     let count = counted _ _ 0 c.args.item.now c.in_ok-put_item.ensures.value (search rules) in
-    let size : length c.put_item.new.out.items ≡ record_size c.args.item.now = omega (arith, count) in
-    rw size (begins record_size (g.L.Holds.log c.args.log.now) c.args.first c.args.last c.args.item.now
+    let size : length c.put_item.new.out.items
+    ≡ record_size c.args.item.now = omega (arith, count) in
+    rw size (begins record_size
+    (g.L.Holds.log c.args.log.now) c.args.first c.args.last c.args.item.now
     c.push.new.self.items c.requires.within.1 c.requires.first (search rules))
 
 pub returns-then-len-gt-MOST : goal.returns-then-len-gt-MOST

@@ -1,0 +1,4 @@
+pub mod TakingUp
+pub mod FormTests
+pub mod Giving
+pub mod Booting

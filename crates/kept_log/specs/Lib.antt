@@ -1,0 +1,4 @@
+pub mod Kept
+pub mod Pulls
+pub mod Gives
+pub mod Boots
