@@ -346,4 +346,3 @@ state_line s =
     totals : StateLine → List ℕ
     totals s = spaced (decimal s.base) ++ spaced (decimal s.lb) ++ spaced (decimal s.ap)
         ++ spaced (decimal s.cp) ++ spaced (decimal s.top)
-

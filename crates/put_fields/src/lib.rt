@@ -8,8 +8,8 @@ mod write_reply;
 mod write_state;
 
 pub use put::{
-    put_at, put_client, put_cred, put_decimal, put_hex, put_name, put_named, put_number, put_server,
-    put_three,
+    put_at, put_client, put_cred, put_decimal, put_hex, put_name, put_named, put_number,
+    put_server, put_three,
 };
 pub use write_attr::put_attr;
 pub use write_call::put_call;

@@ -148,12 +148,7 @@ fn put_sent(
 }
 
 #[tactic(auto, unfolding(step_spelling::specs::Lines::line_text))]
-fn put_listed(
-    out: &mut Vec<u8>,
-    server: ServerId,
-    cp: u64,
-    objects: u64,
-) -> Result<(), AllocError>
+fn put_listed(out: &mut Vec<u8>, server: ServerId, cp: u64, objects: u64) -> Result<(), AllocError>
     ensures { OnOk result (out.new.items ≡ out.old.items
         ++ line_text (lines.Listed server cp objects)) }
 {

@@ -40,12 +40,7 @@ pub fn farther(name: &[u8], word: &[u8], reached: usize) -> usize
 
 /// A number from `least` on, which isn't 0, to `most`.
 #[tactic(auto, unfolding(crate::specs::Words::ranged_at))]
-pub fn ranged_at(
-    bytes: &[u8],
-    least: u64,
-    most: u64,
-    at: usize,
-) -> Result<(u64, usize), TextFault>
+pub fn ranged_at(bytes: &[u8], least: u64, most: u64, at: usize) -> Result<(u64, usize), TextFault>
     requires most { most < 10 ^ 18 }
     ensures step { Gives (λ x. x) result (ranged_at least most bytes.now at) }
     ensures bound { IfOk result (λ x. x.0 ≤ most) }
@@ -61,11 +56,7 @@ pub fn ranged_at(
 
 /// As many bytes as stand here in hexadecimal digits, or a dash for none.
 #[tactic(auto, unfolding(crate::specs::Fields::hex_at))]
-pub fn all_hex_at(
-    alloc: Global,
-    bytes: &[u8],
-    at: usize,
-) -> Result<(Bytes, usize), TextFault>
+pub fn all_hex_at(alloc: Global, bytes: &[u8], at: usize) -> Result<(Bytes, usize), TextFault>
     requires { at ≤ length bytes.now }
     ensures step { Gives (λ x. x) result (all_hex_at bytes.now at) }
     ensures within { IfOk result (λ x. x.1 ≤ length bytes.now) }
