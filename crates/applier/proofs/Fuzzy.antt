@@ -1,9 +1,10 @@
 -- Applying and flushing leave a disk fuzzy.
-use Rattle.std.proofs.Common.{◌≡◌, ℕ, ◌+◌, ◌-◌, ◌≤◌, List, length, take, drop, max, Option, None, Some, sym, ap as along, ◌∙◌, subst, inr, arith}
+use Rattle.std.proofs.Common.{◌≡◌, ℕ, ◌+◌, ◌-◌, ◌≤◌, List, length, take, drop, max, Option, None, Some, refl, sym, ap as along, ◌∙◌, subst, inl, inr, arith}
 use Rattle.std.proofs.lemmas.List.{drop-drop, drop-take, take-take}
 use Rattle.harp_cells.specs.declared.change.Change.{Change}
+use Rattle.harp_cells.specs.Effect.{Cells}
 use Rattle.harp_store.specs.Mark.{MarkFields}
-use Rattle.harp_store.specs.Disk.{AfterPart, AtEachMoment, CrashesLeave, Disk, IsAfterPart, MayHaveMade, Moments, Now, after_changes, after_step, changed_by_all, synced_whole, then_disk, with_mark}
+use Rattle.harp_store.specs.Disk.{AfterPart, AtEachMoment, CrashesLeave, Disk, IsAfterPart, MayHaveMade, Moments, Now, after_changes, after_step, cells_told, changed_by_all, reads, synced_whole, then_disk, with_mark}
 use Rattle.harp_store.proofs.Moments.{follows, images_are_of, may_step, runs_join}
 use Rattle.harp_store.proofs.Runs.{after_some, moments_of_part}
 use Rattle.fuzzy_cells.specs.History.{AllSetOnce, History, between, in_a_row}
@@ -14,7 +15,7 @@ use Rattle.applier.specs.Applied.{changes_between, lower}
 use Rattle.applier.specs.Fuzzy.{IsFuzzyTo, StaysFuzzy}
 
 -- the changes of a log's records are those of the history
-records_between : (history : History) (base : ℕ) (records : History) (from to : ℕ)
+pub records_between : (history : History) (base : ℕ) (records : History) (from to : ℕ)
     → AreRecordsOf history base records → base ≤ from → from ≤ to → to ≤ base + length records
     → changes_between base records from to ≡ between history from to
 records_between history base records from to are low order high =
@@ -122,3 +123,32 @@ module _ (history : History) (ap' m : ℕ) (h : Moments) (mark : MarkFields)
   flush_marked written same old mid new is e made =
       marked_at old mid new is e
       (subst (λ (w : MarkFields). MayHaveMade (with_mark w) mid new) same made)
+
+-- ---- cells stay
+
+reads_synced : (d : Disk) → reads (synced_whole d) ≡ reads d
+unfolding reads
+reads_synced d = refl
+
+reads_marked : (mark : MarkFields) (d : Disk) → reads (with_mark mark d) ≡ reads d
+unfolding reads
+reads_marked mark d = refl
+
+-- a step that leaves what reads give, be it made or not
+step_reads : (step : Disk → Disk) (old new : Option Moments)
+    → ((d : Disk) → reads (step d) ≡ reads d) → MayHaveMade step old new
+    → cells_told new ≡ cells_told old
+step_reads step old new same (inl e) = along cells_told e
+step_reads step None new same (inr e) = along cells_told e
+step_reads step (Some h) new same (inr e) =
+    along cells_told e ∙ along (λ (cells : Cells). Some cells) (same h.now)
+
+pub sync_reads : (old new : Option Moments) → MayHaveMade synced_whole old new
+    → cells_told new ≡ cells_told old
+sync_reads old new = step_reads synced_whole old new reads_synced
+
+pub mark_reads : (mark : MarkFields) (old mid new : Option Moments)
+    → mid ≡ after_step synced_whole old → MayHaveMade (with_mark mark) mid new
+    → cells_told new ≡ cells_told old
+mark_reads mark old mid new e made =
+    step_reads (with_mark mark) mid new (reads_marked mark) made ∙ sync_reads old mid (inr e)

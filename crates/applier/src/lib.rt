@@ -4,7 +4,7 @@
 ghost use Rattle.std.specs.Prelude.{◌≡◌, ◌≤◌, ◌<◌, ◌^◌, ◌+◌, ◌⊎◌, ℕ, min, length, Option, Some, None, IfOk, OnOk, OnErr, Err};
 ghost use Rattle.harp_base.specs.Streams.{Rose};
 ghost use Rattle.harp_store.specs.declared.store.StoreFault.TheVariants.{Failed};
-ghost use Rattle.harp_store.specs.Disk.{AtEachMoment, Moments, Now, MayHaveMade, after_step, changed_by};
+ghost use Rattle.harp_store.specs.Disk.{AtEachMoment, Moments, Now, MayHaveMade, after_step, cells_told, changed_by};
 ghost use Rattle.fuzzy_cells.specs.History.{AllSetOnce, History};
 ghost use Rattle.fuzzy_disks.specs.FuzzyDisk.{AreRecordsOf, IsFuzzyByMark, IsFuzzyDisk};
 ghost use Rattle.applier.specs.Fuzzy.{IsFuzzyTo, StaysFuzzy};
@@ -31,6 +31,7 @@ pub fn flush<D: Store>(
     ensures fuzzy { (history : History) (m : ℕ) (h : Moments) → D.told store.old ≡ Some h
         → h.now.mark ≡ Some mark.old → IsFuzzyDisk history mark.old.lb ap m h.now
         → AtEachMoment (IsFuzzyByMark history ap m) (D.told store.old) (D.told store.new) }
+    ensures cells { cells_told (D.told store.new) ≡ cells_told (D.told store.old) }
     ensures rose { result ≡ Err Failed → Rose (D.faults store.old) (D.faults store.new) }
     ensures count { D.faults store.old ≤ D.faults store.new }
 {

@@ -23,7 +23,7 @@ use Rattle.harp_cells.proofs.CellLemmas.{is_cell_true}
 use Rattle.cell_changes.specs.TreeCells.{TreeCells}
 use Rattle.cell_changes.specs.Stands.{AllStand}
 use Rattle.cell_changes.specs.Table.{tree_changes, changes_by, meta_put}
-use Rattle.cell_changes.specs.Short.{changes_tree, is_of_tree}
+use Rattle.cell_changes.specs.Short.{changes_tree, is_kind_of, is_of_tree}
 use Rattle.cell_changes.specs.Laws.{UpdatesLead, OthersStay}
 use Rattle.cell_changes.proofs.Frame.{each_stands}
 use Rattle.cell_changes.proofs.SetCells.{with_totals}
@@ -114,7 +114,7 @@ one_stays : (x : Change) (c : Cell) (held : Option Value) → changes_tree x ≡
     → changed c held x ≡ held
 one_stays (change.Put d v) c held of other =
     ap (λ (t : Bool). if◌then◌else◌ {A = Option Value} t (Some v) held)
-    (other_cell d c of other)
+    (other_cell d c (and_parts (is_of_tree d) (is_kind_of d v) of).0 other)
 one_stays (change.Erase d) c held of other =
     ap (λ (t : Bool). if◌then◌else◌ {A = Option Value} t None held)
     (other_cell d c of other)

@@ -44,7 +44,8 @@ use Rattle.nfs_calls.proofs.Changed.{KeepsKind, inode_with, changed_inode, chang
 -- a change that puts a block is of the tree
 put_at_is : (c : Cell) (v : Value) (x : ℕ × ℕ) → block_put_at c v ≡ Some x
     → changes_tree (changing.Put c v) ≡ true
-put_at_is (cell.Block object block) v x e = refl
+put_at_is (cell.Block object block) (value.Block bytes) x e = refl
+put_at_is (cell.Block object block) v x e = absurd cc
 put_at_is cell.Meta v x e = absurd cc
 put_at_is (cell.Object object) v x e = absurd cc
 put_at_is (cell.Slot object slot) v x e = absurd cc

@@ -1,6 +1,6 @@
 -- The index and the records of its log.
-use Rattle.std.proofs.Common.{◌≡◌, ℕ, suc, ◌+◌, ◌-◌, ◌≤◌, ◌<◌, Bool, true, false, ◌&&◌, ◌||◌, ◌==◌, List, [], ◌∷◌, ◌++◌, length, get_or, take, drop, Option, Some, None, refl, sym, ap, ◌∙◌, subst, inl, inr, arith}
-use Rattle.std.specs.Prelude.{fold, nat_lt, nat_le}
+use Rattle.std.proofs.Common.{◌≡◌, ℕ, zero, suc, ◌+◌, ◌-◌, ◌≤◌, ◌<◌, Bool, true, false, ◌&&◌, ◌||◌, ◌==◌, List, [], ◌∷◌, ◌++◌, length, get_or, take, drop, Option, Some, None, refl, sym, ap, ◌∙◌, subst, inl, inr, arith}
+use Rattle.std.specs.Prelude.{fold, nat_lt, nat_le, not}
 use Rattle.std.specs.Bool.{if◌then◌else◌}
 use Rattle.std.specs.List.{list_any}
 use Rattle.std.proofs.lemmas.Bool.{cases_Bool, cases_eq, cases_lt, and_parts, or_cases, or_parts, eqb-true, eq-eqb, ne_eqb, lt-ltb, le-ltb}
@@ -13,7 +13,7 @@ use Rattle.harp_cells.specs.declared.change.Change.{Change}
 use Rattle.harp_cells.specs.declared.change.Change.TheVariants as change
 use Rattle.harp_cells.specs.Effect.{changed, is_block_from, is_cell, is_key, key}
 use Rattle.fuzzy_cells.specs.History.{History, in_a_row}
-use Rattle.overlay.specs.Index.{AreMirrored, Entries, IsIndexOf, IsLast, Mirror, Place, blocks_of, changes_at, may_set, names, place_of, record_at}
+use Rattle.overlay.specs.Index.{AreMirrored, Entries, IsIndexOf, IsLast, IsPartAddedTo, Mirror, Place, blocks_of, changes_at, may_set, names, place_of, record_at}
 use Rattle.overlay.specs.Overlay.{IsToldBy, Leaves, changes_upto}
 use Rattle.overlay.proofs.Walks.{skipped, told_at, told_same}
 
@@ -318,6 +318,71 @@ more_added old mid new index k changes d at p i lt is step before =
     ∙ ap (λ (b : Bool). (is_key (place_of (get_or changes k d)) p && (index == i)) || b) before
     ∙ one_added (index == i) (list_any (λ c. is_key (place_of c) p) (take k changes)) (is_key (place_of (get_or changes k d)) p) (names old p i)
     ∙ ap (λ (b : Bool). (index == i) && b || names old p i) (sym (list_any_more (λ c. is_key (place_of c) p) changes k d lt))
+
+-- ---- changes that are taken back
+
+one_back : (a t k o : Bool) → (not (k && a) && (not (a && t) && o)) ≡ (not (a && (t || k)) && o)
+one_back true true true o = refl
+one_back true true false o = refl
+one_back true false true o = refl
+one_back true false false o = refl
+one_back false t true o = refl
+one_back false t false o = refl
+
+pub none_back : (old : Entries) (index : ℕ) (p : Place) (i : ℕ)
+    → names old p i ≡ (not ((index == i) && changes_at [] p) && names old p i)
+unfolding changes_at
+none_back old index p i = elim (index == i) as (λ b. names old p i ≡ (not (b && false) && names old p i)) [
+  | true ↦ refl
+  | false ↦ refl
+]
+
+pub more_back : (old mid new : Entries) (index k : ℕ) (changes : List Change) (d : Change) (at : Place) (p : Place) (i : ℕ)
+    → k < length changes → at ≡ place_of (get_or changes k d)
+    → names new p i ≡ (not (is_key at p && (index == i)) && names mid p i)
+    → names mid p i ≡ (not ((index == i) && changes_at (take k changes) p) && names old p i)
+    → names new p i ≡ (not ((index == i) && changes_at (take (k + 1) changes) p) && names old p i)
+unfolding changes_at
+more_back old mid new index k changes d at p i lt is step before =
+    step
+    ∙ ap (λ (x : Place). not (is_key x p && (index == i)) && names mid p i) is
+    ∙ ap (λ (b : Bool). not (is_key (place_of (get_or changes k d)) p && (index == i)) && b) before
+    ∙ one_back (index == i) (list_any (λ c. is_key (place_of c) p) (take k changes)) (is_key (place_of (get_or changes k d)) p) (names old p i)
+    ∙ ap (λ (b : Bool). not ((index == i) && b) && names old p i) (sym (list_any_more (λ c. is_key (place_of c) p) changes k d lt))
+
+part_of_all : (q : Change → Bool) (n : ℕ) (changes : List Change) → list_any q changes ≡ false
+    → list_any q (take n changes) ≡ false
+part_of_all q zero changes none = refl
+part_of_all q (suc n) [] none = refl
+part_of_all q (suc n) (x ∷ changes) none =
+    let both = or_parts (q x) (list_any q changes) none in
+    ap (λ (b : Bool). b || list_any q (take n changes)) both.0 ∙ part_of_all q n changes both.1
+
+part_at : (n : ℕ) (changes : List Change) (p : Place) → changes_at changes p ≡ false
+    → changes_at (take n changes) p ≡ false
+unfolding changes_at
+part_at n changes p none = part_of_all (λ c. is_key (place_of c) p) n changes none
+
+-- what was there before stays, where the record had no place
+back_again : (here all part o : Bool) → (all ≡ false → part ≡ false) → (here ≡ true → o ≡ false)
+    → (not (here && all) && (here && part || o)) ≡ o
+back_again true true part o h none = sym (none refl)
+back_again true false true o h none = absurd (cc (h refl))
+back_again true false false o h none = refl
+back_again false all part o h none = refl
+
+pub kept_back : (old mid new : Entries) (base index : ℕ) (records : History) (changes : List Change)
+    → IsPartAddedTo old index changes mid
+    → ((p : Place) (i : ℕ) → names new p i ≡ (not ((index == i) && changes_at changes p) && names mid p i))
+    → IsIndexOf old base records → index ≡ base + length records + 1 → IsIndexOf new base records
+kept_back old mid new base index records changes (n, part) back is at p i =
+    back p i
+    ∙ ap (λ (b : Bool). not ((index == i) && changes_at changes p) && b) (part p i)
+    ∙ back_again (index == i) (changes_at changes p) (changes_at (take n changes) p) (names old p i)
+    (part_at n changes p)
+    (λ here. let same : index ≡ i = eqb-true index i here in
+    is p i ∙ nothing_at (record_at base records i) p (at_past base records i (omega (arith, at, same))))
+    ∙ is p i
 
 pub empty_mirrored : (entries : Entries) (mirror : Mirror) → entries ≡ [] → AreMirrored entries mirror
 empty_mirrored entries mirror e p i there =

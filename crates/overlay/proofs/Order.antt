@@ -1,6 +1,6 @@
 -- The orders of entries and of their mirror.
 use Rattle.std.proofs.Common.{◌≡◌, ℕ, ◌<◌, ◌≤◌, Bool, true, false, ◌&&◌, ◌||◌, ◌==◌, cond, List, [], ◌∷◌, ◌++◌, length, Option, Some, None, refl, sym, ap, ◌∙◌, subst, inl, inr, arith}
-use Rattle.std.specs.Prelude.{IfSome, nat_lt}
+use Rattle.std.specs.Prelude.{IfSome, OnErr, Result, Ok, Err, nat_lt, not}
 use Rattle.std.specs.List.{list_any}
 use Rattle.std.specs.Cmp.{IsTotalOrder, ranks, unsigned_tied}
 use Rattle.std.specs.Ordering.{MatchOrdering, nat_cmp, ordering_then, ordering_reverse, is_eq, is_gt, is_lt}
@@ -280,3 +280,29 @@ all_dropped old entries mirror n stay are none p i = elim (cases_lt n i) [
   | inr le ↦ absent (names entries p i) (λ there. absurd (cc (are p i there, none p i le)))
       ∙ ap (λ (b : Bool). b && names old p i) (sym (le-ltb n i le))
 ]
+
+gone_is : (a b : Bool) → cond a false b ≡ (not a && b)
+gone_is true b = refl
+gone_is false b = refl
+
+-- an entry goes from both
+pub one_gone : (old new : BTreeSet (Place × ℕ)) (entries : Entries) (place : Place) (index : ℕ)
+    → old.keys ≡ entries
+    → ((q : Place × ℕ) → contains entry_cmp new q ≡ cond (is_at (entry_cmp (place, index)) q) false (contains entry_cmp old q))
+    → (p : Place) (i : ℕ) → names new.keys p i ≡ (not (is_entry place index (p, i)) && names entries p i)
+one_gone old new entries place index is h p i = pairs_named old new (place, index) false h p i
+    ∙ gone_is (is_entry place index (p, i)) (names old.keys p i)
+    ∙ ap (λ (es : Entries). not (is_entry place index (p, i)) && names es p i) is
+
+pub both_gone : (old new : BTreeSet (Place × ℕ)) (mirror less : BTreeSet (ℕ × Place)) (place : Place) (index : ℕ)
+    → AreMirrored old.keys mirror.keys
+    → ((q : Place × ℕ) → contains entry_cmp new q ≡ cond (is_at (entry_cmp (place, index)) q) false (contains entry_cmp old q))
+    → ((q : ℕ × Place) → contains mirror_cmp less q ≡ cond (is_at (mirror_cmp (index, place)) q) false (contains mirror_cmp mirror q))
+    → AreMirrored new.keys less.keys
+both_gone old new mirror less place index are named mirrored =
+    gone_mirrored old new mirror.keys less.keys place index are named
+    (others_mirrored mirror less (index, place) mirrored)
+
+pub on_err : {A E : Type 0} (r : Result A E) (P : Type 0) → P → OnErr r P
+on_err (Ok x) P p = tt
+on_err (Err e) P p = p

@@ -1,5 +1,5 @@
 -- Which records change what.
-use Rattle.std.specs.Prelude.{◌≡◌, ℕ, ◌+◌, ◌-◌, ◌<◌, ◌≤◌, Bool, true, false, ◌&&◌, ◌||◌, ◌==◌, nat_lt, List, [], slice_index_or, Option, Some, None, if◌then◌else◌}
+use Rattle.std.specs.Prelude.{◌≡◌, ℕ, ◌+◌, ◌-◌, ◌<◌, ◌≤◌, Bool, true, false, ◌&&◌, ◌||◌, ◌==◌, nat_lt, List, [], take, slice_index_or, Option, Some, None, if◌then◌else◌}
 use Rattle.std.specs.List.{list_any}
 use Rattle.harp_cells.specs.declared.cell.Cell.{Cell}
 use Rattle.harp_cells.specs.declared.cell.Cell.TheVariants as cell
@@ -43,6 +43,14 @@ record_at base records i = if nat_lt base i then slice_index_or records (i - (ba
 abbrev pub IsIndexOf : Entries → ℕ → History → Type 0
 IsIndexOf entries base records = (p : Place) (i : ℕ)
     → names entries p i ≡ changes_at (record_at base records i) p
+
+-- the index names a record with these changes too, or with some first ones of them
+abbrev pub IsAddedTo : Entries → ℕ → List Change → Entries → Type 0
+IsAddedTo old index changes new = (p : Place) (i : ℕ)
+    → names new p i ≡ ((index == i) && changes_at changes p || names old p i)
+
+abbrev pub IsPartAddedTo : Entries → ℕ → List Change → Entries → Type 0
+IsPartAddedTo old index changes new = (n : ℕ) × IsAddedTo old index (take n changes) new
 
 -- the index names a record that may set a cell
 abbrev pub may_set : Entries → Cell → ℕ → Bool

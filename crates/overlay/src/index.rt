@@ -1,8 +1,8 @@
 //! An index over the records of a log.
 
-ghost use Rattle.std.specs.Prelude.{◌≡◌, ℕ, Bool, ◌+◌, ◌-◌, ◌<◌, ◌≤◌, ◌==◌, ◌&&◌, ◌||◌, ◌∷◌, ◌++◌, [], false, length, drop, nat_lt, OnOk, IfSome, IfNone};
+ghost use Rattle.std.specs.Prelude.{◌≡◌, ℕ, Bool, not, ◌+◌, ◌-◌, ◌<◌, ◌≤◌, ◌==◌, ◌&&◌, ◌||◌, ◌∷◌, ◌++◌, [], false, length, drop, nat_lt, OnOk, OnErr, IfSome, IfNone};
 ghost use Rattle.fuzzy_cells.specs.History.{History};
-ghost use Rattle.overlay.specs.Index.{Place, blocks_of, place_of, names, is_entry, mirrors, changes_at, IsIndexOf, IsLast, may_set};
+ghost use Rattle.overlay.specs.Index.{Place, blocks_of, place_of, names, is_entry, mirrors, changes_at, IsAddedTo, IsIndexOf, IsLast, IsPartAddedTo, may_set};
 
 use harp_cells::{Cell, Change, Key};
 use std::alloc::{AllocError, Global};
@@ -95,26 +95,62 @@ impl CellIndex {
     }
 
     fn add_place(&mut self, place: Key, index: u64) -> Result<(), AllocError>
-        ensures { OnOk result ((p : Place) (i : ℕ) → names self.new p i
+        ensures added { OnOk result ((p : Place) (i : ℕ) → names self.new p i
             ≡ (is_entry place index (p, i) || names self.old p i)) }
+        ensures same { OnErr result ((p : Place) (i : ℕ) → names self.new p i
+            ≡ names self.old p i) }
     {
         self.mirror.insert((index, place))?;
         self.places.insert((place, index))?;
         Ok(())
     }
 
-    /// The record with this index has these changes.
-    pub fn add(&mut self, index: u64, changes: &[Change]) -> Result<(), AllocError>
-        ensures added { OnOk result ((p : Place) (i : ℕ) → names self.new p i
-            ≡ ((index == i) && changes_at changes.now p || names self.old p i)) }
-        ensures follows { OnOk result ((base : ℕ) (records : History)
-            → IsIndexOf self.old base records → index ≡ base + length records + 1
-            → IsIndexOf self.new base (records ++ changes.now ∷ [])) }
+    fn remove_place(&mut self, place: Key, index: u64)
+        ensures { (p : Place) (i : ℕ) → names self.new p i
+            ≡ (not (is_entry place index (p, i)) && names self.old p i) }
+    {
+        self.places.remove(&(place, index));
+        self.mirror.remove(&(index, place));
+    }
+
+    // The record with this index has these changes; where memory runs out, some first ones.
+    fn add_all(&mut self, index: u64, changes: &[Change]) -> Result<(), AllocError>
+        ensures added { OnOk result (IsAddedTo self.old index changes.now self.new) }
+        ensures part { OnErr result (IsPartAddedTo self.old index changes.now self.new) }
     {
         for change in changes {
             self.add_place(place_of(change), index)?;
         }
         Ok(())
+    }
+
+    // The record with this index has none of these changes.
+    fn take_back(&mut self, index: u64, changes: &[Change])
+        ensures { (p : Place) (i : ℕ) → names self.new p i
+            ≡ (not ((index == i) && changes_at changes.now p) && names self.old p i) }
+    {
+        for change in changes {
+            self.remove_place(place_of(change), index);
+        }
+    }
+
+    /// The record with this index has these changes. Where memory runs out, it has none of them.
+    pub fn add(&mut self, index: u64, changes: &[Change]) -> Result<(), AllocError>
+        ensures added { OnOk result (IsAddedTo self.old index changes.now self.new) }
+        ensures follows { OnOk result ((base : ℕ) (records : History)
+            → IsIndexOf self.old base records → index ≡ base + length records + 1
+            → IsIndexOf self.new base (records ++ changes.now ∷ [])) }
+        ensures kept { OnErr result ((base : ℕ) (records : History)
+            → IsIndexOf self.old base records → index ≡ base + length records + 1
+            → IsIndexOf self.new base records) }
+    {
+        match self.add_all(index, changes) {
+            Ok(()) => Ok(()),
+            Err(fault) => {
+                self.take_back(index, changes);
+                Err(fault)
+            }
+        }
     }
 
     /// The records up to n go, as where a log drops them.

@@ -6,8 +6,10 @@ mod fault;
 mod fields;
 mod name;
 mod number;
+mod word;
 
 pub use fault::TextFault;
 pub use fields::set_attr_at;
 pub use name::hex_at;
 pub use number::{count_at, number_at, peek, server_at, space_at, u32_at, word_at};
+pub use word::{all_hex_at, farther, ranged_at};

@@ -32,7 +32,7 @@ fn pair_at(bytes: &[u8], at: usize) -> Option<u8>
 
 /// Pairs of digits, at most `most`, and the place after them.
 #[tactic(auto, unfolding(crate::specs::Fields::pairs_from))]
-fn pairs_from(
+pub fn pairs_from(
     alloc: Global,
     bytes: &[u8],
     most: usize,
@@ -56,7 +56,7 @@ fn pairs_from(
 }
 
 /// Whether one digit is left over.
-fn is_odd_at(bytes: &[u8], most: usize, items: &[u8], at: usize) -> bool
+pub fn is_odd_at(bytes: &[u8], most: usize, items: &[u8], at: usize) -> bool
     ensures { result ≡ is_odd_at most bytes.now (items.now, at) }
 {
     items.len() < most && hex_value(peek(bytes, at)).is_some()

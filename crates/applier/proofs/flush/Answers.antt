@@ -1,5 +1,5 @@
 use Rattle.std.proofs.Common.{inr}
-use Rattle.applier.proofs.Fuzzy.{flush_marked, flush_synced}
+use Rattle.applier.proofs.Fuzzy.{flush_marked, flush_synced, mark_reads, sync_reads}
 use Rattle.applier.proofs.flush.Goals as goal
 
 pub returns-in_err-sync-clause-fuzzy : goal.returns-in_err-sync-clause-fuzzy
@@ -23,3 +23,20 @@ returns-clause-fuzzy g c = λ history m h told here fuzzy.
     (g.D.Store.told c.args.store.now) (g.D.Store.told c.sync.new.self)
     (g.D.Store.told c.write_mark.new.self) told c.in_ok-sync.ensures.synced
     (inr c.in_ok-write_mark.ensures.written)
+
+pub returns-in_err-sync-clause-cells : goal.returns-in_err-sync-clause-cells
+returns-in_err-sync-clause-cells g c =
+    sync_reads (g.D.Store.told c.args.store.now) (g.D.Store.told c.sync.new.self)
+    c.in_err-sync.ensures.part
+
+pub returns-in_err-write_mark-clause-cells : goal.returns-in_err-write_mark-clause-cells
+returns-in_err-write_mark-clause-cells g c =
+    mark_reads c.with_lb-lowered.result (g.D.Store.told c.args.store.now)
+    (g.D.Store.told c.sync.new.self) (g.D.Store.told c.write_mark.new.self)
+    c.in_ok-sync.ensures.synced c.in_err-write_mark.ensures.part
+
+pub returns-clause-cells : goal.returns-clause-cells
+returns-clause-cells g c =
+    mark_reads c.with_lb-lowered.result (g.D.Store.told c.args.store.now)
+    (g.D.Store.told c.sync.new.self) (g.D.Store.told c.write_mark.new.self)
+    c.in_ok-sync.ensures.synced (inr c.in_ok-write_mark.ensures.written)

@@ -190,8 +190,8 @@ fn put_totals(changes: &mut Vec<Change>, totals: Totals, stamp: Moment) -> Resul
 /// The reply to a caller's update at a stamp in milliseconds, and the changes of cells that it
 /// makes: from cells that stand for a sound tree they lead to cells that stand for the tree of the
 /// outcome. A status of NFS is a reply, and changes nothing but the stamp. At most 15 changes are
-/// made, all of cells of the tree, and at most three put a block; the last one puts the totals. The
-/// reply is a refusal or of the call's form.
+/// made, all of cells of the tree, which get values of their kinds, and at most three put a block;
+/// the last one puts the totals. The reply is a refusal or of the call's form.
 pub fn prepare<R: CellRead>(
     alloc: Global,
     cells: &mut R,

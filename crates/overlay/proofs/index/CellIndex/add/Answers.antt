@@ -1,24 +1,12 @@
-use Rattle.std.proofs.Common.{◌≤◌, ◌==◌, ◌&&◌, ◌||◌, List, length, arith, ap, ◌∙◌}
-use Rattle.std.proofs.lemmas.List.{take_all}
-use Rattle.harp_cells.specs.declared.change.Change.{Change}
-use Rattle.overlay.specs.Index.{changes_at, names, place_of}
-use Rattle.overlay.proofs.Indexing.{added_follows, more_added, none_added}
+use Rattle.overlay.proofs.Indexing.{added_follows, kept_back}
 use Rattle.overlay.proofs.index.CellIndex.add.Goals as goal
 
-pub loop-change-init : goal.loop-change-init
-loop-change-init c = none_added c.args.self.now c.args.index
+pub returns-in-Ok-clause-follows : goal.returns-in-Ok-clause-follows
+returns-in-Ok-clause-follows c base records is at =
+    added_follows c.args.self.now c.add_all.new.self base c.args.index records c.args.changes.now
+    c.in-Ok.ensures.added is at
 
-pub loop-change-preserved : goal.loop-change-preserved
-loop-change-preserved c p i =
-    more_added c.args.self.now c.loop-change.self c.add_place.new.self c.args.index c.loop-change.change-index
-    c.args.changes.now c.change-item.result c.place_of.result p i c.loop-change-test.true
-    (c.place_of.ensures ∙ ap place_of c.change-item.is) (c.in_ok-add_place.ensures p i) (c.loop-change.invariant p i)
-
-pub returns-clause-follows : goal.returns-clause-follows
-returns-clause-follows c base records is at =
-    let all : length c.args.changes.now ≤ c.loop-change.change-index =
-    omega (arith, c.loop-change-test.false, c.loop-change.auto.change-index-end) in
-    added_follows c.args.self.now c.loop-change.self base c.args.index records c.args.changes.now
-    (λ p i. c.loop-change.invariant p i
-    ∙ ap (λ (l : List Change). (c.args.index == i) && changes_at l p || names c.args.self.now p i)
-    (take_all c.loop-change.change-index c.args.changes.now all)) is at
+pub returns-in-Err-clause-kept : goal.returns-in-Err-clause-kept
+returns-in-Err-clause-kept c base records is at =
+    kept_back c.args.self.now c.add_all.new.self c.take_back.new.self base c.args.index records
+    c.args.changes.now c.in-Err.ensures.part c.take_back.ensures is at

@@ -1,6 +1,6 @@
 use Rattle.std.proofs.Common.{◌≡◌, ℕ, take, ◌==◌, ◌&&◌, ◌||◌}
 use Rattle.overlay.specs.Index.{Place, changes_at, names}
-use Rattle.overlay.proofs.index.CellIndex.add.Given as goal
+use Rattle.overlay.proofs.index.CellIndex.add_all.Given as goal
 
 -- the changes so far are added
 abbrev pub invariant-loop-change : goal.invariant-loop-change
