@@ -4,7 +4,7 @@ ghost use Rattle.std.specs.Prelude.{◌≡◌, ◌≤◌, ◌+◌, ◌<◌, ◌^
 ghost use Rattle.event_record.specs.Bytes.{RecordFits};
 ghost use Rattle.harp_base.specs.Streams.{Rose};
 ghost use Rattle.harp_store.specs.Disk.{AfterPart, AtEachMoment, Moments, MayHaveMade, Now, after_changes, after_step, changed_by, synced_whole, with_mark};
-ghost use Rattle.power_save.specs.declared.fault.SaveFault.TheVariants.{StoreFailed};
+ghost use Rattle.power_save.specs.declared.fault.SaveFault.TheVariants.{StoreFailed, NotSaved};
 ghost use Rattle.power_save.specs.Entries.{HasSaved, saved_entries};
 ghost use Rattle.power_save.specs.Saved.{AllFit, IsUnsaved, IsUnsavedOrSaved, SavedOn, put_of, puts_of, saved_mark};
 ghost use Rattle.volatile_log.specs.Log.{room, top};
@@ -25,6 +25,7 @@ fn put_record<D: Store>(alloc: Global, item: &Record, store: &mut D) -> Result<(
     ensures part { OnErr result (MayHaveMade (changed_by (put_of item.now))
         (D.told store.old) (D.told store.new)) }
     ensures rose { result ≡ Err StoreFailed → Rose (D.faults store.old) (D.faults store.new) }
+    ensures never { result ≡ Err NotSaved → ⊥ }
     ensures count { D.faults store.old ≤ D.faults store.new }
 {
     let value = value_of(alloc, item)?;
@@ -52,6 +53,7 @@ fn put_records<D: Store>(alloc: Global, log: &FrozenLog, store: &mut D) -> Resul
     ensures part { OnErr result (AfterPart (puts_of log.now.records)
         (D.told store.old) (D.told store.new)) }
     ensures rose { result ≡ Err StoreFailed → Rose (D.faults store.old) (D.faults store.new) }
+    ensures never { result ≡ Err NotSaved → ⊥ }
     ensures count { D.faults store.old ≤ D.faults store.new }
 {
     let count = log.top() - log.base();
@@ -65,7 +67,7 @@ fn put_records<D: Store>(alloc: Global, log: &FrozenLog, store: &mut D) -> Resul
 
 /// Saves a log: puts its records in their cells, syncs, and then writes the mark with LB = AP and
 /// the numbers of the log. At each moment the store's mark has no saved log, or the whole log is
-/// synced. The log that is saved is the one that the group's machine saves.
+/// synced. The log that is saved is the one that the group's machine saves. NotSaved never comes.
 pub fn save<D: Store>(
     alloc: Global,
     log: &FrozenLog,
@@ -83,6 +85,7 @@ pub fn save<D: Store>(
     ensures moments { (h : Moments) → D.told store.old ≡ Some h → IsUnsaved h.now.mark
         → AtEachMoment (IsUnsavedOrSaved log.now) (D.told store.old) (D.told store.new) }
     ensures rose { result ≡ Err StoreFailed → Rose (D.faults store.old) (D.faults store.new) }
+    ensures never { result ≡ Err NotSaved → ⊥ }
     ensures count { D.faults store.old ≤ D.faults store.new }
 {
     put_records::<D>(alloc, log, store)?;
