@@ -1,6 +1,7 @@
 //! The states of a log, one after the other.
 
-use crate::records::{append_next, five, take_next};
+use crate::records::{append_next, five, record, take_next};
+use event_record::Index;
 use harp_cells::ChangeLog;
 use std::test::Fail;
 use volatile_log::{ActiveLog, EmptyLog, FrozenLog, LostLog, Staged};
@@ -22,6 +23,26 @@ fn keeps_its_numbers_while_it_is_frozen(rt: HostRuntime) -> Result<(), Fail> {
     assert_eq!(rt; frozen.first(), 2);
     assert_eq!(rt; frozen.last(), 5);
     Ok(())
+}
+
+/// It has room for 32,768 records, and the next one comes back.
+#[test]
+fn is_full_at_its_room(rt: HostRuntime) -> Result<(), Fail> {
+    let mut log = ActiveLog::start(rt.alloc())?;
+    for _ in 0..32_768 {
+        append_next(rt.alloc(), &mut log, 1)?;
+    }
+    let index = log.top() + 1;
+    if index >= 1 << 62 {
+        return Err(Fail::from("too far"));
+    }
+    match log.append(record(rt.alloc(), Index::new(index), 1)?) {
+        Ok(()) => Err(Fail::from("not full")),
+        Err((_, back)) => {
+            assert_eq!(rt; back.index().get(), 32_769);
+            Ok(())
+        }
+    }
 }
 
 #[test]
