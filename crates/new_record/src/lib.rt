@@ -1,0 +1,8 @@
+//! The record of a new update, which is planned on the cells after the updates before it.
+#![tactic(auto)]
+
+mod laws;
+mod record;
+
+pub use laws::record_laws;
+pub use record::new_record;
