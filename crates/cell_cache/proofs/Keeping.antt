@@ -253,7 +253,8 @@ kept_one (change.Erase d) cells e not_set are = are ∙ ap (λ (b : Bool). if b 
 kept_one (change.EraseFrom object first) cells e not_set are =
     are ∙ ap (λ (b : Bool). if b then None else cells e.0) (sym not_set)
 
-in_left : (x : Change) (es : Entries) (e : Cell × Option Value) → Contains (left_by x es) e
+-- what is left was there, and its cell isn't set
+pub in_left : (x : Change) (es : Entries) (e : Cell × Option Value) → Contains (left_by x es) e
     → Contains es e × (sets x e.0 ≡ false)
 unfolding left_by
 in_left x [] e h = absurd (Contains-nil e h)

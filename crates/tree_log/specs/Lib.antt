@@ -1,0 +1,4 @@
+pub mod TreeLog
+pub mod Reading
+pub mod Applying
+pub mod Planning
