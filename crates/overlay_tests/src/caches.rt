@@ -6,8 +6,8 @@ use harp_cells::{CellFault, CellRead};
 use std::alloc::Global;
 use std::test::Fail;
 
-// Fetches the cells of these places through a cache with two places, where so many reads of the store
-// pass, the next one fails, and those behind it pass: how many fetches succeed before one fails.
+// Fetches the cells of these places through a cache with two places, where so many reads of the
+// store pass, the next one fails, and those behind it pass: how many fetches succeed before one.
 fn fetches(alloc: Global, passes: u32, places: &[u32]) -> Result<u32, Fail> {
     let mut store = under(alloc)?;
     store.fail_read(passes);

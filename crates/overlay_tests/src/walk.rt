@@ -8,7 +8,7 @@ use overlay::At;
 use std::alloc::Global;
 use std::test::Fail;
 
-/// How many cells the tests have: four blocks of the object 2, one of the object 3, a slot, a client's.
+/// How many cells the tests have: four blocks of object 2, one of object 3, a slot, a client's.
 pub(crate) const PLACES: u32 = 7;
 
 /// The cell of a place.
