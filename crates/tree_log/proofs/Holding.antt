@@ -406,6 +406,7 @@ stamp_itself : (tree : Tree) (v : Option Value) → stamp_found (stands_for tree
 stamp_itself tree None = refl
 stamp_itself tree (Some (value.Meta next used stamp)) = refl
 stamp_itself tree (Some (value.Object inode)) = refl
+stamp_itself tree (Some (value.Unformed inode)) = refl
 stamp_itself tree (Some (value.Block bytes)) = refl
 stamp_itself tree (Some (value.Slot object name)) = refl
 stamp_itself tree (Some (value.Client number index reply)) = refl

@@ -14,6 +14,7 @@ abbrev pub stamp_found : Option Value → ℕ
 stamp_found None = 0
 stamp_found (Some (value.Meta next used stamp)) = stamp
 stamp_found (Some (value.Object inode)) = 0
+stamp_found (Some (value.Unformed inode)) = 0
 stamp_found (Some (value.Block bytes)) = 0
 stamp_found (Some (value.Slot object name)) = 0
 stamp_found (Some (value.Client number index reply)) = 0

@@ -36,6 +36,7 @@ fn stamp_in(value: &Value) -> Moment
     match value {
         Value::Meta { stamp, .. } => *stamp,
         Value::Object { .. }
+        | Value::Unformed { .. }
         | Value::Block { .. }
         | Value::Slot { .. }
         | Value::Client { .. }
