@@ -19,7 +19,8 @@ fn first(alloc: Global) -> Node {
 }
 
 fn view(count: u64) -> Result<ViewNo, Fail> {
-    ViewNo::of(count, ServerId::Zero).ok_or(Fail::from("no view"))
+    let view = ViewNo::of(count, ServerId::Zero).ok_or("no view")?;
+    Ok(view)
 }
 
 fn invites(message: &Message, view: ViewNo) -> bool {
