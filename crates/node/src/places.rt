@@ -3,7 +3,7 @@
 ghost use Rattle.std.specs.Prelude.{◌≡◌, ◌/◌, [], ◌∷◌, nat_lt, option_map, IfSome, None, Some, if◌then◌else◌};
 ghost use Rattle.group_rules.specs.Limits.{limit};
 ghost use Rattle.group_rules.specs.Names.{number_of_view, place_of};
-ghost use Rattle.group_rules.specs.Places.{next_view, others, same};
+ghost use Rattle.group_rules.specs.Places.{next_view, others};
 
 use harp_base::{ServerId, ViewNo};
 
@@ -25,22 +25,5 @@ pub(crate) fn others(me: ServerId) -> (ServerId, ServerId)
         ServerId::Zero => (ServerId::One, ServerId::Two),
         ServerId::One => (ServerId::Zero, ServerId::Two),
         ServerId::Two => (ServerId::Zero, ServerId::One),
-    }
-}
-
-/// Whether two servers are one.
-pub(crate) fn is_one(a: ServerId, b: ServerId) -> bool
-    ensures { result ≡ same (place_of a) (place_of b) }
-{
-    match (a, b) {
-        (ServerId::Zero, ServerId::Zero) => true,
-        (ServerId::One, ServerId::One) => true,
-        (ServerId::Two, ServerId::Two) => true,
-        (ServerId::Zero, ServerId::One) => false,
-        (ServerId::Zero, ServerId::Two) => false,
-        (ServerId::One, ServerId::Zero) => false,
-        (ServerId::One, ServerId::Two) => false,
-        (ServerId::Two, ServerId::Zero) => false,
-        (ServerId::Two, ServerId::One) => false,
     }
 }

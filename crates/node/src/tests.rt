@@ -2,7 +2,7 @@
 
 use crate::{Node, NodeFault};
 use harp_base::{Mode, Role, ServerId, StateLine, ViewNo};
-use harp_store::{Mark, MemStore, Store};
+use harp_store::{Mark, MemStore, Pick, Store};
 use kept_log::Kept;
 use promise::{Delta, Horizon};
 use std::alloc::Global;
@@ -64,6 +64,7 @@ fn a_failed_step_is_the_last_one(rt: HostRuntime) -> Result<(), Fail> {
     assert!(rt; matches!(node.suspect(alloc, &mut store), Err(NodeFault::StoreFailed)));
     assert!(rt; matches!(node.suspect(alloc, &mut store), Err(NodeFault::Halted)));
     assert!(rt; node.is_halted());
+    store.crash(&Pick::None);
     assert!(rt; store.read_mark(alloc)?.is_none());
     Ok(())
 }
