@@ -1,16 +1,15 @@
 -- Calls of a server that are put together to a step.
-use Rattle.std.proofs.Common.{◌≡◌, ℕ, ◌+◌, Bool, true, false, List, [], ◌∷◌, ◌++◌, Option, Some, None, refl, ap, sym, ◌∙◌, subst, if◌then◌else◌}
-use Rattle.std.specs.Prelude.{◌/◌, nat_lt, map}
+use Rattle.std.proofs.Common.{◌≡◌, ℕ, Bool, true, false, List, [], ◌∷◌, ◌++◌, refl, ap, sym, ◌∙◌, subst, if◌then◌else◌}
+use Rattle.std.specs.Prelude.{◌/◌, nat_lt}
 use Rattle.std.proofs.lemmas.List.{append-nil}
 use Rattle.file_tree.specs.Book.{Entry}
-use Rattle.group_rules.specs.Joining.{joined_tests, on_invite, suspect, to_each}
-use Rattle.group_rules.specs.Limits.{is_open, is_pulls, limit}
-use Rattle.group_rules.specs.Moves.{Accepting, Basing, Choosing, Collecting, Demoting, Hearing, Heeding, Joining, Move, Opening, Pulling, Sending, Staging, act, acts}
-use Rattle.group_rules.specs.Open.{and_then, base_tests, open_heard, open_moves, open_tests, rebase, try_open}
-use Rattle.group_rules.specs.Places.{Zero, One, Two, Place, all_of, get, is_s01, others, partner}
+use Rattle.group_rules.specs.Joining.{suspect, to_each}
+use Rattle.group_rules.specs.Limits.{limit}
+use Rattle.group_rules.specs.Moves.{Accepting, Basing, Choosing, Collecting, Demoting, Hearing, Heeding, Joining, Move, Opening, Pulling, Sending, Staging, acts}
+use Rattle.group_rules.specs.Open.{and_then, base_tests, rebase}
+use Rattle.group_rules.specs.Places.{Place, all_of, others}
 use Rattle.group_rules.specs.Said.{answered_by, answers_said, refusals_said, refused_by}
-use Rattle.group_rules.specs.State.{Chose, Collects, Duty, Message, NoDuty, Report, Server}
-use Rattle.group_rules.specs.Tick.{again, again_tests, beats, duties, duty_tests, events, invite_again, tick}
+use Rattle.group_rules.specs.State.{Message, Server}
 use Rattle.harp_base.specs.declared.peer.Peer.{Peer}
 use Rattle.node.specs.Step.{Steps}
 use Rattle.outputs.specs.Makes.{IsMute, Makes, with_moves}

@@ -1,28 +1,20 @@
 -- An active server, as its leader or its partner and the rest of it.
-use Rattle.std.proofs.Common.{◌≡◌, ℕ, ◌-◌, ◌<◌, ◌≤◌, ◌==◌, Bool, true, false, List, [], ◌∷◌, ◌++◌, ◌+◌, Option, Some, None, refl, ap, sym, ◌∙◌, subst, arith, if◌then◌else◌}
-use Rattle.std.specs.Prelude.{map, min, nat_lt, nat_le, take, drop, option_map}
+use Rattle.std.proofs.Common.{◌≡◌, ℕ, Bool, true, false, List, [], ◌∷◌, refl, ap, sym, ◌∙◌, subst, if◌then◌else◌}
 use Rattle.file_tree.specs.Book.{Entry}
-use Rattle.group_rules.specs.Names.{number_of_view, place_of}
-use Rattle.group_rules.specs.Open.{base_tests, formed_tests, on_formed, open_heard, open_moves, open_tests, rebase, try_open}
+use Rattle.group_rules.specs.Names.{place_of}
+use Rattle.group_rules.specs.Open.{base_tests, rebase}
 use Rattle.group_rules.specs.Moves.{Appending, Basing, Committing, Heeding, Hearing, Move, Noting, Opening, Saying, Sending, act, acts}
-use Rattle.group_rules.specs.Places.{Zero, One, Two, Pair, Place, S01, S02, S12, all_of, get, is_p2, is_s01, leader, partner}
-use Rattle.group_rules.specs.Replicate.{answers, on_ack, on_event, ack_tests, is_in_view}
-use Rattle.group_rules.specs.State.{Duty, Follows, Leads, Plan, Role, Server, top}
-use Rattle.group_rules.specs.Tick.{beats, events, unacknowledged}
+use Rattle.group_rules.specs.Places.{Place, all_of, leader}
+use Rattle.group_rules.specs.State.{Plan, Server}
 use Rattle.harp_base.specs.declared.server.ServerId.{ServerId}
 use Rattle.harp_store.specs.Mark.{MarkFields}
-use Rattle.kept_log.specs.Kept.{AtBase, plan_of}
+use Rattle.kept_log.specs.Kept.{plan_of}
 use Rattle.kept_log.specs.declared.form.Form.{Form}
-use Rattle.node.specs.Node.{NodeValue, server, server_in, value}
-use Rattle.node.specs.State.{IsActive, IsFollowing, IsKept, IsLeading, outer}
-use Rattle.node.specs.declared.state.State.{State}
+use Rattle.node.specs.Node.{server, value}
+use Rattle.node.specs.State.{IsLeading, outer}
 use Rattle.node.specs.declared.state.State.TheVariants as state
 use Rattle.node.specs.declared.state.Task.{Task}
-use Rattle.harp_base.specs.declared.peer.Peer.{Peer}
-use Rattle.outputs.specs.Makes.{Makes}
-use Rattle.outputs.specs.declared.outputs.Outputs.{Outputs}
 use Rattle.promise.specs.Promise.{HorizonValue}
-use Rattle.view_replica.specs.Following.{Following, followed, place_followed, storers_followed}
 use Rattle.view_replica.specs.Leading.{Leading, Outer, led, place_led, storers_led}
 
 -- ---- what the moves of an active server leave

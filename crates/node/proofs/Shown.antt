@@ -1,7 +1,5 @@
 -- What a trace shows of a server, and back.
 use Rattle.std.proofs.Common.{◌≡◌, refl}
-use Rattle.group_rules.specs.Names.{id_of, place_of}
-use Rattle.group_rules.specs.Places.{Place}
 use Rattle.group_rules.specs.Shown.{held_shown, role_shown}
 use Rattle.harp_base.specs.declared.server.ServerId.TheVariants as server
 use Rattle.harp_base.specs.declared.state.Held.{Held}

@@ -1,10 +1,10 @@
 -- Views by their numbers.
-use Rattle.std.proofs.Common.{◌≡◌, ℕ, ◌+◌, ◌*◌, ◌/◌, ◌%◌, ◌<◌, ◌≤◌, ◌^◌, ◌==◌, Bool, true, false, Option, Some, None, nat_lt, option_map, refl, ap, sym, ◌∙◌, arith, if◌then◌else◌}
+use Rattle.std.proofs.Common.{◌≡◌, ℕ, ◌+◌, ◌*◌, ◌/◌, ◌<◌, ◌≤◌, ◌^◌, ◌==◌, Bool, true, false, Option, Some, None, nat_lt, option_map, refl, ap, sym, ◌∙◌, arith, if◌then◌else◌}
 use Rattle.std.specs.Prelude.{IfSome, IsSome, ◌↔◌}
 use Rattle.std.proofs.lemmas.Bool.{eqb-false, eqb-true, le-ltb, lt-ltb, ltb-false, ltb-true, ltb_from_iff}
 use Rattle.group_rules.specs.Limits.{limit}
 use Rattle.group_rules.specs.Names.{number_of_view, place_of}
-use Rattle.group_rules.specs.Places.{coordinator, next_view, number}
+use Rattle.group_rules.specs.Places.{next_view, number}
 use Rattle.harp_base.specs.Server.{number_of}
 use Rattle.harp_base.specs.View.{View, above}
 use Rattle.harp_base.specs.declared.server.ServerId.{ServerId}

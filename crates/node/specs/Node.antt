@@ -1,5 +1,5 @@
 -- A node as a server of the group's machine.
-use Rattle.std.specs.Prelude.{◌≡◌, ℕ, Bool, true, List, [], map, Option, None, option_map}
+use Rattle.std.specs.Prelude.{ℕ, Bool, true, List, None, option_map}
 use Rattle.file_tree.specs.Book.{Entry}
 use Rattle.group_rules.specs.Effects.{down}
 use Rattle.group_rules.specs.Names.{number_of_view, place_of, view_of}

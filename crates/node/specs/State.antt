@@ -1,5 +1,5 @@
 -- What a server is doing as fields of a server of the group's machine, and what stands of it.
-use Rattle.std.specs.Prelude.{◌≡◌, ◌≤◌, ℕ, ◌+◌, ◌-◌, Bool, true, false, List, [], length, map, Option, None, Some}
+use Rattle.std.specs.Prelude.{◌≡◌, ◌≤◌, ℕ, ◌-◌, Bool, true, false, List, [], map, Option, None}
 use Rattle.event_record.specs.Record.{entry_of}
 use Rattle.file_tree.specs.Book.{Entry}
 use Rattle.group_rules.specs.Names.{number_of_view, place_of}
@@ -22,7 +22,6 @@ use Rattle.promise.specs.Promise.{HorizonValue}
 use Rattle.view_form.specs.Choice.{choice, report, reports}
 use Rattle.view_replica.specs.Following.{Following, leader_of, mode_followed, storers_followed}
 use Rattle.view_replica.specs.Leading.{Leading, Outer, heard_from, mode_led, partner_of, storers_led}
-use Rattle.volatile_log.specs.Log.{LogValue}
 
 -- ---- roles, plans, duties
 

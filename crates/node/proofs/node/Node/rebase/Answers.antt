@@ -1,4 +1,4 @@
-use Rattle.std.proofs.Common.{◌≡◌, ap, subst, sym, ◌∙◌}
+use Rattle.std.proofs.Common.{ap, subst, sym, ◌∙◌}
 use Rattle.group_rules.specs.Moves.{acts}
 use Rattle.group_rules.specs.Names.{place_of}
 use Rattle.group_rules.specs.Open.{rebase}

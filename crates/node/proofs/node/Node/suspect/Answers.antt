@@ -1,4 +1,4 @@
-use Rattle.std.proofs.Common.{◌≡◌, ap, sym, ◌∙◌}
+use Rattle.std.proofs.Common.{ap, ◌∙◌}
 use Rattle.group_rules.specs.Joining.{suspect}
 use Rattle.group_rules.specs.Moves.{acts}
 use Rattle.group_rules.specs.Open.{rebase}
