@@ -1,0 +1,4 @@
+pub mod Views
+pub mod Led
+pub mod Calls
+pub mod Shown

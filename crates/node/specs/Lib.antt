@@ -1,0 +1,4 @@
+pub mod Disk
+pub mod State
+pub mod Node
+pub mod Step

@@ -1,0 +1,96 @@
+-- A node as a server of the group's machine.
+use Rattle.std.specs.Prelude.{ℕ, Bool, true, List, None, option_map}
+use Rattle.file_tree.specs.Book.{Entry}
+use Rattle.group_rules.specs.Effects.{down}
+use Rattle.group_rules.specs.Names.{number_of_view, place_of, view_of}
+use Rattle.group_rules.specs.Places.{Place, next_view}
+use Rattle.kept_log.specs.Kept.{with_kept}
+use Rattle.kept_log.specs.declared.kept.Kept.{Kept}
+use Rattle.node.specs.Disk.{promising}
+use Rattle.group_rules.specs.State.{Mark, Saved, Server}
+use Rattle.harp_base.specs.declared.peer.Peer.{Peer}
+use Rattle.harp_base.specs.declared.server.ServerId.{ServerId}
+use Rattle.harp_store.specs.Mark.{MarkFields, SavedNumbers}
+use Rattle.node.specs.State.{ap_in, base_in, cp_in, duty_of, heard_in, held_in, is_gone, items_in, mode_in, peers_in, plan_in, report_in, role_of, staged_in, told_in, wanted_in}
+use Rattle.node.specs.declared.state.State.{State}
+use Rattle.node.specs.declared.state.Task.{Task}
+use Rattle.promise.specs.Promise.{HorizonValue}
+
+-- a server with this mark, which is in this state; of its saved log nothing
+abbrev pub server_in : MarkFields → HorizonValue → ℕ → Task → State → Server Entry
+server_in mark horizon served duty s = record {
+  up = true;
+  promised = number_of_view mark.promised;
+  accepted = number_of_view mark.accepted;
+  role = role_of mark.role;
+  lb = mark.lb;
+  saved = None;
+  longest = mark.longest;
+  held = held_in s;
+  base = base_in s;
+  ap = ap_in s;
+  cp = cp_in s;
+  items = items_in s;
+  mode = mode_in s;
+  report = report_in s;
+  plan = plan_in s;
+  wanted_from = wanted_in s;
+  staged = staged_in s;
+  heard = heard_in s;
+  told_top = (told_in s).top;
+  told_lb = (told_in s).lb;
+  grant = (told_in s).grant;
+  served = served;
+  duty = duty_of duty;
+  delta = horizon.delta;
+  horizon = horizon.until;
+}
+
+-- A node: its place, whether it is halted, its mark as it stands on the disk, and its server but
+-- for the saved log, whose records are on the disk alone; and who waits for the records above CP.
+-- Of a halted one the server tells nothing
+pub record NodeValue : Type 0 where
+  pub me : Place
+  pub halted : Bool
+  pub mark : MarkFields
+  pub plain : Server Entry
+  pub peers : List Peer
+
+abbrev pub value : ServerId → MarkFields → HorizonValue → ℕ → Task → State → NodeValue
+value me mark horizon served duty s = record {
+  me = place_of me;
+  halted = is_gone s;
+  mark = mark;
+  plain = server_in mark horizon served duty s;
+  peers = peers_in s;
+}
+
+abbrev pub saved_with : List Entry → SavedNumbers → Saved Entry
+saved_with items v = record { base = v.base; cp = v.cp; items = items }
+
+-- the machine's server, the saved log on its disk having these records
+abbrev pub server : NodeValue → List Entry → Server Entry
+server n items = record (n.plain) { saved = option_map (saved_with items) n.mark.saved }
+
+-- the mark that promises the node's next view of its own
+abbrev pub own_mark : NodeValue → MarkFields
+own_mark n = promising n.mark (view_of (next_view (number_of_view n.mark.promised) n.me))
+
+-- the machine's mark, the saved log having these records
+abbrev pub mark_with : List Entry → MarkFields → Mark Entry
+mark_with items mark = record {
+  promised = number_of_view mark.promised;
+  accepted = number_of_view mark.accepted;
+  role = role_of mark.role;
+  lb = mark.lb;
+  saved = option_map (saved_with items) mark.saved;
+  longest = mark.longest;
+}
+
+-- a server that rests with what it kept, as after a boot or a demotion
+abbrev pub rested_with : List Entry → MarkFields → HorizonValue → Kept → Server Entry
+rested_with items mark horizon kept = with_kept (record (down (mark_with items mark)) {
+  up = true;
+  delta = horizon.delta;
+  horizon = horizon.until;
+}) kept

@@ -1,0 +1,39 @@
+//! Why a step of a server gives nothing.
+
+ghost use Rattle.std.specs.Prelude.{◌≡◌};
+
+use harp_store::StoreFault;
+use std::alloc::AllocError;
+
+/// Why a step fails. The server is halted then.
+#[derive(Clone, Copy, Debug, PartialEq, Eq)]
+pub enum NodeFault {
+    /// A call of the store failed.
+    StoreFailed,
+    /// An earlier step failed.
+    Halted,
+    NoMemory,
+}
+
+impl From<AllocError> for NodeFault {
+    ghost use Rattle.node.specs.declared.fault.NodeFault.TheVariants.{NoMemory};
+
+    ghost from_gives = { λ _ fault. fault ≡ NoMemory };
+
+    fn from(_: AllocError) -> NodeFault {
+        NodeFault::NoMemory
+    }
+}
+
+impl From<StoreFault> for NodeFault {
+    ghost use Rattle.node.specs.Disk.{fault_of};
+
+    ghost from_gives = { λ given fault. fault ≡ fault_of given };
+
+    fn from(fault: StoreFault) -> NodeFault {
+        match fault {
+            StoreFault::Failed => NodeFault::StoreFailed,
+            StoreFault::NoMemory => NodeFault::NoMemory,
+        }
+    }
+}

@@ -1,0 +1,192 @@
+//! Suspicion, invitations and joins.
+
+ghost use Rattle.std.specs.Prelude.{◌≡◌, ◌++◌, ◌∷◌, [], ◌==◌, ◌≤◌, List, None, Some, false, nat_lt, option_map, true, ℕ, Err, IfSome, OnErr, OnOk, if◌then◌else◌};
+ghost use Rattle.file_tree.specs.Book.{Entry};
+ghost use Rattle.group_rules.specs.Effects.{joined_server, report_of};
+ghost use Rattle.group_rules.specs.Joining.{suspect};
+ghost use Rattle.group_rules.specs.Names.{number_of_view};
+ghost use Rattle.group_rules.specs.Places.{Place};
+ghost use Rattle.harp_store.specs.Disk.{MayHaveMade, after_step, with_mark};
+ghost use Rattle.harp_base.specs.Streams.{Rose};
+ghost use Rattle.harp_store.specs.Mark.{MarkFields};
+ghost use Rattle.kept_log.specs.Kept.{ap_in as kept_ap, base_in as kept_base, cp_in as kept_cp, held_in as kept_held, items_in as kept_items};
+ghost use Rattle.node.specs.Disk.{MayLeave, disk_after, promising};
+ghost use Rattle.node.specs.Node.{own_mark, server};
+ghost use Rattle.node.specs.State.{CollectsStill, IsKept, Fits, ap_in, base_in, cp_in, duty_of, held_in, is_gone, items_in};
+ghost use Rattle.outputs.specs.Makes.{Makes};
+ghost use Rattle.group_rules.specs.State.{Log};
+ghost use Rattle.view_form.specs.Choice.{report};
+ghost use Rattle.volatile_log.specs.Log.{top};
+
+use crate::fault::NodeFault;
+use crate::node::Node;
+use crate::places::{next_view, others};
+use crate::state::{Joining, State, Task};
+use harp_base::{Held, ServerId, Trio, ViewNo};
+use harp_store::{Mark, Store};
+use kept_log::Kept;
+use outputs::Outputs;
+use promise::Deadline;
+use std::alloc::Global;
+use std::mem;
+use view_form::{Collector, JoinInfo};
+use volatile_log::ActiveLog;
+use wire::Message;
+
+impl Node {
+    /// What the server tells of itself when it joins a view.
+    pub(crate) fn report(&self) -> JoinInfo
+        requires { self.now.halted ≡ false }
+        ensures { report result ≡ report_of self.now.plain }
+    {
+        let accepted = self.mark.accepted();
+        let horizon = self.horizon.until();
+        match &self.state {
+            State::Gone => unreachable!(),
+            State::Rests(kept) => kept.report(accepted, horizon),
+            State::Joined(kept, _) => kept.report(accepted, horizon),
+            State::Pulls(kept, _, _, _) => kept.report(accepted, horizon),
+            State::Leads(leader, _) => held_report(leader.log(), accepted, horizon),
+            State::Follows(partner, _) => held_report(partner.log(), accepted, horizon),
+        }
+    }
+
+    /// The server joins a view above its promised one, with this part as its coordinator. An error
+    /// leaves the mark on the disk as it was, or with the view promised.
+    pub(crate) fn join<D: Store>(
+        &mut self,
+        alloc: Global,
+        view: ViewNo,
+        duty: Task,
+        store: &mut D,
+    ) -> Result<(), NodeFault>
+        requires up { self.old.halted ≡ false }
+        requires above { nat_lt self.old.plain.promised (number_of_view view) ≡ true }
+        requires duty { CollectsStill duty }
+        ensures state { OnOk result ((items : List Entry) → server self.new items
+            ≡ joined_server (server self.old items) (number_of_view view) (duty_of duty)) }
+        ensures me { self.new.me ≡ self.old.me }
+        ensures mark { OnOk result (self.new.mark ≡ promising self.old.mark view) }
+        ensures up { OnOk result (self.new.halted ≡ false) }
+        ensures written { OnOk result (D.told store.new
+            ≡ after_step (with_mark (promising self.old.mark view)) (D.told store.old)) }
+        ensures part { OnErr result (MayHaveMade (with_mark (promising self.old.mark view))
+            (D.told store.old) (D.told store.new)) }
+        ensures running { result ≡ Err NodeFault.Halted → ⊥ }
+        ensures rose { result ≡ Err NodeFault.StoreFailed → Rose (D.faults store.old)
+            (D.faults store.new) }
+        ensures count { D.faults store.old ≤ D.faults store.new }
+    {
+        let told = self.report();
+        let mark = promised_mark(self.mark, view);
+        store.write_mark(alloc, &mark)?;
+        self.mark = mark;
+        self.duty = duty;
+        let kept = kept_of(mem::replace(&mut self.state, State::Gone));
+        self.state = State::Joined(kept, first_joining(told));
+        Ok(())
+    }
+
+    /// Suspicion: the server promises the next view of its own, has its own join, and invites the
+    /// other two. At the last count nothing happens.
+    pub(crate) fn suspicion<D: Store>(
+        &mut self,
+        alloc: Global,
+        store: &mut D,
+        outs: &mut Outputs,
+    ) -> Result<(), NodeFault>
+        requires { self.old.halted ≡ false }
+        ensures makes { OnOk result ((items : List Entry) (clock : ℕ)
+            → let s = server self.old items in
+            Makes self.old.me clock (suspect self.old.me s) [] s (server self.new items)
+            outs.old outs.new) }
+        ensures me { self.new.me ≡ self.old.me }
+        ensures up { OnOk result (self.new.halted ≡ false) }
+        ensures written { OnOk result (D.told store.new
+            ≡ disk_after (suspect self.old.me self.old.plain) self.new.mark (D.told store.old)) }
+        ensures part { OnErr result (MayLeave (suspect self.old.me self.old.plain)
+            (own_mark self.old) (D.told store.old) (D.told store.new)) }
+        ensures running { result ≡ Err NodeFault.Halted → ⊥ }
+        ensures rose { result ≡ Err NodeFault.StoreFailed → Rose (D.faults store.old)
+            (D.faults store.new) }
+        ensures count { D.faults store.old ≤ D.faults store.new }
+    {
+        let Some(view) = next_view(self.mark.promised(), self.me) else {
+            return Ok(());
+        };
+        let own = Collector::new(view, self.report());
+        self.join(alloc, view, Task::Collects(own), store)?;
+        let (first, second) = others(self.me);
+        outs.send(first, Message::Invite { view })?;
+        outs.send(second, Message::Invite { view })?;
+        Ok(())
+    }
+}
+
+/// The mark with this view promised, which is above the promised one.
+fn promised_mark(mark: Mark, view: ViewNo) -> Mark
+    requires { nat_lt (number_of_view mark.promised) (number_of_view view) ≡ true }
+    ensures { result ≡ promising mark view }
+{
+    let _ = mark.promised();
+    mark.with_promised(view)
+}
+
+/// What a server that has just joined told; it heard no Formed.
+fn first_joining(told: JoinInfo) -> Joining
+    ensures { result ≡ record {
+      told = told;
+      formed = record { zero = None; one = None; two = None };
+    } }
+{
+    let formed = Trio {
+        zero: None,
+        one: None,
+        two: None,
+    };
+    Joining { told, formed }
+}
+
+/// What a state keeps of the list of updates.
+pub(crate) fn kept_of(state: State) -> Kept
+    requires { is_gone state ≡ false }
+    ensures held { kept_held result ≡ held_in state }
+    ensures base { kept_base result ≡ base_in state }
+    ensures ap { kept_ap result ≡ ap_in state }
+    ensures cp { kept_cp result ≡ cp_in state }
+    ensures items { kept_items result ≡ items_in state }
+    ensures kept { (me : Place) (mark : MarkFields) → Fits me mark state
+        → IsKept me mark result }
+{
+    match state {
+        State::Gone => unreachable!(),
+        State::Rests(kept) => kept,
+        State::Joined(kept, _) => kept,
+        State::Pulls(kept, _, _, _) => kept,
+        State::Leads(leader, _) => Kept::Held(leader.freeze()),
+        State::Follows(partner, _) => Kept::Held(partner.freeze()),
+    }
+}
+
+/// What a server with an active log tells.
+fn held_report(log: &ActiveLog, accepted: ViewNo, horizon: Deadline) -> JoinInfo
+    ensures { report result ≡ record {
+      held = Log;
+      accepted = number_of_view accepted;
+      base = log.now.base;
+      lb = log.now.lb;
+      cp = log.now.cp;
+      top = top log.now;
+      horizon = horizon;
+    } }
+{
+    JoinInfo {
+        held: Held::Held,
+        accepted,
+        base: log.base(),
+        lb: log.lb(),
+        cp: log.cp(),
+        top: log.top(),
+        horizon,
+    }
+}

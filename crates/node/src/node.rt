@@ -1,0 +1,76 @@
+//! One server.
+
+ghost use Rattle.std.specs.Prelude.{◌≡◌, [], List, false, true};
+ghost use Rattle.file_tree.specs.Book.{Entry};
+ghost use Rattle.group_rules.specs.Names.{place_of};
+ghost use Rattle.node.specs.Node.{rested_with, server};
+ghost use Rattle.node.specs.State.{IsKept};
+
+use crate::state::{State, Task};
+use harp_base::ServerId;
+use harp_store::Mark;
+use kept_log::Kept;
+use promise::Horizon;
+use std::marker::Model;
+
+/// One server of a group. Its contracts see it as a server of the group's rules.
+#[derive(Drop)]
+pub struct Node {
+    pub(crate) me: ServerId,
+    /// As it stands on the disk.
+    pub(crate) mark: Mark,
+    pub(crate) horizon: Horizon,
+    /// How many entries of its accepted view it serves.
+    pub(crate) served: u64,
+    pub(crate) duty: Task,
+    pub(crate) state: State,
+}
+
+impl Model for Node {
+    ghost use Rattle.group_rules.specs.Names.{place_of};
+    ghost use Rattle.node.specs.Node.{NodeValue, value};
+    ghost use Rattle.node.specs.State.{CollectsStill, Fits};
+
+    ghost Value = { NodeValue };
+
+    ghost view = { λ n. value n.me n.mark n.horizon n.served n.duty n.state };
+
+    ghost invariant = { λ n. CollectsStill n.duty × Fits (place_of n.me) n.mark n.state };
+}
+
+impl Node {
+    /// A server that rests with this mark, which is the one on its disk, with what it keeps of the
+    /// list of updates, whose LB is the mark's, and with its promises of before.
+    pub fn resting(me: ServerId, mark: Mark, horizon: Horizon, kept: Kept) -> Node
+        requires { IsKept (place_of me) mark kept }
+        ensures me { result.me ≡ place_of me }
+        ensures up { result.halted ≡ false }
+        ensures mark { result.mark ≡ mark }
+        ensures peers { result.peers ≡ [] }
+        ensures server { (items : List Entry) → server result items
+            ≡ rested_with items mark horizon kept }
+    {
+        Node {
+            me,
+            mark,
+            horizon,
+            served: 0,
+            duty: Task::Free,
+            state: State::Rests(kept),
+        }
+    }
+
+    /// Whether an earlier step failed. Then no step gives anything any more.
+    pub fn is_halted(&self) -> bool
+        ensures { result ≡ self.now.halted }
+    {
+        match &self.state {
+            State::Gone => true,
+            State::Rests(_) => false,
+            State::Joined(_, _) => false,
+            State::Pulls(_, _, _, _) => false,
+            State::Leads(_, _) => false,
+            State::Follows(_, _) => false,
+        }
+    }
+}
