@@ -1,0 +1,11 @@
+pub mod BreachLaws
+pub mod MarkLemmas
+pub mod Somewhere
+pub mod ServerLemmas
+pub mod ClockLemmas
+pub mod NetworkLemmas
+pub mod SameLemmas
+pub mod HistoryLemmas
+pub mod AskLemmas
+pub mod UnderWayLemmas
+pub mod CheckerLemmas

@@ -1,0 +1,574 @@
+-- What is kept of packets, as a trace grows.
+use Rattle.std.proofs.Common.{◌≡◌, ℕ, ◌+◌, ◌<◌, ◌≤◌, Bool, true, false, cond, is_some, [], ◌∷◌, ◌++◌, Option, Some, None, refl, sym, ap, subst, ◌∙◌, arith, ◌==◌, inl, inr}
+use Rattle.std.specs.Prelude.{◌↔◌, ◌⊎◌}
+use Rattle.std.specs.Bool.{if◌then◌else◌}
+use Rattle.std.specs.BTreeMap.{get}
+use Rattle.std.specs.Cmp.{unsigned_tied}
+use Rattle.std.specs.Map.{lookup}
+use Rattle.std.specs.Option.{option_map}
+use Rattle.std.specs.Ordering.{is_eq, nat_cmp}
+use Rattle.std.proofs.lemmas.Bool.{eqb-true}
+use Rattle.harp_base.specs.View.{View}
+use Rattle.harp_base.specs.declared.server.ServerId.{ServerId}
+use Rattle.trace_types.specs.declared.step.Step.TheVariants as step
+use Rattle.trace_types.specs.declared.line.Line.{Line}
+use Rattle.trace_types.specs.declared.line.Line.TheVariants as line
+use Rattle.trace_types.specs.declared.line.ShownMessage.{ShownMessage}
+use Rattle.trace_types.specs.declared.line.ShownMessage.TheVariants as shown
+use Rattle.trace_claims.specs.Trace.{Trace}
+use Rattle.trace_claims.specs.Servers.{AckDelivered, Packet, PromiseDelivered, ack_packet, packet_in}
+use Rattle.trace_check.specs.Keys.{way_key}
+use Rattle.trace_check.specs.Marks.{Entries, Key, mark_at, IsRaised, IsWithin, Reaches}
+use Rattle.trace_check.specs.Network.{ack_at, ack_of, or_ack, told_ack, AcksDelivered, Acknowledges, IsNetworkOf, IsSent}
+use Rattle.trace_check.specs.Readings.{packet_told}
+use Rattle.trace_check.specs.declared.network.Network.{Network}
+use Rattle.trace_check.specs.declared.network.SentAck.{SentAck}
+use Rattle.trace_check.specs.declared.readings.PacketTold.{PacketTold}
+use Rattle.trace_check.specs.declared.readings.PacketTold.TheVariants as packet
+use Rattle.trace_check.proofs.ServerLemmas.{number_same, view_same}
+use Rattle.trace_check.proofs.Somewhere.{Somewhere, somewhere_push, somewhere_nothing}
+
+-- ---- the packets by number
+
+abbrev sent_told : ℕ → Option PacketTold → Option Packet
+sent_told n None = None
+sent_told n (Some (packet.Delivered number)) = None
+sent_told n (Some (packet.Sent number from to message)) =
+    if number == n then Some (record { from = from; to = to; message = message }) else None
+
+abbrev or_sent : Option Packet → Option Packet → Option Packet
+or_sent None other = other
+or_sent (Some p) other = Some p
+
+taken_or : (b : Bool) (p : Packet) (other : Option Packet)
+    → (if b then Some p else other) ≡ or_sent (if b then Some p else None) other
+taken_or true p other = refl
+taken_or false p other = refl
+
+sent_head : (l : Line) (lines : Trace) (n : ℕ) → packet_in (l ∷ lines) n
+    ≡ or_sent (sent_told n (packet_told l)) (packet_in lines n)
+sent_head (line.Sent number from to message) lines n =
+    taken_or (number == n) (record { from = from; to = to; message = message }) (packet_in lines n)
+sent_head (line.Event (step.Deliver number)) lines n = refl
+sent_head l lines n = refl
+
+or_assoc : (a b d : Option Packet) → or_sent a (or_sent b d) ≡ or_sent (or_sent a b) d
+or_assoc None b d = refl
+or_assoc (Some x) b d = refl
+
+or_none : (a : Option Packet) → or_sent a None ≡ a
+or_none None = refl
+or_none (Some x) = refl
+
+pub sent_push : (t : Trace) (l : Line) (n : ℕ) → packet_in (t ++ l ∷ []) n
+    ≡ or_sent (packet_in t n) (sent_told n (packet_told l))
+sent_push [] l n = sent_head l [] n ∙ or_none (sent_told n (packet_told l))
+sent_push (x ∷ t) l n =
+    sent_head x (t ++ l ∷ []) n
+    ∙ ap (or_sent (sent_told n (packet_told x))) (sent_push t l n)
+    ∙ or_assoc (sent_told n (packet_told x)) (packet_in t n) (sent_told n (packet_told l))
+    ∙ ap (λ o. or_sent o (sent_told n (packet_told l))) (sym (sent_head x t n))
+
+map_or : (a b : Option Packet) → option_map ack_of (or_sent a b)
+    ≡ or_ack (option_map ack_of a) (option_map ack_of b)
+map_or None b = refl
+map_or (Some x) b = refl
+
+map_if : (b : Bool) (p : Packet) → (if b then Some (ack_of p) else None)
+    ≡ option_map ack_of (if b then Some p else None)
+map_if true p = refl
+map_if false p = refl
+
+sent_more : (old : Network) (before : Trace) (l : Line) (n : ℕ) (o : Option (Option SentAck))
+    → IsNetworkOf old before → o ≡ option_map ack_of (sent_told n (packet_told l))
+    → or_ack (ack_at old n) o ≡ option_map ack_of (packet_in (before ++ l ∷ []) n)
+sent_more old before l n o a e =
+    ap (λ p. or_ack p o) (a.sent n)
+    ∙ ap (or_ack (option_map ack_of (packet_in before n))) e
+    ∙ sym (map_or (packet_in before n) (sent_told n (packet_told l)))
+    ∙ ap (option_map ack_of) (sym (sent_push before l n))
+
+no_more : (o : Option (Option SentAck)) → o ≡ or_ack o None
+no_more None = refl
+no_more (Some p) = refl
+
+-- ---- acknowledgements
+
+-- a packet that acknowledges, and more of its numbers
+abbrev pub AckOf : ServerId → ServerId → View → (ℕ → ℕ → Type 0) → Option Packet → Type 0
+AckOf from to view P p = (top : ℕ) × (lb : ℕ) × (until : ℕ)
+    × (p ≡ Some (ack_packet from to view top lb until)) × P top until
+
+abbrev pub AckTold : ServerId → ServerId → View → (ℕ → ℕ → Type 0) → Trace → Option PacketTold
+    → Type 0
+AckTold from to view P before None = ⊥
+AckTold from to view P before (Some (packet.Sent number f t message)) = ⊥
+AckTold from to view P before (Some (packet.Delivered number)) = AckOf from to view P
+    (packet_in before number)
+
+abbrev AckHere : ServerId → ServerId → View → (ℕ → ℕ → Type 0) → Trace → Line → Type 0
+AckHere from to view P before l = AckTold from to view P before (packet_told l)
+
+abbrev Acked : ServerId → ServerId → View → (ℕ → ℕ → Type 0) → Trace → Type 0
+Acked from to view P t = Somewhere (AckHere from to view P) t
+
+abbrev pub TopFrom : ℕ → ℕ → ℕ → Type 0
+TopFrom n top until = n ≤ top
+
+abbrev pub Beyond : ℕ → ℕ → ℕ → Type 0
+Beyond moment top until = moment < until
+
+-- one that was found at a line
+record Found (from to : ServerId) (view : View) (P : ℕ → ℕ → Type 0) (t : Trace) : Type 0 where
+  pub earlier : Trace
+  pub later : Trace
+  pub number : ℕ
+  pub top : ℕ
+  pub lb : ℕ
+  pub until : ℕ
+  pub stands : t ≡ earlier ++ line.Event (step.Deliver number) ∷ later
+  pub is : packet_in earlier number ≡ Some (ack_packet from to view top lb until)
+  pub fits : P top until
+
+found_at : (t earlier later : Trace) (l : Line) (from to : ServerId) (view : View)
+    (P : ℕ → ℕ → Type 0) → t ≡ earlier ++ l ∷ later
+    → AckTold from to view P earlier (packet_told l) → Found from to view P t
+found_at t earlier later (line.Event (step.Deliver number)) from to view P e h = record {
+  earlier = earlier;
+  later = later;
+  number = number;
+  top = h.0;
+  lb = h.1;
+  until = h.2;
+  stands = e;
+  is = h.3;
+  fits = h.4;
+}
+found_at t earlier later (line.Sent number f d message) from to view P e h = absurd h
+found_at t earlier later l from to view P e h = absurd h
+
+found : (t : Trace) (from to : ServerId) (view : View) (P : ℕ → ℕ → Type 0)
+    → Acked from to view P t → Found from to view P t
+found t from to view P w = found_at t w.earlier w.later w.at from to view P w.stands w.holds
+
+ack_somewhere : (t : Trace) (from to : ServerId) (view : View) (n : ℕ)
+    → AckDelivered t from to view n ↔ Acked from to view (TopFrom n) t
+ack_somewhere t from to view n = (
+  λ h. record {
+    earlier = h.earlier;
+    at = line.Event (step.Deliver h.packet);
+    later = h.later;
+    stands = h.stands;
+    holds = (h.top, h.lb, h.until, h.packet_is, h.reaches);
+  },
+  λ w. let f = found t from to view (TopFrom n) w in record {
+    earlier = f.earlier;
+    later = f.later;
+    packet = f.number;
+    top = f.top;
+    lb = f.lb;
+    until = f.until;
+    stands = f.stands;
+    packet_is = f.is;
+    reaches = f.fits;
+  },
+)
+
+promise_somewhere : (t : Trace) (from to : ServerId) (view : View) (moment : ℕ)
+    → PromiseDelivered t from to view moment ↔ Acked from to view (Beyond moment) t
+promise_somewhere t from to view moment = (
+  λ h. record {
+    earlier = h.earlier;
+    at = line.Event (step.Deliver h.packet);
+    later = h.later;
+    stands = h.stands;
+    holds = (h.top, h.lb, h.until, h.packet_is, h.beyond);
+  },
+  λ w. let f = found t from to view (Beyond moment) w in record {
+    earlier = f.earlier;
+    later = f.later;
+    packet = f.number;
+    top = f.top;
+    lb = f.lb;
+    until = f.until;
+    stands = f.stands;
+    packet_is = f.is;
+    beyond = f.fits;
+  },
+)
+
+-- ---- marks of acknowledgements
+
+-- marks that are raised where a fact gains what a line tells
+marks_grow : (R S A B T K : Type 0) → (S ↔ (R ⊎ K)) → (R ↔ A) → (B ↔ (A ⊎ T)) → (K ↔ T) → S ↔ B
+marks_grow R S A B T K raised is push told = (
+  λ s. push.1 (elim (raised.0 s) as (λ _. A ⊎ T) [
+    | inl r ↦ inl (is.0 r)
+    | inr k ↦ inr (told.0 k)
+  ]),
+  λ b. raised.1 (elim (push.0 b) as (λ _. R ⊎ K) [
+    | inl a ↦ inl (is.1 a)
+    | inr t ↦ inr (told.1 t)
+  ]),
+)
+
+way_same : (a b f t : ServerId) (v w : View) → way_key a b v ≡ way_key f t w
+    → (a ≡ f) × (b ≡ t) × (v ≡ w)
+way_same a b f t v w e = (
+  number_same a f (ap (λ k. k.0) e),
+  number_same b t (ap (λ k. k.1) e),
+  view_same v w (ap (λ k. k.2) e) (ap (λ k. k.3) e),
+)
+
+some_is : (p q : Packet) → Some p ≡ Some q → p ≡ q
+some_is p q e = cc
+
+-- what an Ack's key and number tell of an acknowledgement
+ack_told : (P : ℕ → ℕ → Type 0) (n : ℕ) (a b from to : ServerId) (v view : View)
+    (top lb until top' lb' until' : ℕ)
+    → record { from = a; to = b; message = shown.Ack v top lb until }
+    ≡ ack_packet from to view top' lb' until'
+    → P top' until'
+    → (way_key from to view ≡ way_key a b v) × P top until
+ack_told P n a b from to v view top lb until top' lb' until' e h =
+    let f : a ≡ from = ap (λ (p : Packet). p.from) e in
+    let t : b ≡ to = ap (λ (p : Packet). p.to) e in
+    let m : shown.Ack v top lb until ≡ shown.Ack view top' lb' until' =
+    ap (λ (p : Packet). p.message) e in
+    let w : v ≡ view = cc in
+    let x : top ≡ top' = cc in
+    let y : until ≡ until' = cc in (
+      ap (λ (s : ServerId). way_key s to view) (sym f)
+          ∙ ap (λ (s : ServerId). way_key a s view) (sym t)
+          ∙ ap (λ (u : View). way_key a b u) (sym w),
+      subst (λ (i : ℕ). P i until) (sym x) (subst (λ (i : ℕ). P top' i) (sym y) h),
+    )
+
+acks_here : (P : ℕ → ℕ → Type 0) (a b from to : ServerId) (v view : View) (top lb until : ℕ)
+    → ((way_key from to view ≡ way_key a b v) × P top until)
+    ↔ AckOf from to view P (Some (ack_packet a b v top lb until))
+acks_here P a b from to v view top lb until = (
+  λ h. let s = way_same from to a b view v h.0 in (
+    top,
+    lb,
+    until,
+    ap (λ (x : ServerId). Some (ack_packet x b v top lb until)) (sym s.0)
+        ∙ ap (λ (x : ServerId). Some (ack_packet from x v top lb until)) (sym s.1)
+        ∙ ap (λ (x : View). Some (ack_packet from to x top lb until)) (sym s.2),
+    h.1,
+  ),
+  λ h. ack_told P 0 a b from to v view top lb until h.0 h.1 h.2
+      (some_is (ack_packet a b v top lb until) (ack_packet from to view h.0 h.1 h.2) h.3) h.4,
+)
+
+-- ---- a line
+
+takes_marks : (old new : Entries) (from to : ServerId) (view : View) (m : ℕ)
+    (P : ℕ → ℕ → Type 0) (before : Trace) (l : Line) (D : Trace → Type 0)
+    → ((t : Trace) → D t ↔ Acked from to view P t)
+    → (Reaches old (way_key from to view) m ↔ D before)
+    → (K : Type 0)
+    → (Reaches new (way_key from to view) m ↔ (Reaches old (way_key from to view) m ⊎ K))
+    → (K ↔ AckTold from to view P before (packet_told l))
+    → Reaches new (way_key from to view) m ↔ D (before ++ l ∷ [])
+takes_marks old new from to view m P before l D where_is is K raised told =
+    let A = Acked from to view P before in
+    let B = Acked from to view P (before ++ l ∷ []) in
+    let T = AckTold from to view P before (packet_told l) in
+    let all = marks_grow (Reaches old (way_key from to view) m)
+    (Reaches new (way_key from to view) m) A B T K raised
+    ((λ r. (where_is before).0 (is.0 r)), (λ a. is.1 ((where_is before).1 a)))
+    (somewhere_push (AckHere from to view P) before l) told in (
+      λ r. (where_is (before ++ l ∷ [])).1 (all.0 r),
+      λ d. all.1 ((where_is (before ++ l ∷ [])).0 d),
+    )
+
+never : (R : Type 0) → R ↔ (R ⊎ ⊥)
+never R = (λ r. inl r, λ h. elim h [ inl r ↦ r | inr x ↦ absurd x ])
+
+same_reach : (old new : Entries) (k : Key) (m : ℕ) → new ≡ old
+    → Reaches new k m ↔ (Reaches old k m ⊎ ⊥)
+same_reach old new k m e =
+    subst (λ (x : Entries). Reaches x k m ↔ (Reaches old k m ⊎ ⊥)) (sym e) (never (Reaches old k m))
+
+-- what a line tells of acknowledgements, beside what marks take of it
+abbrev IsTold : Trace → Line → (ServerId → ServerId → View → (ℕ → ℕ → Type 0) → Type 0) → Type 1
+IsTold before l K = (from to : ServerId) (view : View) (P : ℕ → ℕ → Type 0)
+    → K from to view P ↔ AckTold from to view P before (packet_told l)
+
+pub network_of : (old new : Network) (before : Trace) (l : Line)
+    (K : ServerId → ServerId → View → (ℕ → ℕ → Type 0) → Type 0) → IsNetworkOf old before
+    → ((n : ℕ) → ack_at new n ≡ option_map ack_of (packet_in (before ++ l ∷ []) n))
+    → ((from to : ServerId) (view : View) (n : ℕ) → Reaches new.tops (way_key from to view) n
+    ↔ (Reaches old.tops (way_key from to view) n ⊎ K from to view (TopFrom n)))
+    → ((from to : ServerId) (view : View) (m : ℕ)
+    → Reaches new.moments (way_key from to view) (m + 1)
+    ↔ (Reaches old.moments (way_key from to view) (m + 1) ⊎ K from to view (Beyond m)))
+    → IsTold before l K
+    → IsNetworkOf new (before ++ l ∷ [])
+network_of old new before l K a sent tops moments told = record {
+  sent = sent;
+  tops = λ from to view n. takes_marks old.tops new.tops from to view n (TopFrom n) before l
+      (λ t. AckDelivered t from to view n) (λ t. ack_somewhere t from to view n)
+      (a.tops from to view n) (K from to view (TopFrom n)) (tops from to view n)
+      (told from to view (TopFrom n));
+  moments = λ from to view m. takes_marks old.moments new.moments from to view (m + 1) (Beyond m)
+      before l (λ t. PromiseDelivered t from to view m) (λ t. promise_somewhere t from to view m)
+      (a.moments from to view m) (K from to view (Beyond m)) (moments from to view m)
+      (told from to view (Beyond m));
+}
+
+abbrev Never : ServerId → ServerId → View → (ℕ → ℕ → Type 0) → Type 0
+Never from to view P = ⊥
+
+nothing_told : (before : Trace) (l : Line) (o : Option PacketTold) → packet_told l ≡ o
+    → ((from to : ServerId) (view : View) (P : ℕ → ℕ → Type 0)
+    → AckTold from to view P before o → ⊥)
+    → IsTold before l Never
+nothing_told before l o e none from to view P = (
+  λ x. absurd x,
+  λ h. none from to view P (subst (AckTold from to view P before) e h),
+)
+
+pub takes_sent : (old new : Network) (before : Trace) (l : Line) (number : ℕ)
+    (from to : ServerId) (message : ShownMessage) → IsNetworkOf old before
+    → packet_told l ≡ Some (packet.Sent number from to message)
+    → IsSent number (told_ack from to message) old new
+    → IsNetworkOf new (before ++ l ∷ [])
+takes_sent old new before l number from to message a told s =
+    let p : Packet = record { from = from; to = to; message = message } in
+    network_of old new before l Never a
+    (λ n. s.sent n ∙ sent_more old before l n
+    (if number == n then Some (ack_of p) else None) a (map_if (number == n) p
+    ∙ ap (λ t. option_map ack_of (sent_told n t)) (sym told)))
+    (λ f t view n. same_reach old.tops new.tops (way_key f t view) n s.tops)
+    (λ f t view m. same_reach old.moments new.moments (way_key f t view) (m + 1) s.moments)
+    (nothing_told before l (Some (packet.Sent number from to message)) told (λ f t view P h. h))
+
+pub takes_nothing : (network : Network) (before : Trace) (l : Line) → IsNetworkOf network before
+    → packet_told l ≡ None → IsNetworkOf network (before ++ l ∷ [])
+takes_nothing network before l a told =
+    network_of network network before l Never a
+    (λ n. no_more (ack_at network n) ∙ sent_more network before l n None a
+    (ap (λ t. option_map ack_of (sent_told n t)) (sym told)))
+    (λ f t view n. never (Reaches network.tops (way_key f t view) n))
+    (λ f t view m. never (Reaches network.moments (way_key f t view) (m + 1)))
+    (nothing_told before l None told (λ f t view P h. h))
+
+reach_beyond : (old new : Entries) (k l : Key) (m until : ℕ)
+    → (Reaches new k (m + 1) ↔ (Reaches old k (m + 1) ⊎ ((k ≡ l) × (m + 1 ≤ until))))
+    → Reaches new k (m + 1) ↔ (Reaches old k (m + 1) ⊎ ((k ≡ l) × (m < until)))
+reach_beyond old new k l m until h = (
+  λ r. elim (h.0 r) [
+    | inl q ↦ inl q
+    | inr p ↦ inr (p.0, omega (arith, p.1))
+  ],
+  λ r. h.1 (elim r as (λ _. Reaches old k (m + 1) ⊎ ((k ≡ l) × (m + 1 ≤ until))) [
+    | inl q ↦ inl q
+    | inr p ↦ inr (p.0, omega (arith, p.1))
+  ]),
+)
+
+sent_stays : (old new : Network) (before : Trace) (l : Line) (number : ℕ) → IsNetworkOf old before
+    → packet_told l ≡ Some (packet.Delivered number)
+    → ((n : ℕ) → ack_at new n ≡ ack_at old n)
+    → (n : ℕ) → ack_at new n ≡ option_map ack_of (packet_in (before ++ l ∷ []) n)
+sent_stays old new before l number a told same n =
+    same n ∙ no_more (ack_at old n)
+    ∙ sent_more old before l n None a (ap (λ t. option_map ack_of (sent_told n t)) (sym told))
+
+-- no Ack was delivered
+no_ack : (old new : Network) (before : Trace) (l : Line) (number : ℕ) → IsNetworkOf old before
+    → packet_told l ≡ Some (packet.Delivered number)
+    → ((n : ℕ) → ack_at new n ≡ ack_at old n)
+    → ((from to : ServerId) (view : View) (P : ℕ → ℕ → Type 0)
+    → AckOf from to view P (packet_in before number) → ⊥)
+    → (new.tops ≡ old.tops) × (new.moments ≡ old.moments)
+    → IsNetworkOf new (before ++ l ∷ [])
+no_ack old new before l number a told sent none same =
+    network_of old new before l Never a (sent_stays old new before l number a told sent)
+    (λ f t view n. same_reach old.tops new.tops (way_key f t view) n same.0)
+    (λ f t view m. same_reach old.moments new.moments (way_key f t view) (m + 1) same.1)
+    (nothing_told before l (Some (packet.Delivered number)) told none)
+
+one_ack : (old new : Network) (before : Trace) (l : Line) (number : ℕ) (a b : ServerId) (v : View)
+    (top lb until : ℕ) → IsNetworkOf old before
+    → packet_told l ≡ Some (packet.Delivered number)
+    → ((n : ℕ) → ack_at new n ≡ ack_at old n)
+    → packet_in before number ≡ Some (ack_packet a b v top lb until)
+    → IsRaised (way_key a b v) top old.tops new.tops
+    → IsRaised (way_key a b v) until old.moments new.moments
+    → IsNetworkOf new (before ++ l ∷ [])
+one_ack old new before l number a b v top lb until is told sent there tops moments =
+    network_of old new before l
+    (λ from to view P. (way_key from to view ≡ way_key a b v) × P top until) is
+    (sent_stays old new before l number is told sent)
+    (λ from to view n. tops (way_key from to view) n)
+    (λ from to view m. reach_beyond old.moments new.moments (way_key from to view)
+    (way_key a b v) m until (moments (way_key from to view) (m + 1)))
+    (λ from to view P. subst (λ (o : Option PacketTold). ((way_key from to view ≡ way_key a b v)
+    × P top until) ↔ AckTold from to view P before o) (sym told)
+    (subst (λ (o : Option Packet). ((way_key from to view ≡ way_key a b v) × P top until)
+    ↔ AckOf from to view P o) (sym there) (acks_here P a b from to v view top lb until)))
+
+no_packet : (from to : ServerId) (view : View) (P : ℕ → ℕ → Type 0) (o : Option Packet)
+    → o ≡ None → AckOf from to view P o → ⊥
+no_packet from to view P None e h = (let w = h.3 in absurd cc)
+no_packet from to view P (Some p) e h = absurd cc
+
+abbrev is_ack : ShownMessage → Bool
+is_ack (shown.Ack view top lb until) = true
+is_ack message = false
+
+other_message : (from to a b : ServerId) (view : View) (P : ℕ → ℕ → Type 0)
+    (message : ShownMessage) (o : Option Packet)
+    → o ≡ Some (record { from = a; to = b; message = message }) → is_ack message ≡ false
+    → AckOf from to view P o → ⊥
+other_message from to a b view P message o e other h =
+    let same : record { from = a; to = b; message = message }
+    ≡ ack_packet from to view h.0 h.1 h.2 = some_is (record {
+      from = a;
+      to = b;
+      message = message;
+    }) (ack_packet from to view h.0 h.1 h.2) (sym e ∙ h.3) in
+    let m : message ≡ shown.Ack view h.0 h.1 h.2 = ap (λ (p : Packet). p.message) same in
+    let wrong : false ≡ true = sym other ∙ ap is_ack m in
+    cc
+
+delivered : (old new : Network) (before : Trace) (l : Line) (number : ℕ) (o : Option Packet)
+    → IsNetworkOf old before → packet_told l ≡ Some (packet.Delivered number)
+    → packet_in before number ≡ o → ((n : ℕ) → ack_at new n ≡ ack_at old n)
+    → Acknowledges (option_map ack_of o) old new → IsNetworkOf new (before ++ l ∷ [])
+delivered old new before l number None a told is sent h =
+    no_ack old new before l number a told sent
+    (λ from to view P. no_packet from to view P (packet_in before number) is) h
+delivered old new before l number (Some p) a told is sent h =
+    by_message p.message is h
+  where
+    by_message : (m : ShownMessage)
+        → packet_in before number ≡ Some (record { from = p.from; to = p.to; message = m })
+        → Acknowledges (Some (told_ack p.from p.to m)) old new
+        → IsNetworkOf new (before ++ l ∷ [])
+    by_message (shown.Ack view top lb until) e g =
+        one_ack old new before l number p.from p.to view top lb until a told sent e g.0 g.1
+    by_message m e g =
+        no_ack old new before l number a told sent
+        (λ from to view P. other_message from to p.from p.to view P m (packet_in before number) e
+        refl) g
+
+pub takes_delivered : (old new : Network) (before : Trace) (l : Line) (number : ℕ)
+    → IsNetworkOf old before → packet_told l ≡ Some (packet.Delivered number)
+    → AcksDelivered number old new → IsNetworkOf new (before ++ l ∷ [])
+takes_delivered old new before l number a told d =
+    delivered old new before l number (packet_in before number) a told refl d.sent
+    (subst (λ o. Acknowledges o old new) (a.sent number) d.told)
+
+-- ---- the map of packets
+
+pub nothing_sent : (network : Network) → network.sent.entries ≡ [] → (n : ℕ)
+    → ack_at network n ≡ None
+unfolding ack_at
+nothing_sent network e n = ap (lookup (λ k. is_eq (nat_cmp n k))) e
+
+pub no_packets : (network : Network) → ((n : ℕ) → ack_at network n ≡ None)
+    → ((key : Key) → mark_at network.tops key ≡ None)
+    → ((key : Key) → mark_at network.moments key ≡ None) → IsNetworkOf network []
+no_packets network sent tops moments = record {
+  sent = sent;
+  tops = λ from to view n. (
+    λ r. absurd (nowhere (mark_at network.tops (way_key from to view)) n
+        (tops (way_key from to view)) r),
+    λ h. absurd (somewhere_nothing (AckHere from to view (TopFrom n))
+        ((ack_somewhere [] from to view n).0 h)),
+  );
+  moments = λ from to view m. (
+    λ r. absurd (nowhere (mark_at network.moments (way_key from to view)) (m + 1)
+        (moments (way_key from to view)) r),
+    λ h. absurd (somewhere_nothing (AckHere from to view (Beyond m))
+        ((promise_somewhere [] from to view m).0 h)),
+  );
+}
+  where
+    nowhere : (o : Option ℕ) (n : ℕ) → o ≡ None → IsWithin n o → ⊥
+    nowhere None n e h = h
+    nowhere (Some m) n e h = absurd cc
+
+pub same_packets : (old new : Network) → new.sent ≡ old.sent → (n : ℕ) → ack_at new n ≡ ack_at old n
+unfolding ack_at
+same_packets old new e n = ap (λ m. get nat_cmp m n) e
+
+or_nothing : (o : Option (Option SentAck)) → o ≡ or_ack o None
+or_nothing None = refl
+or_nothing (Some p) = refl
+
+or_there : (o p : Option (Option SentAck)) → is_some o ≡ true → o ≡ or_ack o p
+or_there None p h = absurd cc
+or_there (Some a) p h = refl
+
+sent_there : (network : Network) (number n : ℕ) (ack : Option SentAck) (same : Bool)
+    → (same ≡ true → number ≡ n) → is_some (ack_at network number) ≡ true
+    → ack_at network n ≡ or_ack (ack_at network n) (if same then Some ack else None)
+sent_there network number n ack true is h = or_there (ack_at network n) (Some ack)
+    (subst (λ (k : ℕ). is_some (ack_at network k) ≡ true) (is refl) h)
+sent_there network number n ack false is h = or_nothing (ack_at network n)
+
+pub sent_already : (network : Network) (number : ℕ) (ack : Option SentAck)
+    → is_some (ack_at network number) ≡ true → IsSent number ack network network
+sent_already network number ack h = record {
+  sent = λ n. sent_there network number n ack (number == n) (eqb-true number n) h;
+  tops = refl;
+  moments = refl;
+}
+
+absent : (o : Option (Option SentAck)) → is_some o ≡ false → o ≡ None
+absent None h = refl
+absent (Some p) h = absurd cc
+
+sent_here : (a b : Option (Option SentAck)) (ack : Option SentAck) (same : Bool)
+    → (same ≡ true → a ≡ None) → b ≡ (if same then Some ack else a)
+    → b ≡ or_ack a (if same then Some ack else None)
+sent_here a b ack true none e = e ∙ sym (ap (λ o. or_ack o (Some ack)) (none refl))
+sent_here a b ack false none e = e ∙ or_nothing a
+
+pub sent_first : (old new : Network) (number : ℕ) (ack : Option SentAck)
+    → is_some (ack_at old number) ≡ false
+    → ((n : ℕ) → get nat_cmp new.sent n
+    ≡ cond (is_eq (nat_cmp number n)) (Some ack) (get nat_cmp old.sent n))
+    → new.tops ≡ old.tops → new.moments ≡ old.moments → IsSent number ack old new
+unfolding ack_at
+sent_first old new number ack none updates tops moments = record {
+  sent = λ n. sent_here (get nat_cmp old.sent n) (get nat_cmp new.sent n) ack (number == n)
+      (λ same. ap (get nat_cmp old.sent) (sym (eqb-true number n same))
+      ∙ absent (get nat_cmp old.sent number) none)
+      (updates n ∙ ap (λ (b : Bool). cond b (Some ack) (get nat_cmp old.sent n))
+      (unsigned_tied number n));
+  tops = tops;
+  moments = moments;
+}
+
+pub at_number : (network : Network) (number : ℕ) → get nat_cmp network.sent number
+    ≡ ack_at network number
+unfolding ack_at
+at_number network number = refl
+
+pub delivers_ack : (old new : Network) (number : ℕ) (ack : SentAck) → new.sent ≡ old.sent
+    → ack_at old number ≡ Some (Some ack) → IsRaised ack.key ack.top old.tops new.tops
+    → IsRaised ack.key ack.until old.moments new.moments → AcksDelivered number old new
+delivers_ack old new number ack e at tops moments = record {
+  sent = same_packets old new e;
+  told = subst (λ o. Acknowledges o old new) (sym at) (tops, moments);
+}
+
+pub delivers_other : (old : Network) (number : ℕ) → ack_at old number ≡ Some None
+    → AcksDelivered number old old
+delivers_other old number at = record {
+  sent = λ n. refl;
+  told = subst (λ o. Acknowledges o old old) (sym at) (refl, refl);
+}
+
+pub delivers_none : (old : Network) (number : ℕ) → ack_at old number ≡ None
+    → AcksDelivered number old old
+delivers_none old number at = record {
+  sent = λ n. refl;
+  told = subst (λ o. Acknowledges o old old) (sym at) (refl, refl);
+}

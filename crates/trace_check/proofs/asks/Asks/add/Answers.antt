@@ -1,0 +1,7 @@
+use Rattle.trace_check.proofs.AskLemmas.{added_is}
+use Rattle.trace_check.proofs.asks.Asks.add.Goals as goal
+
+pub returns : goal.returns
+returns c b =
+    added_is (λ v. v.items) c.args.self.now.asked.keys c.insert.new.self.keys c.args.bytes
+    c.in_ok-insert.ensures.keys b

@@ -1,0 +1,11 @@
+pub mod Breaches
+pub mod Marks
+pub mod Keys
+pub mod Readings
+pub mod ServersSeen
+pub mod ClocksRead
+pub mod Network
+pub mod History
+pub mod Asks
+pub mod UnderWay
+pub mod Checker

@@ -1,0 +1,181 @@
+//! The step that is under way, and the line before.
+
+ghost use Rattle.std.specs.Prelude.{◌≡◌, ◌↔◌, ◌++◌, ◌∷◌, [], is_some, IsTrue, IfOk, OnOk, Some};
+ghost use Rattle.harp_base.specs.declared.call.Call.{Call as CallValue};
+ghost use Rattle.harp_base.specs.declared.cred.Cred.{Cred as CredValue};
+ghost use Rattle.trace_claims.specs.Faithful.{IsReadReply};
+ghost use Rattle.trace_claims.specs.Trace.{Trace};
+ghost use Rattle.trace_check.specs.UnderWay.{entry_told, reading_of, reading_told, IsUnderWay};
+
+use crate::same::{same_call, same_reply};
+use harp_base::{Call, Cred, Reply, is_update};
+use std::alloc::{AllocError, Global};
+use trace_types::{BookEntry, Line, Step};
+
+/// A read that is asked for, and by whom.
+#[derive(Debug, Drop)]
+pub struct Reading {
+    cred: Cred,
+    call: Call,
+}
+
+/// The read that the step asks for, where it asks for one, and the entry of the line before, where
+/// that entered one.
+#[derive(Debug, Drop)]
+pub struct UnderWay {
+    reading: Option<Reading>,
+    entered: Option<BookEntry>,
+}
+
+fn reading_of(alloc: Global, step: &Step) -> Result<Option<Reading>, AllocError>
+    ensures { IfOk result (λ reading. reading ≡ reading_of (Some step.now)) }
+{
+    match step {
+        Step::Ask { cred, call, .. } => {
+            if is_update(call) {
+                return Ok(None);
+            }
+            Ok(Some(Reading {
+                cred: *cred,
+                call: call.copy(alloc)?,
+            }))
+        }
+        Step::Deliver { .. }
+        | Step::Pump { .. }
+        | Step::Tick { .. }
+        | Step::Suspect { .. }
+        | Step::Apply { .. }
+        | Step::Flush { .. }
+        | Step::List { .. }
+        | Step::Boot { .. }
+        | Step::Power { .. }
+        | Step::PowerCut { .. }
+        | Step::Crash { .. }
+        | Step::Stop { .. }
+        | Step::Noise { .. }
+        | Step::Clock { .. }
+        | Step::Advance { .. }
+        | Step::Delta { .. } => Ok(None),
+    }
+}
+
+// The read that a line's step asks for, if any, where a step begins.
+fn reading_told(alloc: Global, line: &Line) -> Result<Option<Option<Reading>>, AllocError>
+    ensures { IfOk result (λ told. told ≡ reading_told line.now) }
+{
+    match line {
+        Line::Event { step } => Ok(Some(reading_of(alloc, step)?)),
+        Line::Entered { .. }
+        | Line::Answered { .. }
+        | Line::Refused { .. }
+        | Line::Sent { .. }
+        | Line::State { .. }
+        | Line::Down { .. }
+        | Line::Listed { .. }
+        | Line::Unlisted { .. }
+        | Line::Object { .. }
+        | Line::Slot { .. }
+        | Line::Block { .. }
+        | Line::Text { .. }
+        | Line::Bad { .. }
+        | Line::End { .. } => Ok(None),
+    }
+}
+
+fn entry_told(alloc: Global, line: &Line) -> Result<Option<BookEntry>, AllocError>
+    ensures { IfOk result (λ told. told ≡ entry_told line.now) }
+{
+    match line {
+        Line::Entered { entry, .. } => Ok(Some(entry.copy(alloc)?)),
+        Line::Event { .. }
+        | Line::Answered { .. }
+        | Line::Refused { .. }
+        | Line::Sent { .. }
+        | Line::State { .. }
+        | Line::Down { .. }
+        | Line::Listed { .. }
+        | Line::Unlisted { .. }
+        | Line::Object { .. }
+        | Line::Slot { .. }
+        | Line::Block { .. }
+        | Line::Text { .. }
+        | Line::Bad { .. }
+        | Line::End { .. } => Ok(None),
+    }
+}
+
+fn same_cred(one: Cred, other: Cred) -> bool
+    ensures { IsTrue result ↔ (one ≡ other) }
+{
+    one == other
+}
+
+impl UnderWay {
+    /// No step has begun.
+    pub fn new() -> UnderWay
+        ensures { IsUnderWay result [] }
+    {
+        UnderWay {
+            reading: None,
+            entered: None,
+        }
+    }
+
+    /// Takes up what a line tells.
+    pub fn take(&mut self, alloc: Global, line: &Line) -> Result<(), AllocError>
+        ensures { (before : Trace) → IsUnderWay self.old before
+            → OnOk result (IsUnderWay self.new (before ++ line.now ∷ [])) }
+    {
+        let told = reading_told(alloc, line)?;
+        self.entered = entry_told(alloc, line)?;
+        match told {
+            Some(reading) => {
+                self.reading = reading;
+                Ok(())
+            }
+            None => Ok(()),
+        }
+    }
+
+    /// Whether the step asks for a read.
+    pub fn is_reading(&self) -> bool
+        ensures { result ≡ is_some self.now.reading }
+    {
+        self.reading.is_some()
+    }
+
+    /// Whether the line before entered the read that the step asks for, of this client and with
+    /// this number and reply.
+    pub fn is_reply(
+        &self,
+        alloc: Global,
+        client: u32,
+        number: u64,
+        reply: &Reply,
+    ) -> Result<bool, AllocError>
+        ensures { (before : Trace) (cred : CredValue) (call : CallValue)
+            → IsUnderWay self.now before
+            → self.now.reading ≡ Some (record { cred = cred; call = call })
+            → IfOk result (λ is. IsTrue is ↔ IsReadReply before client number cred call reply.now) }
+    {
+        let Some(reading) = &self.reading else {
+            return Ok(false);
+        };
+        let Some(entry) = &self.entered else {
+            return Ok(false);
+        };
+        if entry.client != client {
+            return Ok(false);
+        }
+        if entry.number != number {
+            return Ok(false);
+        }
+        if !same_cred(entry.cred, reading.cred) {
+            return Ok(false);
+        }
+        if !same_call(alloc, &entry.call, &reading.call)? {
+            return Ok(false);
+        }
+        same_reply(alloc, &entry.reply, reply)
+    }
+}
