@@ -13,7 +13,7 @@ returns-clause-makes g c items clock list size =
     let s = server c.args.self.now items in
     let mid = server c.suspicion.new.self items in
     stepped q clock (suspect q s) c.args.self.now.peers s mid (server c.rebase.new.self items)
-    c.new-outs.result c.suspicion.new.outs c.new-outs.ensures
+    c.new-outs.result c.suspicion.new.outs c.new-outs.ensures.said
     (any_peers q clock (suspect q s) c.args.self.now.peers s mid c.new-outs.result c.suspicion.new.outs
     (mute_suspect q s) (c.in-Ok.ensures.makes items clock))
     (c.rebase.ensures.state items clock
