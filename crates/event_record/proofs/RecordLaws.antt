@@ -7,7 +7,8 @@ use Rattle.harp_base.specs.declared.field.Misread.{Misread}
 use Rattle.harp_base.specs.declared.field.Misread.TheVariants.{Ends, BadTag, TooLong, NoMemory}
 use Rattle.harp_base.specs.Fields.{AllFit, Fails, Read, Reader, Spells, ◌⊗◌, field_as, fields_by_tag, limited, many_at, many_bytes, misread_within, passing, read_within, below_at, u16_at, u16_bytes, u32_bytes, u64_bytes}
 use Rattle.harp_base.specs.Names.{cred_bytes}
-use Rattle.harp_base.proofs.Codec.{IsBytes, IsCodec, Spells-then, below_codec, bind_ok, drop_past, field_as_again, field_as_codec, field_as_takes, fitting, limited_codec, passing_codec, u16_codec, u32_codec, u64_codec}
+use Rattle.harp_base.proofs.Codec.{IsBytes, IsCodec, Spells-then, below_codec, bind_ok, drop_past, field_as_again, field_as_codec, field_as_takes, fitting, passing_codec, u16_codec, u32_codec, u64_codec}
+use Rattle.harp_base.proofs.ReadLaws.{limited_codec}
 use Rattle.harp_base.proofs.AttributeLaws.{then}
 use Rattle.harp_base.proofs.CallLaws.{call_codec}
 use Rattle.harp_base.proofs.ListLaws.{many_again, many_takes}

@@ -1,1 +1,3 @@
-mod Sizes
+pub mod Sizes
+pub mod Weights
+pub mod Steps

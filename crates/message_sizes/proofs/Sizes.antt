@@ -1,7 +1,7 @@
 -- How long messages with records are.
-use Rattle.std.proofs.Common.{◌≡◌, ◌≤◌, ◌<◌, ◌+◌, ◌*◌, ◌⊎◌, ℕ, Bool, true, false, List, [], ◌∷◌, ◌++◌, length, map, Option, Some, None, refl, sym, ap, ◌∙◌, subst, arith, length-append, inl, inr, if◌then◌else◌}
+use Rattle.std.proofs.Common.{◌≡◌, ◌≤◌, ◌+◌, ◌*◌, ◌⊎◌, ℕ, Bool, true, false, List, [], ◌∷◌, length, map, Some, None, refl, ap, subst, arith, length-append, inl, inr, if◌then◌else◌}
 use Rattle.std.specs.Prelude.{min, nat_le, nat_lt, ◌&&◌}
-use Rattle.std.specs.List.{flat_map, sum_by}
+use Rattle.std.specs.List.{flat_map}
 use Rattle.std.proofs.lemmas.Bool.{leb-true}
 use Rattle.std.proofs.lemmas.List.Sums.{sum_by-append}
 use Rattle.std.proofs.lemmas.Option.{same_Some}
@@ -10,19 +10,19 @@ use Rattle.harp_base.specs.Names.{view_bytes}
 use Rattle.harp_base.specs.View.{View}
 use Rattle.event_record.specs.declared.record.RecordFields.{RecordFields}
 use Rattle.event_record.specs.Bytes.{record_bytes}
-use Rattle.volatile_log.specs.Log.{LogValue, top}
+use Rattle.volatile_log.specs.Log.{top}
 use Rattle.wire.specs.declared.message.Message.{Message}
 use Rattle.wire.specs.declared.message.Message.TheVariants as message
 use Rattle.wire.specs.Messages.{message_bytes}
 use Rattle.wire.specs.Parts.{records_bytes}
-use Rattle.witness.specs.Serving.{asked_for, front, given, most_bytes, one_or_more, record_size}
+use Rattle.witness.specs.Serving.{asked_for, front, most_bytes, one_or_more, record_size}
 use Rattle.message_sizes.specs.Laws.{AreRecords, GivesAreShort, GivesAreWithin, TicksAreShort, bytes_of, size_of}
 
-len_u64 : (n : ℕ) → length (u64_bytes n) ≡ 8
+pub len_u64 : (n : ℕ) → length (u64_bytes n) ≡ 8
 unfolding u64_bytes
 len_u64 n = refl
 
-len_view : (v : View) → length (view_bytes v) ≡ 9
+pub len_view : (v : View) → length (view_bytes v) ≡ 9
 unfolding view_bytes u64_bytes
 len_view v = refl
 

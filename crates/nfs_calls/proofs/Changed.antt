@@ -20,7 +20,7 @@ use Rattle.nfs_calls.specs.Plans.{totals_of}
 use Rattle.nfs_calls.specs.Space.{replaced_blocks}
 use Rattle.nfs_calls.specs.TreeCells.{IsInode, object_at}
 use Rattle.nfs_calls.proofs.Entered.{same_inode}
-use Rattle.nfs_calls.proofs.Makes.{replaced_is}
+use Rattle.nfs_calls.proofs.RoomLaws.{replaced_is}
 
 directories : (b c : Body) → kind_of c ≡ kind_of b → is_directory c ≡ is_directory b
 directories (body.Regular x) (body.Regular y) e = refl

@@ -10,6 +10,7 @@ pub mod MovesWithin
 pub mod MovesAcross
 pub mod MovesOver
 pub mod Replacing
+pub mod RoomLaws
 pub mod Makes
 pub mod Changed
 pub mod FilePlans

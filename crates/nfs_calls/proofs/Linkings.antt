@@ -36,7 +36,8 @@ use Rattle.nfs_calls.specs.NewEntries.{entered, linked, links_by}
 use Rattle.nfs_calls.specs.Space.{replaced_blocks}
 use Rattle.nfs_calls.specs.TreeCells.{IsDirectory, IsInode, IsRoom, object_at}
 use Rattle.nfs_calls.proofs.Entered.{directory_body, entered_is, same_inode, slot_count}
-use Rattle.nfs_calls.proofs.Makes.{blocks_stored, file_links, no_parent, replaced_is, slot_placed}
+use Rattle.nfs_calls.proofs.RoomLaws.{blocks_stored, replaced_is}
+use Rattle.nfs_calls.proofs.Makes.{file_links, no_parent, slot_placed}
 
 -- ---- room
 

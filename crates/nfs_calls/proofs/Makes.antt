@@ -1,6 +1,6 @@
 -- What a new object with its entry makes of a tree.
-use Rattle.std.proofs.Common.{◌≡◌, ℕ, ◌+◌, ◌-◌, ◌*◌, ◌%◌, ◌<◌, ◌≤◌, ◌==◌, ltb, leb, Bool, true, false, cond, List, [], ◌∷◌, ◌++◌, length, get_or, append_assoc, Option, Some, None, Ok, refl, sym, ap, ◌∙◌, subst, arith, inl, inr}
-use Rattle.std.proofs.lemmas.Bool.{cases_eq, cases_lt, eq-eqb, ltb-false, cond_both}
+use Rattle.std.proofs.Common.{◌≡◌, ℕ, ◌+◌, ◌-◌, ◌*◌, ◌%◌, ◌<◌, ◌≤◌, ◌==◌, Bool, true, false, cond, List, [], ◌∷◌, ◌++◌, length, get_or, append_assoc, Option, Some, None, Ok, refl, sym, ap, ◌∙◌, subst, arith, inl, inr}
+use Rattle.std.proofs.lemmas.Bool.{cases_eq, cases_lt, eq-eqb, cond_both}
 use Rattle.std.proofs.lemmas.List.{length_push, get_or_past, get_or_push}
 use Rattle.harp_base.specs.declared.attr.Attr.{Attr}
 use Rattle.harp_base.specs.declared.attr.Kind.TheVariants as kind
@@ -9,16 +9,13 @@ use Rattle.harp_base.specs.declared.attr.Time.{Time}
 use Rattle.harp_base.specs.declared.call.Call.TheVariants as call
 use Rattle.harp_base.specs.declared.cred.Cred.{Cred}
 use Rattle.harp_base.specs.declared.reply.Reply.TheVariants.{Node}
-use Rattle.harp_base.specs.declared.reply.Status.{Status}
-use Rattle.harp_base.specs.declared.reply.Status.TheVariants.{NoSpc}
 use Rattle.file_tree.specs.declared.object.Body.{Body}
 use Rattle.file_tree.specs.declared.object.Body.TheVariants as body
 use Rattle.file_tree.specs.declared.object.Object.{Object}
 use Rattle.file_tree.specs.declared.object.Slot.{Slot}
-use Rattle.file_tree.specs.Tree.{Tree, Slots, place, slots_of, slots_within, with_entry, free_from, blocks_of, blocks_at, used_blocks, size_of, names_in, names_at, names_of, is_directory, is_directory_at, links_of, parent_of, kind_of, attr_at}
-use Rattle.file_tree.specs.Tries.{◌>>=◌, refuse, Tried}
+use Rattle.file_tree.specs.Tree.{Tree, Slots, place, slots_of, slots_within, with_entry, free_from, blocks_of, used_blocks, size_of, names_in, names_at, names_of, is_directory, is_directory_at, links_of, parent_of, kind_of, attr_at}
 use Rattle.file_tree.specs.Permissions.{searched, may_make}
-use Rattle.harp_base.specs.Limits.{field_left, object_numbers}
+use Rattle.harp_base.specs.Limits.{field_left}
 use Rattle.file_tree.specs.Outcome.{room_for, reslotted, with_object, made, given_mode, free_name, make_dir}
 use Rattle.file_tree.specs.Sound.{IsSound, IsSoundObject}
 use Rattle.file_tree.proofs.Kept.{place_within, place_changed, place_push, used_push}
@@ -47,8 +44,9 @@ use Rattle.nfs_calls.specs.declared.parts.totals.Totals.{Totals}
 use Rattle.nfs_calls.specs.Plans.{planned, totals_of}
 use Rattle.nfs_calls.specs.NewEntries.{entered, made_inode, makes_by}
 use Rattle.nfs_calls.specs.Space.{replaced_blocks}
-use Rattle.nfs_calls.specs.TreeCells.{IsDirectory, IsInode, IsRoom, attr_by, object_at}
+use Rattle.nfs_calls.specs.TreeCells.{IsDirectory, IsRoom, attr_by, object_at}
 use Rattle.nfs_calls.proofs.Entered.{same_inode, entered_is, slot_count, directory_body}
+use Rattle.nfs_calls.proofs.RoomLaws.{replaced_is}
 
 pub text_none : (object : ℕ) (text : List ℕ) → length text ≡ 0 → text_put object text ≡ []
 text_none object [] e = refl
@@ -60,64 +58,6 @@ text_some object [] h = absurd (omega (arith, h))
 text_some object (b ∷ text) h = refl
 
 pub ruleset text_puts = (text_none, text_some)
-
--- ---- room
-
-both_refuse : (s : Status) (b : Bool) (n : ℕ) (x : Slots)
-    → ((refuse s b >>= λ (u : Unit {0}). Ok n) >>= λ (m : ℕ). Ok x)
-    ≡ (refuse s b >>= λ (u : Unit {0}). Ok x)
-both_refuse s true n x = refl
-both_refuse s false n x = refl
-
-pub blocks_stored : (tree : Tree) (number : ℕ) (i : Inode) → IsInode tree number i
-    → blocks_at (place tree number) ≡ blocks_of i.size
-blocks_stored tree number i is = ap blocks_at is.at
-    ∙ ap (λ (j : Inode). blocks_of j.size) (sym is.is)
-
--- the steps of the room for a new object, by what is stored
-pub room_for_steps : (tree : Tree) (dir : ℕ) (i : Inode) (s : Slot) (size : ℕ) (totals : Totals)
-    → IsDirectory tree dir i → totals ≡ totals_of tree → s.number ≡ totals.next
-    → room_for tree dir (slots_of (place tree dir)) s.name size
-    ≡ (refuse NoSpc (leb object_numbers totals.next)
-    >>= λ (u : Unit {0}). replaced_blocks (totals.used + blocks_of size) i.size
-    (264 * length (with_entry (slots_of (place tree dir)) s))
-    >>= λ (n : ℕ). Ok (with_entry (slots_of (place tree dir)) s))
-unfolding room_for
-room_for_steps tree dir i s size totals is are number =
-    let slots = slots_of (place tree dir) in
-    let own : s.number ≡ length tree = number ∙ ap (λ (t : Totals). t.next) are in
-    let entry : record { name = s.name; number = length tree } ≡ s =
-    ap (λ (n : ℕ). let slot : Slot = record { name = s.name; number = n } in slot) (sym own) in
-    rw (are, blocks_stored tree dir i is.own, entry)
-    (ap (λ (r : Tried Slots). refuse NoSpc (leb object_numbers (length tree))
-    >>= λ (u : Unit {0}). r)
-    (sym (both_refuse NoSpc (ltb (65536 + blocks_of i.size)
-    (used_blocks tree + blocks_of size + blocks_of (264 * length (with_entry slots s)))) _
-    (with_entry slots s))))
-
-pub chained : (n0 n1 n2 n3 n4 x y z w : List Change) → n0 ≡ [] → n1 ≡ n0 ++ x → n2 ≡ n1 ++ y
-    → n3 ≡ n2 ++ z → n4 ≡ n3 ++ w → n4 ≡ x ++ y ++ z ++ w
-chained n0 n1 n2 n3 n4 x y z w a b c d e = rw (e, d, c, b, a) refl
-
--- the used blocks that are told where there is room
-pub record IsReplaced (used old new after : ℕ) : Type 0 where
-  pub fits : used + blocks_of new ≤ 65536 + blocks_of old
-  pub is : after ≡ used + blocks_of new - blocks_of old
-
-replaced_from : (used old new after : ℕ) (b : Bool)
-    → ltb (65536 + blocks_of old) (used + blocks_of new) ≡ b
-    → (refuse NoSpc b >>= λ (u : Unit {0}). Ok (used + blocks_of new - blocks_of old)) ≡ Ok after
-    → IsReplaced used old new after
-replaced_from used old new after true test e = absurd cc
-replaced_from used old new after false test e =
-    record {
-      fits = ltb-false _ _ test;
-      is = let same : used + blocks_of new - blocks_of old ≡ after = cc in sym same;
-    }
-
-pub replaced_is : (used old new after : ℕ) → replaced_blocks used old new ≡ Ok after
-    → IsReplaced used old new after
-replaced_is used old new after e = replaced_from used old new after _ refl e
 
 -- ---- the tree with a new object and its entry
 

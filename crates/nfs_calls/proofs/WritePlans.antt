@@ -37,7 +37,8 @@ use Rattle.nfs_calls.specs.Space.{replaced_blocks}
 use Rattle.nfs_calls.specs.TreeCells.{IsInode, attr_by, bytes_within, object_at}
 use Rattle.nfs_calls.proofs.Inodes.{attr_is, live_is, content_size as stored_size}
 use Rattle.nfs_calls.proofs.Entered.{same_inode}
-use Rattle.nfs_calls.proofs.Makes.{attr_placed, blocks_stored}
+use Rattle.nfs_calls.proofs.RoomLaws.{blocks_stored}
+use Rattle.nfs_calls.proofs.Makes.{attr_placed}
 use Rattle.nfs_calls.proofs.FilePlans.{not_directory}
 use Rattle.nfs_calls.proofs.Changed.{KeepsKind, inode_with, changed_inode, changed_put, changed_totals}
 

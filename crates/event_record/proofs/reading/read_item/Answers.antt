@@ -1,5 +1,5 @@
 use Rattle.std.proofs.Common.{arith}
-use Rattle.harp_base.proofs.Codec.{front_found, front_only, front_exact}
+use Rattle.harp_base.proofs.ReadLaws.{front_found, front_only, front_exact}
 use Rattle.event_record.specs.Bytes.{item_at, record_bytes, RecordFits}
 use Rattle.event_record.proofs.RecordLaws.{item_codec}
 use Rattle.event_record.proofs.reading.read_item.Goals as goal

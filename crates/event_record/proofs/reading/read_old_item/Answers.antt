@@ -1,5 +1,5 @@
 use Rattle.std.proofs.Common.{arith}
-use Rattle.harp_base.proofs.Codec.{front_found, front_only, front_exact}
+use Rattle.harp_base.proofs.ReadLaws.{front_found, front_only, front_exact}
 use Rattle.event_record.specs.Bytes.{old_item_at, old_record_bytes, OldRecordFits}
 use Rattle.event_record.proofs.RecordLaws.{old_item_codec}
 use Rattle.event_record.proofs.reading.read_old_item.Goals as goal

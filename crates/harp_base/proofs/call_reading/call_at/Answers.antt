@@ -1,6 +1,6 @@
 use Rattle.std.proofs.Common.{arith}
 use Rattle.harp_base.specs.Calls.{call_at, call_bytes, CallFits}
-use Rattle.harp_base.proofs.Codec.{is_within}
+use Rattle.harp_base.proofs.ReadLaws.{is_within}
 use Rattle.harp_base.proofs.CallLaws.{call_codec}
 use Rattle.harp_base.proofs.call_reading.call_at.Goals as goal
 

@@ -1,6 +1,6 @@
 use Rattle.std.proofs.Common.{arith}
 use Rattle.harp_base.specs.Calls.{call_at, call_bytes, CallFits}
-use Rattle.harp_base.proofs.Codec.{front_found, front_only, front_exact}
+use Rattle.harp_base.proofs.ReadLaws.{front_found, front_only, front_exact}
 use Rattle.harp_base.proofs.CallLaws.{call_codec}
 use Rattle.harp_base.proofs.call_reading.read_call.Goals as goal
 

@@ -1,6 +1,6 @@
 use Rattle.std.proofs.Common.{arith}
 use Rattle.harp_base.specs.Replies.{reply_at, reply_bytes, ReplyFits}
-use Rattle.harp_base.proofs.Codec.{front_found, front_only, front_exact}
+use Rattle.harp_base.proofs.ReadLaws.{front_found, front_only, front_exact}
 use Rattle.harp_base.proofs.ReplyLaws.{reply_codec}
 use Rattle.harp_base.proofs.reply_reading.read_reply.Goals as goal
 

@@ -1,6 +1,6 @@
 use Rattle.std.proofs.Common.{arith}
 use Rattle.harp_base.specs.Replies.{reply_at, reply_bytes, ReplyFits}
-use Rattle.harp_base.proofs.Codec.{is_within}
+use Rattle.harp_base.proofs.ReadLaws.{is_within}
 use Rattle.harp_base.proofs.ReplyLaws.{reply_codec}
 use Rattle.harp_base.proofs.reply_reading.reply_at.Goals as goal
 

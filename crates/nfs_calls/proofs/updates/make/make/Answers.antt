@@ -1,4 +1,4 @@
-use Rattle.nfs_calls.proofs.Makes.{chained}
+use Rattle.nfs_calls.proofs.RoomLaws.{chained}
 use Rattle.nfs_calls.proofs.updates.make.make.Goals as goal
 
 pub returns : goal.returns

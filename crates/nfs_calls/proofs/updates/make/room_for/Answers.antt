@@ -1,5 +1,5 @@
 use Rattle.std.proofs.Common.{rules, refl}
-use Rattle.nfs_calls.proofs.Makes.{room_for_steps}
+use Rattle.nfs_calls.proofs.RoomLaws.{room_for_steps}
 use Rattle.nfs_calls.proofs.updates.make.room_for.Goals as goal
 
 pub returns-in_err-refuse-clause-step : goal.returns-in_err-refuse-clause-step
