@@ -3,6 +3,7 @@
 #![tactic(auto)]
 
 mod applying;
+mod listing;
 mod planning;
 mod reading;
 mod tree_log;

@@ -106,7 +106,9 @@ impl TreeLog {
     /// Commits the records up to this index, which is from CP to top.
     pub fn commit_to(&mut self, n: u64)
         requires { (self.old.log.cp ≤ n) × (n ≤ top self.old.log) }
-        ensures { self.new ≡ record self.old { log = committed_to self.old.log n } }
+        ensures log { self.new ≡ record self.old { log = committed_to self.old.log n } }
+        ensures tree { (list : List Entry) (upto : ℕ) (told : Option Moments)
+            → HoldsTree list upto self.old.log told → HoldsTree list upto self.new.log told }
     {
         self.log.commit_to(n);
     }
@@ -114,7 +116,9 @@ impl TreeLog {
     /// Keeps that the records up to this index, which is from LB to AP, are on this server's disk.
     pub fn lower_to(&mut self, n: u64)
         requires { (self.old.log.lb ≤ n) × (n ≤ self.old.log.ap) }
-        ensures { self.new ≡ record self.old { log = lowered_to self.old.log n } }
+        ensures log { self.new ≡ record self.old { log = lowered_to self.old.log n } }
+        ensures tree { (list : List Entry) (upto : ℕ) (told : Option Moments)
+            → HoldsTree list upto self.old.log told → HoldsTree list upto self.new.log told }
     {
         self.log.lower_to(n);
     }

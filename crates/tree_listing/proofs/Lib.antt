@@ -1,0 +1,4 @@
+pub mod CellsRead
+pub mod Gathering
+pub mod BlocksRead
+pub mod Objects
