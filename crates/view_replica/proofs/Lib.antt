@@ -5,3 +5,6 @@ pub mod Spoken
 pub mod Committing
 pub mod Ticking
 pub mod Opening
+pub mod Asking
+pub mod Asked
+pub mod Trees

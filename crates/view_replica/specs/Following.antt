@@ -1,5 +1,6 @@
 -- The partner of a view as a server of the group's machine.
-use Rattle.std.specs.Prelude.{ℕ, ◌+◌, ◌==◌, Bool, true, [], Option, None, Some, max, min, if◌then◌else◌}
+use Rattle.std.specs.Prelude.{ℕ, ◌+◌, ◌==◌, Bool, true, false, [], Option, None, Some, max, min, if◌then◌else◌}
+use Rattle.cell_cache.specs.Entries.{Entries}
 use Rattle.file_tree.specs.Book.{Entry}
 use Rattle.group_rules.specs.Places.{Zero, One, Two, Pair, Place, S01, S02, S12, nobody, partner}
 use Rattle.group_rules.specs.State.{Ack, Follows, Live, Log, Message, Mode, Server, Waits, no_report}
@@ -9,13 +10,14 @@ use Rattle.view_replica.specs.Leading.{Outer, entries}
 use Rattle.view_replica.specs.declared.partner.Ahead.{Ahead}
 use Rattle.view_replica.specs.declared.partner.Ahead.TheVariants as ahead
 
--- What a partner has of its view: its number, who leads it, and its start; its log; and whether it
--- heeded an Event or a Beat of the view
+-- What a partner has of its view: its number, who leads it, and its start; its log, and the cells of
+-- its store that it keeps in memory; and whether it heeded an Event or a Beat of the view
 pub record Following : Type 0 where
   pub view : ℕ
   pub ahead : Ahead
   pub start : ℕ
   pub log : LogValue
+  pub cached : Entries
   pub settled : Bool
 
 -- the storers of a view in which this server is the partner. Behind server 1 that is the witness
@@ -64,6 +66,17 @@ followed f o = record {
   duty = o.duty;
   delta = o.delta;
   horizon = o.horizon;
+}
+
+-- a partner that has just accepted its view, without any cell in memory
+abbrev pub unsettled : ℕ → Ahead → ℕ → LogValue → Following
+unsettled view a start log = record {
+  view = view;
+  ahead = a;
+  start = start;
+  log = log;
+  cached = [];
+  settled = false;
 }
 
 -- a log with a record, where that is the next one

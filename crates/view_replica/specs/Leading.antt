@@ -1,6 +1,7 @@
 -- The leader of a view as a server of the group's machine.
 use Rattle.std.specs.Prelude.{◌≡◌, ℕ, ◌+◌, ◌≤◌, Bool, true, false, List, [], length, map, Option, None, Some, if◌then◌else◌}
 use Rattle.harp_base.specs.declared.peer.Peer.{Peer}
+use Rattle.cell_cache.specs.Entries.{Entries}
 use Rattle.event_record.specs.Record.{entry_of}
 use Rattle.file_tree.specs.Book.{Entry}
 use Rattle.group_rules.specs.Places.{Zero, One, Two, Pair, Place, S01, S02, S12, Trio, leader, nobody, with_at}
@@ -25,15 +26,16 @@ pub record Outer : Type 0 where
 abbrev pub at_horizon : Outer → HorizonValue → Outer
 at_horizon o h = record o { delta = h.delta; horizon = h.until }
 
--- What a leader has of its view: its number, who is beside it, its start and horizon; its log; its
--- partner's Formed until it opens; then what the partner's Acks told, and who waits for the records
--- above CP
+-- What a leader has of its view: its number, who is beside it, its start and horizon; its log, and
+-- the cells of its store that it keeps in memory; its partner's Formed until it opens; then what the
+-- partner's Acks told, and who waits for the records above CP
 pub record Leading : Type 0 where
   pub view : ℕ
   pub beside : Beside
   pub start : ℕ
   pub horizon : ℕ
   pub log : LogValue
+  pub cached : Entries
   pub formed : Option ℕ
   pub opened : Bool
   pub told_top : ℕ
@@ -101,7 +103,7 @@ led l o = record {
   horizon = o.horizon;
 }
 
--- a leader that has just accepted its view
+-- a leader that has just accepted its view, without any cell in memory
 abbrev pub waiting : ℕ → Beside → ℕ → ℕ → LogValue → Leading
 waiting view b start horizon log = record {
   view = view;
@@ -109,6 +111,7 @@ waiting view b start horizon log = record {
   start = start;
   horizon = horizon;
   log = log;
+  cached = [];
   formed = None;
   opened = false;
   told_top = 0;

@@ -2,3 +2,5 @@ pub mod Resending
 pub mod Leading
 pub mod Following
 pub mod Commits
+pub mod Trees
+pub mod Asking

@@ -7,10 +7,14 @@ ghost use Rattle.group_rules.specs.Names.{number_of_view, place_of};
 ghost use Rattle.group_rules.specs.Open.{base_tests, on_formed, rebase};
 ghost use Rattle.group_rules.specs.Places.{Zero, all_of};
 ghost use Rattle.view_replica.specs.Leading.{Outer, led, partner_of, place_led, waiting};
+ghost use Rattle.view_replica.specs.Trees.{KeepsTree};
 ghost use Rattle.volatile_log.specs.Log.{lowered_to, top};
 
 mod acks;
+mod asks;
 mod opening;
+mod reads;
+mod storing;
 mod ticks;
 
 use harp_base::{LOG_ROOM, Peer, ServerId, ViewNo};
@@ -18,6 +22,7 @@ use promise::{Deadline, Grant};
 use std::alloc::Global;
 use std::collections::VecDeque;
 use std::marker::Model;
+use tree_log::TreeLog;
 use volatile_log::{ActiveLog, FrozenLog};
 
 /// Who is the partner of a leader.
@@ -52,7 +57,7 @@ pub struct Leader {
     start: u64,
     /// Up to when promises of older views may run.
     horizon: Deadline,
-    log: ActiveLog,
+    log: TreeLog,
     /// The LB of the partner's Formed, until the view opens.
     formed: Option<u64>,
     opened: bool,
@@ -78,7 +83,8 @@ impl Model for Leader {
       beside = l.beside;
       start = l.start;
       horizon = l.horizon;
-      log = l.log;
+      log = l.log.log;
+      cached = l.log.cached;
       formed = l.formed;
       opened = l.opened;
       told_top = l.told_top;
@@ -92,7 +98,8 @@ impl Model for Leader {
       beside = l.beside;
       start = l.start;
       horizon = l.horizon;
-      log = l.log;
+      log = l.log.log;
+      cached = l.log.cached;
       formed = l.formed;
       opened = l.opened;
       told_top = l.told_top;
@@ -125,8 +132,12 @@ impl Leader {
             ServerId::One => Beside::DataServer,
             ServerId::Two => Beside::Witness,
         };
-        match VecDeque::with_capacity(alloc, LOG_ROOM) {
-            Ok(waiting) => Ok(Leader {
+        let waiting = match VecDeque::with_capacity(alloc, LOG_ROOM) {
+            Ok(waiting) => waiting,
+            Err(_) => return Err(log),
+        };
+        match TreeLog::of(alloc, log) {
+            Ok(log) => Ok(Leader {
                 view,
                 beside,
                 start,
@@ -139,7 +150,7 @@ impl Leader {
                 grant: Grant::none(),
                 waiting,
             }),
-            Err(_) => Err(log),
+            Err(log) => Err(log),
         }
     }
 
@@ -147,7 +158,7 @@ impl Leader {
     pub fn log(&self) -> &ActiveLog
         ensures { result.now ≡ self.now.log }
     {
-        &self.log
+        self.log.log()
     }
 
     /// Whether the view is open.
@@ -168,9 +179,12 @@ impl Leader {
     /// Keeps the partner's Formed, with an LB that is within the view's start. The last one counts.
     /// An open leader heeds none.
     pub fn formed(&mut self, lb: u64)
-        ensures { (o : Outer) (clock : ℕ) → let s = led self.old o in led self.new o
+        ensures heard { (o : Outer) (clock : ℕ) → let s = led self.old o in led self.new o
             ≡ acts (place_led self.old o) clock s
             (on_formed s (partner_of self.old.beside) s.accepted lb) }
+        ensures peers { self.new.peers ≡ self.old.peers }
+        ensures cached { self.new.cached ≡ self.old.cached }
+        ensures log { self.new.log ≡ self.old.log }
     {
         if !self.opened {
             self.formed = Some(lb);
@@ -183,6 +197,8 @@ impl Leader {
         ensures state { (o : Outer) (clock : ℕ) → let s = led self.old o in led self.new o
             ≡ acts (place_led self.old o) clock s (rebase s) }
         ensures peers { self.new.peers ≡ self.old.peers }
+        ensures cached { self.new.cached ≡ self.old.cached }
+        ensures tree { KeepsTree self.old.log self.new.log }
     {
         let base = self.log.lb().min(self.told_lb);
         if self.moves_base(base) {
@@ -207,6 +223,7 @@ impl Leader {
         ensures log { self.new ≡ record self.old { log = lowered_to self.old.log self.old.log.ap } }
         ensures flushes { (o : Outer) (clock : ℕ) → led self.new o
             ≡ act (place_led self.old o) clock (led self.old o) Flushing }
+        ensures tree { KeepsTree self.old.log self.new.log }
     {
         let ap = self.log.ap();
         self.log.lower_to(ap);

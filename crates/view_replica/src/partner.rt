@@ -1,6 +1,6 @@
 //! The partner of a view.
 
-ghost use Rattle.std.specs.Prelude.{◌≡◌, ℕ, ◌<◌, ◌≤◌, ◌^◌, ◌+◌, ◌-◌, ◌++◌, ◌∷◌, [], length, max, OnOk, false};
+ghost use Rattle.std.specs.Prelude.{◌≡◌, ℕ, ◌<◌, ◌≤◌, ◌^◌, ◌+◌, ◌-◌, ◌++◌, ◌∷◌, [], length, max, IfErr, IfOk, OnOk};
 ghost use Rattle.event_record.specs.Record.{entry_of};
 ghost use Rattle.group_rules.specs.Effects.{taken};
 ghost use Rattle.group_rules.specs.Limits.{is_live, room};
@@ -11,16 +11,20 @@ ghost use Rattle.group_rules.specs.Replicate.{on_event};
 ghost use Rattle.group_rules.specs.Tick.{again};
 ghost use Rattle.outputs.specs.Makes.{Makes};
 ghost use Rattle.outputs.specs.Said.{said};
-ghost use Rattle.view_replica.specs.Following.{acknowledged, followed, leader_of, place_followed, settled, with_next};
+ghost use Rattle.view_replica.specs.Following.{acknowledged, followed, leader_of, place_followed, settled, unsettled, with_next};
 ghost use Rattle.view_replica.specs.Leading.{Outer, at_horizon};
+ghost use Rattle.view_replica.specs.Trees.{KeepsTree, KeepsTreeOfNext};
 ghost use Rattle.volatile_log.specs.Log.{dropped_to, lowered_to, top};
+
+mod storing;
 
 use event_record::Record;
 use harp_base::{ServerId, ViewNo};
 use outputs::Outputs;
 use promise::Horizon;
-use std::alloc::AllocError;
+use std::alloc::{AllocError, Global};
 use std::marker::Model;
+use tree_log::TreeLog;
 use volatile_log::{ActiveLog, FrozenLog};
 use wire::Message;
 
@@ -54,7 +58,7 @@ pub struct Partner {
     ahead: Ahead,
     /// How many records the view started with.
     start: u64,
-    log: ActiveLog,
+    log: TreeLog,
     settled: bool,
 }
 
@@ -68,36 +72,43 @@ impl Model for Partner {
       view = number_of_view p.view;
       ahead = p.ahead;
       start = p.start;
-      log = p.log;
+      log = p.log.log;
+      cached = p.log.cached;
       settled = p.settled;
     } };
 }
 
 impl Partner {
-    /// The partner in a view that it has just accepted, with this log. `start` is the log's top.
-    pub fn of(log: ActiveLog, view: ViewNo, leader: ServerId, start: u64) -> Partner
+    /// The partner in a view that it has just accepted, with this log. `start` is the log's top. It
+    /// fails only for want of memory, and then the log comes back.
+    pub fn of(
+        alloc: Global,
+        log: ActiveLog,
+        view: ViewNo,
+        leader: ServerId,
+        start: u64,
+    ) -> Result<Partner, ActiveLog>
         requires leader { place_of leader ≡ Two → ⊥ }
         requires start { start ≡ top log }
-        ensures value { result ≡ record {
-          view = number_of_view view;
-          ahead = result.ahead;
-          start = start;
-          log = log;
-          settled = false;
-        } }
-        ensures leader { leader_of result.ahead ≡ place_of leader }
+        ensures ok { IfOk result (λ partner. partner
+            ≡ unsettled (number_of_view view) partner.ahead start log) }
+        ensures leader { IfOk result (λ partner. leader_of partner.ahead ≡ place_of leader) }
+        ensures err { IfErr result (λ back. back ≡ log) }
     {
         let ahead = match leader {
             ServerId::Zero => Ahead::Zero,
             ServerId::One => Ahead::One,
             ServerId::Two => unreachable!(),
         };
-        Partner {
-            view,
-            ahead,
-            start,
-            log,
-            settled: false,
+        match TreeLog::of(alloc, log) {
+            Ok(log) => Ok(Partner {
+                view,
+                ahead,
+                start,
+                log,
+                settled: false,
+            }),
+            Err(log) => Err(log),
         }
     }
 
@@ -105,7 +116,7 @@ impl Partner {
     pub fn log(&self) -> &ActiveLog
         ensures { result.now ≡ self.now.log }
     {
-        &self.log
+        self.log.log()
     }
 
     /// Whether it heeded an Event or a Beat of the view.
@@ -136,6 +147,7 @@ impl Partner {
             let q = place_followed self.old o in
             Makes q now (on_event q now s (leader_of self.old.ahead) s.accepted cp base s.items) []
             s (followed self.new (at_horizon o horizon.new)) outs.old outs.new) }
+        ensures tree { KeepsTree self.old.log self.new.log }
     {
         self.drop_to(base);
         self.acknowledge(cp, now, horizon, outs)
@@ -158,6 +170,7 @@ impl Partner {
         ensures said { OnOk result (said outs.new ≡ record (said outs.old) {
           sends = (said outs.old).sends ++ acknowledged self.old (now + horizon.old.delta) ∷ [];
         }) }
+        ensures tree { KeepsTree self.old.log self.new.log }
     {
         let top = self.log.top();
         let lb = self.log.lb();
@@ -183,6 +196,7 @@ impl Partner {
               (max self.old.log.base base);
         } }
         ensures within { base ≤ top self.old.log }
+        ensures tree { KeepsTree self.old.log self.new.log }
     {
         let base = base.max(self.log.base());
         self.log.drop_to(base);
@@ -190,7 +204,7 @@ impl Partner {
 
     /// Deals with an Event of the view, whose base is at most the log's LB and for whose record the
     /// log has room where it is the next one: the record goes to the log where it is, and then all
-    /// is as with a Beat. It is the very record that came.
+    /// is as with a Beat. It is the very record that came. An error is want of memory.
     pub fn event(
         &mut self,
         cp: u64,
@@ -204,33 +218,36 @@ impl Partner {
         requires room { item.index ≡ top self.old.log + 1
             → length self.old.log.records < room + (base - self.old.log.base) }
         requires now { now < 2 ^ 62 }
-        ensures log { self.new ≡ settled (record self.old {
+        ensures log { OnOk result (self.new ≡ settled (record self.old {
           log = with_next (dropped_to self.old.log (max self.old.log.base base)) item;
-        }) cp }
+        }) cp) }
         ensures makes { OnOk result ((o : Outer)
             → let s = followed self.old (at_horizon o horizon.old) in
             let q = place_followed self.old o in
             Makes q now (on_event q now s (leader_of self.old.ahead) s.accepted cp base
             (taken s item.index (entry_of item))) [] s (followed self.new
             (at_horizon o horizon.new)) outs.old outs.new) }
+        ensures tree { OnOk result (KeepsTreeOfNext item self.old.log self.new.log) }
     {
         self.drop_to(base);
-        self.take(item);
+        self.take(item)?;
         self.acknowledge(cp, now, horizon, outs)
     }
 
     /// Takes a record to the log where its index is the next one.
     #[tactic(auto, unfolding(group_rules::specs::Limits::room))]
-    fn take(&mut self, item: Record)
+    fn take(&mut self, item: Record) -> Result<(), AllocError>
         requires { item.index ≡ top self.old.log + 1 → length self.old.log.records < room }
-        ensures { self.new ≡ record self.old { log = with_next self.old.log item } }
+        ensures log { OnOk result (self.new ≡ record self.old {
+          log = with_next self.old.log item;
+        }) }
+        ensures tree { OnOk result (KeepsTreeOfNext item self.old.log self.new.log) }
     {
+        let _ = self.log.top();
         if item.index().get() == self.log.top() + 1 {
-            match self.log.append(item) {
-                Ok(()) => {}
-                Err(_) => unreachable!(),
-            }
+            return self.log.append(item);
         }
+        Ok(())
     }
 
     /// A partner that isn't settled sends its Formed again.
@@ -258,6 +275,7 @@ impl Partner {
         ensures log { self.new ≡ record self.old { log = lowered_to self.old.log self.old.log.ap } }
         ensures flushes { (o : Outer) (clock : ℕ) → followed self.new o
             ≡ act (place_followed self.old o) clock (followed self.old o) Flushing }
+        ensures tree { KeepsTree self.old.log self.new.log }
     {
         let ap = self.log.ap();
         self.log.lower_to(ap);

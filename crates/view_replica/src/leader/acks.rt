@@ -6,6 +6,7 @@ ghost use Rattle.outputs.specs.Makes.{Makes};
 ghost use Rattle.outputs.specs.Said.{said};
 ghost use Rattle.view_replica.specs.Commits.{CommitsNext, IsUnderWay, noted};
 ghost use Rattle.view_replica.specs.Leading.{Outer, led, place_led};
+ghost use Rattle.view_replica.specs.Trees.{KeepsTree};
 ghost use Rattle.volatile_log.specs.Log.{top as top_of};
 
 use crate::leader::Leader;
@@ -38,6 +39,8 @@ impl Leader {
         // One peer waits for each record above CP, so each record that is committed is answered.
         ensures waiting { self.old.opened ≡ true → self.old.log.cp + length self.old.peers
             ≡ top_of self.old.log }
+        ensures cached { OnOk result (self.new.cached ≡ self.old.cached) }
+        ensures tree { OnOk result (KeepsTree self.old.log self.new.log) }
     {
         // The contract speaks of the whole leader, so its model is opened here.
         let _ = &self.log;
@@ -81,7 +84,7 @@ impl Leader {
         ensures { OnOk result (CommitsNext self.old self.new (said outs.old) (said outs.new)) }
     {
         let cp = self.log.cp();
-        let item = record_after(&self.log, cp);
+        let item = record_after(self.log.log(), cp);
         let fields = item.fields();
         let answer = Answered {
             peer: first_of(&self.waiting),

@@ -6,6 +6,7 @@ ghost use Rattle.outputs.specs.Makes.{Makes};
 ghost use Rattle.outputs.specs.Said.{said};
 ghost use Rattle.view_replica.specs.Commits.{above, announced, opened};
 ghost use Rattle.view_replica.specs.Leading.{Outer, led, place_led};
+ghost use Rattle.view_replica.specs.Trees.{KeepsTree};
 ghost use Rattle.volatile_log.specs.Log.{top};
 
 use crate::leader::{Beside, Leader};
@@ -30,6 +31,8 @@ impl Leader {
             → let s = led self.old o in let q = place_led self.old o in
             Makes q now (try_open q now s) [] s (led self.new o) outs.old outs.new) }
         ensures peers { OnOk result (self.new.peers ≡ self.old.peers) }
+        ensures cached { OnOk result (self.new.cached ≡ self.old.cached) }
+        ensures tree { OnOk result (KeepsTree self.old.log self.new.log) }
     {
         if self.opened {
             return Ok(());
@@ -53,6 +56,8 @@ impl Leader {
             Makes (place_led self.old o) clock (open_moves s lb) [] s
             (led self.new o) outs.old outs.new) }
         ensures peers { OnOk result (self.new.peers ≡ self.old.peers) }
+        ensures cached { OnOk result (self.new.cached ≡ self.old.cached) }
+        ensures tree { OnOk result (KeepsTree self.old.log self.new.log) }
     {
         self.enter_all(alloc, outs)?;
         outs.open(self.view);
@@ -67,7 +72,7 @@ impl Leader {
         }) }
     {
         for n in self.log.cp()..self.log.top() {
-            let entry = entry_copy(alloc, record_after(&self.log, n))?;
+            let entry = entry_copy(alloc, record_after(self.log.log(), n))?;
             outs.commit(entry)?;
         }
         Ok(())

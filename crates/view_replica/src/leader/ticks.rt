@@ -13,6 +13,7 @@ ghost use Rattle.outputs.specs.Said.{said};
 ghost use Rattle.view_replica.specs.Commits.{above};
 ghost use Rattle.view_replica.specs.Leading.{Outer, led, partner_of, place_led};
 ghost use Rattle.view_replica.specs.Resending.{records_after, sent_again};
+ghost use Rattle.view_replica.specs.Trees.{KeepsTree};
 ghost use Rattle.volatile_log.specs.Log.{top};
 
 use crate::leader::Leader;
@@ -35,6 +36,8 @@ impl Leader {
         ensures records { OnOk result (self.old.opened ≡ true
             → records_sent outs.new ≡ records_sent outs.old ++ sent_again self.old) }
         ensures peers { OnOk result (self.new.peers ≡ self.old.peers) }
+        ensures cached { OnOk result (self.new.cached ≡ self.old.cached) }
+        ensures tree { OnOk result (KeepsTree self.old.log self.new.log) }
     {
         if !self.opened {
             return self.try_open(alloc, now, outs);
@@ -96,7 +99,7 @@ impl Leader {
         ensures records { OnOk result (records_sent outs.new
             ≡ records_sent outs.old ++ take 1 (records_after n self.now)) }
     {
-        let item = record_after(&self.log, n).copy(alloc)?;
+        let item = record_after(self.log.log(), n).copy(alloc)?;
         let cp = self.log.cp();
         let base = self.log.base();
         outs.send(self.beside.partner(), event_of(self.view, cp, base, item))

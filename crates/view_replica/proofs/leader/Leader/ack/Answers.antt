@@ -1,6 +1,8 @@
 use Rattle.std.proofs.Common.{◌∙◌, ap, sym, rules}
 use Rattle.view_replica.specs.Leading.{Leading}
 use Rattle.view_replica.proofs.Committing.{ack_ignored, acked}
+use Rattle.view_replica.proofs.Trees.{acks_keep}
+use Rattle.outputs.specs.Said.{said}
 use Rattle.view_replica.proofs.leader.Leader.ack.Goals as goal
 
 pub returns-then-not-self-clause-makes : goal.returns-then-not-self-clause-makes
@@ -14,3 +16,8 @@ returns-clause-makes c o clock = acked c.args.self.now c.note.new.self c.commit_
     c.args.outs.now c.commit_to.new.outs (ap (λ (l : Leading). l.opened) (sym c.self.view_is)
     ∙ search rules) c.note.ensures
     c.in_ok-commit_to.ensures.all c.in_ok-commit_to.ensures.cp
+
+pub returns-clause-tree : goal.returns-clause-tree
+returns-clause-tree c = acks_keep c.args.self.now c.note.new.self c.commit_to.new.self c.args.top
+    c.args.lb c.args.until (said c.args.outs.now) (said c.commit_to.new.outs) c.note.ensures
+    c.in_ok-commit_to.ensures.all

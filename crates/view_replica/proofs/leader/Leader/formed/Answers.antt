@@ -3,9 +3,10 @@ use Rattle.view_replica.proofs.Leads.{formed_ignored, formed_kept}
 use Rattle.view_replica.specs.Leading.{Leading}
 use Rattle.view_replica.proofs.leader.Leader.formed.Goals as goal
 
-pub returns-then-not-self : goal.returns-then-not-self
-returns-then-not-self c o clock = formed_kept _ _ c.args.lb clock o c.self.view_is (search rules)
+pub returns-then-not-self-clause-heard : goal.returns-then-not-self-clause-heard
+returns-then-not-self-clause-heard c o clock = formed_kept _ _ c.args.lb clock o c.self.view_is
+    (search rules)
 
-pub returns-else-not-self : goal.returns-else-not-self
-returns-else-not-self c o clock = formed_ignored c.args.self.now c.args.lb clock o (ap (λ
-    (l : Leading). l.opened) (sym c.self.view_is) ∙ search rules)
+pub returns-else-not-self-clause-heard : goal.returns-else-not-self-clause-heard
+returns-else-not-self-clause-heard c o clock = formed_ignored c.args.self.now c.args.lb clock o
+    (ap (λ (l : Leading). l.opened) (sym c.self.view_is) ∙ search rules)

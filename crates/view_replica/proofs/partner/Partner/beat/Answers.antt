@@ -10,3 +10,7 @@ returns-clause-makes c = on_ok_weaker c.acknowledge.result
     c.acknowledge.ensures.state
     c.acknowledge.ensures.horizon c.drop_to.ensures.within told)
     c.acknowledge.ensures.said
+
+pub returns-clause-tree : goal.returns-clause-tree
+returns-clause-tree c list upto told h = c.acknowledge.ensures.tree list upto told
+    (c.drop_to.ensures.tree list upto told h)

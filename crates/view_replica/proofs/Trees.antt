@@ -1,0 +1,64 @@
+-- How trees can still be read.
+use Rattle.std.proofs.Common.{◌≡◌, ℕ, ◌+◌, ◌≤◌, ◌-◌, true, List, [], ◌∷◌, ◌++◌, Option, max, sym, ap, ◌∙◌, subst, arith}
+use Rattle.std.specs.Prelude.{OnOk, Result, Ok, Err}
+use Rattle.std.proofs.lemmas.List.{length-drop}
+use Rattle.event_record.specs.declared.record.RecordFields.{RecordFields}
+use Rattle.file_tree.specs.Book.{Entry}
+use Rattle.harp_base.specs.Update.{is_update}
+use Rattle.harp_store.specs.Disk.{Moments}
+use Rattle.tree_log.specs.Reading.{HoldsTree, IsNextRecord}
+use Rattle.tree_log.proofs.Holding.{committed_holds}
+use Rattle.view_replica.specs.Commits.{IsUnderWay, noted}
+use Rattle.view_replica.specs.Following.{Following}
+use Rattle.view_replica.specs.Leading.{Leading}
+use Rattle.view_replica.specs.Trees.{KeepsTree, KeepsTreeOfNext}
+use Rattle.outputs.specs.Said.{Said}
+use Rattle.volatile_log.specs.Log.{LogValue, committed_to, dropped_to, top}
+
+-- commits leave what can be read
+pub commits_keep : (old new : LogValue) (n : ℕ) → new ≡ committed_to old n → KeepsTree old new
+commits_keep old new n is list upto told h =
+    subst (λ (g : LogValue). HoldsTree list upto g told) (sym is)
+    (committed_holds list upto n old told h)
+
+-- and so do those of an Ack
+pub acks_keep : (l mid new : Leading) (t lb until : ℕ) (before after : Said)
+    → mid ≡ noted t lb until l → IsUnderWay t mid new before after → KeepsTree l.log new.log
+acks_keep l mid new t lb until before after is way =
+    commits_keep l.log new.log new.log.cp (ap (λ (x : Leading). x.log) way.state
+    ∙ ap (λ (m : Leading). committed_to m.log new.log.cp) is)
+
+-- ---- an Event
+
+pub next_keeps : {A E : Type 0} (result : Result A E) (r : RecordFields) (old new : LogValue)
+    → r.index ≡ top old + 1
+    → ((list : List Entry) (upto : ℕ) (told : Option Moments) (e : Entry) → upto ≤ top old
+    → IsNextRecord list e r → is_update e.call ≡ true → HoldsTree list upto old told
+    → OnOk result (HoldsTree (list ++ e ∷ []) upto new told))
+    → OnOk result (KeepsTreeOfNext r old new)
+next_keeps (Ok x) r old new at grows = record {
+  next = λ list upto told e le here is update h. grows list upto told e le is update h;
+  other = λ not. absurd (not at);
+}
+next_keeps (Err e) r old new at grows = tt
+
+-- a drop before it and a commit behind it
+pub between_keeps : (r : RecordFields) (old dropped taken new : LogValue)
+    → top dropped ≡ top old → KeepsTree old dropped → KeepsTreeOfNext r dropped taken
+    → KeepsTree taken new → KeepsTreeOfNext r old new
+between_keeps r old dropped taken new tops drops takes commits = record {
+  next = λ list upto told e le at is update h. commits (list ++ e ∷ []) upto told
+      (takes.next list upto told e (omega (arith, le, tops)) (omega (arith, at, tops)) is update
+      (drops list upto told h));
+  other = λ not list upto told h. commits list upto told
+      (takes.other (λ at. not (omega (arith, at, tops))) list upto told
+      (drops list upto told h));
+}
+
+pub drop_tops : (f dropped : Following) (base : ℕ)
+    → dropped ≡ record f { log = dropped_to f.log (max f.log.base base) } → base ≤ top f.log
+    → top dropped.log ≡ top f.log
+drop_tops f dropped base is within =
+    let left = length-drop (max f.log.base base - f.log.base) f.log.records in
+    let at : top (dropped_to f.log (max f.log.base base)) ≡ top f.log = omega (arith, left, within) in
+    ap (λ (x : Following). top x.log) is ∙ at
