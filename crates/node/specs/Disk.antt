@@ -1,8 +1,12 @@
 -- A server's mark on its disk, and why a call of the store gives nothing.
-use Rattle.std.specs.Prelude.{◌≡◌, ◌⊎◌, Bool, true, false, List, [], ◌∷◌, Option, if◌then◌else◌}
+use Rattle.std.specs.Prelude.{◌≡◌, ◌⊎◌, nat_lt, Bool, true, false, List, [], ◌∷◌, Option, None, if◌then◌else◌}
 use Rattle.file_tree.specs.Book.{Entry}
 use Rattle.group_rules.specs.Moves.{Accepting, Demoting, Joining, Move}
+use Rattle.group_rules.specs.Names.{id_of, number_of_view, view_of}
+use Rattle.group_rules.specs.State.{Follows, Leads, Outside, Role}
 use Rattle.harp_base.specs.View.{View}
+use Rattle.harp_base.specs.declared.state.Role.{Role as Part}
+use Rattle.harp_base.specs.declared.state.Role.TheVariants as part
 use Rattle.harp_store.specs.Disk.{Moments, after_step, with_mark}
 use Rattle.harp_store.specs.Mark.{MarkFields}
 use Rattle.harp_store.specs.declared.store.StoreFault.{StoreFault}
@@ -17,6 +21,35 @@ fault_of store.NoMemory = NoMemory
 -- the mark that promises another view
 abbrev pub promising : MarkFields → View → MarkFields
 promising mark view = record mark { promised = view }
+
+-- a role as a mark has it
+abbrev pub part_of : Role → Part
+part_of (Leads q) = part.Leads (id_of q)
+part_of (Follows q) = part.Follows (id_of q)
+part_of Outside = part.Outside
+
+-- the mark after a move that writes it whole: a join promises the view, accepting gives it a role
+-- and an LB and no saved log, and a demotion leaves it outside
+abbrev pub marked : MarkFields → Move Entry → MarkFields
+marked mark (Joining v duty) = promising mark (view_of v)
+marked mark (Accepting plan role n) = record mark {
+  accepted = mark.promised;
+  role = part_of role;
+  lb = n.lb;
+  saved = None;
+}
+marked mark (Demoting v) = record mark {
+  promised = if nat_lt v (number_of_view mark.promised) then mark.promised else view_of v;
+  accepted = view_of v;
+  role = part.Outside;
+  saved = None;
+}
+marked mark m = mark
+
+-- the mark after moves, one after the other
+abbrev pub marked_by : MarkFields → List (Move Entry) → MarkFields
+marked_by mark [] = mark
+marked_by mark (m ∷ ms) = marked_by (marked mark m) ms
 
 -- ---- what moves make of a disk
 

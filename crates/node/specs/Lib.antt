@@ -2,3 +2,11 @@ pub mod Disk
 pub mod State
 pub mod Node
 pub mod Step
+pub mod Forming
+pub mod Collecting
+pub mod Boot
+pub mod Power
+pub mod Active
+pub mod Serving
+pub mod Misfits
+pub mod Demoting

@@ -1,9 +1,10 @@
 -- What a server is doing as fields of a server of the group's machine, and what stands of it.
 use Rattle.std.specs.Prelude.{◌≡◌, ◌≤◌, ℕ, ◌-◌, Bool, true, false, List, [], map, Option, None}
 use Rattle.event_record.specs.Record.{entry_of}
+use Rattle.event_record.specs.declared.record.RecordFields.{RecordFields}
 use Rattle.file_tree.specs.Book.{Entry}
 use Rattle.group_rules.specs.Names.{number_of_view, place_of}
-use Rattle.group_rules.specs.Places.{Place, Trio, leader, nobody, partner}
+use Rattle.group_rules.specs.Places.{Place, Trio, get, is_in, leader, nobody, partner, same}
 use Rattle.group_rules.specs.State.{Chose, Collects, Duty, Follows, Held, Joins, Leads, Log, Lost, Mode, NoDuty, Outside, Plan, Pulls, Report, Rests, Role, no_plan, no_report}
 use Rattle.harp_base.specs.declared.peer.Peer.{Peer}
 use Rattle.harp_base.specs.declared.server.ServerId.{ServerId}
@@ -11,9 +12,11 @@ use Rattle.harp_base.specs.declared.state.Role.{Role as Part}
 use Rattle.harp_base.specs.declared.state.Role.TheVariants as part
 use Rattle.harp_base.specs.declared.trio.Trio.{Trio as Each}
 use Rattle.harp_store.specs.Mark.{MarkFields}
-use Rattle.kept_log.specs.Kept.{AtBase, IsPlaced, ap_in as kept_ap, base_in as kept_base, cp_in as kept_cp, held_in as kept_held, items_in as kept_items, lb_in, plan_of}
+use Rattle.kept_log.specs.Kept.{AtBase, IsPlaced, ap_in as kept_ap, base_in as kept_base, cp_in as kept_cp, held_in as kept_held, items_in as kept_items, lb_in, log_in, plan_of}
+use Rattle.kept_log.specs.Pulls.{CanTake, IsFor}
 use Rattle.kept_log.specs.declared.form.Form.{Form}
 use Rattle.kept_log.specs.declared.kept.Kept.{Kept}
+use Rattle.node.specs.declared.state.Joining.{Joining}
 use Rattle.node.specs.declared.state.State.{State}
 use Rattle.node.specs.declared.state.State.TheVariants as state
 use Rattle.node.specs.declared.state.Task.{Task}
@@ -21,6 +24,7 @@ use Rattle.node.specs.declared.state.Task.TheVariants as task
 use Rattle.promise.specs.Promise.{HorizonValue}
 use Rattle.view_form.specs.Choice.{choice, report, reports}
 use Rattle.view_replica.specs.Following.{Following, leader_of, mode_followed, storers_followed}
+use Rattle.volatile_log.specs.Log.{StagedValue}
 use Rattle.view_replica.specs.Leading.{Leading, Outer, heard_from, mode_led, partner_of, storers_led}
 
 -- ---- roles, plans, duties
@@ -87,6 +91,15 @@ items_in (state.Joined kept joining) = kept_items kept
 items_in (state.Pulls kept joining plan staged) = kept_items kept
 items_in (state.Leads leader plan) = map entry_of leader.log.records
 items_in (state.Follows partner plan) = map entry_of partner.log.records
+
+-- its log's records, whole
+abbrev pub records_in : State → List RecordFields
+records_in state.Gone = []
+records_in (state.Rests kept) = (log_in kept).records
+records_in (state.Joined kept joining) = (log_in kept).records
+records_in (state.Pulls kept joining plan staged) = (log_in kept).records
+records_in (state.Leads leader plan) = leader.log.records
+records_in (state.Follows partner plan) = partner.log.records
 
 abbrev pub mode_in : State → Mode
 mode_in state.Gone = Rests
@@ -207,11 +220,24 @@ pub record IsFollowing (me : Place) (m : MarkFields) (f : Following) (plan : Pla
   pub place : partner (storers_followed f.ahead me) ≡ me
   pub at_base : AtBase me f.log
 
+-- of the Formed that it heard none is its own
+abbrev pub HearsOthers : Place → Joining → Type 0
+HearsOthers me joining = get (heard_of joining.formed) me ≡ None
+
+-- a storer that pulls can take its part, and isn't the source
+pub record IsPulling (me : Place) (kept : Kept) (plan : Plan) (staged : StagedValue) : Type 0 where
+  pub can : CanTake me kept plan
+  pub list : IsFor me kept plan staged
+  pub storer : is_in plan.storers me ≡ true
+  pub other : same me plan.source ≡ false
+
 abbrev pub Fits : Place → MarkFields → State → Type 0
 Fits me mark state.Gone = Unit {0}
 Fits me mark (state.Rests kept) = IsKept me mark kept
-Fits me mark (state.Joined kept joining) = IsKept me mark kept
-Fits me mark (state.Pulls kept joining plan staged) = IsKept me mark kept × (1 ≤ staged.first)
+Fits me mark (state.Joined kept joining) = IsKept me mark kept × HearsOthers me joining
+Fits me mark (state.Pulls kept joining plan staged) =
+    IsKept me mark kept × (1 ≤ staged.first) × HearsOthers me joining
+    × IsPulling me kept (plan_of plan) staged
 Fits me mark (state.Leads leader plan) = IsLeading me mark leader (plan_of plan)
 Fits me mark (state.Follows partner plan) = IsFollowing me mark partner (plan_of plan)
 

@@ -1,15 +1,43 @@
 //! One server of a group: what it keeps in its states, and what it does with what happens to it.
 #![tactic(auto)]
 
+mod accepting;
+mod active;
+mod boot;
+#[cfg(test)]
+mod boot_tests;
+mod collecting;
+mod demoting;
 mod fault;
+mod following;
+#[cfg(test)]
+mod formation_tests;
+mod forming;
+mod hearing;
+mod inviting;
 mod joining;
+mod leading;
+mod misfits;
+mod misfits_active;
 mod node;
+mod parts;
 mod places;
+mod power;
+#[cfg(test)]
+mod power_tests;
+mod pull;
+mod pulling;
+#[cfg(test)]
+mod running_tests;
+mod same;
+mod serving;
 mod showing;
 mod state;
 mod steps;
+mod taking;
 #[cfg(test)]
 mod tests;
+mod ticking;
 
 pub use fault::NodeFault;
 pub use node::Node;

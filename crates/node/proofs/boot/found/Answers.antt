@@ -1,0 +1,119 @@
+use Rattle.std.proofs.Common.{rules, ◌≡◌, ◌<◌, ◌^◌, false, true, None, [], ℕ, refl, sym, ap, subst, ◌∙◌}
+use Rattle.std.specs.Prelude.{map}
+use Rattle.event_record.specs.Record.{entry_of}
+use Rattle.file_tree.specs.Book.{Entry}
+use Rattle.group_rules.specs.Effects.{load_tests, rested}
+use Rattle.kept_log.specs.Boots.{rests}
+use Rattle.group_rules.specs.Limits.{can_have}
+use Rattle.group_rules.specs.Names.{place_of}
+use Rattle.group_rules.specs.Places.{all_of}
+use Rattle.group_rules.specs.State.{Saved}
+use Rattle.kept_log.specs.Kept.{lb_in}
+use Rattle.node.proofs.Booting.{lb_without, loaded_at, loaded_below, no_log, no_role, of_saved, same_role_of, was_saved}
+use Rattle.node.specs.Node.{mark_with}
+use Rattle.node.specs.State.{role_of}
+use Rattle.node.proofs.boot.found.Given as given
+use Rattle.node.proofs.boot.found.Goals as goal
+
+-- ---- a role that no choice gives
+
+pub returns-then-not-can_have-clause-boots : goal.returns-then-not-can_have-clause-boots
+returns-then-not-can_have-clause-boots g c = λ cells items clock delta told held.
+    let q = place_of c.args.me in
+    let mark = c.args.mark.now in
+    let m = mark_with items mark in
+    let can : can_have q m.role ≡ false =
+    ap (can_have q) (same_role_of mark.role c.role.result c.role.ensures)
+    ∙ sym c.if-not-can_have.ensures in
+    c.unloaded.ensures.boots clock delta m
+    (same_role_of mark.role c.role-then-not-can_have.result c.role-then-not-can_have.ensures)
+    (sym c.lb.ensures.value) (no_role q m m.saved can)
+
+pub returns-then-not-can_have-clause-lost : goal.returns-then-not-can_have-clause-lost
+returns-then-not-can_have-clause-lost g c = λ cells items clock delta told lacks.
+    let mark = c.args.mark.now in
+    c.unloaded.ensures.boots clock delta (mark_with items (record mark { saved = None }))
+    (same_role_of mark.role c.role-then-not-can_have.result c.role-then-not-can_have.ensures)
+    (sym c.lb.ensures.value) refl
+
+same_lb : (g : given.Over) (c : goal.After-unloaded g)
+    → lb_in c.args.mark.now.lb c.unloaded.result ≡ c.args.mark.now.lb
+same_lb g c =
+    let mark = c.args.mark.now in
+    lb_without (place_of c.args.me) (mark_with [] mark) c.unloaded.result
+    (c.unloaded.ensures.boots 0 0 (mark_with [] (record mark { saved = None }))
+    (same_role_of mark.role c.role-then-not-can_have.result c.role-then-not-can_have.ensures)
+    (sym c.lb.ensures.value) refl)
+
+pub returns-then-not-can_have-clause-bound : goal.returns-then-not-can_have-clause-bound
+returns-then-not-can_have-clause-bound g c =
+    subst (λ (n : ℕ). n < 2 ^ 62) (sym (same_lb g c)) c.lb.ensures.bound
+
+pub returns-then-not-can_have-clause-lb : goal.returns-then-not-can_have-clause-lb
+returns-then-not-can_have-clause-lb g c = λ at. same_lb g c
+
+-- ---- a log that the disk hasn't whole
+
+pub returns-in-Err-NotSaved-clause-boots : goal.returns-in-Err-NotSaved-clause-boots
+returns-in-Err-NotSaved-clause-boots g c = λ cells items clock delta told held.
+    let q = place_of c.args.me in
+    let mark = c.args.mark.now in
+    let m = mark_with items mark in
+    c.unloaded-in-Err-NotSaved.ensures.boots clock delta m
+    (same_role_of mark.role c.role-in-Err-NotSaved.result c.role-in-Err-NotSaved.ensures)
+    (sym c.lb-in-Err-NotSaved.ensures.value)
+    (no_log q m items mark.saved
+    (of_saved (λ (s : Saved Entry). all_of (load_tests mark.lb s) ≡ false) cells mark items
+    mark.saved
+    (λ s h. c.in-Err-NotSaved.ensures.refused cells s told h (search rules)) held))
+
+pub returns-in-Err-NotSaved-clause-lost : goal.returns-in-Err-NotSaved-clause-lost
+returns-in-Err-NotSaved-clause-lost g c = λ cells items clock delta told lacks.
+    let mark = c.args.mark.now in
+    c.unloaded-in-Err-NotSaved.ensures.boots clock delta
+    (mark_with items (record mark { saved = None }))
+    (same_role_of mark.role c.role-in-Err-NotSaved.result c.role-in-Err-NotSaved.ensures)
+    (sym c.lb-in-Err-NotSaved.ensures.value) refl
+
+still_lb : (g : given.Over) (c : goal.After-unloaded-in-Err-NotSaved g)
+    → lb_in c.args.mark.now.lb c.unloaded-in-Err-NotSaved.result ≡ c.args.mark.now.lb
+still_lb g c =
+    let mark = c.args.mark.now in
+    lb_without (place_of c.args.me) (mark_with [] mark) c.unloaded-in-Err-NotSaved.result
+    (c.unloaded-in-Err-NotSaved.ensures.boots 0 0 (mark_with [] (record mark { saved = None }))
+    (same_role_of mark.role c.role-in-Err-NotSaved.result c.role-in-Err-NotSaved.ensures)
+    (sym c.lb-in-Err-NotSaved.ensures.value) refl)
+
+pub returns-in-Err-NotSaved-clause-bound : goal.returns-in-Err-NotSaved-clause-bound
+returns-in-Err-NotSaved-clause-bound g c =
+    subst (λ (n : ℕ). n < 2 ^ 62) (sym (still_lb g c)) c.lb-in-Err-NotSaved.ensures.bound
+
+pub returns-in-Err-NotSaved-clause-lb : goal.returns-in-Err-NotSaved-clause-lb
+returns-in-Err-NotSaved-clause-lb g c = λ at. still_lb g c
+
+-- ---- a log that is loaded
+
+can : (g : given.Over) (c : goal.After-loaded g)
+    → can_have (place_of c.args.me) (role_of c.args.mark.now.role) ≡ true
+can g c = ap (can_have (place_of c.args.me))
+    (same_role_of c.args.mark.now.role c.role.result c.role.ensures)
+    ∙ sym c.if-not-can_have.ensures
+
+rests_so : (g : given.Over) (c : goal.After-loaded g)
+    → rested (place_of c.args.me) 0 0 (mark_with (map entry_of c.in-Ok.log.records) c.args.mark.now)
+    ≡ rests 0 0 (mark_with (map entry_of c.in-Ok.log.records) c.args.mark.now) c.loaded.result
+rests_so g c = c.loaded.ensures.boots 0 0
+    (mark_with (map entry_of c.in-Ok.log.records) c.args.mark.now)
+    (can g c) c.in-Ok.ensures.numbers.synced c.in-Ok.ensures.numbers.applied
+    (was_saved c.in-Ok.log c.args.mark.now c.in-Ok.ensures.numbers)
+
+pub returns-in-Ok-clause-bound : goal.returns-in-Ok-clause-bound
+returns-in-Ok-clause-bound g c =
+    loaded_below (place_of c.args.me) c.args.mark.now c.in-Ok.log c.loaded.result
+    c.in-Ok.ensures.order
+    (can g c) c.in-Ok.ensures.numbers (rests_so g c)
+
+pub returns-in-Ok-clause-lb : goal.returns-in-Ok-clause-lb
+returns-in-Ok-clause-lb g c = λ at.
+    loaded_at (place_of c.args.me) c.args.mark.now c.in-Ok.log c.loaded.result c.in-Ok.ensures.order
+    (can g c) c.in-Ok.ensures.numbers at (rests_so g c)

@@ -1,0 +1,34 @@
+use Rattle.std.proofs.Common.{◌≡◌, Some, ◌∙◌}
+use Rattle.harp_store.specs.Disk.{cells_told, reads}
+use Rattle.node.proofs.Booting.{boots_as, cells_stay, lost_as, rests_from}
+use Rattle.node.proofs.node.Node.boot.Goals as goal
+
+pub returns-clause-boots : goal.returns-clause-boots
+returns-clause-boots g c = λ h items told held.
+    let cells = reads h.now in
+    let mark = c.in_ok-mark.mark in
+    let there : cells_told (g.D.Store.told c.first_write.new.store) ≡ Some cells =
+    cells_stay c.args.me c.args.delta (g.D.Store.told c.args.store.now)
+    (g.D.Store.told c.first_write.new.store) h c.in_ok-mark.ensures.written told in
+    c.resting.ensures.server items
+    ∙ rests_from items mark c.lowered.result c.boot-horizon.result c.args.now c.args.delta
+    c.longest_of.result c.in_ok-kept.kept c.lowered.ensures c.boot-horizon.ensures
+    c.longest_of.ensures
+    ∙ boots_as c.args.me c.args.now c.args.delta cells items h.now.mark mark c.in_ok-kept.kept
+    (c.in_ok-mark.ensures.mark h told) held
+    (λ holds. c.in_ok-kept.ensures.boots cells items c.args.now c.args.delta there holds)
+
+pub returns-clause-lost : goal.returns-clause-lost
+returns-clause-lost g c = λ h items told lacks.
+    let cells = reads h.now in
+    let mark = c.in_ok-mark.mark in
+    let there : cells_told (g.D.Store.told c.first_write.new.store) ≡ Some cells =
+    cells_stay c.args.me c.args.delta (g.D.Store.told c.args.store.now)
+    (g.D.Store.told c.first_write.new.store) h c.in_ok-mark.ensures.written told in
+    c.resting.ensures.server items
+    ∙ rests_from items mark c.lowered.result c.boot-horizon.result c.args.now c.args.delta
+    c.longest_of.result c.in_ok-kept.kept c.lowered.ensures c.boot-horizon.ensures
+    c.longest_of.ensures
+    ∙ lost_as c.args.me c.args.now c.args.delta cells items h.now.mark mark c.in_ok-kept.kept
+    (c.in_ok-mark.ensures.mark h told) lacks
+    (λ not. c.in_ok-kept.ensures.lost cells items c.args.now c.args.delta there not)

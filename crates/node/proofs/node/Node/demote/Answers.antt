@@ -1,0 +1,169 @@
+use Rattle.std.proofs.Common.{[], true, false, ap, rules, sym, ◌∙◌}
+use Rattle.group_rules.specs.Disk.{on_demote}
+use Rattle.group_rules.specs.Names.{number_of_view}
+use Rattle.group_rules.specs.Places.{is_p2}
+use Rattle.node.proofs.Demoted.{above_at, demotes, heeds_demotion, leaves_part, mark_back, marks, no_mark, no_witness, not_above, writes_it, writes_none}
+use Rattle.node.proofs.Heeds.{leaves}
+use Rattle.node.specs.Node.{NodeValue, server}
+use Rattle.node.proofs.node.Node.demote.Goals as goal
+
+pub returns-then-not-is_witness-clause-makes : goal.returns-then-not-is_witness-clause-makes
+returns-then-not-is_witness-clause-makes g c items clock outs =
+    leaves c.args.self.now.me clock
+    (on_demote c.args.self.now.me (server c.args.self.now items) (number_of_view c.args.view))
+    (server c.args.self.now items) [] outs
+    (no_witness c.args.self.now.me c.args.self.now.plain (number_of_view c.args.view)
+    (ap (λ (n : NodeValue). is_p2 n.me) (sym c.self.view_is) ∙ sym c.is_witness.ensures
+    ∙ c.if-not-is_witness.true))
+
+pub returns-then-not-is_witness-clause-mark : goal.returns-then-not-is_witness-clause-mark
+returns-then-not-is_witness-clause-mark g c = no_mark c.args.self.now.mark
+    (on_demote c.args.self.now.me c.args.self.now.plain (number_of_view c.args.view))
+    (no_witness c.args.self.now.me c.args.self.now.plain (number_of_view c.args.view)
+    (ap (λ (n : NodeValue). is_p2 n.me) (sym c.self.view_is) ∙ sym c.is_witness.ensures
+    ∙ c.if-not-is_witness.true))
+
+pub returns-then-not-is_witness-clause-written : goal.returns-then-not-is_witness-clause-written
+returns-then-not-is_witness-clause-written g c = writes_none c.args.self.now.mark
+    (g.D.Store.told c.args.store.now)
+    (on_demote c.args.self.now.me c.args.self.now.plain (number_of_view c.args.view))
+    (no_witness c.args.self.now.me c.args.self.now.plain (number_of_view c.args.view)
+    (ap (λ (n : NodeValue). is_p2 n.me) (sym c.self.view_is) ∙ sym c.is_witness.ensures
+    ∙ c.if-not-is_witness.true))
+
+pub returns-then-not-is_above-clause-makes : goal.returns-then-not-is_above-clause-makes
+returns-then-not-is_above-clause-makes g c items clock outs =
+    leaves c.args.self.now.me clock
+    (on_demote c.args.self.now.me (server c.args.self.now items) (number_of_view c.args.view))
+    (server c.args.self.now items) [] outs
+    (not_above c.args.self.now.me c.args.self.now.plain (number_of_view c.args.view)
+    (above_at c.self.inside.me c.self.inside.mark c.self.inside.horizon c.self.inside.served
+    c.self.inside.duty c.self.inside.state c.args.self.now c.args.view c.accepted.result
+    c.is_above.result false c.self.view_is c.accepted.ensures c.is_above.ensures
+    c.if-not-is_above.true))
+
+pub returns-then-not-is_above-clause-mark : goal.returns-then-not-is_above-clause-mark
+returns-then-not-is_above-clause-mark g c = no_mark c.args.self.now.mark
+    (on_demote c.args.self.now.me c.args.self.now.plain (number_of_view c.args.view))
+    (not_above c.args.self.now.me c.args.self.now.plain (number_of_view c.args.view)
+    (above_at c.self.inside.me c.self.inside.mark c.self.inside.horizon c.self.inside.served
+    c.self.inside.duty c.self.inside.state c.args.self.now c.args.view c.accepted.result
+    c.is_above.result false c.self.view_is c.accepted.ensures c.is_above.ensures
+    c.if-not-is_above.true))
+
+pub returns-then-not-is_above-clause-written : goal.returns-then-not-is_above-clause-written
+returns-then-not-is_above-clause-written g c = writes_none c.args.self.now.mark
+    (g.D.Store.told c.args.store.now)
+    (on_demote c.args.self.now.me c.args.self.now.plain (number_of_view c.args.view))
+    (not_above c.args.self.now.me c.args.self.now.plain (number_of_view c.args.view)
+    (above_at c.self.inside.me c.self.inside.mark c.self.inside.horizon c.self.inside.served
+    c.self.inside.duty c.self.inside.state c.args.self.now c.args.view c.accepted.result
+    c.is_above.result false c.self.view_is c.accepted.ensures c.is_above.ensures
+    c.if-not-is_above.true))
+
+pub returns-in_err-write_mark-clause-part : goal.returns-in_err-write_mark-clause-part
+returns-in_err-write_mark-clause-part g c =
+    let part = leaves_part c.demoted_mark-mark.result c.args.self.now.mark
+    (g.D.Store.told c.args.store.now) (g.D.Store.told c.write_mark.new.self)
+    (number_of_view c.args.view)
+    (on_demote c.args.self.now.me c.args.self.now.plain (number_of_view c.args.view))
+    (heeds_demotion c.args.self.now.me c.args.self.now.plain (number_of_view c.args.view)
+    (ap (λ (n : NodeValue). is_p2 n.me) (sym c.self.view_is) ∙ sym c.is_witness.ensures
+    ∙ c.if-not-is_witness.false)
+    (above_at c.self.inside.me c.self.inside.mark c.self.inside.horizon c.self.inside.served
+    c.self.inside.duty c.self.inside.state c.args.self.now c.args.view c.accepted.result
+    c.is_above.result true c.self.view_is c.accepted.ensures c.is_above.ensures
+    c.if-not-is_above.false))
+    (mark_back c.self.inside.me c.self.inside.mark c.self.inside.horizon c.self.inside.served
+    c.self.inside.duty c.self.inside.state c.args.self.now c.demoted_mark-mark.result c.args.view
+    c.self.view_is c.demoted_mark-mark.ensures) c.in_err-write_mark.ensures.part in
+    search (rules, part)
+
+pub returns-then-is_above-clause-makes : goal.returns-then-is_above-clause-makes
+returns-then-is_above-clause-makes g c items clock outs =
+    demotes c.args.self.now.me clock (server c.args.self.now items) (server c.go_on.new.self items)
+    (number_of_view c.args.view)
+    (on_demote c.args.self.now.me (server c.args.self.now items) (number_of_view c.args.view)) outs
+    (heeds_demotion c.args.self.now.me c.args.self.now.plain (number_of_view c.args.view)
+    (ap (λ (n : NodeValue). is_p2 n.me) (sym c.self.view_is) ∙ sym c.is_witness.ensures
+    ∙ c.if-not-is_witness.false)
+    (above_at c.self.inside.me c.self.inside.mark c.self.inside.horizon c.self.inside.served
+    c.self.inside.duty c.self.inside.state c.args.self.now c.args.view c.accepted.result
+    c.is_above.result true c.self.view_is c.accepted.ensures c.is_above.ensures
+    c.if-not-is_above.false))
+    (c.go_on.ensures.state items)
+
+pub returns-then-is_above-clause-mark : goal.returns-then-is_above-clause-mark
+returns-then-is_above-clause-mark g c = marks c.args.self.now.mark c.go_on.new.self.mark
+    (number_of_view c.args.view)
+    (on_demote c.args.self.now.me c.args.self.now.plain (number_of_view c.args.view))
+    (heeds_demotion c.args.self.now.me c.args.self.now.plain (number_of_view c.args.view)
+    (ap (λ (n : NodeValue). is_p2 n.me) (sym c.self.view_is) ∙ sym c.is_witness.ensures
+    ∙ c.if-not-is_witness.false)
+    (above_at c.self.inside.me c.self.inside.mark c.self.inside.horizon c.self.inside.served
+    c.self.inside.duty c.self.inside.state c.args.self.now c.args.view c.accepted.result
+    c.is_above.result true c.self.view_is c.accepted.ensures c.is_above.ensures
+    c.if-not-is_above.false))
+    (c.go_on.ensures.mark ∙ (mark_back c.self.inside.me c.self.inside.mark c.self.inside.horizon
+    c.self.inside.served
+    c.self.inside.duty c.self.inside.state c.args.self.now c.demoted_mark-mark.result c.args.view
+    c.self.view_is c.demoted_mark-mark.ensures))
+
+pub returns-then-is_above-clause-written : goal.returns-then-is_above-clause-written
+returns-then-is_above-clause-written g c = writes_it c.demoted_mark-mark.result
+    c.go_on.new.self.mark
+    (g.D.Store.told c.args.store.now) (g.D.Store.told c.write_mark.new.self)
+    (number_of_view c.args.view)
+    (on_demote c.args.self.now.me c.args.self.now.plain (number_of_view c.args.view))
+    (heeds_demotion c.args.self.now.me c.args.self.now.plain (number_of_view c.args.view)
+    (ap (λ (n : NodeValue). is_p2 n.me) (sym c.self.view_is) ∙ sym c.is_witness.ensures
+    ∙ c.if-not-is_witness.false)
+    (above_at c.self.inside.me c.self.inside.mark c.self.inside.horizon c.self.inside.served
+    c.self.inside.duty c.self.inside.state c.args.self.now c.args.view c.accepted.result
+    c.is_above.result true c.self.view_is c.accepted.ensures c.is_above.ensures
+    c.if-not-is_above.false))
+    c.go_on.ensures.mark c.in_ok-write_mark.ensures.written
+
+pub returns-clause-makes : goal.returns-clause-makes
+returns-clause-makes g c items clock outs =
+    demotes c.args.self.now.me clock (server c.args.self.now items) (server c.rest.new.self items)
+    (number_of_view c.args.view)
+    (on_demote c.args.self.now.me (server c.args.self.now items) (number_of_view c.args.view)) outs
+    (heeds_demotion c.args.self.now.me c.args.self.now.plain (number_of_view c.args.view)
+    (ap (λ (n : NodeValue). is_p2 n.me) (sym c.self.view_is) ∙ sym c.is_witness.ensures
+    ∙ c.if-not-is_witness.false)
+    (above_at c.self.inside.me c.self.inside.mark c.self.inside.horizon c.self.inside.served
+    c.self.inside.duty c.self.inside.state c.args.self.now c.args.view c.accepted.result
+    c.is_above.result true c.self.view_is c.accepted.ensures c.is_above.ensures
+    c.if-not-is_above.false))
+    (c.rest.ensures.state items)
+
+pub returns-clause-mark : goal.returns-clause-mark
+returns-clause-mark g c = marks c.args.self.now.mark c.rest.new.self.mark
+    (number_of_view c.args.view)
+    (on_demote c.args.self.now.me c.args.self.now.plain (number_of_view c.args.view))
+    (heeds_demotion c.args.self.now.me c.args.self.now.plain (number_of_view c.args.view)
+    (ap (λ (n : NodeValue). is_p2 n.me) (sym c.self.view_is) ∙ sym c.is_witness.ensures
+    ∙ c.if-not-is_witness.false)
+    (above_at c.self.inside.me c.self.inside.mark c.self.inside.horizon c.self.inside.served
+    c.self.inside.duty c.self.inside.state c.args.self.now c.args.view c.accepted.result
+    c.is_above.result true c.self.view_is c.accepted.ensures c.is_above.ensures
+    c.if-not-is_above.false))
+    (c.rest.ensures.mark ∙ (mark_back c.self.inside.me c.self.inside.mark c.self.inside.horizon
+    c.self.inside.served
+    c.self.inside.duty c.self.inside.state c.args.self.now c.demoted_mark-mark.result c.args.view
+    c.self.view_is c.demoted_mark-mark.ensures))
+
+pub returns-clause-written : goal.returns-clause-written
+returns-clause-written g c = writes_it c.demoted_mark-mark.result c.rest.new.self.mark
+    (g.D.Store.told c.args.store.now) (g.D.Store.told c.write_mark.new.self)
+    (number_of_view c.args.view)
+    (on_demote c.args.self.now.me c.args.self.now.plain (number_of_view c.args.view))
+    (heeds_demotion c.args.self.now.me c.args.self.now.plain (number_of_view c.args.view)
+    (ap (λ (n : NodeValue). is_p2 n.me) (sym c.self.view_is) ∙ sym c.is_witness.ensures
+    ∙ c.if-not-is_witness.false)
+    (above_at c.self.inside.me c.self.inside.mark c.self.inside.horizon c.self.inside.served
+    c.self.inside.duty c.self.inside.state c.args.self.now c.args.view c.accepted.result
+    c.is_above.result true c.self.view_is c.accepted.ensures c.is_above.ensures
+    c.if-not-is_above.false))
+    c.rest.ensures.mark c.in_ok-write_mark.ensures.written

@@ -1,0 +1,17 @@
+use Rattle.std.proofs.lemmas.Result.{on_ok_weaker}
+use Rattle.node.proofs.Duties.{invites_made}
+use Rattle.node.proofs.node.Node.do_duty.Goals as goal
+
+pub returns-in_ok-invite_again-in-Collects-2 : goal.returns-in_ok-invite_again-in-Collects-2
+returns-in_ok-invite_again-in-Collects-2 c =
+    let n = c.self.inside in
+    on_ok_weaker c.invite_again-in-Collects-2.result
+    (λ third items clock. invites_made n.me n.mark n.horizon n.served n.duty n.state
+    c.in-Collects.collector c.args.self.now items clock c.promised-view.result
+    c.joins-joins.result.now
+    c.args.outs.now c.invite_again.new.outs c.invite_again-in-Collects.new.outs
+    c.invite_again-in-Collects-2.new.outs c.self.view_is c.in-Collects.is
+    c.promised-view.ensures.value
+    c.joins-joins.ensures c.in_ok-invite_again-in-Collects.ensures
+    c.in_ok-invite_again-in-Collects-2.ensures third)
+    c.invite_again-in-Collects-2.ensures

@@ -1,0 +1,40 @@
+use Rattle.std.proofs.Common.{[], sym, ◌∙◌}
+use Rattle.std.proofs.lemmas.Result.{on_ok_weaker}
+use Rattle.event_record.specs.Record.{entry_of}
+use Rattle.group_rules.specs.Misfits.{misfits}
+use Rattle.group_rules.specs.Names.{number_of_view, place_of}
+use Rattle.group_rules.specs.Open.{and_then, try_open}
+use Rattle.group_rules.specs.State.{Event}
+use Rattle.group_rules.specs.Step.{on_message}
+use Rattle.node.proofs.Takes.{ignored, taken_then}
+use Rattle.node.specs.Node.{server}
+use Rattle.node.proofs.node.Node.take_event.Goals as goal
+
+pub returns-then-misfits_event-clause-makes : goal.returns-then-misfits_event-clause-makes
+returns-then-misfits_event-clause-makes c items size list =
+    let n = c.args.self.now in
+    let from = place_of c.args.from in
+    let s = server n items in
+    let m = Event (number_of_view c.args.view) c.args.item.index c.args.cp c.args.base
+    (entry_of c.args.item) in
+    ignored n.me c.args.now (misfits n.me n.plain from m)
+    (and_then n.me c.args.now s (on_message size n.me c.args.now list s from m)
+    (try_open n.me c.args.now)) s [] c.args.outs.now
+    (sym c.misfits_event.ensures.test ∙ c.if-misfits_event.true)
+
+pub returns-clause-makes : goal.returns-clause-makes
+returns-clause-makes c =
+    let n = c.args.self.now in
+    let from = place_of c.args.from in
+    let m = Event (number_of_view c.args.view) c.args.item.index c.args.cp c.args.base
+    (entry_of c.args.item) in
+    on_ok_weaker c.try_open.result
+    (λ opens items size list. taken_then n.me c.args.now (misfits n.me n.plain from m)
+    (on_message size n.me c.args.now list (server n items) from m) (server n items)
+    (server c.heed_event.new.self items) (server c.try_open.new.self items)
+    c.heed_event.new.self.me [] c.args.outs.now
+    c.heed_event.new.outs c.try_open.new.outs (sym c.misfits_event.ensures.test ∙
+    c.if-misfits_event.false)
+    c.heed_event.ensures.me (c.in_ok-heed_event.ensures.makes items from
+    (c.misfits_event.ensures.from c.if-misfits_event.false)) (opens items))
+    c.try_open.ensures.makes

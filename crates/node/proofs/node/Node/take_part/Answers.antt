@@ -1,0 +1,177 @@
+use Rattle.std.proofs.Common.{◌+◌, ◌==◌, ◌≡◌, List, [], ap, arith, length, map, refl, subst, sym, true, true≢false, ℕ, ◌∙◌}
+use Rattle.event_record.specs.Record.{entry_of}
+use Rattle.event_record.specs.declared.record.RecordFields.{RecordFields}
+use Rattle.group_rules.specs.Form.{accept_moves, wanted}
+use Rattle.group_rules.specs.Names.{place_of}
+use Rattle.group_rules.specs.Places.{Place, is_in, same}
+use Rattle.kept_log.specs.Kept.{plan_of, with_kept}
+use Rattle.node.proofs.Forms.{begins_so, joined_is, no_test, none_at, not_source, part_at, pulling, stores_at, wanted_at, whole_at}
+use Rattle.node.proofs.Saying.{disk_so, makes_so, mark_so, on_err, on_ok, part_so, unsaid}
+use Rattle.node.specs.Forming.{joined_with}
+use Rattle.node.specs.Node.{NodeValue, server}
+use Rattle.node.specs.State.{IsPulling}
+use Rattle.outputs.specs.Said.{said}
+use Rattle.node.proofs.node.Node.take_part.Goals as goal
+
+pub returns-then-not-fits-clause-makes : goal.returns-then-not-fits-clause-makes
+returns-then-not-fits-clause-makes g c items clock = makes_so _ _ _ _ _ _ _ _
+    (none_at c.self.inside.me c.self.inside.mark c.self.inside.horizon c.self.inside.served
+    c.self.inside.duty c.self.inside.state c.args.self.now
+    (λ (n : NodeValue). server n items) c.args.kept c.args.joining (plan_of c.args.form)
+    c.fits.result c.lb.result
+    (sym c.lb.ensures.value) c.self.view_is c.fits.ensures.test c.if-not-fits.true)
+    (record {
+      state = joined_is c.self.inside.me c.self.inside.mark c.self.inside.horizon
+          c.self.inside.served
+          c.self.inside.duty c.self.inside.state c.args.self.now
+          c.args.kept c.args.joining items c.self.view_is
+          c.requires.kept;
+      said = unsaid (said c.args.outs.now);
+    })
+
+pub returns-then-not-fits-clause-mark : goal.returns-then-not-fits-clause-mark
+returns-then-not-fits-clause-mark g c = mark_so _ _ _ _
+    (none_at c.self.inside.me c.self.inside.mark c.self.inside.horizon c.self.inside.served
+    c.self.inside.duty c.self.inside.state c.args.self.now
+    (λ (n : NodeValue). n.plain) c.args.kept c.args.joining (plan_of c.args.form) c.fits.result
+    c.lb.result
+    (sym c.lb.ensures.value) c.self.view_is c.fits.ensures.test c.if-not-fits.true) (ap (λ (n :
+    NodeValue). n.mark) c.self.view_is)
+
+pub returns-then-not-fits-clause-written : goal.returns-then-not-fits-clause-written
+returns-then-not-fits-clause-written g c = disk_so _ _ _ c.self.inside.mark _
+    (none_at c.self.inside.me c.self.inside.mark c.self.inside.horizon c.self.inside.served
+    c.self.inside.duty c.self.inside.state c.args.self.now
+    (λ (n : NodeValue). n.plain) c.args.kept c.args.joining (plan_of c.args.form) c.fits.result
+    c.lb.result
+    (sym c.lb.ensures.value) c.self.view_is c.fits.ensures.test c.if-not-fits.true) refl
+
+pub accept-requires-clause-storer : goal.accept-requires-clause-storer
+accept-requires-clause-storer g c = subst (λ (q : Place). is_in (plan_of c.args.form).storers q
+    ≡ true) (ap (λ (n : NodeValue). n.me) c.self.view_is)
+    (stores_at c.self.inside.me c.lb.result (server c.args.self.now []) c.args.kept
+    (plan_of c.args.form) c.fits.result c.fits.ensures.test c.if-not-fits.false)
+
+pub returns-then-full-clause-makes : goal.returns-then-full-clause-makes
+returns-then-full-clause-makes g c = on_ok c.accept.result _ _ c.accept.ensures.makes
+    (λ made items clock. makes_so _ _ _ _ _ _ _ _
+    (whole_at c.self.inside.me c.self.inside.mark c.self.inside.horizon c.self.inside.served
+    c.self.inside.duty c.self.inside.state c.args.self.now
+    (λ (n : NodeValue). server n items) c.args.kept c.args.joining (plan_of c.args.form)
+    c.fits.result c.lb.result
+    (sym c.lb.ensures.value) c.self.view_is c.fits.ensures.test c.if-not-fits.false
+    (λ s. (c.in_ok-staged.ensures.none s).1 (c.is_full-full.ensures.0 c.if-full.true))
+    ∙ ap (λ (rs : List RecordFields). accept_moves c.args.self.now.me
+    (joined_with ((λ (n : NodeValue). server n items) c.args.self.now) c.args.kept c.args.joining)
+    (plan_of c.args.form) (map entry_of rs)) (sym c.in_ok-staged.ensures.list.1)) (made items
+    clock))
+
+pub returns-then-full-clause-mark : goal.returns-then-full-clause-mark
+returns-then-full-clause-mark g c = on_ok c.accept.result _ _ c.accept.ensures.mark
+    (λ h. mark_so _ _ _ _
+    (whole_at c.self.inside.me c.self.inside.mark c.self.inside.horizon c.self.inside.served
+    c.self.inside.duty c.self.inside.state c.args.self.now
+    (λ (n : NodeValue). n.plain) c.args.kept c.args.joining (plan_of c.args.form) c.fits.result
+    c.lb.result
+    (sym c.lb.ensures.value) c.self.view_is c.fits.ensures.test c.if-not-fits.false
+    (λ s. (c.in_ok-staged.ensures.none s).1 (c.is_full-full.ensures.0 c.if-full.true))
+    ∙ ap (λ (rs : List RecordFields). accept_moves c.args.self.now.me
+    (joined_with ((λ (n : NodeValue). n.plain) c.args.self.now) c.args.kept c.args.joining)
+    (plan_of c.args.form) (map entry_of rs)) (sym c.in_ok-staged.ensures.list.1)) h)
+
+pub returns-then-full-clause-written : goal.returns-then-full-clause-written
+returns-then-full-clause-written g c = on_ok c.accept.result _ _ c.accept.ensures.written
+    (λ h. disk_so _ _ _ c.accept.new.self.mark _
+    (whole_at c.self.inside.me c.self.inside.mark c.self.inside.horizon c.self.inside.served
+    c.self.inside.duty c.self.inside.state c.args.self.now
+    (λ (n : NodeValue). n.plain) c.args.kept c.args.joining (plan_of c.args.form) c.fits.result
+    c.lb.result
+    (sym c.lb.ensures.value) c.self.view_is c.fits.ensures.test c.if-not-fits.false
+    (λ s. (c.in_ok-staged.ensures.none s).1 (c.is_full-full.ensures.0 c.if-full.true))
+    ∙ ap (λ (rs : List RecordFields). accept_moves c.args.self.now.me
+    (joined_with ((λ (n : NodeValue). n.plain) c.args.self.now) c.args.kept c.args.joining)
+    (plan_of c.args.form) (map entry_of rs)) (sym c.in_ok-staged.ensures.list.1)) h)
+
+pub returns-then-full-clause-part : goal.returns-then-full-clause-part
+returns-then-full-clause-part g c = on_err c.accept.result _ _ c.accept.ensures.part
+    (λ h. part_so c.args.self.now.mark _ _ _ _
+    (whole_at c.self.inside.me c.self.inside.mark c.self.inside.horizon c.self.inside.served
+    c.self.inside.duty c.self.inside.state c.args.self.now
+    (λ (n : NodeValue). n.plain) c.args.kept c.args.joining (plan_of c.args.form) c.fits.result
+    c.lb.result
+    (sym c.lb.ensures.value) c.self.view_is c.fits.ensures.test c.if-not-fits.false
+    (λ s. (c.in_ok-staged.ensures.none s).1 (c.is_full-full.ensures.0 c.if-full.true))
+    ∙ ap (λ (rs : List RecordFields). accept_moves c.args.self.now.me
+    (joined_with ((λ (n : NodeValue). n.plain) c.args.self.now) c.args.kept c.args.joining)
+    (plan_of c.args.form) (map entry_of rs)) (sym c.in_ok-staged.ensures.list.1)) h)
+
+pub fetch-requires-clause-pulls : goal.fetch-requires-clause-pulls
+fetch-requires-clause-pulls g c = subst (λ (q : Place). IsPulling q c.args.kept
+    (plan_of c.args.form) c.in_ok-staged.staged) (ap (λ (n : NodeValue). n.me) c.self.view_is)
+    (record {
+      can = c.fits.ensures.can c.if-not-fits.false;
+      list = c.in_ok-staged.ensures.list.0;
+      storer = stores_at c.self.inside.me c.lb.result (server c.args.self.now []) c.args.kept
+          (plan_of c.args.form) c.fits.result c.fits.ensures.test c.if-not-fits.false;
+      other = (not_source (same (place_of c.self.inside.me) (place_of c.args.form.source))
+          (wanted (place_of c.self.inside.me) (with_kept (server c.args.self.now []) c.args.kept)
+          (plan_of c.args.form) == c.args.form.start)
+          (λ whole. true≢false (sym (c.is_full-full.ensures.1
+          ((c.in_ok-staged.ensures.none (server c.args.self.now [])).0 whole)) ∙
+          c.if-full.false)));
+    })
+
+pub returns-clause-makes : goal.returns-clause-makes
+returns-clause-makes g c items clock =
+    let first : c.in_ok-staged.staged.first ≡ wanted c.args.self.now.me
+    (joined_with (server c.args.self.now items) c.args.kept c.args.joining)
+    (plan_of c.args.form) + 1 =
+    c.in_ok-staged.ensures.list.0.0 ∙ ap (λ (n : ℕ). n + 1) (wanted_at
+    c.self.inside.me c.self.inside.mark c.self.inside.horizon c.self.inside.served
+    c.self.inside.duty c.self.inside.state c.args.self.now
+    (λ (n : NodeValue). server n items) c.args.kept c.args.joining (plan_of c.args.form) _
+    c.self.view_is
+    (λ s. c.in_ok-staged.ensures.wanted s
+    (not_source (same (place_of c.self.inside.me) (place_of c.args.form.source))
+    (wanted (place_of c.self.inside.me) (with_kept (server c.args.self.now []) c.args.kept)
+    (plan_of c.args.form) == c.args.form.start)
+    (λ whole. true≢false (sym (c.is_full-full.ensures.1
+    ((c.in_ok-staged.ensures.none (server c.args.self.now [])).0 whole)) ∙ c.if-full.false))))) in
+    let none : length c.in_ok-staged.staged.records ≡ 0 =
+    ap (length {A = RecordFields}) c.in_ok-staged.ensures.list.1 in
+    makes_so _ _ _ _ _ _ _ _
+    (part_at c.self.inside.me c.self.inside.mark c.self.inside.horizon c.self.inside.served
+    c.self.inside.duty c.self.inside.state c.args.self.now
+    (λ (n : NodeValue). server n items) c.args.kept c.args.joining (plan_of c.args.form)
+    c.fits.result c.lb.result
+    (sym c.lb.ensures.value) c.self.view_is c.fits.ensures.test c.if-not-fits.false
+    (λ s. no_test _ (λ whole. true≢false (sym (c.is_full-full.ensures.1
+    ((c.in_ok-staged.ensures.none s).0 whole)) ∙ c.if-full.false))))
+    (pulling c.args.self.now.me clock
+    (joined_with (server c.args.self.now items) c.args.kept c.args.joining)
+    (server c.fetch.new.self items) (plan_of c.args.form) _ c.args.outs.now c.fetch.new.outs
+    (omega (arith, first, none))
+    (c.in_ok-fetch.ensures.state items ∙ begins_so c.args.self.now.me
+    (server c.args.self.now items) c.args.kept c.args.joining c.args.form
+    c.in_ok-staged.staged first c.in_ok-staged.ensures.list.1)
+    (c.in_ok-fetch.ensures.sends (server c.fetch.new.self items) clock))
+
+pub returns-clause-mark : goal.returns-clause-mark
+returns-clause-mark g c = mark_so _ _ _ _
+    (part_at c.self.inside.me c.self.inside.mark c.self.inside.horizon c.self.inside.served
+    c.self.inside.duty c.self.inside.state c.args.self.now
+    (λ (n : NodeValue). n.plain) c.args.kept c.args.joining (plan_of c.args.form) c.fits.result
+    c.lb.result
+    (sym c.lb.ensures.value) c.self.view_is c.fits.ensures.test c.if-not-fits.false
+    (λ s. no_test _ (λ whole. true≢false (sym (c.is_full-full.ensures.1
+    ((c.in_ok-staged.ensures.none s).0 whole)) ∙ c.if-full.false)))) c.in_ok-fetch.ensures.mark
+
+pub returns-clause-written : goal.returns-clause-written
+returns-clause-written g c = disk_so _ _ _ c.fetch.new.self.mark _
+    (part_at c.self.inside.me c.self.inside.mark c.self.inside.horizon c.self.inside.served
+    c.self.inside.duty c.self.inside.state c.args.self.now
+    (λ (n : NodeValue). n.plain) c.args.kept c.args.joining (plan_of c.args.form) c.fits.result
+    c.lb.result
+    (sym c.lb.ensures.value) c.self.view_is c.fits.ensures.test c.if-not-fits.false
+    (λ s. no_test _ (λ whole. true≢false (sym (c.is_full-full.ensures.1
+    ((c.in_ok-staged.ensures.none s).0 whole)) ∙ c.if-full.false)))) refl

@@ -1,0 +1,63 @@
+-- What a boot makes of a disk, and what the server is then.
+use Rattle.std.specs.Prelude.{◌≡◌, ◌⊎◌, ℕ, Bool, true, false, List, Option, None, Some, IfSome, max, nat_le, if◌then◌else◌}
+use Rattle.file_tree.specs.Book.{Entry}
+use Rattle.group_rules.specs.Effects.{booted, first_mark as first_mark_of}
+use Rattle.group_rules.specs.Names.{place_of}
+use Rattle.group_rules.specs.Places.{Place, is_p2}
+use Rattle.group_rules.specs.State.{Mark, Server, longest_of}
+use Rattle.harp_base.specs.declared.server.ServerId.{ServerId}
+use Rattle.harp_cells.specs.Effect.{Cells}
+use Rattle.harp_store.specs.Disk.{Disk, Moments, after_step, with_mark}
+use Rattle.harp_store.specs.Mark.{MarkFields, first_mark}
+use Rattle.node.specs.Node.{mark_with, saved_with}
+use Rattle.power_save.specs.Entries.{HoldEntries}
+
+-- the mark that a boot goes on from, by the mark that the disk has: the first one where it has
+-- none, else the same with the longest promise that its disk ever saw
+abbrev pub boot_mark : ServerId → (delta : ℕ) → Option MarkFields → MarkFields
+boot_mark me delta None = first_mark me delta
+boot_mark me delta (Some mark) =
+    record mark { longest = Some (max delta (longest_of mark.longest)) }
+
+-- whether a promise of this length is no longer than the longest one of a mark
+abbrev pub is_within : (delta : ℕ) → Option ℕ → Bool
+is_within delta None = false
+is_within delta (Some n) = nat_le delta n
+
+-- whether the disk has that mark already
+abbrev pub has_boot_mark : (delta : ℕ) → Option MarkFields → Bool
+has_boot_mark delta None = false
+has_boot_mark delta (Some mark) = is_within delta mark.longest
+
+-- the disk with it; no cell changes
+abbrev pub booted_disk : ServerId → (delta : ℕ) → Disk → Disk
+booted_disk me delta d = with_mark (boot_mark me delta d.mark) d
+
+-- a disk as it was, or with the mark that a boot of it goes on from
+abbrev pub IsOldOrBooted : ServerId → (delta : ℕ) → Disk → Disk → Type 0
+IsOldOrBooted me delta old d = (d ≡ old) ⊎ (d ≡ booted_disk me delta old)
+
+-- the moments of a disk after a boot, which writes that mark where it isn't there
+abbrev pub after_boot : ServerId → (delta : ℕ) → Option Moments → Option Moments
+after_boot me delta None = None
+after_boot me delta (Some h) = if has_boot_mark delta h.now.mark then Some h
+    else after_step (booted_disk me delta) (Some h)
+
+-- the machine's mark of a disk, the saved log having these records
+abbrev pub mark_before : ServerId → (delta : ℕ) → List Entry → Option MarkFields → Mark Entry
+mark_before me delta items None = first_mark_of Entry delta (place_of me)
+mark_before me delta items (Some mark) = mark_with items mark
+
+-- cells hold the saved log of a mark, where it has one, as records of these entries
+abbrev pub HoldSaved : Cells → MarkFields → List Entry → Type 0
+HoldSaved cells mark items = IfSome mark.saved (λ v. HoldEntries cells mark (saved_with items v))
+
+-- what the machine boots from a mark whose saved log isn't on the disk whole: a mark without one
+abbrev pub booted_without : Place → (clock delta : ℕ) → Mark Entry → Server Entry
+booted_without q clock delta m = record (booted q clock delta (record m { saved = None })) {
+  saved = m.saved;
+}
+
+-- the mark of server 2 has LB at the base of its saved log, as it writes it always
+abbrev pub HasBase : Place → MarkFields → Type 0
+HasBase q mark = is_p2 q ≡ true → IfSome mark.saved (λ v. v.base ≡ mark.lb)

@@ -1,0 +1,168 @@
+//! How the witness leaves its view.
+
+ghost use Rattle.std.specs.Prelude.{◌≡◌, ◌≤◌, [], List, ℕ, Err, IfSome, OnErr, OnOk, false, if◌then◌else◌, nat_lt, true};
+ghost use Rattle.file_tree.specs.Book.{Entry};
+ghost use Rattle.group_rules.specs.Disk.{on_demote};
+ghost use Rattle.group_rules.specs.Effects.{demoted};
+ghost use Rattle.group_rules.specs.Moves.{Demoting};
+ghost use Rattle.group_rules.specs.Places.{Place, is_p2};
+ghost use Rattle.harp_store.specs.Mark.{MarkFields};
+ghost use Rattle.harp_base.specs.View.{above};
+ghost use Rattle.group_rules.specs.Names.{number_of_view};
+ghost use Rattle.harp_base.specs.Streams.{Rose};
+ghost use Rattle.node.specs.Disk.{MayLeave, disk_after, marked, marked_by};
+ghost use Rattle.node.specs.Active.{is_followed, is_led};
+ghost use Rattle.node.specs.Demoting.{GoesOn};
+ghost use Rattle.node.specs.Node.{server};
+ghost use Rattle.node.specs.State.{Fits, is_gone};
+ghost use Rattle.outputs.specs.Makes.{Makes};
+
+use crate::fault::NodeFault;
+use crate::joining::kept_of;
+use crate::node::Node;
+use crate::same::is_witness;
+use crate::state::{State, Task};
+use harp_base::{Role, ViewNo};
+use harp_store::{Mark, Store};
+use outputs::Outputs;
+use std::alloc::Global;
+use std::mem;
+
+impl Node {
+    /// Deals with a Demote of a view. Server 2 heeds one of a view above its accepted one: it drops
+    /// its log. Where it promised a view above that one its part there goes on; else it promises
+    /// that one, and rests. The mark is written first, and an error leaves the disk as it was or
+    /// with that mark.
+    pub(crate) fn demote<D: Store>(
+        &mut self,
+        alloc: Global,
+        view: ViewNo,
+        store: &mut D,
+    ) -> Result<(), NodeFault>
+        requires { self.old.halted ≡ false }
+        ensures makes { OnOk result ((items : List Entry) (clock : ℕ) (outs : Outputs)
+            → let s = server self.old items in
+            Makes self.old.me clock (on_demote self.old.me s (number_of_view view)) [] s
+            (server self.new items) outs outs) }
+        ensures me { self.new.me ≡ self.old.me }
+        ensures mark { OnOk result (self.new.mark ≡ marked_by self.old.mark
+            (on_demote self.old.me self.old.plain (number_of_view view))) }
+        ensures up { OnOk result (self.new.halted ≡ false) }
+        ensures written { OnOk result (D.told store.new
+            ≡ disk_after (on_demote self.old.me self.old.plain (number_of_view view))
+            self.new.mark (D.told store.old)) }
+        ensures part { OnErr result (let ms = on_demote self.old.me self.old.plain
+            (number_of_view view) in MayLeave ms (marked_by self.old.mark ms)
+            (D.told store.old) (D.told store.new)) }
+        ensures running { result ≡ Err NodeFault.Halted → ⊥ }
+        ensures rose { result ≡ Err NodeFault.StoreFailed → Rose (D.faults store.old)
+            (D.faults store.new) }
+        ensures count { D.faults store.old ≤ D.faults store.new }
+    {
+        if !is_witness(self.me) {
+            return Ok(());
+        }
+        if !view.is_above(self.mark.accepted()) {
+            return Ok(());
+        }
+        let mark = demoted_mark(self.mark, view);
+        store.write_mark(alloc, &mark)?;
+        if self.mark.promised().is_above(view) {
+            self.go_on(mark, view);
+            return Ok(());
+        }
+        self.rest(mark, view);
+        Ok(())
+    }
+
+    /// A server that promised a view above the one that it is demoted of drops its log, and its
+    /// part there goes on.
+    fn go_on(&mut self, mark: Mark, view: ViewNo)
+        requires up { self.old.halted ≡ false }
+        requires witness { is_p2 self.old.me ≡ true }
+        requires above { nat_lt (number_of_view self.old.mark.accepted) (number_of_view view)
+            ≡ true }
+        requires below { nat_lt (number_of_view view) (number_of_view self.old.mark.promised)
+            ≡ true }
+        requires mark { mark ≡ marked self.old.mark (Demoting (number_of_view view)) }
+        ensures state { (items : List Entry) → server self.new items
+            ≡ demoted (server self.old items) (number_of_view view) }
+        ensures me { self.new.me ≡ self.old.me }
+        ensures mark { self.new.mark ≡ mark }
+        ensures up { self.new.halted ≡ false }
+    {
+        self.mark = mark;
+        self.served = 0;
+        self.state = without_log(mem::replace(&mut self.state, State::Gone));
+    }
+
+    /// A server that promised no view above the one that it is demoted of drops its log, and rests.
+    fn rest(&mut self, mark: Mark, view: ViewNo)
+        requires up { self.old.halted ≡ false }
+        requires witness { is_p2 self.old.me ≡ true }
+        requires below { nat_lt (number_of_view view) (number_of_view self.old.mark.promised)
+            ≡ false }
+        requires mark { mark ≡ marked self.old.mark (Demoting (number_of_view view)) }
+        ensures state { (items : List Entry) → server self.new items
+            ≡ demoted (server self.old items) (number_of_view view) }
+        ensures me { self.new.me ≡ self.old.me }
+        ensures mark { self.new.mark ≡ mark }
+        ensures up { self.new.halted ≡ false }
+    {
+        self.mark = mark;
+        self.served = 0;
+        self.duty = Task::Free;
+        let kept = kept_of(mem::replace(&mut self.state, State::Gone));
+        self.state = State::Rests(kept.forget());
+    }
+}
+
+/// The same part in a view that isn't accepted, without a log.
+fn without_log(state: State) -> State
+    requires up { is_gone state ≡ false }
+    requires closed { (is_led state ≡ false) × (is_followed state ≡ false) }
+    ensures up { is_gone result ≡ false }
+    ensures drops { GoesOn state result }
+    ensures fits { (q : Place) (old new : MarkFields) → is_p2 q ≡ true → Fits q old state
+        → Fits q new result }
+{
+    match state {
+        State::Gone => unreachable!(),
+        State::Rests(kept) => State::Rests(kept.forget()),
+        State::Joined(kept, joining) => State::Joined(kept.forget(), joining),
+        State::Pulls(kept, joining, plan, staged) => {
+            State::Pulls(kept.forget(), joining, plan, staged)
+        }
+        State::Leads(_, _) => unreachable!(),
+        State::Follows(_, _) => unreachable!(),
+    }
+}
+
+/// The mark of a server that is demoted of this view, which is above its accepted one.
+#[tactic(auto, using(view_form::proofs::Views::view_back))]
+fn demoted_mark(mark: Mark, view: ViewNo) -> Mark
+    requires { nat_lt (number_of_view mark.accepted) (number_of_view view) ≡ true }
+    ensures { result ≡ marked mark (Demoting (number_of_view view)) }
+{
+    let promised = later(mark.promised(), view);
+    Mark::new(
+        promised,
+        view,
+        Role::Outside,
+        mark.lb(),
+        mark.longest(),
+        None,
+    )
+}
+
+/// The greater of two views.
+fn later(promised: ViewNo, view: ViewNo) -> ViewNo
+    ensures value { result ≡ (if nat_lt (number_of_view view) (number_of_view promised)
+        then promised else view) }
+    ensures above { above view result ≡ false }
+{
+    if promised.is_above(view) {
+        return promised;
+    }
+    view
+}

@@ -1,0 +1,198 @@
+//! The part of a storer that a Form gives.
+
+ghost use Rattle.std.specs.Prelude.{◌≡◌, ◌∷◌, [], ◌≤◌, List, false, ℕ, Err, OnErr, OnOk};
+ghost use Rattle.file_tree.specs.Book.{Entry};
+ghost use Rattle.group_rules.specs.Form.{form_moves, on_form};
+ghost use Rattle.group_rules.specs.Moves.{Sending};
+ghost use Rattle.group_rules.specs.Names.{number_of_view};
+ghost use Rattle.group_rules.specs.State.{Fetch, Server};
+ghost use Rattle.harp_base.specs.Streams.{Rose};
+ghost use Rattle.kept_log.specs.Kept.{plan_of};
+ghost use Rattle.kept_log.specs.declared.kept.Kept.{Kept};
+ghost use Rattle.node.specs.Disk.{MayLeave, disk_after, marked_by};
+ghost use Rattle.node.specs.Forming.{joined_with, pulling_with};
+ghost use Rattle.node.specs.Node.{server};
+ghost use Rattle.node.specs.State.{HearsOthers, IsKept, IsPulling};
+ghost use Rattle.outputs.specs.Makes.{Makes};
+ghost use Rattle.volatile_log.specs.Log.{next};
+
+use crate::fault::NodeFault;
+use crate::node::Node;
+use crate::pull::Pull;
+use crate::state::{Joining, State};
+use harp_base::ViewNo;
+use harp_store::Store;
+use kept_log::{Form, Kept};
+use outputs::Outputs;
+use std::alloc::{AllocError, Global};
+use std::mem;
+use wire::Message;
+
+impl Node {
+    /// A Form: of the promised view the server takes the part that it gives. An error leaves the
+    /// mark on the disk as it was, or with the view accepted.
+    pub(crate) fn form<D: Store>(
+        &mut self,
+        alloc: Global,
+        view: ViewNo,
+        form: Form,
+        store: &mut D,
+        outs: &mut Outputs,
+    ) -> Result<(), NodeFault>
+        requires { self.old.halted ≡ false }
+        ensures makes { OnOk result ((items : List Entry) (clock : ℕ)
+            → let s = server self.old items in
+            Makes self.old.me clock (on_form self.old.me s (number_of_view view) (plan_of form)) []
+            s (server self.new items) outs.old outs.new) }
+        ensures me { self.new.me ≡ self.old.me }
+        ensures mark { OnOk result (self.new.mark ≡ marked_by self.old.mark
+            (on_form self.old.me self.old.plain (number_of_view view) (plan_of form))) }
+        ensures up { OnOk result (self.new.halted ≡ false) }
+        ensures written { OnOk result (D.told store.new ≡ disk_after
+            (on_form self.old.me self.old.plain (number_of_view view) (plan_of form))
+            self.new.mark (D.told store.old)) }
+        ensures part { OnErr result (let ms = on_form self.old.me self.old.plain
+            (number_of_view view) (plan_of form) in
+            MayLeave ms (marked_by self.old.mark ms) (D.told store.old) (D.told store.new)) }
+        ensures running { result ≡ Err NodeFault.Halted → ⊥ }
+        ensures rose { result ≡ Err NodeFault.StoreFailed → Rose (D.faults store.old)
+            (D.faults store.new) }
+        ensures count { D.faults store.old ≤ D.faults store.new }
+    {
+        if !self.has_promised(view) {
+            return Ok(());
+        }
+        self.form_part(alloc, form, store, outs)
+    }
+
+    /// The storer's part in the promised view, which it joined in this boot and hasn't accepted:
+    /// it accepts at once where it is the source or wants nothing, and else begins to pull.
+    #[tactic(auto, unfolding(group_rules::specs::Places::all_of))]
+    pub(crate) fn form_part<D: Store>(
+        &mut self,
+        alloc: Global,
+        form: Form,
+        store: &mut D,
+        outs: &mut Outputs,
+    ) -> Result<(), NodeFault>
+        requires { self.old.halted ≡ false }
+        ensures makes { OnOk result ((items : List Entry) (clock : ℕ)
+            → let s = server self.old items in
+            Makes self.old.me clock (form_moves self.old.me s (plan_of form)) []
+            s (server self.new items) outs.old outs.new) }
+        ensures me { self.new.me ≡ self.old.me }
+        ensures mark { OnOk result (self.new.mark ≡ marked_by self.old.mark
+            (form_moves self.old.me self.old.plain (plan_of form))) }
+        ensures up { OnOk result (self.new.halted ≡ false) }
+        ensures written { OnOk result (D.told store.new ≡ disk_after
+            (form_moves self.old.me self.old.plain (plan_of form))
+            self.new.mark (D.told store.old)) }
+        ensures part { OnErr result (let ms = form_moves self.old.me self.old.plain
+            (plan_of form) in
+            MayLeave ms (marked_by self.old.mark ms) (D.told store.old) (D.told store.new)) }
+        ensures running { result ≡ Err NodeFault.Halted → ⊥ }
+        ensures rose { result ≡ Err NodeFault.StoreFailed → Rose (D.faults store.old)
+            (D.faults store.new) }
+        ensures count { D.faults store.old ≤ D.faults store.new }
+    {
+        match mem::replace(&mut self.state, State::Gone) {
+            State::Joined(kept, joining) => {
+                self.take_part(alloc, kept, joining, form, store, outs)
+            }
+            State::Gone => unreachable!(),
+            State::Rests(kept) => {
+                self.state = State::Rests(kept);
+                Ok(())
+            }
+            State::Pulls(kept, joining, plan, staged) => {
+                self.state = State::Pulls(kept, joining, plan, staged);
+                Ok(())
+            }
+            State::Leads(leader, plan) => {
+                self.state = State::Leads(leader, plan);
+                Ok(())
+            }
+            State::Follows(partner, plan) => {
+                self.state = State::Follows(partner, plan);
+                Ok(())
+            }
+        }
+    }
+
+    /// The part of a server that joined the view with this.
+    fn take_part<D: Store>(
+        &mut self,
+        alloc: Global,
+        kept: Kept,
+        joining: Joining,
+        form: Form,
+        store: &mut D,
+        outs: &mut Outputs,
+    ) -> Result<(), NodeFault>
+        requires kept { IsKept self.old.me self.old.mark kept }
+        requires others { HearsOthers self.old.me joining }
+        ensures makes { OnOk result ((items : List Entry) (clock : ℕ)
+            → let s = joined_with (server self.old items) kept joining in
+            Makes self.old.me clock (form_moves self.old.me s (plan_of form)) []
+            s (server self.new items) outs.old outs.new) }
+        ensures me { self.new.me ≡ self.old.me }
+        ensures mark { OnOk result (self.new.mark ≡ marked_by self.old.mark
+            (form_moves self.old.me (joined_with self.old.plain kept joining) (plan_of form))) }
+        ensures up { OnOk result (self.new.halted ≡ false) }
+        ensures written { OnOk result (D.told store.new ≡ disk_after
+            (form_moves self.old.me (joined_with self.old.plain kept joining) (plan_of form))
+            self.new.mark (D.told store.old)) }
+        ensures part { OnErr result (let ms = form_moves self.old.me
+            (joined_with self.old.plain kept joining) (plan_of form) in
+            MayLeave ms (marked_by self.old.mark ms) (D.told store.old) (D.told store.new)) }
+        ensures running { result ≡ Err NodeFault.Halted → ⊥ }
+        ensures rose { result ≡ Err NodeFault.StoreFailed → Rose (D.faults store.old)
+            (D.faults store.new) }
+        ensures count { D.faults store.old ≤ D.faults store.new }
+    {
+        if !kept.fits(self.me, self.mark.lb(), &form) {
+            self.state = State::Joined(kept, joining);
+            return Ok(());
+        }
+        let staged = kept.stage(alloc, self.me, &form)?;
+        let full = staged.is_full();
+        let pull = Pull {
+            kept,
+            joining,
+            form,
+            staged,
+        };
+        if full {
+            return self.accept(alloc, pull, store, outs);
+        }
+        self.fetch(pull, outs)?;
+        Ok(())
+    }
+
+    /// The server asks the source for the next record, and waits for it.
+    pub(crate) fn fetch(&mut self, pull: Pull, outs: &mut Outputs) -> Result<(), AllocError>
+        requires kept { IsKept self.old.me self.old.mark pull.kept }
+        requires others { HearsOthers self.old.me pull.joining }
+        requires pulls { IsPulling self.old.me pull.kept (plan_of pull.form) pull.staged }
+        ensures sends { OnOk result ((s : Server Entry) (clock : ℕ) → Makes self.old.me clock
+            (Sending (plan_of pull.form).source
+            (Fetch self.old.plain.promised (next pull.staged)) ∷ []) [] s s outs.old outs.new) }
+        ensures state { OnOk result ((items : List Entry) → server self.new items
+            ≡ pulling_with (server self.old items) pull) }
+        ensures me { self.new.me ≡ self.old.me }
+        ensures mark { self.new.mark ≡ self.old.mark }
+        ensures up { OnOk result (self.new.halted ≡ false) }
+    {
+        let Pull {
+            kept,
+            joining,
+            form,
+            staged,
+        } = pull;
+        let view = self.mark.promised();
+        let first = staged.next();
+        outs.send(form.source, Message::Fetch { view, first })?;
+        self.state = State::Pulls(kept, joining, form, staged);
+        Ok(())
+    }
+}

@@ -1,0 +1,78 @@
+//! What a leader heeds of its view, and how it opens it. After an error the server is halted.
+
+ghost use Rattle.std.specs.Prelude.{◌≡◌, ◌≤◌, [], List, ℕ, OnOk, false, true};
+ghost use Rattle.file_tree.specs.Book.{Entry};
+ghost use Rattle.group_rules.specs.Names.{number_of_view};
+ghost use Rattle.group_rules.specs.Open.{try_open};
+ghost use Rattle.group_rules.specs.Replicate.{is_in_view, on_ack};
+ghost use Rattle.group_rules.specs.State.{top as top_of};
+ghost use Rattle.node.specs.Node.{server};
+ghost use Rattle.outputs.specs.Makes.{Makes};
+
+use crate::active::take_leader;
+use crate::node::Node;
+use crate::same::is_view;
+use crate::state::State;
+use harp_base::ViewNo;
+use outputs::Outputs;
+use promise::Deadline;
+use std::alloc::{AllocError, Global};
+
+impl Node {
+    /// Deals with an Ack of a view, whose top is at most that of a server that is active there. The
+    /// view's open leader keeps its numbers, and commits and answers each record up to its top.
+    pub(crate) fn heed_ack(
+        &mut self,
+        alloc: Global,
+        view: ViewNo,
+        top: u64,
+        lb: u64,
+        until: Deadline,
+        outs: &mut Outputs,
+    ) -> Result<(), AllocError>
+        requires up { self.old.halted ≡ false }
+        requires top { is_in_view self.old.plain (number_of_view view) ≡ true
+            → top ≤ top_of self.old.plain }
+        ensures makes { OnOk result ((items : List Entry) (clock : ℕ)
+            → let s = server self.old items in
+            Makes self.old.me clock (on_ack s (number_of_view view) top lb until) self.old.peers s
+            (server self.new items) outs.old outs.new) }
+        ensures me { self.new.me ≡ self.old.me }
+        ensures mark { self.new.mark ≡ self.old.mark }
+        ensures up { OnOk result (self.new.halted ≡ false) }
+    {
+        if !is_view(view, self.mark.accepted()) {
+            return Ok(());
+        }
+        let Some((mut leader, plan)) = take_leader(&mut self.state) else {
+            return Ok(());
+        };
+        leader.ack(alloc, top, lb, until, outs)?;
+        self.state = State::Leads(leader, plan);
+        Ok(())
+    }
+
+    /// The test of opening. A leader that waits opens its view where its partner's Formed has come
+    /// and the view's horizon is over by every clock.
+    pub(crate) fn try_open(
+        &mut self,
+        alloc: Global,
+        now: u64,
+        outs: &mut Outputs,
+    ) -> Result<(), AllocError>
+        requires { self.old.halted ≡ false }
+        ensures makes { OnOk result ((items : List Entry) → let s = server self.old items in
+            Makes self.old.me now (try_open self.old.me now s) [] s (server self.new items)
+            outs.old outs.new) }
+        ensures me { self.new.me ≡ self.old.me }
+        ensures mark { self.new.mark ≡ self.old.mark }
+        ensures up { OnOk result (self.new.halted ≡ false) }
+    {
+        let Some((mut leader, plan)) = take_leader(&mut self.state) else {
+            return Ok(());
+        };
+        leader.try_open(alloc, now, outs)?;
+        self.state = State::Leads(leader, plan);
+        Ok(())
+    }
+}

@@ -1,0 +1,150 @@
+//! The records of a Give, at a storer that pulls.
+
+ghost use Rattle.std.specs.Prelude.{◌≡◌, ◌+◌, ◌==◌, ◌∷◌, [], ◌≤◌, List, false, length, map, nat_le, true, ℕ, Err, OnErr, OnOk};
+ghost use Rattle.event_record.specs.Record.{entry_of};
+ghost use Rattle.file_tree.specs.Book.{Entry};
+ghost use Rattle.group_rules.specs.Form.{on_give};
+ghost use Rattle.group_rules.specs.Limits.{is_pulls};
+ghost use Rattle.group_rules.specs.Misfits.{follow};
+ghost use Rattle.group_rules.specs.Names.{number_of_view};
+ghost use Rattle.group_rules.specs.Places.{all_of};
+ghost use Rattle.harp_base.specs.Streams.{Rose};
+ghost use Rattle.kept_log.specs.Kept.{plan_of};
+ghost use Rattle.node.specs.Disk.{MayLeave, disk_after, marked_by};
+ghost use Rattle.node.specs.Forming.{pulling_with};
+ghost use Rattle.node.specs.Node.{server};
+ghost use Rattle.node.specs.State.{HearsOthers, IsKept, IsPulling};
+ghost use Rattle.outputs.specs.Makes.{Makes};
+
+use crate::fault::NodeFault;
+use crate::node::Node;
+use crate::pull::Pull;
+use crate::state::State;
+use harp_base::ViewNo;
+use harp_store::Store;
+use kept_log::give;
+use outputs::Outputs;
+use std::alloc::Global;
+use std::mem;
+use wire::Records;
+
+impl Node {
+    /// A Give of records that follow each other, and are within the view's start where the server
+    /// pulls for this view: it stages them where they begin with the wanted one. Then it fetches
+    /// the next, or accepts the view. An error leaves the mark on the disk as it was, or with the
+    /// view accepted.
+    #[tactic(auto, unfolding(group_rules::specs::Places::all_of))]
+    pub(crate) fn give<D: Store>(
+        &mut self,
+        alloc: Global,
+        view: ViewNo,
+        first: u64,
+        records: Records,
+        store: &mut D,
+        outs: &mut Outputs,
+    ) -> Result<(), NodeFault>
+        requires up { self.old.halted ≡ false }
+        requires follow { follow first (map entry_of records) ≡ true }
+        requires within { all_of ((number_of_view view == self.old.plain.promised)
+            ∷ is_pulls self.old.plain.mode ∷ []) ≡ true
+            → nat_le (first + length (map entry_of records)) (self.old.plain.plan.start + 1)
+            ≡ true }
+        ensures makes { OnOk result ((items : List Entry) (clock : ℕ)
+            → let s = server self.old items in
+            Makes self.old.me clock (on_give self.old.me s (number_of_view view) first
+            (map entry_of records)) [] s (server self.new items) outs.old outs.new) }
+        ensures me { self.new.me ≡ self.old.me }
+        ensures mark { OnOk result (self.new.mark ≡ marked_by self.old.mark
+            (on_give self.old.me self.old.plain (number_of_view view) first
+            (map entry_of records))) }
+        ensures up { OnOk result (self.new.halted ≡ false) }
+        ensures written { OnOk result (D.told store.new ≡ disk_after
+            (on_give self.old.me self.old.plain (number_of_view view) first
+            (map entry_of records)) self.new.mark (D.told store.old)) }
+        ensures part { OnErr result (let ms = on_give self.old.me self.old.plain
+            (number_of_view view) first (map entry_of records) in
+            MayLeave ms (marked_by self.old.mark ms) (D.told store.old) (D.told store.new)) }
+        ensures running { result ≡ Err NodeFault.Halted → ⊥ }
+        ensures rose { result ≡ Err NodeFault.StoreFailed → Rose (D.faults store.old)
+            (D.faults store.new) }
+        ensures count { D.faults store.old ≤ D.faults store.new }
+    {
+        if !self.has_promised(view) {
+            return Ok(());
+        }
+        match mem::replace(&mut self.state, State::Gone) {
+            State::Pulls(kept, joining, form, staged) => {
+                let pull = Pull {
+                    kept,
+                    joining,
+                    form,
+                    staged,
+                };
+                self.take_given(alloc, pull, first, records, store, outs)
+            }
+            State::Gone => unreachable!(),
+            State::Rests(kept) => {
+                self.state = State::Rests(kept);
+                Ok(())
+            }
+            State::Joined(kept, joining) => {
+                self.state = State::Joined(kept, joining);
+                Ok(())
+            }
+            State::Leads(leader, plan) => {
+                self.state = State::Leads(leader, plan);
+                Ok(())
+            }
+            State::Follows(partner, plan) => {
+                self.state = State::Follows(partner, plan);
+                Ok(())
+            }
+        }
+    }
+
+    /// The records of a Give of the promised view, at a server that pulls.
+    fn take_given<D: Store>(
+        &mut self,
+        alloc: Global,
+        mut pull: Pull,
+        first: u64,
+        records: Records,
+        store: &mut D,
+        outs: &mut Outputs,
+    ) -> Result<(), NodeFault>
+        requires kept { IsKept self.old.me self.old.mark pull.kept }
+        requires others { HearsOthers self.old.me pull.joining }
+        requires pulls { IsPulling self.old.me pull.kept (plan_of pull.form) pull.staged }
+        requires follow { follow first (map entry_of records) ≡ true }
+        requires within { first + length records ≤ pull.form.start + 1 }
+        ensures makes { OnOk result ((items : List Entry) (clock : ℕ)
+            → let s = pulling_with (server self.old items) pull in
+            Makes self.old.me clock (on_give self.old.me s s.promised first
+            (map entry_of records)) [] s (server self.new items) outs.old outs.new) }
+        ensures me { self.new.me ≡ self.old.me }
+        ensures mark { OnOk result (let s = pulling_with self.old.plain pull in
+            self.new.mark ≡ marked_by self.old.mark
+            (on_give self.old.me s s.promised first (map entry_of records))) }
+        ensures up { OnOk result (self.new.halted ≡ false) }
+        ensures written { OnOk result (let s = pulling_with self.old.plain pull in
+            D.told store.new ≡ disk_after (on_give self.old.me s s.promised first
+            (map entry_of records)) self.new.mark (D.told store.old)) }
+        ensures part { OnErr result (let s = pulling_with self.old.plain pull in
+            let ms = on_give self.old.me s s.promised first (map entry_of records) in
+            MayLeave ms (marked_by self.old.mark ms) (D.told store.old) (D.told store.new)) }
+        ensures running { result ≡ Err NodeFault.Halted → ⊥ }
+        ensures rose { result ≡ Err NodeFault.StoreFailed → Rose (D.faults store.old)
+            (D.faults store.new) }
+        ensures count { D.faults store.old ≤ D.faults store.new }
+    {
+        if !give(&mut pull.staged, first, records)? {
+            self.state = State::Pulls(pull.kept, pull.joining, pull.form, pull.staged);
+            return Ok(());
+        }
+        if pull.staged.is_full() {
+            return self.accept(alloc, pull, store, outs);
+        }
+        self.fetch(pull, outs)?;
+        Ok(())
+    }
+}
