@@ -14,12 +14,12 @@ use Rattle.spelling.specs.Text.{spaced, is_implied, told_text, cred_text, call_t
 use Rattle.spelling.specs.Fits.{CallFits, CredFits}
 use Rattle.text_fields.specs.declared.fault.TextFault.{TextFault}
 use Rattle.text_fields.specs.declared.fault.TextFault.TheVariants.{Grammar}
-use Rattle.text_fields.specs.Fields.{Read, ◌>>=◌, EndsWord, space_at, spaced_at, u32_at}
+use Rattle.text_fields.specs.Fields.{Read, ◌>>=◌, EndsWord, space_at, u32_at}
 use Rattle.text_fields.proofs.Places.{Spells, Spells-then, Spells-from, space_takes, space_again, drop_past, bind_ok, chosen, ok_is, read_of}
 use Rattle.text_fields.proofs.FieldLaws.{u32_field}
 use Rattle.text_fields.proofs.Faults.{PlacedReader}
 use Rattle.text_fields.proofs.Faults as faults
-use Rattle.step_text.specs.Reading.{both_at, spaced_u32_at, call_at, is_told_at, cred_of, told_at, told_call_at, untold_call_at, asked_at}
+use Rattle.step_text.specs.Reading.{spaced_u32_at, is_told_at, cred_of, told_at, told_call_at, untold_call_at, asked_at}
 use Rattle.step_text.proofs.Rows.{IsRow, dir_field, u32_row, stands, both_row, made_takes, made_again, made_placed}
 use Rattle.step_text.proofs.CallLaws.{call_row}
 

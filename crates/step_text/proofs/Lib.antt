@@ -4,5 +4,8 @@ pub mod Rows
 pub mod CallLaws
 pub mod AskLaws
 pub mod PickLaws
+pub mod FormTexts
+pub mod PumpLaws
+pub mod PowerLaws
 pub mod FormLaws
 pub mod MeaningLaws

@@ -1,11 +1,8 @@
 -- What a line means says what the line is, and what a line is says what it means.
 use Rattle.std.proofs.Common.{◌≡◌, ℕ, ◌+◌, ◌≤◌, Bool, true, false, cond, eqb, List, [], ◌∷◌, ◌++◌, length, get_or, drop, Option, Some, None, Result, Ok, Err, refl, sym, ap, subst, ◌∙◌, append_assoc, arith}
-use Rattle.std.specs.Prelude.{◌||◌, codes}
+use Rattle.std.specs.Prelude.{◌||◌}
 use Rattle.std.proofs.lemmas.Bool.{eqb-true, eq-eqb, ne_eqb}
 use Rattle.std.proofs.lemmas.List.{length-append, length-drop, append-nil, drop_all}
-use Rattle.harp_base.specs.declared.call.Call.{Call}
-use Rattle.harp_base.specs.declared.cred.Cred.{Cred}
-use Rattle.harp_base.specs.declared.server.ServerId.{ServerId}
 use Rattle.trace_types.specs.declared.step.Step.{Step}
 use Rattle.trace_types.specs.declared.step.Step.TheVariants as step
 use Rattle.spelling.specs.Text.{spaced, call_text, cred_text, ask_head, among_text}
@@ -23,11 +20,12 @@ use Rattle.step_text.specs.Grammar.{IsStepLine, IsBlank, IsNoStep, Explains}
 use Rattle.step_text.specs.Reading.{form_names, form_named, form_at, end_at, step_at, is_blank, meaning_of}
 use Rattle.step_text.proofs.Words.{word_spells, name_takes, name_again, name_placed, names_form, form_name, form_letters, name_first}
 use Rattle.step_text.proofs.Words as words
-use Rattle.step_text.proofs.FormLaws.{form_of, rest_text, form_takes, form_again, form_placed}
+use Rattle.step_text.proofs.FormTexts.{form_of, rest_text}
+use Rattle.step_text.proofs.FormLaws.{form_takes, form_again, form_placed}
 
 -- ---- a step is its name and what stands behind it
 
-parts : (s : Step) → step_text s ≡ form_name (form_of s) ++ rest_text s
+pub parts : (s : Step) → step_text s ≡ form_name (form_of s) ++ rest_text s
 unfolding step_text ask_head
 parts (step.Ask server client number cred asked) =
     append_assoc (ask_head server client number) (cred_text cred) (spaced (call_text asked))
@@ -48,7 +46,7 @@ parts (step.Clock server reading) = refl
 parts (step.Advance millis) = refl
 parts (step.Delta millis) = refl
 
-rest_ends : (s : Step) → EndsWord (rest_text s ++ [])
+pub rest_ends : (s : Step) → EndsWord (rest_text s ++ [])
 unfolding among_text
 rest_ends (step.Pump None) = tt
 rest_ends (step.Pump (Some pair)) = refl

@@ -1,10 +1,10 @@
 -- Picks, numbers in a range, and bytes of any number: what is read is spelled so, and what is
 -- spelled so is read.
 use Rattle.std.proofs.Common.{◌≡◌, ℕ, zero, suc, ◌+◌, ◌^◌, ◌<◌, ◌≤◌, Bool, true, false, cond, eqb, leb, inl, inr, List, [], ◌∷◌, ◌++◌, length, get_or, drop, Option, Some, None, Ok, Err, refl, sym, ap, subst, ◌∙◌, arith}
-use Rattle.std.specs.Prelude.{decimal, codes, map}
+use Rattle.std.specs.Prelude.{decimal, codes}
 use Rattle.std.specs.Str.{bytes_eq}
 use Rattle.hex.specs.Hex.{encode_lower, encode_with}
-use Rattle.std.proofs.lemmas.Bool.{cases_eq, eqb-true, eq-eqb, ne_eqb, leb-true, le-leb}
+use Rattle.std.proofs.lemmas.Bool.{eqb-true, eq-eqb, ne_eqb, leb-true, le-leb}
 use Rattle.std.proofs.lemmas.List.{length-append, length-drop}
 use Rattle.trace_types.specs.declared.pick.Pick.{Pick}
 use Rattle.trace_types.specs.declared.pick.Pick.TheVariants as pick
@@ -12,7 +12,7 @@ use Rattle.spelling.specs.Text.{spaced, hex_text}
 use Rattle.step_spelling.specs.Steps.{bits_text, pick_text}
 use Rattle.step_spelling.specs.Fits.{PickFits, AreAnyBytes}
 use Rattle.text_fields.specs.declared.fault.TextFault.TheVariants.{Grammar}
-use Rattle.text_fields.specs.Fields.{Read, ◌>>=◌, EndsWord, number_at, hex_at, word_at}
+use Rattle.text_fields.specs.Fields.{Read, ◌>>=◌, EndsWord, number_at, word_at}
 use Rattle.text_fields.specs.Words.{named_at, ranged_at, all_hex_at}
 use Rattle.text_fields.proofs.Places.{Spells, Spells-then, Spells-byte, IsField, head_at, drop_past, bind_ok, chosen, ok_is, passed, read_of}
 use Rattle.text_fields.proofs.Numbers.{base_ten, number_takes, number_again}

@@ -1,10 +1,9 @@
 -- Fields behind spaces, one behind the other, and what is made of them.
-use Rattle.std.proofs.Common.{◌≡◌, ℕ, ◌+◌, ◌^◌, ◌<◌, List, ◌++◌, length, drop, Result, Ok, Err, refl, sym, ap, subst, ◌∙◌, append_assoc, arith}
+use Rattle.std.proofs.Common.{◌≡◌, ℕ, ◌+◌, ◌^◌, ◌<◌, List, ◌++◌, length, drop, Ok, refl, sym, ap, subst, ◌∙◌, append_assoc, arith}
 use Rattle.std.specs.Prelude.{decimal}
 use Rattle.std.proofs.lemmas.List.{length-append}
 use Rattle.spelling.specs.Text.{spaced, hex_text, set_attr_text}
 use Rattle.spelling.specs.Fits.{AreBytes, SetAttrFits}
-use Rattle.text_fields.specs.declared.fault.TextFault.{TextFault}
 use Rattle.text_fields.specs.Fields.{Reader, Read, ◌>>=◌, EndsWord, spaced_at, u32_at, count_at, server_at, hex_at, set_attr_at}
 use Rattle.text_fields.proofs.Places.{Spells, Spells-then, IsField, spaced_field, drop_past, bind_ok, ok_is, read_of}
 use Rattle.text_fields.proofs.FieldLaws.{u32_field, count_field, server_field, server_text}

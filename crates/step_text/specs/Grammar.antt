@@ -1,5 +1,5 @@
 -- What a line of a schedule may be, and what its meaning says of it.
-use Rattle.std.specs.Prelude.{◌≡◌, ℕ, ◌≤◌, List, [], ◌∷◌, length, Option, Some, None, Result, Ok, Err}
+use Rattle.std.specs.Prelude.{◌≡◌, ℕ, List, [], ◌∷◌, Option, Some, None, Result, Ok, Err}
 use Rattle.trace_types.specs.declared.step.Step.{Step}
 use Rattle.step_spelling.specs.Steps.{step_text}
 use Rattle.step_spelling.specs.Fits.{StepFits}

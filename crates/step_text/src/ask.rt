@@ -15,7 +15,7 @@ use text_fields::{TextFault, space_at, u32_at};
 use trace_types::Step;
 
 /// The server, the client and its number.
-fn asker_at(line: &[u8], at: usize) -> Result<(((ServerId, u32), u64), usize), TextFault>
+pub fn asker_at(line: &[u8], at: usize) -> Result<(((ServerId, u32), u64), usize), TextFault>
     ensures step { Gives (λ x. x) result (asker_at line.now at) }
     ensures within { IfOk result (λ x. x.1 ≤ length line.now) }
 {

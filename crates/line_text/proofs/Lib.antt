@@ -1,0 +1,14 @@
+pub mod HexRuns
+pub mod Pieces
+pub mod Named
+pub mod AttrLaws
+pub mod EntryLaws
+pub mod Turns
+pub mod ReplyLaws
+pub mod CauseLaws
+pub mod MessageLaws
+pub mod StateLaws
+pub mod EventLaws
+pub mod BookLaws
+pub mod LineLaws
+pub mod MeaningLaws
