@@ -1,0 +1,4 @@
+pub mod Draws
+pub mod Calls
+pub mod Lines
+pub mod Runs

@@ -1,0 +1,2 @@
+mod StepsFit
+mod TextLaws

@@ -1,0 +1,9 @@
+//! The verdict on the text of a trace: whether it is that of a closed trace which is faithful and
+//! acknowledged, and uses promises, or which line is the first that isn't so.
+#![tactic(auto)]
+
+mod judge;
+mod verdict;
+
+pub use judge::judge_text;
+pub use verdict::{Unread, Verdict};
