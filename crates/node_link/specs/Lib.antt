@@ -1,0 +1,5 @@
+pub mod Traffic
+pub mod Memory
+pub mod Readings
+pub mod Adapters
+pub mod Peers

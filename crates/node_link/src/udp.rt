@@ -1,0 +1,173 @@
+//! Datagrams over UDP.
+
+ghost use Rattle.std.specs.Prelude.{◌≡◌, ◌≤◌, ◌<◌, ◌+◌, ℕ, None, OnErr, IfSome, Err};
+ghost use Rattle.harp_base.specs.Streams.{Rose};
+ghost use Rattle.node_link.specs.Traffic.{last_port};
+
+use crate::link::{Datagram, Link, LinkFault};
+use crate::peers::{address_of, peer_at};
+use harp_base::{Bytes, Failed, Peer, ServerId, Trio};
+use std::alloc::Global;
+use std::io::ErrorKind;
+use std::net::{Ipv4Addr, Net, SocketAddr, SocketAddrV4, UdpSocket};
+use std::time::Duration;
+
+/// No datagram is longer than this.
+const LONGEST: usize = 65_535;
+
+/// Datagrams over UDP: place s of a group has the port that was given plus s, at 127.0.0.1. It
+/// tells no datagrams; each error of a socket is a fault, and so is a call at a place that isn't
+/// open.
+#[derive(Drop)]
+pub struct UdpLink<R> {
+    rt: R,
+    port: u16,
+    sockets: Trio<Option<UdpSocket>>,
+    faults: u64,
+    ghost ports: { port ≤ 65533 },
+}
+
+impl<R> UdpLink<R> {
+    ghost use Rattle.node_link.specs.Adapters.{link_faults};
+
+    /// A link without an open place.
+    pub fn new(rt: R) -> UdpLink<R>
+        ensures { link_faults result ≡ 0 }
+    {
+        UdpLink {
+            rt,
+            port: 0,
+            sockets: Trio {
+                zero: None,
+                one: None,
+                two: None,
+            },
+            faults: 0,
+        }
+    }
+
+    // Counts a fault.
+    fn fault(&mut self) -> Failed
+        ensures rose { Rose (link_faults self.old) (link_faults self.new) }
+        ensures count { link_faults self.old ≤ link_faults self.new }
+    {
+        self.faults = self.faults.saturating_add(1);
+        Failed
+    }
+}
+
+// The address of a peer, where place 0 has this port.
+fn socket_address(base: u16, peer: Peer) -> SocketAddr
+    requires { base ≤ last_port }
+{
+    let (address, port) = address_of(base, peer);
+    SocketAddr::V4(SocketAddrV4::new(Ipv4Addr::from_bits(address), port))
+}
+
+// Whether an error says that no datagram came in time.
+fn is_wait_over(kind: ErrorKind) -> bool {
+    matches!(
+        kind,
+        ErrorKind::WouldBlock | ErrorKind::TimedOut | ErrorKind::Interrupted
+    )
+}
+
+// The next datagram of a socket, where one comes in time. Its memory is there before it is taken.
+fn received(
+    alloc: Global,
+    socket: &UdpSocket,
+    base: u16,
+    wait_ms: u32,
+) -> Result<Option<Datagram>, LinkFault>
+    requires { base ≤ last_port }
+{
+    let mut bytes = vec![in alloc; 0; LONGEST]?;
+    let wait = Duration::from_millis(u64::from(wait_ms.max(1)));
+    if socket.set_read_timeout(Some(wait)).is_err() {
+        return Err(LinkFault::Failed);
+    }
+    match socket.recv_from(&mut bytes) {
+        Ok((count, SocketAddr::V4(from))) => {
+            bytes.truncate(count);
+            Ok(Some(Datagram {
+                from: peer_at(base, from.ip().to_bits(), from.port()),
+                bytes: Bytes::from_vec(bytes),
+            }))
+        }
+        Err(e) if is_wait_over(e.kind()) => Ok(None),
+        _ => Err(LinkFault::Failed),
+    }
+}
+
+// Whether a socket sends the whole datagram.
+fn is_sent(socket: &UdpSocket, to: SocketAddr, bytes: &[u8]) -> bool {
+    match socket.send_to(bytes, to) {
+        Ok(count) => count == bytes.len(),
+        Err(_) => false,
+    }
+}
+
+impl<R: Net> Link for UdpLink<R> {
+    ghost use Rattle.node_link.specs.Adapters.{link_faults};
+
+    ghost told = { λ _. None };
+
+    ghost faults = { link_faults };
+
+    fn bind(&mut self, place: ServerId, port: u16) -> Result<(), Failed>
+        requires { port ≤ last_port }
+        ensures rose { OnErr result (Rose (link_faults self.old) (link_faults self.new)) }
+        ensures count { link_faults self.old ≤ link_faults self.new }
+    {
+        let address = socket_address(port, Peer::Server(place));
+        let Ok(socket) = UdpSocket::bind(&self.rt, address) else {
+            return Err(self.fault());
+        };
+        self.port = port;
+        *self.sockets.get_mut(place) = Some(socket);
+        Ok(())
+    }
+
+    fn receive(
+        &mut self,
+        alloc: Global,
+        place: ServerId,
+        wait_ms: u32,
+    ) -> Result<Option<Datagram>, LinkFault>
+        ensures rose { result ≡ Err LinkFault.Failed
+            → Rose (link_faults self.old) (link_faults self.new) }
+        ensures count { link_faults self.old ≤ link_faults self.new }
+    {
+        let received = match self.sockets.get(place) {
+            Some(socket) => received(alloc, socket, self.port, wait_ms),
+            None => Err(LinkFault::Failed),
+        };
+        if let Err(LinkFault::Failed) = received {
+            self.fault();
+        }
+        received
+    }
+
+    fn send(
+        &mut self,
+        alloc: Global,
+        place: ServerId,
+        to: Peer,
+        bytes: &[u8],
+    ) -> Result<(), LinkFault>
+        ensures rose { result ≡ Err LinkFault.Failed
+            → Rose (link_faults self.old) (link_faults self.new) }
+        ensures count { link_faults self.old ≤ link_faults self.new }
+    {
+        let to = socket_address(self.port, to);
+        let is_sent = match self.sockets.get(place) {
+            Some(socket) => is_sent(socket, to, bytes),
+            None => false,
+        };
+        if !is_sent {
+            self.fault();
+            return Err(LinkFault::Failed);
+        }
+        Ok(())
+    }
+}

@@ -1,0 +1,81 @@
+//! The day's clock.
+
+ghost use Rattle.std.specs.Prelude.{◌≡◌, ◌≤◌, ◌<◌, ◌^◌, None, IfSome};
+ghost use Rattle.harp_base.specs.declared.server.ServerId.{ServerId as Place};
+ghost use Rattle.node_link.specs.Readings.{MayTell};
+
+use crate::clock::Clock;
+use harp_base::ServerId;
+use std::time;
+use std::time::SystemTime;
+
+/// The milliseconds since 1970 by the day's clock, the same for all places. A reading is never
+/// below the last one; where the clock can't be read or reads 2^62 or more, which is counted, it is
+/// the last one, 0 at first. It tells no readings.
+#[derive(Drop)]
+pub struct WallClock<R> {
+    rt: R,
+    last: u64,
+    faults: u64,
+    ghost bound: { last < 2 ^ 62 },
+}
+
+impl<R> WallClock<R> {
+    ghost use Rattle.node_link.specs.Adapters.{clock_faults, last_of};
+
+    /// A clock that hasn't been read.
+    pub fn new(rt: R) -> WallClock<R>
+        ensures last { last_of result ≡ 0 }
+        ensures faults { clock_faults result ≡ 0 }
+    {
+        WallClock {
+            rt,
+            last: 0,
+            faults: 0,
+        }
+    }
+
+    /// How many times the clock couldn't be read.
+    pub fn faults(&self) -> u64
+        ensures { result ≡ clock_faults self.now }
+    {
+        self.faults
+    }
+}
+
+// The milliseconds since 1970, below 2^62.
+fn millis_now<R: time::Clock>(rt: &R) -> Option<u64>
+    ensures { IfSome result (λ millis. millis < 2 ^ 62) }
+{
+    let now = SystemTime::now(rt).ok()?;
+    let millis = now.duration_since(SystemTime::UNIX_EPOCH).ok()?.as_millis();
+    if millis < 1 << 62 {
+        Some(millis as u64)
+    } else {
+        None
+    }
+}
+
+impl<R: time::Clock> Clock for WallClock<R> {
+    ghost use Rattle.node_link.specs.Adapters.{clock_faults, last_of};
+
+    ghost told = { λ _. None };
+
+    ghost least = { λ c _. last_of c };
+
+    fn now(&mut self, place: ServerId) -> u64
+        ensures bound { result < 2 ^ 62 }
+        ensures order { last_of self.old ≤ result }
+        ensures least { result ≤ last_of self.new }
+        ensures others { (p : Place) → last_of self.old ≤ last_of self.new }
+
+        ensures last { last_of self.new ≡ result }
+        ensures count { clock_faults self.old ≤ clock_faults self.new }
+    {
+        match millis_now(&self.rt) {
+            Some(millis) => self.last = self.last.max(millis),
+            None => self.faults = self.faults.saturating_add(1),
+        }
+        self.last
+    }
+}

@@ -1,0 +1,82 @@
+-- One turn at a place: what it gives to the server, of the readings of the clock and the datagram
+-- that came.
+use Rattle.std.specs.Prelude.{◌≡◌, ℕ, Bool, true, false, List, [], ◌∷◌, ◌++◌, nat_le, Option, Some, None}
+use Rattle.harp_base.specs.declared.server.ServerId.{ServerId}
+use Rattle.harp_base.specs.declared.state.Role.{Role}
+use Rattle.node_link.specs.Traffic.{Traffic, TakesNext}
+use Rattle.node_link.specs.declared.link.Datagram.{Datagram}
+use Rattle.node_link.specs.declared.link.SentDatagram.{SentDatagram}
+use Rattle.node_link.specs.declared.clock.Reading.{Reading}
+use Rattle.node_loop.specs.declared.input.Input.{Input}
+use Rattle.node_loop.specs.declared.turned.Turned.{Turned}
+use Rattle.node_loop.specs.Arriving.{Arrives}
+use Rattle.node_loop.specs.Turns.{Pacing, after_input, after_tick, tick_inputs}
+
+abbrev pub inputs_of : Option Input → List Input
+inputs_of None = []
+inputs_of (Some input) = input ∷ []
+
+abbrev pub after_arrival : Role → Option Input → Pacing → Pacing
+after_arrival role None p = p
+after_arrival role (Some input) p = after_input role input p
+
+-- a datagram gives these inputs, and the server hears who sent it
+abbrev pub Comes : Role → Datagram → List Input → Pacing → Pacing → Type 0
+Comes role d inputs p q = (input : Option Input) × Arrives d input × (inputs ≡ inputs_of input)
+    × (q ≡ after_arrival role input p)
+
+-- the turn ticks
+pub record IsTick (me : ServerId) (role : Role) (p q : Pacing) (t : Turned) : Type 0 where
+  pub inputs : t.inputs.items ≡ tick_inputs me role p
+  pub taken : t.taken ≡ None
+  pub now : t.now ≡ t.began
+  pub pace : q ≡ after_tick me role t.began p
+
+-- nothing came
+pub record IsQuiet (p q : Pacing) (t : Turned) : Type 0 where
+  pub inputs : t.inputs.items ≡ []
+  pub now : t.now ≡ t.began
+  pub pace : q ≡ p
+
+abbrev pub IsReceive : Role → Pacing → Pacing → Turned → Option Datagram → Type 0
+IsReceive role p q t None = IsQuiet p q t
+IsReceive role p q t (Some d) = Comes role d t.inputs.items p q
+
+abbrev pub IsTurnBy : Bool → ServerId → Role → Pacing → Pacing → Turned → Type 0
+IsTurnBy true me role p q t = IsTick me role p q t
+IsTurnBy false me role p q t = IsReceive role p q t t.taken
+
+-- THE TURN: it ticks where its reading has reached the time of the next tick, and otherwise gives
+-- what came
+abbrev pub IsTurn : ServerId → Role → Pacing → Pacing → Turned → Type 0
+IsTurn me role p q t = IsTurnBy (nat_le p.due t.began) me role p q t
+
+-- ---- what the link and the clock tell
+
+abbrev pub LinkTurnsBy : Bool → ServerId → Turned → Option Traffic → Option Traffic → Type 0
+LinkTurnsBy true place t old new = new ≡ old
+LinkTurnsBy false place t old new = TakesNext place t.taken old new
+
+-- a turn that ticks takes nothing, and another one the next datagram of the place
+abbrev pub LinkTurns : ServerId → Pacing → Turned → Option Traffic → Option Traffic → Type 0
+LinkTurns place p t old new = LinkTurnsBy (nat_le p.due t.began) place t old new
+
+-- what a link has sent so far
+abbrev pub sent_of : Option Traffic → Option (List SentDatagram)
+sent_of None = None
+sent_of (Some t) = Some t.sent
+
+-- the clock was read again where a datagram came
+abbrev pub second_of : ServerId → ℕ → Option Datagram → List Reading
+second_of place now None = []
+second_of place now (Some d) = (record { place = place; millis = now }) ∷ []
+
+-- the readings of the turn
+abbrev pub readings_of : ServerId → Turned → List Reading
+readings_of place t = (record { place = place; millis = t.began }) ∷ second_of place t.now t.taken
+
+-- a clock tells these readings too, or none any more
+abbrev pub MayTellAll : List Reading → Option (List Reading) → Option (List Reading) → Type 0
+MayTellAll readings told None = Unit {0}
+MayTellAll readings None (Some new) = ⊥
+MayTellAll readings (Some old) (Some new) = new ≡ old ++ readings

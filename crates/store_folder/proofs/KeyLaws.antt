@@ -1,0 +1,56 @@
+-- What maps by keys and by objects tell of cells.
+use Rattle.std.proofs.Common.{◌≡◌, ℕ, Bool, true, false, cond, [], ◌∷◌, List, Option, Some, refl, sym, ap, ◌∙◌}
+use Rattle.std.specs.Prelude.{is_some}
+use Rattle.std.specs.Map.{lookup}
+use Rattle.std.specs.Ordering.{is_eq}
+use Rattle.std.specs.Bool.{if◌then◌else◌}
+use Rattle.harp_cells.specs.declared.cell.Cell.{Cell}
+use Rattle.harp_cells.specs.Effect.{key, is_key, is_cell}
+use Rattle.harp_cells.proofs.KeyOrder.{key_cmp, tied}
+use Rattle.store_folder.specs.Unsynced.{is_touched}
+
+abbrev Entries : Type 0
+Entries = List ((ℕ × ℕ × ℕ) × Cell)
+
+-- two tests that agree find the same
+lookup_same : (p q : ℕ × ℕ × ℕ → Bool) → ((k : ℕ × ℕ × ℕ) → p k ≡ q k) → (touched : Entries)
+    → lookup p touched ≡ lookup q touched
+lookup_same p q h [] = refl
+lookup_same p q h (e ∷ touched) =
+    ap (λ (b : Bool). cond b (Some e.1) (lookup p touched)) (h e.0)
+    ∙ ap (λ (o : Option Cell). cond (q e.0) (Some e.1) o) (lookup_same p q h touched)
+
+at_key : (touched : Entries) (c : Cell)
+    → is_some (lookup (λ k. is_eq (key_cmp (key c) k)) touched) ≡ is_touched touched c
+unfolding is_touched
+at_key touched c =
+    ap is_some
+    (lookup_same (λ k. is_eq (key_cmp (key c) k)) (is_key (key c)) (λ k. tied (key c) k) touched)
+
+-- what is found by the key of a cell
+pub found_at : (touched : Entries) (c : Cell) (at : ℕ × ℕ × ℕ) → at ≡ key c
+    → is_some (lookup (λ k. is_eq (key_cmp at k)) touched) ≡ is_touched touched c
+found_at touched c at e =
+    ap (λ (k : ℕ × ℕ × ℕ). is_some (lookup (λ l. is_eq (key_cmp k l)) touched)) e
+    ∙ at_key touched c
+
+some_if : (b : Bool) (w : Cell) (o : Option Cell)
+    → is_some (cond b (Some w) o) ≡ (if b then true else is_some o)
+some_if true w o = refl
+some_if false w o = refl
+
+-- which cells are touched after a cell was put in the map at its key
+pub touched_after : (old new : Entries) (cell : Cell) (at : ℕ × ℕ × ℕ) (w : Cell) → at ≡ key cell
+    → ((k : ℕ × ℕ × ℕ) → lookup (λ l. is_eq (key_cmp k l)) new
+    ≡ cond (is_eq (key_cmp at k)) (Some w) (lookup (λ l. is_eq (key_cmp k l)) old))
+    → (c : Cell)
+    → is_touched new c ≡ (if is_cell cell c then true else is_touched old c)
+unfolding is_cell
+touched_after old new cell at w e h c =
+    sym (at_key new c) ∙ ap is_some (h (key c))
+    ∙ some_if (is_eq (key_cmp at (key c))) w (lookup (λ l. is_eq (key_cmp (key c) l)) old)
+    ∙ ap (λ (b : Bool). if◌then◌else◌ b true
+    (is_some (lookup (λ l. is_eq (key_cmp (key c) l)) old))) (tied at (key c))
+    ∙ ap (λ (k : ℕ × ℕ × ℕ). if◌then◌else◌ (is_key k (key c)) true
+    (is_some (lookup (λ l. is_eq (key_cmp (key c) l)) old))) e
+    ∙ ap (λ (b : Bool). if◌then◌else◌ (is_key (key cell) (key c)) true b) (at_key old c)

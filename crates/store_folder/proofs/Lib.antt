@@ -1,0 +1,6 @@
+mod CellLaws
+mod CutLaws
+mod KeyLaws
+mod SeenLaws
+mod MarkCodec
+mod MarkLaws

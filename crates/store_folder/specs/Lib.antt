@@ -1,0 +1,4 @@
+pub mod CellFile
+pub mod MarkFile
+pub mod Unsynced
+pub mod Store

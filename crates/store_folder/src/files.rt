@@ -1,0 +1,107 @@
+//! Files and folders: read whole, replaced whole, removed, synced.
+
+use harp_store::StoreFault;
+use std::alloc::Global;
+use std::fs::{File, OpenFile};
+use std::io::{ErrorKind, Read, Write};
+use std::rt::Files;
+use std::{fs, io};
+
+/// The fault that an error of files is.
+pub fn fault_of(error: io::Error) -> StoreFault {
+    match error.kind() {
+        ErrorKind::OutOfMemory => StoreFault::NoMemory,
+        _ => StoreFault::Failed,
+    }
+}
+
+/// What files gave, with the fault that an error is.
+pub fn of_disk<T>(given: io::Result<T>) -> Result<T, StoreFault> {
+    match given {
+        Ok(value) => Ok(value),
+        Err(error) => Err(fault_of(error)),
+    }
+}
+
+/// Whether there is a folder at a path.
+pub fn is_folder<R: Files>(rt: &R, path: &str) -> bool {
+    match fs::metadata(rt, path) {
+        Ok(metadata) => metadata.is_dir(),
+        Err(_) => false,
+    }
+}
+
+/// What was written in a folder is on the disk.
+pub fn sync_folder<R: Files>(rt: &R, path: &str) -> io::Result<()> {
+    File::open(rt, path)?.sync_all()
+}
+
+// Makes a folder where there is none, in the one above it.
+fn make_one<R: Files>(rt: &R, above: &str, path: &str) -> io::Result<()> {
+    match fs::create_dir(rt, path) {
+        Ok(()) => sync_folder(rt, above),
+        Err(_) if is_folder(rt, path) => Ok(()),
+        Err(error) => Err(error),
+    }
+}
+
+/// Makes a folder and those above it, where there are none.
+pub fn make_folder<R: Files>(rt: &R, path: &str) -> io::Result<()> {
+    let mut above = if path.starts_with('/') { "/" } else { "." };
+    for end in 1..path.len() {
+        let Some((front, rest)) = path.split_at_checked(end) else {
+            continue;
+        };
+        if rest.starts_with('/') {
+            make_one(rt, above, front)?;
+            above = front;
+        }
+    }
+    make_one(rt, above, path)
+}
+
+// Opens a file, None where there is none.
+fn opened<R: Files>(rt: &R, path: &str) -> Result<Option<R::File>, StoreFault> {
+    match File::open(rt, path) {
+        Ok(file) => Ok(Some(file)),
+        Err(error) if error.kind() == ErrorKind::NotFound => Ok(None),
+        Err(error) => Err(fault_of(error)),
+    }
+}
+
+/// The bytes of a file, None where there is none. One that is longer than the most is no file of a
+/// store.
+pub fn read_file<R: Files>(
+    rt: &R,
+    alloc: Global,
+    path: &str,
+    most: usize,
+) -> Result<Option<Vec<u8>>, StoreFault> {
+    let Some(mut file) = opened(rt, path)? else {
+        return Ok(None);
+    };
+    let length = of_disk(file.metadata())?.len();
+    if length > most as u64 {
+        return Err(StoreFault::Failed);
+    }
+    let mut bytes = vec![in alloc; 0; length as usize]?;
+    of_disk(file.read_exact(&mut bytes))?;
+    Ok(Some(bytes))
+}
+
+/// A file with these bytes takes the place of the one at a path, in one step and for sure: it is
+/// written at another path, synced and renamed.
+pub fn replace_file<R: Files>(rt: &R, new: &str, path: &str, bytes: &[u8]) -> io::Result<()> {
+    let mut file = File::create(rt, new)?;
+    file.write_all(bytes)?;
+    file.sync_all()?;
+    fs::rename(rt, new, path)
+}
+
+/// Removes a file, where there is one.
+pub fn remove_file<R: Files>(rt: &R, path: &str) -> io::Result<()> {
+    match fs::remove_file(rt, path) {
+        Err(error) if error.kind() == ErrorKind::NotFound => Ok(()),
+        done => done,
+    }
+}

@@ -1,0 +1,223 @@
+//! The store over a folder.
+
+ghost use Rattle.std.specs.Prelude.{◌≡◌, ◌≤◌, Err, None, IfOk, OnOk, OnErr};
+ghost use Rattle.harp_base.specs.Streams.{Rose};
+ghost use Rattle.harp_cells.specs.declared.change.Change.TheVariants as change;
+ghost use Rattle.store_folder.specs.Unsynced.{IsAlike, IsChanged, IsNothing, ReadsMade, made_of};
+ghost use Rattle.store_folder.specs.Store.{store_faults, unsynced_of};
+
+use crate::files::of_disk;
+use crate::unsynced::Unsynced;
+use crate::{files, folder};
+use harp_cells::{Cell, Value};
+use harp_store::{Mark, Store, StoreFault};
+use std::alloc::Global;
+use std::rt::Files;
+
+/// A store over a folder of files, which `attach` names and makes.
+///
+/// The folder has a file for each cell that isn't absent: `meta`, `object-N`, `block-N-I`,
+/// `slot-N-I`, `client-C`, `saved-P`, with the cell's numbers in decimal; each holds the spelling
+/// of the cell's value. The file `mark` holds the mark. A file is replaced in one step: it is
+/// written as `new`, synced and renamed. Other files are left alone.
+///
+/// Puts and erasures stay in memory until `sync` writes each changed cell once and syncs the folder;
+/// a sync that fails keeps them for the next one. So what was synced last stands after a crash. It
+/// tells nothing of the disk. Each error of a file is a fault, and so are a folder that isn't there,
+/// a call before `attach`, and a file that doesn't hold a value or a mark, whole and with nothing
+/// behind it.
+#[derive(Drop)]
+pub struct FolderStore<R> {
+    rt: R,
+    folder: Option<String>,
+    unsynced: Unsynced,
+    faults: u64,
+}
+
+impl<R: AllocGlobal> FolderStore<R> {
+    /// A store without a folder.
+    pub fn new(rt: R) -> FolderStore<R>
+        ensures faults { store_faults result ≡ 0 }
+        ensures unsynced { IsNothing (unsynced_of result) }
+    {
+        let unsynced = Unsynced::new(rt.alloc());
+        FolderStore {
+            rt,
+            folder: None,
+            unsynced,
+            faults: 0,
+        }
+    }
+}
+
+impl<R> FolderStore<R> {
+    /// How many calls failed.
+    pub fn faults(&self) -> u64
+        ensures { result ≡ store_faults self.now }
+    {
+        self.faults
+    }
+
+    // The path of the folder.
+    fn folder(&self) -> Result<&str, StoreFault> {
+        match &self.folder {
+            Some(folder) => Ok(folder.as_str()),
+            None => Err(StoreFault::Failed),
+        }
+    }
+
+    // Hands on what a call gave, and counts a failure.
+    fn counted<T: Drop>(&mut self, given: Result<T, StoreFault>) -> Result<T, StoreFault>
+        ensures same { result ≡ given }
+        ensures unsynced { unsynced_of self.new ≡ unsynced_of self.old }
+        ensures rose { result ≡ Err StoreFault.Failed
+            → Rose (store_faults self.old) (store_faults self.new) }
+        ensures count { store_faults self.old ≤ store_faults self.new }
+    {
+        if let Err(StoreFault::Failed) = given {
+            self.faults = self.faults.saturating_add(1);
+        }
+        given
+    }
+}
+
+impl<R: Files + AllocGlobal + Clone + Drop> FolderStore<R> {
+    fn try_attach(&mut self, alloc: Global, path: &str) -> Result<(), StoreFault>
+        ensures { store_faults self.new ≡ store_faults self.old }
+    {
+        if path.is_empty() {
+            return Err(StoreFault::Failed);
+        }
+        of_disk(files::make_folder(&self.rt, path))?;
+        folder::list_blocks(&self.rt, path, &mut self.unsynced)?;
+        self.folder = Some(String::from_str(alloc, path)?);
+        Ok(())
+    }
+
+    fn try_read(&mut self, alloc: Global, cell: Cell) -> Result<Option<Value>, StoreFault>
+        ensures made { IfOk result (λ v. ReadsMade (made_of (unsynced_of self.old) cell) v) }
+        ensures alike { IsAlike (unsynced_of self.old) (unsynced_of self.new) }
+        ensures faults { store_faults self.new ≡ store_faults self.old }
+    {
+        match self.unsynced.find(alloc, cell)? {
+            Some(value) => Ok(value),
+            None => folder::read_cell(&self.rt, alloc, self.folder()?, cell.key()),
+        }
+    }
+
+    fn try_sync(&mut self, alloc: Global) -> Result<(), StoreFault>
+        ensures done { OnOk result (IsNothing (unsynced_of self.new)) }
+        ensures alike { OnErr result (IsAlike (unsynced_of self.old) (unsynced_of self.new)) }
+        ensures faults { store_faults self.new ≡ store_faults self.old }
+    {
+        let Some(folder) = &self.folder else {
+            return Err(StoreFault::Failed);
+        };
+        folder::write_changes(&self.rt, alloc, folder.as_str(), &mut self.unsynced)?;
+        self.unsynced.clear(alloc);
+        Ok(())
+    }
+
+    fn try_read_mark(&self, alloc: Global) -> Result<Option<Mark>, StoreFault> {
+        folder::read_mark(&self.rt, alloc, self.folder()?)
+    }
+
+    fn try_write_mark(&self, alloc: Global, mark: &Mark) -> Result<(), StoreFault> {
+        folder::write_mark(&self.rt, alloc, self.folder()?, mark)
+    }
+}
+
+impl<R: Files + AllocGlobal + Clone + Drop> Store for FolderStore<R> {
+    ghost told = { λ _. None };
+
+    ghost faults = { store_faults };
+
+    /// Makes the folder and those above it, where there are none.
+    fn attach(&mut self, alloc: Global, path: &str) -> Result<(), StoreFault>
+        ensures rose { result ≡ Err StoreFault.Failed
+            → Rose (store_faults self.old) (store_faults self.new) }
+        ensures count { store_faults self.old ≤ store_faults self.new }
+    {
+        let done = self.try_attach(alloc, path);
+        self.counted(done)
+    }
+
+    fn read(&mut self, alloc: Global, cell: Cell) -> Result<Option<Value>, StoreFault>
+        // What was put or erased and isn't synced yet is read.
+        ensures made { IfOk result (λ v. ReadsMade (made_of (unsynced_of self.old) cell) v) }
+        ensures alike { IsAlike (unsynced_of self.old) (unsynced_of self.new) }
+
+        ensures rose { result ≡ Err StoreFault.Failed
+            → Rose (store_faults self.old) (store_faults self.new) }
+        ensures count { store_faults self.old ≤ store_faults self.new }
+    {
+        let read = self.try_read(alloc, cell);
+        self.counted(read)
+    }
+
+    fn put(&mut self, alloc: Global, cell: Cell, value: &Value) -> Result<(), StoreFault>
+        // Reads give what the change makes of them, whatever the disk holds.
+        ensures changed { OnOk result (IsChanged (change.Put cell value.now)
+            (unsynced_of self.old) (unsynced_of self.new)) }
+
+        ensures rose { result ≡ Err StoreFault.Failed
+            → Rose (store_faults self.old) (store_faults self.new) }
+        ensures count { store_faults self.old ≤ store_faults self.new }
+    {
+        Ok(self.unsynced.put(alloc, cell, value)?)
+    }
+
+    fn erase(&mut self, alloc: Global, cell: Cell) -> Result<(), StoreFault>
+        ensures changed { OnOk result (IsChanged (change.Erase cell)
+            (unsynced_of self.old) (unsynced_of self.new)) }
+        ensures alike { OnErr result (IsAlike (unsynced_of self.old) (unsynced_of self.new)) }
+
+        ensures rose { result ≡ Err StoreFault.Failed
+            → Rose (store_faults self.old) (store_faults self.new) }
+        ensures count { store_faults self.old ≤ store_faults self.new }
+    {
+        Ok(self.unsynced.erase(cell)?)
+    }
+
+    fn erase_from(&mut self, alloc: Global, object: u32, first: u32) -> Result<(), StoreFault>
+        ensures changed { OnOk result (IsChanged (change.EraseFrom object first)
+            (unsynced_of self.old) (unsynced_of self.new)) }
+        ensures alike { OnErr result (IsAlike (unsynced_of self.old) (unsynced_of self.new)) }
+
+        ensures rose { result ≡ Err StoreFault.Failed
+            → Rose (store_faults self.old) (store_faults self.new) }
+        ensures count { store_faults self.old ≤ store_faults self.new }
+    {
+        Ok(self.unsynced.erase_from(object, first)?)
+    }
+
+    fn sync(&mut self, alloc: Global) -> Result<(), StoreFault>
+        ensures done { OnOk result (IsNothing (unsynced_of self.new)) }
+        ensures alike { OnErr result (IsAlike (unsynced_of self.old) (unsynced_of self.new)) }
+
+        ensures rose { result ≡ Err StoreFault.Failed
+            → Rose (store_faults self.old) (store_faults self.new) }
+        ensures count { store_faults self.old ≤ store_faults self.new }
+    {
+        let done = self.try_sync(alloc);
+        self.counted(done)
+    }
+
+    fn read_mark(&mut self, alloc: Global) -> Result<Option<Mark>, StoreFault>
+        ensures rose { result ≡ Err StoreFault.Failed
+            → Rose (store_faults self.old) (store_faults self.new) }
+        ensures count { store_faults self.old ≤ store_faults self.new }
+    {
+        let read = self.try_read_mark(alloc);
+        self.counted(read)
+    }
+
+    fn write_mark(&mut self, alloc: Global, mark: &Mark) -> Result<(), StoreFault>
+        ensures rose { result ≡ Err StoreFault.Failed
+            → Rose (store_faults self.old) (store_faults self.new) }
+        ensures count { store_faults self.old ≤ store_faults self.new }
+    {
+        let done = self.try_write_mark(alloc, mark);
+        self.counted(done)
+    }
+}
