@@ -1,5 +1,5 @@
 use Rattle.std.proofs.Common.{arith}
-use Rattle.harp_base.proofs.Codec.{front_found, front_only, front_exact}
+use Rattle.harp_base.proofs.ReadLaws.{front_found, front_only, front_exact}
 use Rattle.harp_cells.specs.ValueBytes.{value_at, value_bytes, ValueFits}
 use Rattle.harp_cells.proofs.ValueLaws.{value_codec}
 use Rattle.harp_cells.proofs.codec_reading.read_value.Goals as goal
