@@ -4,7 +4,7 @@ use Rattle.std.proofs.lemmas.List.{drop-drop, drop-take, take-take}
 use Rattle.harp_cells.specs.declared.change.Change.{Change}
 use Rattle.harp_cells.specs.Effect.{Cells}
 use Rattle.harp_store.specs.Mark.{MarkFields}
-use Rattle.harp_store.specs.Disk.{AfterPart, AtEachMoment, CrashesLeave, Disk, IsAfterPart, MayHaveMade, Moments, Now, after_changes, after_step, cells_told, changed_by_all, reads, synced_whole, then_disk, with_mark}
+use Rattle.harp_store.specs.Disk.{AfterPart, AtEachMoment, CrashesLeave, Disk, IsAfterPart, MayHaveMade, Moments, Now, after_changes, after_step, cells_told, changed_by_all, reads, set_by, synced_whole, then_disk, with_mark}
 use Rattle.harp_store.proofs.Moments.{follows, images_are_of, may_step, runs_join}
 use Rattle.harp_store.proofs.Runs.{after_some, moments_of_part}
 use Rattle.fuzzy_cells.specs.History.{AllSetOnce, History, between, in_a_row}
@@ -127,7 +127,7 @@ module _ (history : History) (ap' m : ℕ) (h : Moments) (mark : MarkFields)
 -- ---- cells stay
 
 reads_synced : (d : Disk) → reads (synced_whole d) ≡ reads d
-unfolding reads
+unfolding reads set_by
 reads_synced d = refl
 
 reads_marked : (mark : MarkFields) (d : Disk) → reads (with_mark mark d) ≡ reads d

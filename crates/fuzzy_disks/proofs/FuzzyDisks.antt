@@ -10,7 +10,8 @@ use Rattle.harp_cells.specs.declared.value.Value.{Value}
 use Rattle.harp_cells.specs.declared.change.Change.{Change}
 use Rattle.harp_cells.specs.declared.change.Change.TheVariants as change
 use Rattle.harp_cells.specs.Effect.{after, changed, is_cell}
-use Rattle.harp_store.specs.Disk.{Disk, MayHold, MayHoldInPart, changed_by_all, reads}
+use Rattle.harp_store.specs.Disk.{Disk, IsSynced, MayHold, MayHoldInPart, changed_by_all, reads, set_by, values_of}
+use Rattle.harp_store.specs.declared.layers.Unsynced.{Unsynced}
 use Rattle.harp_store.proofs.Changes.{holds_changed_all, reads_changed_all}
 use Rattle.harp_store.proofs.Crashes.{only_one}
 use Rattle.harp_store.proofs.Runs.{part_in_part}
@@ -40,7 +41,7 @@ same_value history a b c v w e m =
 -- ---- new disks
 
 pub new_disks : NewDisksAreFuzzy
-unfolding reads
+unfolding reads set_by values_of
 new_disks history mark = record {
   lb_ap = le_refl 0;
   ap_m = le_refl 0;
@@ -114,7 +115,7 @@ exact history lb ap m d h le c s =
 -- ---- syncs, marks and crashes
 
 pub synced : SyncedDisksAreFuzzy
-unfolding reads
+unfolding reads set_by values_of
 synced history lb ap m d h = (
   record {
     lb_ap = h.lb_ap;
@@ -145,18 +146,17 @@ pub images : ImagesAreFuzzy
 images history lb ap m d image h may c s = h.left c (image.cells c) s (may.cells c)
 
 -- a disk with nothing unsynced
-settled : (history : History) (lb m : ℕ) (left : Disk) → lb ≤ m
-    → ((c : Cell) → left.unsynced c ≡ []) → IsFuzzy history lb m left.synced
-    → IsFuzzyDisk history lb lb m left
-unfolding reads
+settled : (history : History) (lb m : ℕ) (left : Disk) → lb ≤ m → IsSynced left
+    → IsFuzzy history lb m left.synced → IsFuzzyDisk history lb lb m left
+unfolding reads set_by values_of
 settled history lb m left le none fuzzy = record {
   lb_ap = le_refl lb;
   ap_m = le;
-  now = λ c s. subst (λ (vs : List (Option Value)). IsOfMoment history lb m c
-      (fold (λ (old v : Option Value). v) (left.synced c) vs)) (sym (none c)) (fuzzy c s);
+  now = λ c s. subst (λ (us : List Unsynced). IsOfMoment history lb m c (set_by c us
+      (left.synced c))) (sym none) (fuzzy c s);
   left = λ c v s may. same_value history lb m c (left.synced c) v (only_one v (left.synced c)
-      (subst (λ (vs : List (Option Value)). MayHold (record left { unsynced = λ x. vs }) c v)
-      (none c) may)) (fuzzy c s);
+      (subst (λ (us : List Unsynced). MayHold (record left { unsynced = us }) c v) none may))
+      (fuzzy c s);
 }
 
 pub crashed : CrashedDisksAreFuzzy

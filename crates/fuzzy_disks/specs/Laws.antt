@@ -11,7 +11,7 @@ use Rattle.fuzzy_disks.specs.FuzzyDisk.{IsFuzzyDisk}
 
 -- a disk without a cell
 abbrev pub bare_disk : Option MarkFields → Disk
-bare_disk mark = record { synced = no_cells; unsynced = λ c. []; mark = mark }
+bare_disk mark = record { synced = no_cells; unsynced = []; mark = mark }
 
 abbrev pub NewDisksAreFuzzy : Type 0
 NewDisksAreFuzzy = (history : History) (mark : Option MarkFields)

@@ -1,19 +1,18 @@
 -- Lists of changes, and what they make of the cells.
-use Rattle.std.proofs.Common.{◌≡◌, ℕ, zero, suc, ◌≤◌, Bool, true, false, List, [], ◌∷◌, ◌++◌, map, length, take, drop, Option, Some, refl, sym, ap, subst, ◌∙◌, arith}
+use Rattle.std.proofs.Common.{◌≡◌, ℕ, zero, suc, ◌≤◌, Bool, true, false, ◌+◌, ◌&&◌, List, [], ◌∷◌, ◌++◌, map, fold, length, take, drop, Option, Some, refl, sym, ap, subst, ◌∙◌, arith}
 use Rattle.std.specs.Bool.{if◌then◌else◌}
 use Rattle.std.specs.Prelude.{All, slice_index_or}
 use Rattle.std.proofs.Math.Path.{fun_ext}
 use Rattle.std.proofs.lemmas.List.{take-append-le, drop-append-le, take_all, drop_all, take-append-drop}
-use Rattle.std.proofs.lemmas.Grind.{common_steps}
 use Rattle.harp_cells.specs.declared.cell.Cell.{Cell}
 use Rattle.harp_cells.specs.declared.value.Value.{Value}
 use Rattle.harp_cells.specs.Effect.{Cells, is_cell}
 use Rattle.harp_store.specs.Mark.{MarkFields}
-use Rattle.harp_store.specs.Disk.{Disk, reads, latest, with_value, synced_whole, then_disk}
-use Rattle.harp_store.specs.Layers.{Stored, without_past, values_of, set_by, disk_of, moments_of, with_changes, with_sync, with_mark_written, disk_at, stored_by, IsMoment, IsPast}
+use Rattle.harp_store.specs.Disk.{Disk, Moments, reads, values_of, set_by, with_unsynced, with_mark, synced_whole, then_disk}
+use Rattle.harp_store.specs.Layers.{disk_at, stored_by, IsMoment, IsPast}
 use Rattle.harp_store.specs.declared.layers.Unsynced.{Unsynced}
 use Rattle.harp_store.specs.declared.pick.Pick.{Pick}
-use Rattle.harp_store.specs.Memory.{crashed, is_kept, left_by}
+use Rattle.harp_store.specs.Memory.{crashed_by, is_kept, kept, left_by, without_past}
 use Rattle.harp_store.specs.declared.layers.Instant.{Instant}
 
 -- ---- one cell
@@ -36,7 +35,11 @@ unfolding set_by
 set_append c [] vs held = refl
 set_append c (u ∷ us) vs held = set_append c us vs (if is_cell u.cell c then u.value else held)
 
--- what reads give is what the changes make of the synced value
+-- the last of some values, where there is one
+abbrev pub latest : Option Value → List (Option Value) → Option Value
+latest held values = fold (λ _ v. v) held values
+
+-- what the changes make of a value is the last one
 pub latest_is : (c : Cell) (us : List Unsynced) (held : Option Value)
     → latest held (values_of c us) ≡ set_by c us held
 unfolding values_of set_by
@@ -50,42 +53,21 @@ latest_is c (u ∷ us) held = go (is_cell u.cell c) (latest_is c us u.value) (la
     go true h k = h
     go false h k = k
 
--- ---- one change more
+-- what is left by the changes that are kept is what these make
+pub left_is_kept : (keeps : ℕ → Bool) (place : ℕ) (c : Cell) (us : List Unsynced)
+    (held : Option Value) → left_by keeps place c us held ≡ set_by c (kept keeps place us) held
+unfolding left_by kept set_by
+left_is_kept keeps place c [] held = refl
+left_is_kept keeps place c (u ∷ us) held = go (keeps place) (left_is_kept keeps (place + 1) c us)
+  where
+    go : (b : Bool) → ((h : Option Value) → left_by keeps (place + 1) c us h
+        ≡ set_by c (kept keeps (place + 1) us) h)
+        → left_by keeps (place + 1) c us (if b && is_cell u.cell c then u.value else held)
+        ≡ set_by c (if b then u ∷ kept keeps (place + 1) us else kept keeps (place + 1) us) held
+    go true rest = rest (if is_cell u.cell c then u.value else held)
+    go false rest = rest held
 
-one_value : (values : List (Option Value)) (value : Option Value) (same : Bool)
-    → values ++ (if same then value ∷ [] else []) ≡ (if same then values ++ value ∷ [] else values)
-one_value values value true = refl
-one_value values value false = search common_steps
-
--- a put or an erasure is a change of the disk
-pub one_change : (s : Stored) (u : Unsynced) → moments_of (with_changes (u ∷ []) s)
-    ≡ then_disk (with_value u.cell u.value (disk_of s)) (moments_of s)
-unfolding values_of
-one_change s u =
-    ap (λ (f : Cell → List (Option Value)). record {
-      past = s.past ++ disk_of s ∷ [];
-      now = record
-          { synced = s.synced; unsynced = f; mark = s.mark };
-    })
-    (fun_ext (λ c. values_append c s.unsynced (u ∷ [])
-    ∙ one_value (values_of c s.unsynced) u.value (is_cell u.cell c)))
-
--- a sync is one of the disk
-pub one_sync : (s : Stored) → moments_of (with_sync s)
-    ≡ then_disk (synced_whole (disk_of s)) (moments_of s)
-unfolding reads values_of
-one_sync s =
-    ap (λ (f : Cells). record {
-      past = s.past ++ disk_of s ∷ [];
-      now = record {
-        synced = f;
-        unsynced = λ c. [];
-        mark = s.mark;
-      };
-    })
-    (fun_ext (λ c. sym (latest_is c s.unsynced (s.synced c))))
-
--- ---- the inside
+-- ---- moments
 
 -- what the changes up to a moment made stays
 disk_stays : (base : Cells) (changes more : List Unsynced) (t : Instant)
@@ -124,13 +106,13 @@ instant changes synced mark = record { made = length changes; synced = synced; m
 its_disk : (base : Cells) (changes : List Unsynced) (synced : ℕ) (mark : Option MarkFields)
     (past : List Instant)
     → disk_at base changes (instant changes synced mark)
-    ≡ disk_of (stored_by base changes synced mark past)
+    ≡ (stored_by base changes synced mark past).now
 its_disk base changes synced mark past = rw (take_all (length changes) changes (omega arith)) refl
 
 past_after : (base : Cells) (changes : List Unsynced) (synced : ℕ) (mark : Option MarkFields)
     (past : List Instant)
     → map (disk_at base changes) (past ++ instant changes synced mark ∷ [])
-    ≡ map (disk_at base changes) past ++ disk_of (stored_by base changes synced mark past) ∷ []
+    ≡ map (disk_at base changes) past ++ (stored_by base changes synced mark past).now ∷ []
 past_after base changes synced mark past =
     map_append base changes past (instant changes synced mark)
     ∙ ap (λ (d : Disk). map (disk_at base changes) past ++ d ∷ [])
@@ -160,8 +142,8 @@ past_grown changes made synced mark past le h = record {
       (length changes) made past le h.moments) (h.within, le);
 }
 
-abbrev the_stored : List Disk → Cells → List Unsynced → Option MarkFields → Stored
-the_stored p f u m = record { past = p; synced = f; unsynced = u; mark = m }
+abbrev the_stored : List Disk → Cells → List Unsynced → Option MarkFields → Moments
+the_stored p f u m = record { past = p; now = record { synced = f; unsynced = u; mark = m } }
 
 same_stored : (p p' : List Disk) (f f' : Cells) (u u' : List Unsynced) (m : Option MarkFields)
     → p ≡ p' → f ≡ f' → u ≡ u'
@@ -175,15 +157,17 @@ pub stored_changed : (base new : Cells) (changes more : List Unsynced) (synced :
     (mark : Option MarkFields) (past : List Instant) → ((c : Cell) → new c ≡ base c)
     → IsPast (length changes) synced past
     → stored_by new (changes ++ more) synced mark (past ++ instant changes synced mark ∷ [])
-    ≡ with_changes more (stored_by base changes synced mark past)
+    ≡ then_disk (with_unsynced more (stored_by base changes synced mark past).now)
+    (stored_by base changes synced mark past)
 stored_changed base new changes more synced mark past same times =
     let is : new ≡ base = fun_ext same in
     subst (λ (f : Cells). stored_by f (changes ++ more) synced mark
     (past ++ instant changes synced mark ∷ [])
-    ≡ with_changes more (stored_by base changes synced mark past)) (sym is)
+    ≡ then_disk (with_unsynced more (stored_by base changes synced mark past).now)
+    (stored_by base changes synced mark past)) (sym is)
     (same_stored (map (disk_at base (changes ++ more))
-    (past ++ instant changes synced mark ∷ [])) (map (disk_at base changes) past ++ disk_of
-    (stored_by base changes synced mark past) ∷ [])
+    (past ++ instant changes synced mark ∷ [])) (map (disk_at base changes) past ++
+    (stored_by base changes synced mark past).now ∷ [])
     (λ c. set_by c (take synced (changes ++ more)) (base c)) (λ c. set_by c (take synced changes)
     (base c))
     (drop synced (changes ++ more)) (drop synced changes ++ more) mark
@@ -198,10 +182,13 @@ stored_changed base new changes more synced mark past same times =
 pub stored_synced : (base : Cells) (changes : List Unsynced) (synced : ℕ)
     (mark : Option MarkFields) (past : List Instant)
     → stored_by base changes (length changes) mark (past ++ instant changes synced mark ∷ [])
-    ≡ with_sync (stored_by base changes synced mark past)
+    ≡ then_disk (synced_whole (stored_by base changes synced mark past).now)
+    (stored_by base changes synced mark past)
+unfolding reads
 stored_synced base changes synced mark past =
     same_stored (map (disk_at base changes) (past ++ instant changes synced mark ∷ [])) (map
-    (disk_at base changes) past ++ disk_of (stored_by base changes synced mark past) ∷ [])
+    (disk_at base changes) past ++
+    (stored_by base changes synced mark past).now ∷ [])
     (λ c. set_by c (take (length changes) changes) (base c)) (λ c. set_by c (drop synced changes)
     (set_by c (take synced changes) (base c)))
     (drop (length changes) changes) [] mark
@@ -215,10 +202,12 @@ stored_synced base changes synced mark past =
 pub stored_marked : (base : Cells) (changes : List Unsynced) (synced : ℕ)
     (mark : Option MarkFields) (new : MarkFields) (past : List Instant)
     → stored_by base changes synced (Some new) (past ++ instant changes synced mark ∷ [])
-    ≡ with_mark_written new (stored_by base changes synced mark past)
+    ≡ then_disk (with_mark new (stored_by base changes synced mark past).now)
+    (stored_by base changes synced mark past)
 stored_marked base changes synced mark new past =
     same_stored (map (disk_at base changes) (past ++ instant changes synced mark ∷ [])) (map
-    (disk_at base changes) past ++ disk_of (stored_by base changes synced mark past) ∷ [])
+    (disk_at base changes) past ++
+    (stored_by base changes synced mark past).now ∷ [])
     (λ c. set_by c (take synced changes) (base c)) (λ c. set_by c (take synced changes) (base c))
     (drop synced changes) (drop synced changes) (Some new)
     (past_after base changes synced mark past) refl refl
@@ -241,8 +230,9 @@ pub crashed_stored : (base new : Cells) (changes : List Unsynced) (synced : ℕ)
     (mark : Option MarkFields) (past : List Instant) (pick : Pick)
     → ((c : Cell) → new c ≡ left_by (is_kept pick) 0 c (drop synced changes) (set_by c
     (take synced changes) (base c)))
-    → stored_by new [] 0 mark [] ≡ crashed pick (stored_by base changes synced mark past)
-unfolding set_by
+    → stored_by new [] 0 mark []
+    ≡ record { past = []; now = crashed_by pick (stored_by base changes synced mark past).now }
+unfolding set_by reads
 crashed_stored base new changes synced mark past pick h =
-    same_stored [] [] new (λ c. left_by (is_kept pick) 0 c (drop synced changes) (set_by c
-    (take synced changes) (base c))) [] [] mark refl (fun_ext h) refl
+    ap (λ (f : Cells). the_stored [] f [] mark) (fun_ext (λ c. h c ∙ left_is_kept
+    (is_kept pick) 0 c (drop synced changes) (set_by c (take synced changes) (base c))))

@@ -1,32 +1,39 @@
 -- What a disk holds at one moment, what a crash may leave of it, and what each call makes of it.
-use Rattle.std.specs.Prelude.{◌≡◌, ◌⊎◌, ℕ, Bool, ◌&&◌, List, [], ◌∷◌, ◌++◌, fold, length, take, drop, ◌≤◌, All, Any, Option, Some, None, is_some, if◌then◌else◌}
+use Rattle.std.specs.Prelude.{◌≡◌, ◌⊎◌, ℕ, zero, suc, ◌-◌, ◌^◌, max, List, [], ◌∷◌, ◌++◌, map, fold, length, take, drop, ◌≤◌, All, Any, Option, Some, None, is_some, if◌then◌else◌}
 use Rattle.harp_cells.specs.declared.cell.Cell.{Cell}
+use Rattle.harp_cells.specs.declared.cell.Cell.TheVariants as cell
 use Rattle.harp_cells.specs.declared.value.Value.{Value}
 use Rattle.harp_cells.specs.declared.change.Change.{Change}
 use Rattle.harp_cells.specs.declared.change.Change.TheVariants as change
 use Rattle.harp_cells.specs.Effect.{Cells, after, is_cell, is_block_from}
 use Rattle.harp_store.specs.Mark.{MarkFields}
+use Rattle.harp_store.specs.declared.layers.Unsynced.{Unsynced}
 
 -- ---- a disk
 
--- a disk at one moment: what the last sync left in each cell, what was put or erased there since,
--- in order, and the mark
+-- a disk at one moment: what the last sync left in each cell, what was put or erased since, in
+-- order, and the mark
 pub record Disk : Type 0 where
   pub synced : Cells
-  pub unsynced : Cell → List (Option Value)
+  pub unsynced : List Unsynced
   pub mark : Option MarkFields
 
--- the last of some values, where there is one
-abbrev pub latest : Option Value → List (Option Value) → Option Value
-latest held values = fold (λ _ v. v) held values
+-- the values that were put or erased in a cell
+unfoldable pub values_of : Cell → List Unsynced → List (Option Value)
+values_of c [] = []
+values_of c (u ∷ us) = if is_cell u.cell c then u.value ∷ values_of c us else values_of c us
+
+-- what puts and erasures make of a cell
+unfoldable pub set_by : Cell → List Unsynced → Option Value → Option Value
+set_by c us held = fold (λ h u. if is_cell u.cell c then u.value else h) held us
 
 -- what reads give
 unfoldable pub reads : Disk → Cells
-reads d c = latest (d.synced c) (d.unsynced c)
+reads d c = set_by c d.unsynced (d.synced c)
 
--- no cell has a value that isn't synced
+-- every value is synced
 abbrev pub IsSynced : Disk → Type 0
-IsSynced d = (c : Cell) → d.unsynced c ≡ []
+IsSynced d = d.unsynced ≡ []
 
 -- ---- what a crash leaves
 
@@ -37,7 +44,7 @@ pub record Image : Type 0 where
 
 -- a crash may leave this value of a cell: that of the last sync, or any put or erased since
 abbrev pub MayHold : Disk → Cell → Option Value → Type 0
-MayHold d c value = Any (λ v. v ≡ value) (d.synced c ∷ d.unsynced c)
+MayHold d c value = Any (λ v. v ≡ value) (d.synced c ∷ values_of c d.unsynced)
 
 -- a crash at this moment may leave this image; each cell goes its own way
 pub record MayLeave (d : Disk) (image : Image) : Type 0 where
@@ -51,25 +58,52 @@ pub record IsLeftOf (d left : Disk) : Type 0 where
 
 -- ---- what calls make of a disk
 
+-- puts and erasures are made, behind those before
+abbrev pub with_unsynced : List Unsynced → Disk → Disk
+with_unsynced more d = record {
+  synced = d.synced;
+  unsynced = d.unsynced ++ more;
+  mark = d.mark;
+}
+
 -- a value is put in a cell, or its value is erased
 abbrev pub with_value : Cell → Option Value → Disk → Disk
-with_value cell value d = record {
-  synced = d.synced;
-  unsynced = λ c. if is_cell cell c then d.unsynced c ++ value ∷ [] else d.unsynced c;
+with_value cell value d = with_unsynced (record { cell = cell; value = value } ∷ []) d
+
+-- the number of each block of a store is below this
+unfoldable pub block_numbers : ℕ
+block_numbers = 2 ^ 32
+
+-- the blocks of an object that hold a value, of so many from one on, ascending
+unfoldable pub blocks_there : ℕ → Cells → ℕ → ℕ → List ℕ
+blocks_there zero cells object block = []
+blocks_there (suc more) cells object block =
+    if is_some (cells (cell.Block object block))
+    then block ∷ blocks_there more cells object (suc block)
+    else blocks_there more cells object (suc block)
+
+-- an erasure of each of these blocks
+abbrev pub erasures : ℕ → List ℕ → List Unsynced
+erasures object blocks = map (λ block. record { cell = cell.Block object block; value = None })
+    blocks
+
+-- the disk as if no block of the object from one on had ever held a value
+abbrev pub bare_from : ℕ → ℕ → Disk → Disk
+bare_from object first d = record {
+  synced = λ c. if is_block_from object first c then None else d.synced c;
+  unsynced = map (λ u. record {
+    cell = u.cell;
+    value = if is_block_from object first u.cell then None else u.value;
+  }) d.unsynced;
   mark = d.mark;
 }
 
--- the cell is a block of the object, from the first on, that holds a value
-unfoldable pub is_held_from : ℕ → ℕ → Disk → Cell → Bool
-is_held_from object first d c = is_block_from object first c && is_some (reads d c)
-
--- each block that is there, from the first on, is erased
+-- each block that is there, from the first on, is erased, ascending. The cells of a disk are any
+-- map: of a block behind the last number, which no store can have, no value is left at once
 abbrev pub without_from : ℕ → ℕ → Disk → Disk
-without_from object first d = record {
-  synced = d.synced;
-  unsynced = λ c. if is_held_from object first d c then d.unsynced c ++ None ∷ [] else d.unsynced c;
-  mark = d.mark;
-}
+without_from object first d =
+    with_unsynced (erasures object (blocks_there (block_numbers - first) (reads d) object first))
+    (bare_from object (max first block_numbers) d)
 
 -- a change of cells is made
 abbrev pub changed_by : Change → Disk → Disk
@@ -89,7 +123,7 @@ MayHoldInPart changes d c value = MayHold d c value ⊎ ((n : ℕ) × (n ≤ len
 
 -- every value is synced
 abbrev pub synced_whole : Disk → Disk
-synced_whole d = record { synced = reads d; unsynced = λ c. []; mark = d.mark }
+synced_whole d = record { synced = reads d; unsynced = []; mark = d.mark }
 
 -- the mark is written
 abbrev pub with_mark : MarkFields → Disk → Disk

@@ -1,118 +1,36 @@
--- A store in memory: its values, the changes of them, and its earlier moments.
-use Rattle.std.specs.Prelude.{◌≡◌, ◌⊎◌, ℕ, ◌<◌, ◌≤◌, Bool, true, ◌&&◌, List, [], ◌∷◌, ◌++◌, map, fold, length, take, drop, All, AllPairs, count_by, nat_le, nat_lt, ◌==◌, is_some, Option, Some, None, if◌then◌else◌}
+-- The inside of a store in memory: its values, the changes of them, and its earlier moments.
+use Rattle.std.specs.Prelude.{◌≡◌, ◌⊎◌, ℕ, ◌≤◌, Bool, ◌&&◌, List, [], ◌∷◌, map, length, take, drop, All, Option, Some, None, if◌then◌else◌}
 use Rattle.harp_cells.specs.declared.cell.Cell.{Cell}
-use Rattle.harp_cells.specs.declared.cell.Cell.TheVariants as cell
 use Rattle.harp_cells.specs.declared.value.Value.{Value}
 use Rattle.harp_cells.specs.Effect.{Cells, is_cell}
 use Rattle.harp_store.specs.Mark.{MarkFields}
-use Rattle.harp_store.specs.Disk.{Disk, Moments}
+use Rattle.harp_store.specs.Disk.{Disk, Moments, set_by}
 use Rattle.harp_store.specs.Table.{Entries, find, base_in, value_in}
 use Rattle.harp_store.specs.declared.table.Held.{Held}
 use Rattle.harp_store.specs.declared.layers.Unsynced.{Unsynced}
 use Rattle.harp_store.specs.declared.layers.Instant.{Instant}
 use Rattle.harp_store.specs.declared.layers.Layers.{Layers}
 
--- ---- as callers see it
-
--- the disk at each earlier moment that is told, what the last sync left, what was put or erased
--- since, in order, and the mark
-pub record Stored : Type 0 where
-  pub past : List Disk
-  pub synced : Cells
-  pub unsynced : List Unsynced
-  pub mark : Option MarkFields
-
--- the values that were put or erased in a cell
-unfoldable pub values_of : Cell → List Unsynced → List (Option Value)
-values_of c [] = []
-values_of c (u ∷ us) = if is_cell u.cell c then u.value ∷ values_of c us else values_of c us
-
--- what puts and erasures make of a cell
-unfoldable pub set_by : Cell → List Unsynced → Option Value → Option Value
-set_by c us held = fold (λ h u. if is_cell u.cell c then u.value else h) held us
-
-abbrev pub disk_of : Stored → Disk
-disk_of s = record { synced = s.synced; unsynced = λ c. values_of c s.unsynced; mark = s.mark }
-
-abbrev pub moments_of : Stored → Moments
-moments_of s = record { past = s.past; now = disk_of s }
-
--- the puts and erasures are made; the disk before is one of the earlier ones
-abbrev pub with_changes : List Unsynced → Stored → Stored
-with_changes more s = record {
-  past = s.past ++ disk_of s ∷ [];
-  synced = s.synced;
-  unsynced =
-      s.unsynced ++ more;
-  mark = s.mark;
-}
-
--- every value is synced
-abbrev pub with_sync : Stored → Stored
-with_sync s = record {
-  past = s.past ++ disk_of s ∷ [];
-  synced = λ c. set_by c s.unsynced
-      (s.synced c);
-  unsynced = [];
-  mark = s.mark;
-}
-
--- the mark is written
-abbrev pub with_mark_written : MarkFields → Stored → Stored
-with_mark_written mark s = record {
-  past = s.past ++ disk_of s ∷ [];
-  synced = s.synced;
-  unsynced =
-      s.unsynced;
-  mark = Some mark;
-}
-
--- no earlier moment is told any more
-abbrev pub without_past : Stored → Stored
-without_past s = record { past = []; synced = s.synced; unsynced = s.unsynced; mark = s.mark }
-
--- an erasure of each of these blocks
-abbrev pub erasures : ℕ → List ℕ → List Unsynced
-erasures object blocks = map (λ block. record { cell = cell.Block object block; value = None })
-    blocks
-
--- these are the blocks of the object that are there, from the first on, each once and ascending
-pub record AreBlocksFrom (object first : ℕ) (cells : Cells) (blocks : List ℕ) : Type 0 where
-  pub ascending : AllPairs (λ a b. a < b) blocks
-  pub those : (block : ℕ) → count_by (λ b. b == block) blocks ≡ (if nat_le first block
-      && is_some (cells (cell.Block object block)) then 1 else 0)
-
--- a block comes before the next one
-abbrev pub is_before : Option ℕ → ℕ → Bool
-is_before None block = true
-is_before (Some next) block = nat_lt block next
-
--- the same of the blocks before the next one, where there is one
-pub record AreBlocksTo (object first : ℕ) (cells : Cells) (next : Option ℕ)
-    (blocks : List ℕ) : Type 0 where
-  pub ascending : AllPairs (λ a b. a < b) blocks
-  pub before : All (λ b. is_before next b ≡ true) blocks
-  pub those : (block : ℕ) → count_by (λ b. b == block) blocks ≡ (if nat_le first block
-      && is_before next block && is_some (cells (cell.Block object block)) then 1 else 0)
-
--- ---- inside
+-- ---- moments
 
 -- the disk at a moment, by the values below and the changes of them
 abbrev pub disk_at : Cells → List Unsynced → Instant → Disk
 disk_at base changes t = record {
   synced = λ c. set_by c (take t.synced changes) (base c);
-  unsynced = λ c. values_of c (drop t.synced (take t.made changes));
+  unsynced = drop t.synced (take t.made changes);
   mark = t.mark;
 }
 
--- what is stored, by the values below, the changes of them, how many of these are synced, the mark
--- and earlier moments
-abbrev pub stored_by : Cells → List Unsynced → ℕ → Option MarkFields → List Instant → Stored
+-- what is stored at each moment, by the values below, the changes of them, how many of these are
+-- synced, the mark and earlier moments
+abbrev pub stored_by : Cells → List Unsynced → ℕ → Option MarkFields → List Instant → Moments
 stored_by base changes synced mark past = record {
   past = map (disk_at base changes) past;
-  synced = λ c. set_by c (take synced changes) (base c);
-  unsynced = drop synced changes;
-  mark = mark;
+  now = record {
+    synced = λ c. set_by c (take synced changes) (base c);
+    unsynced = drop synced changes;
+    mark = mark;
+  };
 }
 
 -- what a value lacks an entry for
@@ -141,7 +59,7 @@ pub record AreLayers (l : Layers) : Type 0 where
   pub table : IsReadBy l.table l.changes.items
   pub times : IsPast (length l.changes.items) l.synced l.past.items
 
-abbrev pub stored_in : Layers → Stored
+abbrev pub stored_in : Layers → Moments
 stored_in l = stored_by (base_in l.table) l.changes.items l.synced l.mark l.past.items
 
 -- ---- one change of the table

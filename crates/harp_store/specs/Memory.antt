@@ -1,30 +1,32 @@
--- A store in memory, as callers see it.
-use Rattle.std.specs.Prelude.{◌≡◌, ℕ, zero, suc, ◌+◌, ◌%◌, Bool, true, false, ◌&&◌, List, [], ◌∷◌, length, slice_index_or, Option, Some, None, if◌then◌else◌}
+-- A store in memory, as callers see it, and what a crash by a pick leaves of a disk.
+use Rattle.std.specs.Prelude.{ℕ, zero, suc, ◌+◌, ◌%◌, Bool, true, false, ◌&&◌, List, [], ◌∷◌, length, slice_index_or, Option, Some, None, if◌then◌else◌}
 use Rattle.harp_cells.specs.declared.cell.Cell.{Cell}
 use Rattle.harp_cells.specs.declared.value.Value.{Value}
 use Rattle.harp_cells.specs.Effect.{is_cell}
-use Rattle.harp_store.specs.Disk.{Moments, reads}
-use Rattle.harp_store.specs.Layers.{Stored, stored_in, AreBlocksFrom, disk_of, moments_of, with_changes, erasures}
+use Rattle.harp_store.specs.Disk.{Disk, Moments, synced_whole}
+use Rattle.harp_store.specs.Layers.{stored_in}
 use Rattle.harp_store.specs.declared.layers.Unsynced.{Unsynced}
 use Rattle.harp_store.specs.declared.mem_store.MemStore.{MemStore}
 use Rattle.harp_store.specs.declared.pick.Pick.{Pick}
 use Rattle.harp_store.specs.declared.pick.Pick.TheVariants as pick
 
-abbrev pub stored_of : MemStore → Stored
+-- the disk at each moment
+abbrev pub stored_of : MemStore → Moments
 stored_of m = stored_in m.layers
 
 abbrev pub told_of : MemStore → Option Moments
-told_of m = Some (moments_of (stored_of m))
+told_of m = Some (stored_of m)
 
--- no cell and no mark
-abbrev pub nothing_stored : Stored
-nothing_stored = record { past = []; synced = λ c. None; unsynced = []; mark = None }
+-- a disk without a cell and a mark, at its first moment
+abbrev pub nothing_stored : Moments
+nothing_stored = record {
+  past = [];
+  now = record { synced = λ c. None; unsynced = []; mark = None };
+}
 
--- the blocks that were there are erased, one after the other
-abbrev pub BlocksErased : ℕ → ℕ → Stored → Stored → Type 0
-BlocksErased object first old new =
-    (blocks : List ℕ) × AreBlocksFrom object first (reads (disk_of old)) blocks × (new
-    ≡ with_changes (erasures object blocks) old)
+-- no earlier moment is told any more
+abbrev pub without_past : Moments → Moments
+without_past h = record { past = []; now = h.now }
 
 -- ---- a crash
 
@@ -34,21 +36,27 @@ is_kept pick.All place = true
 is_kept pick.None place = false
 is_kept (pick.Bits bits) place = slice_index_or bits (place % length bits) false
 
+-- the changes that are kept of some whose first one has this place
+unfoldable pub kept : (ℕ → Bool) → ℕ → List Unsynced → List Unsynced
+kept keeps place [] = []
+kept keeps place (u ∷ us) = if keeps place then u ∷ kept keeps (place + 1) us else kept keeps
+    (place + 1) us
+
+-- THE DISK AFTER A CRASH BY A PICK: of the unsynced changes those that it keeps, and all is synced
+abbrev pub crashed_by : Pick → Disk → Disk
+crashed_by pick d = synced_whole (record {
+  synced = d.synced;
+  unsynced = kept (is_kept pick) 0 d.unsynced;
+  mark = d.mark;
+})
+
+-- ---- inside
+
 -- the last change of a cell that is kept, by its place; without one what is held
 unfoldable pub left_by : (ℕ → Bool) → ℕ → Cell → List Unsynced → Option Value → Option Value
 left_by keeps place c [] held = held
 left_by keeps place c (u ∷ us) held = left_by keeps (place + 1) c us (if keeps place
     && is_cell u.cell c then u.value else held)
-
--- a crash keeps some of the unsynced changes
-abbrev pub crashed : Pick → Stored → Stored
-crashed pick s = record {
-  past = [];
-  synced = λ c. left_by (is_kept pick) 0 c s.unsynced
-      (s.synced c);
-  unsynced = [];
-  mark = s.mark;
-}
 
 -- the same after so many changes that are kept
 unfoldable pub left_after : Pick → ℕ → ℕ → Cell → List Unsynced → Option Value → Option Value

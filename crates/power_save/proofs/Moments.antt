@@ -3,7 +3,7 @@ use Rattle.std.proofs.Common.{◌≡◌, ◌+◌, List, take, refl, sym, subst, 
 use Rattle.harp_cells.specs.declared.change.Change.{Change}
 use Rattle.harp_cells.specs.declared.value.Value.{Value}
 use Rattle.harp_store.specs.Mark.{MarkFields}
-use Rattle.harp_store.specs.Disk.{AfterPart, AtEachMoment, Disk, Moments, IsAfterPart, MayHaveMade, Now, after_changes, after_step, changed_by_all, reads, synced_whole, then_disk, with_mark}
+use Rattle.harp_store.specs.Disk.{AfterPart, AtEachMoment, Disk, Moments, IsAfterPart, MayHaveMade, Now, after_changes, after_step, changed_by_all, reads, set_by, synced_whole, then_disk, with_mark}
 use Rattle.harp_store.proofs.Changes.{reads_changed_all}
 use Rattle.harp_store.proofs.Moments.{follows, may_step, runs_join}
 use Rattle.harp_store.proofs.Runs.{after_none, after_some, all_is_part, mark_stays, moments_of_part}
@@ -17,9 +17,9 @@ module _ (log : LogValue) (mark : MarkFields) where
   saved_on : (d : Disk) → IsLog log → AllFit log.records
       → SavedOn log (with_mark mark (synced_whole (changed_by_all
       (puts_of log.records) d)))
-  unfolding reads
+  unfolding reads set_by
   saved_on d order fit = record {
-    synced = λ c. refl;
+    synced = refl;
     held = λ k e lt. let put = puts_hold log.records log.base (reads d) order.numbered order.few fit
         k e lt in record {
           meant = subst (λ (v : Option Value). HasRecord v (slice_index_or log.records k e))
