@@ -1,6 +1,7 @@
 //! A clock in memory.
 
 ghost use Rattle.std.specs.Prelude.{◌≡◌, ◌≤◌, ◌<◌, ◌^◌, ◌++◌, [], ◌∷◌, drop, true, Some, None};
+ghost use Rattle.std.specs.Option.{option_copied};
 ghost use Rattle.harp_base.specs.declared.server.ServerId.{ServerId as Place};
 ghost use Rattle.node_link.specs.Readings.{MayTell, next_reading, rises_from};
 
@@ -65,7 +66,9 @@ impl ListClock {
     }
 
     /// The readings given, in order; None once no memory was found to keep one.
-    pub fn told(&self) -> Option<&[Reading]> {
+    pub fn told(&self) -> Option<&[Reading]>
+        ensures { option_copied result ≡ self.now.told }
+    {
         match &self.told {
             Some(told) => Some(told.as_slice()),
             None => None,

@@ -1,5 +1,8 @@
 //! Files and folders: read whole, replaced whole, removed, synced.
 
+ghost use Rattle.std.specs.Prelude.{◌≡◌, ◌≢◌, IfErr, IfOk, Err, Ok};
+ghost use Rattle.std.specs.IoError.{error_kind};
+
 use harp_store::StoreFault;
 use std::alloc::Global;
 use std::fs::{File, OpenFile};
@@ -8,7 +11,10 @@ use std::rt::Files;
 use std::{fs, io};
 
 /// The fault that an error of files is.
-pub fn fault_of(error: io::Error) -> StoreFault {
+pub fn fault_of(error: io::Error) -> StoreFault
+    ensures failed { error_kind error ≢ ErrorKind.OutOfMemory → result ≡ StoreFault.Failed }
+    ensures memory { error_kind error ≡ ErrorKind.OutOfMemory → result ≡ StoreFault.NoMemory }
+{
     match error.kind() {
         ErrorKind::OutOfMemory => StoreFault::NoMemory,
         _ => StoreFault::Failed,
@@ -16,7 +22,13 @@ pub fn fault_of(error: io::Error) -> StoreFault {
 }
 
 /// What files gave, with the fault that an error is.
-pub fn of_disk<T>(given: io::Result<T>) -> Result<T, StoreFault> {
+pub fn of_disk<T>(given: io::Result<T>) -> Result<T, StoreFault>
+    ensures ok { IfOk given (λ value. result ≡ Ok value) }
+    ensures failed { IfErr given (λ error. error_kind error ≢ ErrorKind.OutOfMemory
+        → result ≡ Err StoreFault.Failed) }
+    ensures memory { IfErr given (λ error. error_kind error ≡ ErrorKind.OutOfMemory
+        → result ≡ Err StoreFault.NoMemory) }
+{
     match given {
         Ok(value) => Ok(value),
         Err(error) => Err(fault_of(error)),

@@ -1,5 +1,6 @@
 //! A folder with the files of a store.
 
+ghost use Rattle.std.specs.Prelude.{◌≡◌};
 ghost use Rattle.store_folder.specs.Unsynced.{IsAlike};
 
 use crate::cell_file::{LONGEST_FILE, read_cell_file, write_cell_file};
@@ -19,7 +20,9 @@ pub fn list_blocks<R: Files + AllocGlobal + Clone + Drop>(
     rt: &R,
     folder: &str,
     unsynced: &mut Unsynced,
-) -> Result<(), StoreFault> {
+) -> Result<(), StoreFault>
+    ensures { unsynced.new ≡ unsynced.old }
+{
     for entry in of_disk(fs::read_dir(rt, folder))? {
         let entry = of_disk(entry)?;
         if let Some((object, block)) = block_named(entry.file_name()) {

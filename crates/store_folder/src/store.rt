@@ -1,6 +1,6 @@
 //! The store over a folder.
 
-ghost use Rattle.std.specs.Prelude.{◌≡◌, ◌≤◌, Err, None, IfOk, OnOk, OnErr};
+ghost use Rattle.std.specs.Prelude.{◌≡◌, ◌⊎◌, ◌≤◌, Err, None, IfOk, OnOk, OnErr};
 ghost use Rattle.harp_base.specs.Streams.{Rose};
 ghost use Rattle.harp_cells.specs.declared.change.Change.TheVariants as change;
 ghost use Rattle.store_folder.specs.Unsynced.{IsAlike, IsChanged, IsNothing, ReadsMade, made_of};
@@ -83,7 +83,8 @@ impl<R> FolderStore<R> {
 
 impl<R: Files + AllocGlobal + Clone + Drop> FolderStore<R> {
     fn try_attach(&mut self, alloc: Global, path: &str) -> Result<(), StoreFault>
-        ensures { store_faults self.new ≡ store_faults self.old }
+        ensures unsynced { unsynced_of self.new ≡ unsynced_of self.old }
+        ensures faults { store_faults self.new ≡ store_faults self.old }
     {
         if path.is_empty() {
             return Err(StoreFault::Failed);
@@ -134,6 +135,8 @@ impl<R: Files + AllocGlobal + Clone + Drop> Store for FolderStore<R> {
 
     /// Makes the folder and those above it, where there are none.
     fn attach(&mut self, alloc: Global, path: &str) -> Result<(), StoreFault>
+        ensures unsynced { unsynced_of self.new ≡ unsynced_of self.old }
+
         ensures rose { result ≡ Err StoreFault.Failed
             → Rose (store_faults self.old) (store_faults self.new) }
         ensures count { store_faults self.old ≤ store_faults self.new }
@@ -159,6 +162,9 @@ impl<R: Files + AllocGlobal + Clone + Drop> Store for FolderStore<R> {
         // Reads give what the change makes of them, whatever the disk holds.
         ensures changed { OnOk result (IsChanged (change.Put cell value.now)
             (unsynced_of self.old) (unsynced_of self.new)) }
+        ensures part { OnErr result (IsAlike (unsynced_of self.old) (unsynced_of self.new)
+            ⊎ IsChanged (change.Put cell value.now) (unsynced_of self.old)
+            (unsynced_of self.new)) }
 
         ensures rose { result ≡ Err StoreFault.Failed
             → Rose (store_faults self.old) (store_faults self.new) }
@@ -204,6 +210,8 @@ impl<R: Files + AllocGlobal + Clone + Drop> Store for FolderStore<R> {
     }
 
     fn read_mark(&mut self, alloc: Global) -> Result<Option<Mark>, StoreFault>
+        ensures unsynced { unsynced_of self.new ≡ unsynced_of self.old }
+
         ensures rose { result ≡ Err StoreFault.Failed
             → Rose (store_faults self.old) (store_faults self.new) }
         ensures count { store_faults self.old ≤ store_faults self.new }
@@ -213,6 +221,8 @@ impl<R: Files + AllocGlobal + Clone + Drop> Store for FolderStore<R> {
     }
 
     fn write_mark(&mut self, alloc: Global, mark: &Mark) -> Result<(), StoreFault>
+        ensures unsynced { unsynced_of self.new ≡ unsynced_of self.old }
+
         ensures rose { result ≡ Err StoreFault.Failed
             → Rose (store_faults self.old) (store_faults self.new) }
         ensures count { store_faults self.old ≤ store_faults self.new }
