@@ -41,7 +41,7 @@ same_changes object first (u ∷ us) h =
     ∙ ap (λ (vs : List Unsynced). u ∷ vs) (same_changes object first us
     (all_but_first (IsBare object first) u us h))
 
-bare_same : (object first : ℕ) (d : Disk)
+pub bare_same : (object first : ℕ) (d : Disk)
     → ((c : Cell) → is_block_from object first c ≡ true → d.synced c ≡ None)
     → All (IsBare object first) d.unsynced → bare_from object first d ≡ d
 bare_same object first d synced unsynced =

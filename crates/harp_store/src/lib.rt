@@ -12,7 +12,7 @@ mod store;
 mod table;
 
 pub use failing::{Failing, Stop};
-pub use laws::{change_laws, moment_laws};
+pub use laws::{change_laws, moment_laws, order_laws};
 pub use layers::Unsynced;
 pub use mark::{LONGEST_PROMISE, Mark, OLD_RING, RING, SHORTEST_PROMISE, Saved};
 pub use mem_store::MemStore;
