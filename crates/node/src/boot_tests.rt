@@ -63,6 +63,20 @@ pub(crate) fn boots_as(
     Ok(node.state_line().is_same(line) && node.report().horizon.get() == until)
 }
 
+/// Whether a server that boots from a new disk shows this line, promises up to its reading and
+/// delta, and keeps the longest promise at its next boot.
+fn boots_new(
+    alloc: Global,
+    me: ServerId,
+    store: &mut MemStore,
+    line: &StateLine,
+) -> Result<bool, Fail> {
+    Ok(
+        boots_as(alloc, (me, 0, 2000), store, line, 2000)?
+            && boots_as(alloc, (me, 100, 500), store, line, 2100)?,
+    )
+}
+
 #[test]
 fn a_new_disk_has_the_empty_log_of_a_data_server(rt: HostRuntime) -> Result<(), Fail> {
     let alloc = rt.alloc();
@@ -72,10 +86,9 @@ fn a_new_disk_has_the_empty_log_of_a_data_server(rt: HostRuntime) -> Result<(), 
         (ServerId::Two, Role::Outside, Held::Empty),
     ];
     for (me, role, held) in first {
-        let mut store = MemStore::new(alloc);
         let line = rests(0, role, held, [0, 0, 0, 0, 0])?;
-        assert!(rt; boots_as(alloc, (me, 0, 2000), &mut store, &line, 2000)?);
-        assert!(rt; boots_as(alloc, (me, 100, 500), &mut store, &line, 2100)?);
+        let mut store = MemStore::new(alloc);
+        assert!(rt; boots_new(alloc, me, &mut store, &line)?);
     }
     Ok(())
 }
@@ -92,10 +105,9 @@ fn old_record(alloc: Global, index: u64) -> Result<Value, Fail> {
     })
 }
 
-/// A disk of server 1 from before promises had a length: it follows server 0 in the view 1.0, and
-/// its saved log has two records behind the first 16,384.
-fn old_disk(alloc: Global) -> Result<MemStore, Fail> {
-    let mut store = MemStore::new(alloc);
+/// Writes the disk of server 1 from before promises had a length: it follows server 0 in the view
+/// 1.0, and its saved log has two records behind the first 16,384.
+fn write_old_disk(alloc: Global, store: &mut MemStore) -> Result<(), Fail> {
     store.put(alloc, Cell::Saved { place: 1 }, &old_record(alloc, 16_385)?)?;
     store.put(alloc, Cell::Saved { place: 2 }, &old_record(alloc, 16_386)?)?;
     let view = ViewNo::of(1, ServerId::Zero).ok_or("no view")?;
@@ -103,21 +115,34 @@ fn old_disk(alloc: Global) -> Result<MemStore, Fail> {
     let role = Role::Follows(ServerId::Zero);
     let mark = Mark::of(view, view, role, 16_384, None, Some(saved)).ok_or("no mark")?;
     store.write_mark(alloc, &mark)?;
-    Ok(store)
+    Ok(())
+}
+
+/// What server 1 shows that boots from it.
+fn old_line() -> Result<StateLine, Fail> {
+    let numbers = [16_384, 16_384, 16_384, 16_385, 16_386];
+    rests(1, Role::Follows(ServerId::Zero), Held::Held, numbers)
+}
+
+/// Whether two boots from the old disk promise the longest promise that there was.
+fn boots_old(alloc: Global, store: &mut MemStore) -> Result<bool, Fail> {
+    let line = old_line()?;
+    write_old_disk(alloc, store)?;
+    Ok(
+        boots_as(alloc, (ServerId::One, 100, 5000), store, &line, 5100)?
+            && boots_as(alloc, (ServerId::One, 200, 500), store, &line, 5200)?,
+    )
 }
 
 #[test]
 fn an_old_mark_gets_the_longest_promise(rt: HostRuntime) -> Result<(), Fail> {
     let alloc = rt.alloc();
-    let mut store = old_disk(alloc)?;
-    let numbers = [16_384, 16_384, 16_384, 16_385, 16_386];
-    let line = rests(1, Role::Follows(ServerId::Zero), Held::Held, numbers)?;
-    assert!(rt; boots_as(alloc, (ServerId::One, 100, 5000), &mut store, &line, 5100)?);
-    assert!(rt; boots_as(alloc, (ServerId::One, 200, 500), &mut store, &line, 5200)?);
+    let mut store = MemStore::new(alloc);
+    assert!(rt; boots_old(alloc, &mut store)?);
     Ok(())
 }
 
-/// Whether a boot fails of which this call fails: a read behind so many, or else a change.
+/// Whether a boot of server 1 fails by its disk.
 fn fails(alloc: Global, store: &mut MemStore) -> bool {
     let delta = Delta::first();
     match Node::boot::<MemStore>(alloc, ServerId::One, 0, delta, store) {
@@ -126,34 +151,45 @@ fn fails(alloc: Global, store: &mut MemStore) -> bool {
     }
 }
 
+/// Whether a boot fails of which the read behind so many fails, and the next one is whole.
+fn boots_after_a_read(alloc: Global, store: &mut MemStore, reads: u32) -> Result<bool, Fail> {
+    let line = old_line()?;
+    write_old_disk(alloc, store)?;
+    store.fail_read(reads);
+    let failed = fails(alloc, store);
+    store.crash(&Pick::All);
+    Ok(failed && boots_as(alloc, (ServerId::One, 0, 2000), store, &line, 2000)?)
+}
+
 #[test]
 fn a_boot_that_fails_is_made_again(rt: HostRuntime) -> Result<(), Fail> {
     let alloc = rt.alloc();
-    let numbers = [16_384, 16_384, 16_384, 16_385, 16_386];
-    let line = rests(1, Role::Follows(ServerId::Zero), Held::Held, numbers)?;
     for reads in 0..3u32 {
-        let mut store = old_disk(alloc)?;
-        store.fail_read(reads);
-        assert!(rt; fails(alloc, &mut store));
-        store.crash(&Pick::All);
-        assert!(rt; boots_as(alloc, (ServerId::One, 0, 2000), &mut store, &line, 2000)?);
+        let mut store = MemStore::new(alloc);
+        assert!(rt; boots_after_a_read(alloc, &mut store, reads)?);
     }
     Ok(())
+}
+
+/// Whether a boot fails whose mark isn't written, and the next one writes it once: the one after
+/// that writes nothing.
+fn boots_after_a_mark(alloc: Global, store: &mut MemStore) -> Result<bool, Fail> {
+    let line = old_line()?;
+    write_old_disk(alloc, store)?;
+    store.stop_after(0);
+    let failed = fails(alloc, store);
+    store.crash(&Pick::All);
+    store.stop_after(1);
+    let written = boots_as(alloc, (ServerId::One, 0, 2000), store, &line, 2000)?;
+    store.settle();
+    store.stop_after(0);
+    Ok(failed && written && boots_as(alloc, (ServerId::One, 0, 500), store, &line, 2000)?)
 }
 
 #[test]
 fn a_boot_whose_mark_is_not_written_is_made_again(rt: HostRuntime) -> Result<(), Fail> {
     let alloc = rt.alloc();
-    let numbers = [16_384, 16_384, 16_384, 16_385, 16_386];
-    let line = rests(1, Role::Follows(ServerId::Zero), Held::Held, numbers)?;
-    let mut store = old_disk(alloc)?;
-    store.stop_after(0);
-    assert!(rt; fails(alloc, &mut store));
-    store.crash(&Pick::All);
-    store.stop_after(1);
-    assert!(rt; boots_as(alloc, (ServerId::One, 0, 2000), &mut store, &line, 2000)?);
-    store.settle();
-    store.stop_after(0);
-    assert!(rt; boots_as(alloc, (ServerId::One, 0, 500), &mut store, &line, 2000)?);
+    let mut store = MemStore::new(alloc);
+    assert!(rt; boots_after_a_mark(alloc, &mut store)?);
     Ok(())
 }

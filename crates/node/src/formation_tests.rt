@@ -67,20 +67,40 @@ fn is_first_form(message: &Message) -> bool {
         base: 0, cp: 0, start: 0, horizon, .. } if *horizon == Deadline::new(2000))
 }
 
+/// Whether an invited server joins the view 1.0, and tells its coordinator what it has.
+fn joins(alloc: Global, node: &mut Node, store: &mut MemStore) -> Result<bool, Fail>
+    requires { node.old.halted ≡ false }
+{
+    let state = shown(Mode::Joined, 0, Role::Follows(ServerId::Zero))?;
+    let mut outs = Outputs::new(alloc);
+    node.invite(alloc, ServerId::Zero, view(1)?, store, &mut outs)?;
+    let told = matches!(outs.sends.as_slice(), [one]
+        if one.to == ServerId::Zero && is_first_join(&one.message));
+    Ok(told && node.state_line().is_same(&state))
+}
+
 #[test]
 fn an_invited_server_joins(rt: HostRuntime) -> Result<(), Fail> {
     let alloc = rt.alloc();
     let mut store = MemStore::new(alloc);
-    let mut outs = Outputs::new(alloc);
     let mut node = first(alloc, ServerId::One);
-    node.invite(alloc, ServerId::Zero, view(1)?, &mut store, &mut outs)?;
-    assert!(rt;
-        matches!(outs.sends.as_slice(), [one]
-        if one.to == ServerId::Zero && is_first_join(&one.message))
-    );
-    let state = shown(Mode::Joined, 0, Role::Follows(ServerId::Zero))?;
-    assert!(rt; node.state_line().is_same(&state));
+    assert!(rt; joins(alloc, &mut node, &mut store)?);
     Ok(())
+}
+
+/// Whether a coordinator with its own join and that of server 1 forms the view 1.0, and leads it.
+fn forms(alloc: Global, node: &mut Node, store: &mut MemStore) -> Result<bool, Fail>
+    requires { node.old.halted ≡ false }
+{
+    let state = shown(Mode::Waits, 1, Role::Leads(ServerId::One))?;
+    let (next, info) = (view(1)?, first_join()?);
+    let mut outs = node.suspect(alloc, store)?;
+    outs.sends.clear();
+    node.collect(alloc, ServerId::One, next, info, store, &mut outs)?;
+    let formed = matches!(outs.sends.as_slice(), [one]
+        if one.to == ServerId::One && is_first_form(&one.message));
+    let chose = matches!(&outs.chosen, Some(chosen) if chosen.view.is_same(next));
+    Ok(formed && chose && node.state_line().is_same(&state))
 }
 
 #[test]
@@ -88,47 +108,41 @@ fn the_first_joins_form_the_view(rt: HostRuntime) -> Result<(), Fail> {
     let alloc = rt.alloc();
     let mut store = MemStore::new(alloc);
     let mut node = first(alloc, ServerId::Zero);
-    node.suspect(alloc, &mut store)?;
-    let mut outs = Outputs::new(alloc);
-    node.collect(
-        alloc,
-        ServerId::One,
-        view(1)?,
-        first_join()?,
-        &mut store,
-        &mut outs,
-    )?;
-    assert!(rt;
-        matches!(outs.sends.as_slice(), [one]
-        if one.to == ServerId::One && is_first_form(&one.message))
-    );
-    assert!(rt; matches!(&outs.chosen, Some(chosen) if chosen.view.is_same(view(1)?)));
-    let state = shown(Mode::Waits, 1, Role::Leads(ServerId::One))?;
-    assert!(rt; node.state_line().is_same(&state));
+    assert!(rt; forms(alloc, &mut node, &mut store)?);
     Ok(())
 }
 
-#[test]
-fn a_partner_tells_that_it_accepted(rt: HostRuntime) -> Result<(), Fail> {
-    let alloc = rt.alloc();
-    let mut store = MemStore::new(alloc);
-    let mut outs = Outputs::new(alloc);
-    let mut node = first(alloc, ServerId::One);
-    node.invite(alloc, ServerId::Zero, view(1)?, &mut store, &mut outs)?;
-    let form = Form {
+/// The plan of the view 1.0 that the first joins give.
+fn first_form() -> Form {
+    Form {
         storers: Storers::ZeroOne,
         source: ServerId::Zero,
         base: 0,
         cp: 0,
         start: 0,
         horizon: Deadline::new(2000),
-    };
-    node.form(alloc, view(1)?, form, &mut store, &mut outs)?;
-    assert!(rt;
-        matches!(outs.sends.as_slice(), [_, formed]
-        if formed.to == ServerId::Zero && matches!(formed.message, Message::Formed { lb: 0, .. }))
-    );
+    }
+}
+
+/// Whether server 1, invited, accepts the view 1.0 by its Form, and tells it to its leader.
+fn accepts(alloc: Global, node: &mut Node, store: &mut MemStore) -> Result<bool, Fail>
+    requires { node.old.halted ≡ false }
+{
     let state = shown(Mode::Waits, 1, Role::Follows(ServerId::Zero))?;
-    assert!(rt; node.state_line().is_same(&state));
+    let next = view(1)?;
+    let mut outs = Outputs::new(alloc);
+    node.invite(alloc, ServerId::Zero, next, store, &mut outs)?;
+    node.form(alloc, next, first_form(), store, &mut outs)?;
+    let told = matches!(outs.sends.as_slice(), [_, formed]
+        if formed.to == ServerId::Zero && matches!(formed.message, Message::Formed { lb: 0, .. }));
+    Ok(told && node.state_line().is_same(&state))
+}
+
+#[test]
+fn a_partner_tells_that_it_accepted(rt: HostRuntime) -> Result<(), Fail> {
+    let alloc = rt.alloc();
+    let mut store = MemStore::new(alloc);
+    let mut node = first(alloc, ServerId::One);
+    assert!(rt; accepts(alloc, &mut node, &mut store)?);
     Ok(())
 }

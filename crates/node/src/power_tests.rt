@@ -1,9 +1,6 @@
 //! Power failures, and the boots after them.
 
 ghost use Rattle.std.specs.Prelude.{◌≡◌, IfOk};
-ghost use Rattle.group_rules.specs.Names.{place_of};
-ghost use Rattle.harp_base.specs.declared.server.ServerId.TheVariants.{Zero};
-ghost use Rattle.node.specs.State.{IsKept};
 
 use crate::boot_tests::{boots_as, rests};
 use crate::{Node, NodeFault};
@@ -75,26 +72,38 @@ fn unsaved(lb: u64) -> Result<Mark, Fail>
     Ok(Mark::of(view, view, role, lb, Some(2000), None).ok_or("no mark")?)
 }
 
-/// What server 0 has of that log, and its disk.
-fn server(alloc: Global) -> Result<(Mark, Kept, MemStore), Fail>
-    ensures { IfOk result (λ r. IsKept (place_of Zero) r.0 r.1) }
-{
+/// Server 0 with that log, as it rests, its mark on the disk.
+fn server(alloc: Global, store: &mut MemStore) -> Result<Node, Fail> {
     let log = four(alloc)?;
     let mark = unsaved(log.lb())?;
-    let mut store = MemStore::new(alloc);
     store.write_mark(alloc, &mark)?;
-    Ok((mark, Kept::Held(log), store))
+    let horizon = Horizon::boot(0, Delta::first(), Delta::first());
+    Ok(Node::resting(ServerId::Zero, mark, horizon, Kept::Held(log)))
 }
 
-/// The disk after a power failure of which so many change calls pass, and what it gave.
-fn failed(alloc: Global, calls: u32) -> Result<(MemStore, Result<(), NodeFault>), Fail> {
-    let (mark, kept, mut store) = server(alloc)?;
-    let horizon = Horizon::boot(0, Delta::first(), Delta::first());
-    let node = Node::resting(ServerId::Zero, mark, horizon, kept);
+/// What a power failure gives of which so many change calls pass, the disk being crashed then.
+fn fails_after(
+    alloc: Global,
+    store: &mut MemStore,
+    calls: u32,
+) -> Result<Result<(), NodeFault>, Fail> {
+    let node = server(alloc, store)?;
     store.stop_after(calls);
-    let outcome = node.power::<MemStore>(alloc, &mut store);
+    let outcome = node.power::<MemStore>(alloc, store);
     store.crash(&Pick::None);
-    Ok((store, outcome))
+    Ok(outcome)
+}
+
+/// Whether so many change calls of a save leave this line to the next boot, and the fault, where
+/// they aren't all.
+fn leaves(alloc: Global, store: &mut MemStore, calls: u32, line: &StateLine) -> Result<bool, Fail> {
+    let outcome = fails_after(alloc, store, calls)?;
+    let wanted = if calls < 6 {
+        Err(NodeFault::StoreFailed)
+    } else {
+        Ok(())
+    };
+    Ok(outcome == wanted && boots_as(alloc, (ServerId::Zero, 0, 2000), store, line, 2000)?)
 }
 
 #[test]
@@ -102,31 +111,33 @@ fn a_boot_has_the_saved_log_or_none(rt: HostRuntime) -> Result<(), Fail> {
     let alloc = rt.alloc();
     let role = Role::Leads(ServerId::One);
     let lost = rests(1, role, Held::Lost, [2, 2, 2, 2, 2])?;
-    for calls in 0..6u32 {
-        let (mut store, outcome) = failed(alloc, calls)?;
-        assert!(rt; outcome == Err(NodeFault::StoreFailed));
-        assert!(rt; boots_as(alloc, (ServerId::Zero, 0, 2000), &mut store, &lost, 2000)?);
-    }
     let held = rests(1, role, Held::Held, [1, 3, 3, 4, 5])?;
-    let (mut store, outcome) = failed(alloc, 6)?;
-    assert!(rt; outcome == Ok(()));
-    assert!(rt; boots_as(alloc, (ServerId::Zero, 0, 2000), &mut store, &held, 2000)?);
+    for calls in 0..7u32 {
+        let line = if calls < 6 { &lost } else { &held };
+        let mut store = MemStore::new(alloc);
+        assert!(rt; leaves(alloc, &mut store, calls, line)?);
+    }
     Ok(())
+}
+
+/// Whether the power failure of a server that has just booted needs no change call, and the next
+/// boot shows the same.
+fn saves_once(alloc: Global, store: &mut MemStore) -> Result<bool, Fail> {
+    let line = rests(0, Role::Leads(ServerId::One), Held::Held, [0, 0, 0, 0, 0])?;
+    let node = match Node::boot::<MemStore>(alloc, ServerId::Zero, 0, Delta::first(), store) {
+        Ok(node) => node,
+        Err(_) => return Err(Fail::from("no boot")),
+    };
+    store.stop_after(0);
+    let outcome = node.power::<MemStore>(alloc, store);
+    store.crash(&Pick::None);
+    Ok(outcome == Ok(()) && boots_as(alloc, (ServerId::Zero, 0, 2000), store, &line, 2000)?)
 }
 
 #[test]
 fn a_saved_log_is_saved_once(rt: HostRuntime) -> Result<(), Fail> {
     let alloc = rt.alloc();
     let mut store = MemStore::new(alloc);
-    let role = Role::Leads(ServerId::One);
-    let line = rests(0, role, Held::Held, [0, 0, 0, 0, 0])?;
-    let node = match Node::boot::<MemStore>(alloc, ServerId::Zero, 0, Delta::first(), &mut store) {
-        Ok(node) => node,
-        Err(_) => return Err(Fail::from("no boot")),
-    };
-    store.stop_after(0);
-    assert!(rt; node.power::<MemStore>(alloc, &mut store) == Ok(()));
-    store.crash(&Pick::None);
-    assert!(rt; boots_as(alloc, (ServerId::Zero, 0, 2000), &mut store, &line, 2000)?);
+    assert!(rt; saves_once(alloc, &mut store)?);
     Ok(())
 }

@@ -26,18 +26,36 @@ fn view(count: u64) -> Result<ViewNo, Fail> {
     Ok(view)
 }
 
+/// Whether the witness rests without a log once it is demoted of the view 1.0, by its mark too.
+fn rests_demoted(alloc: Global, node: &mut Node, store: &mut MemStore) -> Result<bool, Fail>
+    requires { node.old.halted ≡ false }
+{
+    node.demote(alloc, view(1)?, store)?;
+    let line = node.state_line();
+    let shown = line.mode == Mode::Rests
+        && line.role == Role::Outside
+        && line.held == Held::Empty
+        && line.accepted.is_same(view(1)?)
+        && line.promised.is_same(view(1)?);
+    let mark = store.read_mark(alloc)?;
+    Ok(shown && mark.is_some_and(|m| m.role() == Role::Outside && m.saved().is_none()))
+}
+
 #[test]
 fn a_witness_that_is_demoted_rests_without_a_log(rt: HostRuntime) -> Result<(), Fail> {
     let alloc = rt.alloc();
     let mut store = MemStore::new(alloc);
     let mut node = first(alloc, ServerId::Two);
-    node.demote(alloc, view(1)?, &mut store)?;
-    let line = node.state_line();
-    assert!(rt; line.mode == Mode::Rests && line.role == Role::Outside && line.held == Held::Empty);
-    assert!(rt; line.accepted.is_same(view(1)?) && line.promised.is_same(view(1)?));
-    let mark = store.read_mark(alloc)?;
-    assert!(rt; mark.is_some_and(|m| m.role() == Role::Outside && m.saved().is_none()));
+    assert!(rt; rests_demoted(alloc, &mut node, &mut store)?);
     Ok(())
+}
+
+/// Whether a server still holds its log after a demotion, which changed no disk.
+fn holds_demoted(alloc: Global, node: &mut Node, store: &mut MemStore) -> Result<bool, Fail>
+    requires { node.old.halted ≡ false }
+{
+    node.demote(alloc, view(1)?, store)?;
+    Ok(node.state_line().held == Held::Held && store.read_mark(alloc)?.is_none())
 }
 
 #[test]
@@ -45,9 +63,7 @@ fn a_data_server_heeds_no_demotion(rt: HostRuntime) -> Result<(), Fail> {
     let alloc = rt.alloc();
     let mut store = MemStore::new(alloc);
     let mut node = first(alloc, ServerId::One);
-    node.demote(alloc, view(1)?, &mut store)?;
-    assert!(rt; node.state_line().held == Held::Held);
-    assert!(rt; store.read_mark(alloc)?.is_none());
+    assert!(rt; holds_demoted(alloc, &mut node, &mut store)?);
     Ok(())
 }
 

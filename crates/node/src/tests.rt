@@ -1,7 +1,7 @@
 //! A server's suspicion, the expected lines from a worked schedule.
 
 use crate::{Node, NodeFault};
-use harp_base::{Mode, Role, ServerId, StateLine, ViewNo};
+use harp_base::{Held, Mode, Role, ServerId, StateLine, ViewNo};
 use harp_store::{Mark, MemStore, Pick, Store};
 use kept_log::Kept;
 use promise::{Delta, Horizon};
@@ -27,31 +27,39 @@ fn invites(message: &Message, view: ViewNo) -> bool {
     matches!(message, Message::Invite { view: other } if other.is_same(view))
 }
 
-#[test]
-fn a_suspicion_calls_for_the_next_view(rt: HostRuntime) -> Result<(), Fail> {
-    let alloc = rt.alloc();
-    let mut store = MemStore::new(alloc);
-    let mut node = first(alloc);
-    let outs = node.suspect(alloc, &mut store)?;
-    let next = view(1)?;
-    assert!(rt;
-        matches!(outs.sends.as_slice(), [one, two]
-        if one.to == ServerId::One && two.to == ServerId::Two
-        && invites(&one.message, next) && invites(&two.message, next))
-    );
-    let state = StateLine {
+/// Server 0 as it calls for the view 1.0.
+fn calling() -> Result<StateLine, Fail> {
+    Ok(StateLine {
         mode: Mode::Calls,
-        promised: next,
+        promised: view(1)?,
         accepted: view(0)?,
         role: Role::Leads(ServerId::One),
-        held: harp_base::Held::Held,
+        held: Held::Held,
         base: 0,
         lb: 0,
         ap: 0,
         cp: 0,
         top: 0,
-    };
-    assert!(rt; node.state_line().is_same(&state));
+    })
+}
+
+/// Whether a suspicion of server 0 invites the other two to the view 1.0.
+fn calls(alloc: Global, node: &mut Node, store: &mut MemStore) -> Result<bool, Fail> {
+    let next = view(1)?;
+    let state = calling()?;
+    let outs = node.suspect(alloc, store)?;
+    let invited = matches!(outs.sends.as_slice(), [one, two]
+        if one.to == ServerId::One && two.to == ServerId::Two
+        && invites(&one.message, next) && invites(&two.message, next));
+    Ok(invited && node.state_line().is_same(&state))
+}
+
+#[test]
+fn a_suspicion_calls_for_the_next_view(rt: HostRuntime) -> Result<(), Fail> {
+    let alloc = rt.alloc();
+    let mut store = MemStore::new(alloc);
+    let mut node = first(alloc);
+    assert!(rt; calls(alloc, &mut node, &mut store)?);
     Ok(())
 }
 
