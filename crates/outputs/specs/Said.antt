@@ -10,8 +10,8 @@ use Rattle.group_rules.specs.Said.{Answer, Refusal, answers_said, refusals_said}
 use Rattle.group_rules.specs.Shown.{cause_of}
 use Rattle.group_rules.specs.State.{Answers, Lists, Message, Refuses, Say, Server}
 use Rattle.trace_lines.specs.declared.line.BookEntry.{BookEntry}
+use Rattle.tree_listing.specs.declared.listing.Listing.{Listing}
 use Rattle.outputs.specs.Messages.{heard}
-use Rattle.outputs.specs.declared.listing.Listing.{Listing}
 use Rattle.outputs.specs.declared.outputs.Answered.{Answered}
 use Rattle.outputs.specs.declared.outputs.Chosen.{Chosen}
 use Rattle.outputs.specs.declared.outputs.Outputs.{Outputs}

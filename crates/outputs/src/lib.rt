@@ -2,9 +2,7 @@
 #![tactic(auto)]
 
 mod laws;
-mod listing;
 mod outputs;
 
 pub use laws::calls_join;
-pub use listing::{Listed, ListedBlock, ListedSlot, Listing};
 pub use outputs::{Answered, AskedRead, Asker, Chosen, Outputs, Refused, Sent};

@@ -6,10 +6,10 @@ ghost use Rattle.outputs.specs.Messages.{heard};
 ghost use Rattle.outputs.specs.Records.{carried, records_sent};
 ghost use Rattle.outputs.specs.Said.{entered, nothing, said};
 
-use crate::listing::Listing;
 use harp_base::{Call, Cred, Peer, Reply, ServerId, ViewNo};
 use std::alloc::{AllocError, Global};
 use trace_lines::{BookEntry, Cause};
+use tree_listing::Listing;
 use wire::Message;
 
 /// An answer to an ask.
