@@ -4,3 +4,4 @@ pub mod Following
 pub mod Commits
 pub mod Trees
 pub mod Asking
+pub mod Listing

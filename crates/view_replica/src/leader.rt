@@ -12,6 +12,7 @@ ghost use Rattle.volatile_log.specs.Log.{lowered_to, top};
 
 mod acks;
 mod asks;
+mod listing;
 mod opening;
 mod reads;
 mod storing;

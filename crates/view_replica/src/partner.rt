@@ -16,6 +16,7 @@ ghost use Rattle.view_replica.specs.Leading.{Outer, at_horizon};
 ghost use Rattle.view_replica.specs.Trees.{KeepsTree, KeepsTreeOfNext};
 ghost use Rattle.volatile_log.specs.Log.{dropped_to, lowered_to, top};
 
+mod listing;
 mod storing;
 
 use event_record::Record;
