@@ -41,6 +41,14 @@ recorded_by view list m = []
 abbrev pub recorded : ℕ → List Entry → List (Move Entry) → List RecordFields
 recorded view list ms = flat_map (recorded_by view list) ms
 
+-- whatever an ask does, of a leader it changes its records, its cells in memory, and who waits
+abbrev pub IsGrown : Leading → Leading → Type 0
+IsGrown old new = new ≡ record old {
+  log = record (old.log) { records = new.log.records };
+  cached = new.cached;
+  peers = new.peers;
+}
+
 -- AN ASK of a peer made these moves, and who waits for what they append has come to those who wait.
 -- What is appended goes to the log and to the partner as one and the same record, and the log is
 -- then of the list with it

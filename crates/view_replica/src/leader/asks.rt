@@ -16,7 +16,7 @@ ghost use Rattle.outputs.specs.Records.{records_sent};
 ghost use Rattle.outputs.specs.Said.{said};
 ghost use Rattle.tree_log.specs.Planning.{next_record};
 ghost use Rattle.tree_log.specs.Reading.{HoldsTree, IsNextRecord};
-ghost use Rattle.view_replica.specs.Asking.{Asked, reads_tree};
+ghost use Rattle.view_replica.specs.Asking.{Asked, IsGrown, reads_tree};
 ghost use Rattle.view_replica.specs.Leading.{Outer, led, partner_of, place_led};
 ghost use Rattle.volatile_log.specs.Log.{room, top, with_record};
 
@@ -100,6 +100,7 @@ impl Leader {
             → HoldsTree list self.old.log.cp self.old.log (D.told store.old))
             → Asked now list (on_ask (place_led self.old o) now list (led self.old o) asker.client
             asker.number asker.cred call.now) asker.peer o self.old self.new outs.old outs.new) }
+        ensures grown { IsGrown self.old self.new }
         ensures still { OnErr result (self.new ≡ record self.old { cached = self.new.cached }) }
         ensures cached { AreOf (cells_told (D.told store.new)) self.new.cached }
         ensures kept { D.told store.new ≡ D.told store.old }
@@ -142,6 +143,7 @@ impl Leader {
             → Asked now list (update_moves (led self.old o) (new_entry now list asker.client
             asker.number asker.cred call.now) (last_of asker.client list)) asker.peer o
             self.old self.new outs.old outs.new) }
+        ensures grown { IsGrown self.old self.new }
         ensures still { OnErr result (self.new ≡ record self.old { cached = self.new.cached }) }
         ensures cached { AreOf (cells_told (D.told store.new)) self.new.cached }
         ensures kept { D.told store.new ≡ D.told store.old }
@@ -199,6 +201,7 @@ impl Leader {
             → HoldsTree list self.old.log.cp self.old.log (D.told store.old)
             → Asked now list (append (led self.old o) (new_entry now list asker.client asker.number
             asker.cred call.now)) asker.peer o self.old self.new outs.old outs.new) }
+        ensures grown { IsGrown self.old self.new }
         ensures still { OnErr result (self.new ≡ record self.old { cached = self.new.cached }) }
         ensures cached { AreOf (cells_told (D.told store.new)) self.new.cached }
         ensures kept { D.told store.new ≡ D.told store.old }

@@ -10,7 +10,7 @@ ghost use Rattle.harp_base.specs.Streams.{Rose};
 ghost use Rattle.harp_base.specs.Update.{is_update};
 ghost use Rattle.harp_store.specs.Disk.{cells_told};
 ghost use Rattle.tree_log.specs.Reading.{HoldsTree};
-ghost use Rattle.view_replica.specs.Asking.{Asked};
+ghost use Rattle.view_replica.specs.Asking.{Asked, IsGrown};
 ghost use Rattle.view_replica.specs.Leading.{Outer, led};
 
 use crate::leader::Leader;
@@ -41,6 +41,7 @@ impl Leader {
             → Asked now list (read_moves now (led self.old o) (read_entry self.old.log.cp list
             asker.client asker.number asker.cred call.now)) asker.peer o self.old self.new
             outs.old outs.new) }
+        ensures grown { IsGrown self.old self.new }
         ensures still { OnErr result (self.new ≡ record self.old { cached = self.new.cached }) }
         ensures cached { AreOf (cells_told (D.told store.new)) self.new.cached }
         ensures kept { D.told store.new ≡ D.told store.old }
@@ -71,6 +72,7 @@ impl Leader {
             → Asked now list (Reading self.old.log.cp (read_entry self.old.log.cp list
             asker.client asker.number asker.cred call.now) ∷ []) asker.peer o self.old self.new
             outs.old outs.new) }
+        ensures grown { IsGrown self.old self.new }
         ensures still { OnErr result (self.new ≡ record self.old { cached = self.new.cached }) }
         ensures cached { AreOf (cells_told (D.told store.new)) self.new.cached }
         ensures kept { D.told store.new ≡ D.told store.old }
