@@ -136,7 +136,7 @@ a_choice q s from v t c p view duty none h =
 
 -- ---- what the moves say
 
-silent_forms : (m : Message Entry) (ps : List Place) → AreSilent (to_each m ps)
+pub silent_forms : (m : Message Entry) (ps : List Place) → AreSilent (to_each m ps)
 silent_forms m [] = tt
 silent_forms m (p ∷ ps) = (tt, silent_forms m ps)
 
@@ -159,7 +159,7 @@ pub writes_sent : (m : Message Entry) (ps : List Place) (ms : List (Move Entry))
 writes_sent m [] ms = refl
 writes_sent m (p ∷ ps) ms = writes_sent m ps ms
 
-silent_form : (q : Place) (s : Server Entry) (plan : Plan) → AreSilent (form_moves q s plan)
+pub silent_form : (q : Place) (s : Server Entry) (plan : Plan) → AreSilent (form_moves q s plan)
 silent_form q s plan =
     by_if AreSilent (all_of (is_joins s.mode ∷ fits q s plan ∷ [])) _ []
     (λ joins. by_if AreSilent (same q plan.source || (wanted q s plan == plan.start))

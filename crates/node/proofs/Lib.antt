@@ -12,6 +12,10 @@ pub mod Fetched
 pub mod Duties
 pub mod Ticks
 pub mod Takes
+pub mod Marks
+pub mod Mute
+pub mod Heard
+pub mod Stepped
 pub mod Storers
 pub mod Saying
 pub mod Accepts

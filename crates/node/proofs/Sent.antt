@@ -36,7 +36,7 @@ sent_spoken [] h = tt
 sent_spoken (Sending to m ∷ ms) h = (tt, sent_spoken ms h.1)
 sent_spoken (m ∷ ms) h = absurd h.0
 
-sent_silent : (ms : List (Move Entry)) → AreSent ms → AreSilent ms
+pub sent_silent : (ms : List (Move Entry)) → AreSent ms → AreSilent ms
 sent_silent [] h = tt
 sent_silent (Sending to m ∷ ms) h = (tt, sent_silent ms h.1)
 sent_silent (m ∷ ms) h = absurd h.0

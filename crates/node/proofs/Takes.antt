@@ -17,11 +17,11 @@ use Rattle.outputs.specs.Said.{Said, said}
 use Rattle.outputs.specs.declared.outputs.Outputs.{Outputs}
 use Rattle.outputs.proofs.Makes.{makes_then, same_said}
 
-silent_if : (b : Bool) (ms : List (Move Entry)) → AreSilent ms → AreSilent (if b then ms else [])
+pub silent_if : (b : Bool) (ms : List (Move Entry)) → AreSilent ms → AreSilent (if b then ms else [])
 silent_if true ms h = h
 silent_if false ms h = tt
 
-silent_then : (ms ns : List (Move Entry)) → AreSilent ms → AreSilent ns → AreSilent (ms ++ ns)
+pub silent_then : (ms ns : List (Move Entry)) → AreSilent ms → AreSilent ns → AreSilent (ms ++ ns)
 silent_then [] ns h k = k
 silent_then (m ∷ ms) ns h k = (h.0, silent_then ms ns h.1 k)
 
@@ -40,10 +40,13 @@ silent_heard clock s None = tt
 silent_heard clock s (Some lb) = silent_if (nat_le (s.plan.horizon + clock_skew) clock)
     (open_moves s lb) (silent_open_moves s lb)
 
-pub mute_open : (q : Place) (clock : ℕ) (s : Server Entry) → IsMute (try_open q clock s)
-mute_open q clock s = mute (try_open q clock s) (silent_if (all_of (open_tests q s))
+pub silent_open : (q : Place) (clock : ℕ) (s : Server Entry) → AreSilent (try_open q clock s)
+silent_open q clock s = silent_if (all_of (open_tests q s))
     (open_heard clock s (get s.heard (partner s.plan.storers)))
-    (silent_heard clock s (get s.heard (partner s.plan.storers))))
+    (silent_heard clock s (get s.heard (partner s.plan.storers)))
+
+pub mute_open : (q : Place) (clock : ℕ) (s : Server Entry) → IsMute (try_open q clock s)
+mute_open q clock s = mute (try_open q clock s) (silent_open q clock s)
 
 -- a misfit
 pub ignored : (q : Place) (clock : ℕ) (b : Bool) (ms : List (Move Entry)) (s : Server Entry)

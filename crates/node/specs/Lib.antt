@@ -10,3 +10,5 @@ pub mod Active
 pub mod Serving
 pub mod Misfits
 pub mod Demoting
+pub mod Taking
+pub mod Input

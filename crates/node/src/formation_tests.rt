@@ -2,7 +2,7 @@
 
 ghost use Rattle.std.specs.Prelude.{◌≡◌, false};
 
-use crate::Node;
+use crate::{Input, Node};
 use harp_base::{Held, Mode, Role, ServerId, StateLine, ViewNo};
 use harp_store::{Mark, MemStore};
 use kept_log::{Form, Kept};
@@ -94,7 +94,7 @@ fn forms(alloc: Global, node: &mut Node, store: &mut MemStore) -> Result<bool, F
 {
     let state = shown(Mode::Waits, 1, Role::Leads(ServerId::One))?;
     let (next, info) = (view(1)?, first_join()?);
-    let mut outs = node.suspect(alloc, store)?;
+    let mut outs = node.step(alloc, Input::Suspect, 0, store)?;
     outs.sends.clear();
     node.collect(alloc, ServerId::One, next, info, store, &mut outs)?;
     let formed = matches!(outs.sends.as_slice(), [one]

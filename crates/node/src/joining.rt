@@ -10,8 +10,8 @@ ghost use Rattle.harp_store.specs.Disk.{MayHaveMade, after_step, with_mark};
 ghost use Rattle.harp_base.specs.Streams.{Rose};
 ghost use Rattle.harp_store.specs.Mark.{MarkFields};
 ghost use Rattle.kept_log.specs.Kept.{ap_in as kept_ap, base_in as kept_base, cp_in as kept_cp, held_in as kept_held, items_in as kept_items};
-ghost use Rattle.node.specs.Disk.{MayLeave, disk_after, promising};
-ghost use Rattle.node.specs.Node.{own_mark, server};
+ghost use Rattle.node.specs.Disk.{MayLeave, disk_after, marked_by, promising};
+ghost use Rattle.node.specs.Node.{server};
 ghost use Rattle.node.specs.State.{CollectsStill, IsKept, Fits, ap_in, base_in, cp_in, duty_of, held_in, is_gone, items_in};
 ghost use Rattle.outputs.specs.Makes.{Makes};
 ghost use Rattle.group_rules.specs.State.{Log};
@@ -101,11 +101,13 @@ impl Node {
             Makes self.old.me clock (suspect self.old.me s) [] s (server self.new items)
             outs.old outs.new) }
         ensures me { self.new.me ≡ self.old.me }
+        ensures mark { OnOk result (self.new.mark ≡ marked_by self.old.mark
+            (suspect self.old.me self.old.plain)) }
         ensures up { OnOk result (self.new.halted ≡ false) }
         ensures written { OnOk result (D.told store.new
             ≡ disk_after (suspect self.old.me self.old.plain) self.new.mark (D.told store.old)) }
-        ensures part { OnErr result (MayLeave (suspect self.old.me self.old.plain)
-            (own_mark self.old) (D.told store.old) (D.told store.new)) }
+        ensures part { OnErr result (let ms = suspect self.old.me self.old.plain in
+            MayLeave ms (marked_by self.old.mark ms) (D.told store.old) (D.told store.new)) }
         ensures running { result ≡ Err NodeFault.Halted → ⊥ }
         ensures rose { result ≡ Err NodeFault.StoreFailed → Rose (D.faults store.old)
             (D.faults store.new) }

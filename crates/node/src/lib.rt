@@ -14,9 +14,11 @@ mod following;
 mod formation_tests;
 mod forming;
 mod hearing;
+mod input;
 mod inviting;
 mod joining;
 mod leading;
+mod messages;
 mod misfits;
 mod misfits_active;
 mod node;
@@ -33,11 +35,15 @@ mod same;
 mod serving;
 mod showing;
 mod state;
+#[cfg(test)]
+mod step_tests;
 mod steps;
 mod taking;
+mod taking_views;
 #[cfg(test)]
 mod tests;
 mod ticking;
 
 pub use fault::NodeFault;
+pub use input::Input;
 pub use node::Node;

@@ -1,17 +1,19 @@
 //! The steps of a server.
 
-ghost use Rattle.std.specs.Prelude.{◌≡◌, ◌↔◌, ◌≤◌, [], List, ℕ, Err, IfOk, OnErr, OnOk, false, true};
+ghost use Rattle.std.specs.Prelude.{◌≡◌, ◌↔◌, ◌<◌, ◌≤◌, ◌^◌, List, ℕ, Err, IfOk, OnErr, OnOk, false, true};
 ghost use Rattle.file_tree.specs.Book.{Entry};
-ghost use Rattle.group_rules.specs.Joining.{suspect};
 ghost use Rattle.group_rules.specs.Moves.{acts};
 ghost use Rattle.group_rules.specs.Open.{rebase};
-ghost use Rattle.group_rules.specs.Step.{Does, Suspect, step};
 ghost use Rattle.harp_base.specs.Streams.{Rose};
-ghost use Rattle.node.specs.Disk.{MayLeave, disk_after};
-ghost use Rattle.node.specs.Node.{own_mark, server};
+ghost use Rattle.node.specs.Disk.{MayLeave, disk_after, marked_by};
+ghost use Rattle.node.specs.Input.{FillsInput, input_of};
+ghost use Rattle.node.specs.Node.{server};
 ghost use Rattle.node.specs.Step.{Steps};
+ghost use Rattle.node.specs.Taking.{ruled, stepped};
+ghost use Rattle.outputs.specs.Makes.{Makes};
 
 use crate::fault::NodeFault;
+use crate::input::Input;
 use crate::node::Node;
 use crate::state::State;
 use harp_store::Store;
@@ -19,24 +21,40 @@ use outputs::Outputs;
 use std::alloc::Global;
 
 impl Node {
-    /// Suspicion: the server promises the next view of its own, has its own join, and invites the
-    /// other two. At the last count nothing happens. After an error the server is halted, and then
-    /// each step is Halted; its disk has the mark as it was or the one with the next view promised.
-    pub fn suspect<D: Store>(&mut self, alloc: Global, store: &mut D) -> Result<Outputs, NodeFault>
-        ensures makes { IfOk result (λ outs. (items : List Entry) (clock : ℕ) (list : List Entry)
-            (size : List Entry → Entry → ℕ) → let s = server self.old items in
-            Steps self.old.me clock (step size self.old.me clock list s (Does Suspect))
+    /// A step of the server, at this reading of its clock, which is below 2^62: it does what the
+    /// rules of the group say of what it is given, and its outputs are just what the rules say. A
+    /// client's message in place of a server's changes nothing. After an error the server is
+    /// halted, and then each step is Halted; its disk has the mark as it was or as the step's moves
+    /// write it.
+    pub fn step<D: Store>(
+        &mut self,
+        alloc: Global,
+        input: Input,
+        now: u64,
+        store: &mut D,
+    ) -> Result<Outputs, NodeFault>
+        requires { now < 2 ^ 62 }
+        ensures makes { IfOk result (λ outs. (items : List Entry) (size : List Entry → Entry → ℕ)
+            (list : List Entry) → FillsInput size list self.old input
+            → let s = server self.old items in
+            Steps self.old.me now (stepped size self.old.me now list s (input_of input))
             self.old.peers s (server self.new items) outs) }
         ensures me { self.new.me ≡ self.old.me }
+        ensures mark { OnOk result ((size : List Entry → Entry → ℕ) (list : List Entry)
+            → self.new.mark ≡ marked_by self.old.mark
+            (stepped size self.old.me now list self.old.plain (input_of input))) }
         ensures halted { (result ≡ Err NodeFault.Halted) ↔ (self.old.halted ≡ true) }
         ensures still { self.old.halted ≡ true → (self.new ≡ self.old)
             × (D.told store.new ≡ D.told store.old) }
         ensures up { OnOk result (self.new.halted ≡ false) }
         ensures fails { OnErr result (self.new.halted ≡ true) }
-        ensures written { OnOk result (D.told store.new
-            ≡ disk_after (suspect self.old.me self.old.plain) self.new.mark (D.told store.old)) }
-        ensures part { OnErr result (MayLeave (suspect self.old.me self.old.plain)
-            (own_mark self.old) (D.told store.old) (D.told store.new)) }
+        ensures written { OnOk result ((size : List Entry → Entry → ℕ) (list : List Entry)
+            → D.told store.new ≡ disk_after
+            (stepped size self.old.me now list self.old.plain (input_of input))
+            self.new.mark (D.told store.old)) }
+        ensures part { OnErr result ((size : List Entry → Entry → ℕ) (list : List Entry)
+            → let ms = stepped size self.old.me now list self.old.plain (input_of input) in
+            MayLeave ms (marked_by self.old.mark ms) (D.told store.old) (D.told store.new)) }
         ensures rose { result ≡ Err NodeFault.StoreFailed → Rose (D.faults store.old)
             (D.faults store.new) }
         ensures count { D.faults store.old ≤ D.faults store.new }
@@ -45,7 +63,10 @@ impl Node {
             return Err(NodeFault::Halted);
         }
         let mut outs = Outputs::new(alloc);
-        match self.suspicion(alloc, store, &mut outs) {
+        if !input.is_heeded() {
+            return Ok(outs);
+        }
+        match self.rule(alloc, input, now, store, &mut outs) {
             Ok(()) => {}
             Err(fault) => {
                 self.state = State::Gone;
@@ -54,6 +75,52 @@ impl Node {
         }
         self.rebase();
         Ok(outs)
+    }
+
+    /// A step but for the base: what the server does with what it is given. An error leaves the
+    /// mark on the disk as it was, or as the moves write it.
+    fn rule<D: Store>(
+        &mut self,
+        alloc: Global,
+        input: Input,
+        now: u64,
+        store: &mut D,
+        outs: &mut Outputs,
+    ) -> Result<(), NodeFault>
+        requires up { self.old.halted ≡ false }
+        requires now { now < 2 ^ 62 }
+        ensures makes { OnOk result ((items : List Entry) (size : List Entry → Entry → ℕ)
+            (list : List Entry) → FillsInput size list self.old input
+            → let s = server self.old items in Makes self.old.me now
+            (ruled size self.old.me now list s (input_of input)) self.old.peers s
+            (server self.new items) outs.old outs.new) }
+        ensures me { self.new.me ≡ self.old.me }
+        ensures mark { OnOk result ((size : List Entry → Entry → ℕ) (list : List Entry)
+            → self.new.mark ≡ marked_by self.old.mark
+            (ruled size self.old.me now list self.old.plain (input_of input))) }
+        ensures up { OnOk result (self.new.halted ≡ false) }
+        ensures written { OnOk result ((size : List Entry → Entry → ℕ) (list : List Entry)
+            → D.told store.new ≡ disk_after
+            (ruled size self.old.me now list self.old.plain (input_of input))
+            self.new.mark (D.told store.old)) }
+        ensures part { OnErr result ((size : List Entry → Entry → ℕ) (list : List Entry)
+            → let ms = ruled size self.old.me now list self.old.plain (input_of input) in
+            MayLeave ms (marked_by self.old.mark ms) (D.told store.old) (D.told store.new)) }
+        ensures running { result ≡ Err NodeFault.Halted → ⊥ }
+        ensures rose { result ≡ Err NodeFault.StoreFailed → Rose (D.faults store.old)
+            (D.faults store.new) }
+        ensures count { D.faults store.old ≤ D.faults store.new }
+    {
+        match input {
+            Input::Tick => {
+                self.tick(alloc, now, outs)?;
+                Ok(())
+            }
+            Input::Suspect => self.suspicion(alloc, store, outs),
+            Input::Message { from, message } => {
+                self.take_message(alloc, from, message, now, store, outs)
+            }
+        }
     }
 
     /// The base of an open leader moves where that is due.

@@ -1,6 +1,6 @@
 //! A server's suspicion, the expected lines from a worked schedule.
 
-use crate::{Node, NodeFault};
+use crate::{Input, Node, NodeFault};
 use harp_base::{Held, Mode, Role, ServerId, StateLine, ViewNo};
 use harp_store::{Mark, MemStore, Pick, Store};
 use kept_log::Kept;
@@ -47,7 +47,7 @@ fn calling() -> Result<StateLine, Fail> {
 fn calls(alloc: Global, node: &mut Node, store: &mut MemStore) -> Result<bool, Fail> {
     let next = view(1)?;
     let state = calling()?;
-    let outs = node.suspect(alloc, store)?;
+    let outs = node.step(alloc, Input::Suspect, 0, store)?;
     let invited = matches!(outs.sends.as_slice(), [one, two]
         if one.to == ServerId::One && two.to == ServerId::Two
         && invites(&one.message, next) && invites(&two.message, next));
@@ -63,14 +63,19 @@ fn a_suspicion_calls_for_the_next_view(rt: HostRuntime) -> Result<(), Fail> {
     Ok(())
 }
 
+/// Why a suspicion gives nothing, where it does.
+fn suspects(alloc: Global, node: &mut Node, store: &mut MemStore) -> Option<NodeFault> {
+    node.step(alloc, Input::Suspect, 0, store).err()
+}
+
 #[test]
 fn a_failed_step_is_the_last_one(rt: HostRuntime) -> Result<(), Fail> {
     let alloc = rt.alloc();
     let mut store = MemStore::new(alloc);
     let mut node = first(alloc);
     store.stop_after(0);
-    assert!(rt; matches!(node.suspect(alloc, &mut store), Err(NodeFault::StoreFailed)));
-    assert!(rt; matches!(node.suspect(alloc, &mut store), Err(NodeFault::Halted)));
+    assert!(rt; suspects(alloc, &mut node, &mut store) == Some(NodeFault::StoreFailed));
+    assert!(rt; suspects(alloc, &mut node, &mut store) == Some(NodeFault::Halted));
     assert!(rt; node.is_halted());
     store.crash(&Pick::None);
     assert!(rt; store.read_mark(alloc)?.is_none());

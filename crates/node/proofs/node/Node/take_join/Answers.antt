@@ -1,0 +1,88 @@
+use Rattle.std.proofs.Common.{[], refl, sym, ◌∙◌}
+use Rattle.group_rules.specs.Misfits.{misfits}
+use Rattle.group_rules.specs.Names.{number_of_view, place_of}
+use Rattle.group_rules.specs.Open.{and_then, try_open}
+use Rattle.group_rules.specs.State.{Join}
+use Rattle.group_rules.specs.Step.{on_message}
+use Rattle.node.proofs.Saying.{err_so}
+use Rattle.node.proofs.Marks.{disk_as, mark_as, misfit_alike, opened_part, taken_alike, taken_part}
+use Rattle.node.proofs.Takes.{ignored, taken_then}
+use Rattle.node.specs.Node.{server}
+use Rattle.node.proofs.node.Node.take_join.Goals as goal
+use Rattle.view_form.specs.Choice.{report}
+
+pub returns-then-misfits_join-clause-makes : goal.returns-then-misfits_join-clause-makes
+returns-then-misfits_join-clause-makes g c items size list =
+    let n = c.args.self.now in
+    let from = place_of c.args.from in
+    let m = Join (number_of_view c.args.view) (report c.args.info) in
+    let s = server n items in
+    ignored n.me c.args.now (misfits n.me n.plain from m)
+    (and_then n.me c.args.now s (on_message size n.me c.args.now list s from m)
+    (try_open n.me c.args.now)) s [] c.args.outs.now
+    (sym c.misfits_join.ensures ∙ c.if-misfits_join.true)
+
+pub returns-then-misfits_join-clause-mark : goal.returns-then-misfits_join-clause-mark
+returns-then-misfits_join-clause-mark g c size list =
+    let n = c.args.self.now in
+    let from = place_of c.args.from in
+    let m = Join (number_of_view c.args.view) (report c.args.info) in
+    mark_as _ _ n.mark n.mark (misfit_alike size c.args.now list n from m
+    (sym c.misfits_join.ensures ∙ c.if-misfits_join.true)) refl
+
+pub returns-then-misfits_join-clause-written : goal.returns-then-misfits_join-clause-written
+returns-then-misfits_join-clause-written g c size list =
+    let n = c.args.self.now in
+    let from = place_of c.args.from in
+    let m = Join (number_of_view c.args.view) (report c.args.info) in
+    disk_as _ _ n.mark n.mark (g.D.Store.told c.args.store.now) (g.D.Store.told c.args.store.now)
+    (misfit_alike size c.args.now list n from m
+    (sym c.misfits_join.ensures ∙ c.if-misfits_join.true)) refl refl
+
+pub returns-in_err-collect-clause-part : goal.returns-in_err-collect-clause-part
+returns-in_err-collect-clause-part g c =
+    let n = c.args.self.now in
+    let from = place_of c.args.from in
+    let m = Join (number_of_view c.args.view) (report c.args.info) in
+    err_so _ _ (taken_part c.args.now n from m (g.D.Store.told c.args.store.now) (g.D.Store.told c.collect.new.store)
+    (sym c.misfits_join.ensures ∙ c.if-misfits_join.false)
+    (λ size list. c.in_err-collect.ensures.part))
+
+pub returns-in_err-try_open-clause-part : goal.returns-in_err-try_open-clause-part
+returns-in_err-try_open-clause-part g c =
+    let n = c.args.self.now in
+    let from = place_of c.args.from in
+    let m = Join (number_of_view c.args.view) (report c.args.info) in
+    err_so _ _ (opened_part c.args.now n from m c.collect.new.self.mark
+    (g.D.Store.told c.args.store.now) (g.D.Store.told c.collect.new.store)
+    (sym c.misfits_join.ensures ∙ c.if-misfits_join.false)
+    (λ size list. c.in_ok-collect.ensures.mark) (λ size list. c.in_ok-collect.ensures.written))
+
+pub returns-clause-makes : goal.returns-clause-makes
+returns-clause-makes g c items size list =
+    let n = c.args.self.now in
+    let from = place_of c.args.from in
+    let m = Join (number_of_view c.args.view) (report c.args.info) in
+    taken_then n.me c.args.now (misfits n.me n.plain from m)
+    (on_message size n.me c.args.now list (server n items) from m) (server n items)
+    (server c.collect.new.self items) (server c.try_open.new.self items)
+    c.collect.new.self.me [] c.args.outs.now c.collect.new.outs c.try_open.new.outs
+    (sym c.misfits_join.ensures ∙ c.if-misfits_join.false) c.collect.ensures.me
+    (c.in_ok-collect.ensures.makes items c.args.now) (c.in_ok-try_open.ensures.makes items)
+
+pub returns-clause-mark : goal.returns-clause-mark
+returns-clause-mark g c size list =
+    let n = c.args.self.now in
+    let from = place_of c.args.from in
+    let m = Join (number_of_view c.args.view) (report c.args.info) in
+    mark_as _ _ n.mark c.try_open.new.self.mark (taken_alike size c.args.now list n from m
+    (sym c.misfits_join.ensures ∙ c.if-misfits_join.false)) (c.try_open.ensures.mark ∙ c.in_ok-collect.ensures.mark)
+
+pub returns-clause-written : goal.returns-clause-written
+returns-clause-written g c size list =
+    let n = c.args.self.now in
+    let from = place_of c.args.from in
+    let m = Join (number_of_view c.args.view) (report c.args.info) in
+    disk_as _ _ c.collect.new.self.mark c.try_open.new.self.mark (g.D.Store.told c.args.store.now)
+    (g.D.Store.told c.collect.new.store) (taken_alike size c.args.now list n from m
+    (sym c.misfits_join.ensures ∙ c.if-misfits_join.false)) c.try_open.ensures.mark c.in_ok-collect.ensures.written

@@ -1,0 +1,392 @@
+use Rattle.std.proofs.Common.{ap, map, refl}
+use Rattle.std.proofs.lemmas.Result.{on_err_weaker, on_ok_weaker}
+use Rattle.event_record.specs.Record.{entry_of}
+use Rattle.group_rules.specs.Names.{number_of_view}
+use Rattle.group_rules.specs.State.{Ack, Beat, Demote, Event, Fetch, Form, Formed, Give, Invite, Join, Message}
+use Rattle.file_tree.specs.Book.{Entry}
+use Rattle.kept_log.specs.Kept.{plan_of}
+use Rattle.node.proofs.Heard.{fills_fetch, heard_ack, heard_alike, heard_keeps, heard_makes}
+use Rattle.node.proofs.Marks.{disk_as, mark_as, part_as}
+use Rattle.node.specs.Node.{server}
+use Rattle.outputs.specs.Messages.{heard}
+use Rattle.view_form.specs.Choice.{report}
+use Rattle.node.proofs.node.Node.take_message.Goals as goal
+
+pub returns-in-Invite-clause-makes : goal.returns-in-Invite-clause-makes
+returns-in-Invite-clause-makes g c =
+    let n = c.args.self.now in
+    let m : Message Entry = Invite (number_of_view c.in-Invite.view) in
+    on_ok_weaker c.take_invite.result
+    (λ made items size list fills. heard_makes size n.me c.args.now list (server n items)
+    (server c.take_invite.new.self items) c.args.from c.args.message m n.peers c.args.outs.now
+    c.take_invite.new.outs (ap heard c.in-Invite.is) tt
+    (made items size list)) c.take_invite.ensures.makes
+
+pub returns-in-Invite-clause-mark : goal.returns-in-Invite-clause-mark
+returns-in-Invite-clause-mark g c =
+    let n = c.args.self.now in
+    let m : Message Entry = Invite (number_of_view c.in-Invite.view) in
+    on_ok_weaker c.take_invite.result
+    (λ marks size list. mark_as _ _ n.mark c.take_invite.new.self.mark
+    (heard_alike size n.me c.args.now list n.plain c.args.from c.args.message m
+    (ap heard c.in-Invite.is))
+    (marks size list)) c.take_invite.ensures.mark
+
+pub returns-in-Invite-clause-written : goal.returns-in-Invite-clause-written
+returns-in-Invite-clause-written g c =
+    let n = c.args.self.now in
+    let m : Message Entry = Invite (number_of_view c.in-Invite.view) in
+    on_ok_weaker c.take_invite.result
+    (λ writes size list. disk_as _ _ c.take_invite.new.self.mark c.take_invite.new.self.mark (g.D.Store.told c.args.store.now)
+    (g.D.Store.told c.take_invite.new.store) (heard_alike size n.me c.args.now list n.plain c.args.from c.args.message m
+    (ap heard c.in-Invite.is))
+    refl (writes size list)) c.take_invite.ensures.written
+
+pub returns-in-Invite-clause-part : goal.returns-in-Invite-clause-part
+returns-in-Invite-clause-part g c =
+    let n = c.args.self.now in
+    let m : Message Entry = Invite (number_of_view c.in-Invite.view) in
+    on_err_weaker c.take_invite.result
+    (λ leaves size list. part_as _ _ n.mark (g.D.Store.told c.args.store.now)
+    (g.D.Store.told c.take_invite.new.store) (heard_alike size n.me c.args.now list n.plain c.args.from c.args.message m
+    (ap heard c.in-Invite.is))
+    (leaves size list)) c.take_invite.ensures.part
+
+pub returns-in-Join-clause-makes : goal.returns-in-Join-clause-makes
+returns-in-Join-clause-makes g c =
+    let n = c.args.self.now in
+    let m : Message Entry = Join (number_of_view c.in-Join.view) (report (record {
+      held = c.in-Join.held;
+      accepted = c.in-Join.accepted;
+      base = c.in-Join.base;
+      lb = c.in-Join.lb;
+      cp = c.in-Join.cp;
+      top = c.in-Join.top;
+      horizon = c.in-Join.horizon;
+    })) in
+    on_ok_weaker c.take_join.result
+    (λ made items size list fills. heard_makes size n.me c.args.now list (server n items)
+    (server c.take_join.new.self items) c.args.from c.args.message m n.peers c.args.outs.now
+    c.take_join.new.outs (ap heard c.in-Join.is) tt
+    (made items size list)) c.take_join.ensures.makes
+
+pub returns-in-Join-clause-mark : goal.returns-in-Join-clause-mark
+returns-in-Join-clause-mark g c =
+    let n = c.args.self.now in
+    let m : Message Entry = Join (number_of_view c.in-Join.view) (report (record {
+      held = c.in-Join.held;
+      accepted = c.in-Join.accepted;
+      base = c.in-Join.base;
+      lb = c.in-Join.lb;
+      cp = c.in-Join.cp;
+      top = c.in-Join.top;
+      horizon = c.in-Join.horizon;
+    })) in
+    on_ok_weaker c.take_join.result
+    (λ marks size list. mark_as _ _ n.mark c.take_join.new.self.mark
+    (heard_alike size n.me c.args.now list n.plain c.args.from c.args.message m
+    (ap heard c.in-Join.is))
+    (marks size list)) c.take_join.ensures.mark
+
+pub returns-in-Join-clause-written : goal.returns-in-Join-clause-written
+returns-in-Join-clause-written g c =
+    let n = c.args.self.now in
+    let m : Message Entry = Join (number_of_view c.in-Join.view) (report (record {
+      held = c.in-Join.held;
+      accepted = c.in-Join.accepted;
+      base = c.in-Join.base;
+      lb = c.in-Join.lb;
+      cp = c.in-Join.cp;
+      top = c.in-Join.top;
+      horizon = c.in-Join.horizon;
+    })) in
+    on_ok_weaker c.take_join.result
+    (λ writes size list. disk_as _ _ c.take_join.new.self.mark c.take_join.new.self.mark (g.D.Store.told c.args.store.now)
+    (g.D.Store.told c.take_join.new.store) (heard_alike size n.me c.args.now list n.plain c.args.from c.args.message m
+    (ap heard c.in-Join.is))
+    refl (writes size list)) c.take_join.ensures.written
+
+pub returns-in-Join-clause-part : goal.returns-in-Join-clause-part
+returns-in-Join-clause-part g c =
+    let n = c.args.self.now in
+    let m : Message Entry = Join (number_of_view c.in-Join.view) (report (record {
+      held = c.in-Join.held;
+      accepted = c.in-Join.accepted;
+      base = c.in-Join.base;
+      lb = c.in-Join.lb;
+      cp = c.in-Join.cp;
+      top = c.in-Join.top;
+      horizon = c.in-Join.horizon;
+    })) in
+    on_err_weaker c.take_join.result
+    (λ leaves size list. part_as _ _ n.mark (g.D.Store.told c.args.store.now)
+    (g.D.Store.told c.take_join.new.store) (heard_alike size n.me c.args.now list n.plain c.args.from c.args.message m
+    (ap heard c.in-Join.is))
+    (leaves size list)) c.take_join.ensures.part
+
+pub returns-in-Form-clause-makes : goal.returns-in-Form-clause-makes
+returns-in-Form-clause-makes g c =
+    let n = c.args.self.now in
+    let m : Message Entry = Form (number_of_view c.in-Form.view) (plan_of (record {
+      storers = c.in-Form.storers;
+      source = c.in-Form.source;
+      base = c.in-Form.base;
+      cp = c.in-Form.cp;
+      start = c.in-Form.start;
+      horizon = c.in-Form.horizon;
+    })) in
+    on_ok_weaker c.take_form.result
+    (λ made items size list fills. heard_makes size n.me c.args.now list (server n items)
+    (server c.take_form.new.self items) c.args.from c.args.message m n.peers c.args.outs.now
+    c.take_form.new.outs (ap heard c.in-Form.is) tt
+    (made items size list)) c.take_form.ensures.makes
+
+pub returns-in-Form-clause-mark : goal.returns-in-Form-clause-mark
+returns-in-Form-clause-mark g c =
+    let n = c.args.self.now in
+    let m : Message Entry = Form (number_of_view c.in-Form.view) (plan_of (record {
+      storers = c.in-Form.storers;
+      source = c.in-Form.source;
+      base = c.in-Form.base;
+      cp = c.in-Form.cp;
+      start = c.in-Form.start;
+      horizon = c.in-Form.horizon;
+    })) in
+    on_ok_weaker c.take_form.result
+    (λ marks size list. mark_as _ _ n.mark c.take_form.new.self.mark
+    (heard_alike size n.me c.args.now list n.plain c.args.from c.args.message m
+    (ap heard c.in-Form.is))
+    (marks size list)) c.take_form.ensures.mark
+
+pub returns-in-Form-clause-written : goal.returns-in-Form-clause-written
+returns-in-Form-clause-written g c =
+    let n = c.args.self.now in
+    let m : Message Entry = Form (number_of_view c.in-Form.view) (plan_of (record {
+      storers = c.in-Form.storers;
+      source = c.in-Form.source;
+      base = c.in-Form.base;
+      cp = c.in-Form.cp;
+      start = c.in-Form.start;
+      horizon = c.in-Form.horizon;
+    })) in
+    on_ok_weaker c.take_form.result
+    (λ writes size list. disk_as _ _ c.take_form.new.self.mark c.take_form.new.self.mark (g.D.Store.told c.args.store.now)
+    (g.D.Store.told c.take_form.new.store) (heard_alike size n.me c.args.now list n.plain c.args.from c.args.message m
+    (ap heard c.in-Form.is))
+    refl (writes size list)) c.take_form.ensures.written
+
+pub returns-in-Form-clause-part : goal.returns-in-Form-clause-part
+returns-in-Form-clause-part g c =
+    let n = c.args.self.now in
+    let m : Message Entry = Form (number_of_view c.in-Form.view) (plan_of (record {
+      storers = c.in-Form.storers;
+      source = c.in-Form.source;
+      base = c.in-Form.base;
+      cp = c.in-Form.cp;
+      start = c.in-Form.start;
+      horizon = c.in-Form.horizon;
+    })) in
+    on_err_weaker c.take_form.result
+    (λ leaves size list. part_as _ _ n.mark (g.D.Store.told c.args.store.now)
+    (g.D.Store.told c.take_form.new.store) (heard_alike size n.me c.args.now list n.plain c.args.from c.args.message m
+    (ap heard c.in-Form.is))
+    (leaves size list)) c.take_form.ensures.part
+
+pub returns-in-Fetch-clause-makes : goal.returns-in-Fetch-clause-makes
+returns-in-Fetch-clause-makes g c items size list fills =
+    let n = c.args.self.now in
+    let m : Message Entry = Fetch (number_of_view c.in-Fetch.view) c.in-Fetch.first in
+    let sized = fills_fetch size list n c.args.message (number_of_view c.in-Fetch.view) c.in-Fetch.first
+    (ap heard c.in-Fetch.is) fills in
+    heard_makes size n.me c.args.now list (server n items)
+    (server c.take_fetch.new.self items) c.args.from c.args.message m n.peers c.args.outs.now
+    c.take_fetch.new.outs (ap heard c.in-Fetch.is) tt
+    (c.in_ok-take_fetch-in-Fetch.ensures.makes items size list sized.0 sized.1)
+
+pub returns-in-Fetch-clause-mark : goal.returns-in-Fetch-clause-mark
+returns-in-Fetch-clause-mark g c size list =
+    let n = c.args.self.now in
+    let m : Message Entry = Fetch (number_of_view c.in-Fetch.view) c.in-Fetch.first in
+    mark_as _ _ n.mark c.take_fetch.new.self.mark
+    (heard_keeps size n.me c.args.now list n.plain c.args.from c.args.message m
+    (ap heard c.in-Fetch.is) tt)
+    c.take_fetch.ensures.mark
+
+pub returns-in-Fetch-clause-written : goal.returns-in-Fetch-clause-written
+returns-in-Fetch-clause-written g c size list =
+    let n = c.args.self.now in
+    let m : Message Entry = Fetch (number_of_view c.in-Fetch.view) c.in-Fetch.first in
+    disk_as _ _ c.take_fetch.new.self.mark c.take_fetch.new.self.mark (g.D.Store.told c.args.store.now)
+    (g.D.Store.told c.args.store.now) (heard_keeps size n.me c.args.now list n.plain c.args.from c.args.message m
+    (ap heard c.in-Fetch.is) tt)
+    refl refl
+
+pub returns-in-Give-clause-makes : goal.returns-in-Give-clause-makes
+returns-in-Give-clause-makes g c =
+    let n = c.args.self.now in
+    let m : Message Entry = Give (number_of_view c.in-Give.view) c.in-Give.first (map entry_of c.in-Give.records) in
+    on_ok_weaker c.take_give.result
+    (λ made items size list fills. heard_makes size n.me c.args.now list (server n items)
+    (server c.take_give.new.self items) c.args.from c.args.message m n.peers c.args.outs.now
+    c.take_give.new.outs (ap heard c.in-Give.is) tt
+    (made items size list)) c.take_give.ensures.makes
+
+pub returns-in-Give-clause-mark : goal.returns-in-Give-clause-mark
+returns-in-Give-clause-mark g c =
+    let n = c.args.self.now in
+    let m : Message Entry = Give (number_of_view c.in-Give.view) c.in-Give.first (map entry_of c.in-Give.records) in
+    on_ok_weaker c.take_give.result
+    (λ marks size list. mark_as _ _ n.mark c.take_give.new.self.mark
+    (heard_alike size n.me c.args.now list n.plain c.args.from c.args.message m
+    (ap heard c.in-Give.is))
+    (marks size list)) c.take_give.ensures.mark
+
+pub returns-in-Give-clause-written : goal.returns-in-Give-clause-written
+returns-in-Give-clause-written g c =
+    let n = c.args.self.now in
+    let m : Message Entry = Give (number_of_view c.in-Give.view) c.in-Give.first (map entry_of c.in-Give.records) in
+    on_ok_weaker c.take_give.result
+    (λ writes size list. disk_as _ _ c.take_give.new.self.mark c.take_give.new.self.mark (g.D.Store.told c.args.store.now)
+    (g.D.Store.told c.take_give.new.store) (heard_alike size n.me c.args.now list n.plain c.args.from c.args.message m
+    (ap heard c.in-Give.is))
+    refl (writes size list)) c.take_give.ensures.written
+
+pub returns-in-Give-clause-part : goal.returns-in-Give-clause-part
+returns-in-Give-clause-part g c =
+    let n = c.args.self.now in
+    let m : Message Entry = Give (number_of_view c.in-Give.view) c.in-Give.first (map entry_of c.in-Give.records) in
+    on_err_weaker c.take_give.result
+    (λ leaves size list. part_as _ _ n.mark (g.D.Store.told c.args.store.now)
+    (g.D.Store.told c.take_give.new.store) (heard_alike size n.me c.args.now list n.plain c.args.from c.args.message m
+    (ap heard c.in-Give.is))
+    (leaves size list)) c.take_give.ensures.part
+
+pub returns-in-Formed-clause-makes : goal.returns-in-Formed-clause-makes
+returns-in-Formed-clause-makes g c items size list fills =
+    let n = c.args.self.now in
+    let m : Message Entry = Formed (number_of_view c.in-Formed.view) c.in-Formed.lb in
+    heard_makes size n.me c.args.now list (server n items)
+    (server c.take_formed.new.self items) c.args.from c.args.message m n.peers c.args.outs.now
+    c.take_formed.new.outs (ap heard c.in-Formed.is) tt
+    (c.in_ok-take_formed-in-Formed.ensures.makes items size list)
+
+pub returns-in-Formed-clause-mark : goal.returns-in-Formed-clause-mark
+returns-in-Formed-clause-mark g c size list =
+    let n = c.args.self.now in
+    let m : Message Entry = Formed (number_of_view c.in-Formed.view) c.in-Formed.lb in
+    mark_as _ _ n.mark c.take_formed.new.self.mark
+    (heard_keeps size n.me c.args.now list n.plain c.args.from c.args.message m
+    (ap heard c.in-Formed.is) tt)
+    c.take_formed.ensures.mark
+
+pub returns-in-Formed-clause-written : goal.returns-in-Formed-clause-written
+returns-in-Formed-clause-written g c size list =
+    let n = c.args.self.now in
+    let m : Message Entry = Formed (number_of_view c.in-Formed.view) c.in-Formed.lb in
+    disk_as _ _ c.take_formed.new.self.mark c.take_formed.new.self.mark (g.D.Store.told c.args.store.now)
+    (g.D.Store.told c.args.store.now) (heard_keeps size n.me c.args.now list n.plain c.args.from c.args.message m
+    (ap heard c.in-Formed.is) tt)
+    refl refl
+
+pub returns-in-Event-clause-makes : goal.returns-in-Event-clause-makes
+returns-in-Event-clause-makes g c items size list fills =
+    let n = c.args.self.now in
+    let m : Message Entry = Event (number_of_view c.in-Event.view) c.in-Event.item.index c.in-Event.cp c.in-Event.base (entry_of c.in-Event.item) in
+    heard_makes size n.me c.args.now list (server n items)
+    (server c.take_event.new.self items) c.args.from c.args.message m n.peers c.args.outs.now
+    c.take_event.new.outs (ap heard c.in-Event.is) tt
+    (c.in_ok-take_event-in-Event.ensures.makes items size list)
+
+pub returns-in-Beat-clause-makes : goal.returns-in-Beat-clause-makes
+returns-in-Beat-clause-makes g c items size list fills =
+    let n = c.args.self.now in
+    let m : Message Entry = Beat (number_of_view c.in-Beat.view) c.in-Beat.cp c.in-Beat.base in
+    heard_makes size n.me c.args.now list (server n items)
+    (server c.take_beat.new.self items) c.args.from c.args.message m n.peers c.args.outs.now
+    c.take_beat.new.outs (ap heard c.in-Beat.is) tt
+    (c.in_ok-take_beat-in-Beat.ensures.makes items size list)
+
+pub returns-in-Beat-clause-mark : goal.returns-in-Beat-clause-mark
+returns-in-Beat-clause-mark g c size list =
+    let n = c.args.self.now in
+    let m : Message Entry = Beat (number_of_view c.in-Beat.view) c.in-Beat.cp c.in-Beat.base in
+    mark_as _ _ n.mark c.take_beat.new.self.mark
+    (heard_keeps size n.me c.args.now list n.plain c.args.from c.args.message m
+    (ap heard c.in-Beat.is) tt)
+    c.take_beat.ensures.mark
+
+pub returns-in-Beat-clause-written : goal.returns-in-Beat-clause-written
+returns-in-Beat-clause-written g c size list =
+    let n = c.args.self.now in
+    let m : Message Entry = Beat (number_of_view c.in-Beat.view) c.in-Beat.cp c.in-Beat.base in
+    disk_as _ _ c.take_beat.new.self.mark c.take_beat.new.self.mark (g.D.Store.told c.args.store.now)
+    (g.D.Store.told c.args.store.now) (heard_keeps size n.me c.args.now list n.plain c.args.from c.args.message m
+    (ap heard c.in-Beat.is) tt)
+    refl refl
+
+pub returns-in-Ack-clause-makes : goal.returns-in-Ack-clause-makes
+returns-in-Ack-clause-makes g c items size list fills =
+    let n = c.args.self.now in
+    let m : Message Entry = Ack (number_of_view c.in-Ack.view) c.in-Ack.top c.in-Ack.lb c.in-Ack.until in
+    heard_ack size n.me c.args.now list (server n items)
+    (server c.take_ack.new.self items) c.args.from c.args.message m n.peers c.args.outs.now
+    c.take_ack.new.outs (ap heard c.in-Ack.is)
+    (c.in_ok-take_ack-in-Ack.ensures.makes items size list)
+
+pub returns-in-Ack-clause-mark : goal.returns-in-Ack-clause-mark
+returns-in-Ack-clause-mark g c size list =
+    let n = c.args.self.now in
+    let m : Message Entry = Ack (number_of_view c.in-Ack.view) c.in-Ack.top c.in-Ack.lb c.in-Ack.until in
+    mark_as _ _ n.mark c.take_ack.new.self.mark
+    (heard_keeps size n.me c.args.now list n.plain c.args.from c.args.message m
+    (ap heard c.in-Ack.is) tt)
+    c.take_ack.ensures.mark
+
+pub returns-in-Ack-clause-written : goal.returns-in-Ack-clause-written
+returns-in-Ack-clause-written g c size list =
+    let n = c.args.self.now in
+    let m : Message Entry = Ack (number_of_view c.in-Ack.view) c.in-Ack.top c.in-Ack.lb c.in-Ack.until in
+    disk_as _ _ c.take_ack.new.self.mark c.take_ack.new.self.mark (g.D.Store.told c.args.store.now)
+    (g.D.Store.told c.args.store.now) (heard_keeps size n.me c.args.now list n.plain c.args.from c.args.message m
+    (ap heard c.in-Ack.is) tt)
+    refl refl
+
+pub returns-in-Demote-clause-makes : goal.returns-in-Demote-clause-makes
+returns-in-Demote-clause-makes g c =
+    let n = c.args.self.now in
+    let m : Message Entry = Demote (number_of_view c.in-Demote.view) in
+    on_ok_weaker c.take_demote.result
+    (λ made items size list fills. heard_makes size n.me c.args.now list (server n items)
+    (server c.take_demote.new.self items) c.args.from c.args.message m n.peers c.args.outs.now
+    c.take_demote.new.outs (ap heard c.in-Demote.is) tt
+    (made items size list)) c.take_demote.ensures.makes
+
+pub returns-in-Demote-clause-mark : goal.returns-in-Demote-clause-mark
+returns-in-Demote-clause-mark g c =
+    let n = c.args.self.now in
+    let m : Message Entry = Demote (number_of_view c.in-Demote.view) in
+    on_ok_weaker c.take_demote.result
+    (λ marks size list. mark_as _ _ n.mark c.take_demote.new.self.mark
+    (heard_alike size n.me c.args.now list n.plain c.args.from c.args.message m
+    (ap heard c.in-Demote.is))
+    (marks size list)) c.take_demote.ensures.mark
+
+pub returns-in-Demote-clause-written : goal.returns-in-Demote-clause-written
+returns-in-Demote-clause-written g c =
+    let n = c.args.self.now in
+    let m : Message Entry = Demote (number_of_view c.in-Demote.view) in
+    on_ok_weaker c.take_demote.result
+    (λ writes size list. disk_as _ _ c.take_demote.new.self.mark c.take_demote.new.self.mark (g.D.Store.told c.args.store.now)
+    (g.D.Store.told c.take_demote.new.store) (heard_alike size n.me c.args.now list n.plain c.args.from c.args.message m
+    (ap heard c.in-Demote.is))
+    refl (writes size list)) c.take_demote.ensures.written
+
+pub returns-in-Demote-clause-part : goal.returns-in-Demote-clause-part
+returns-in-Demote-clause-part g c =
+    let n = c.args.self.now in
+    let m : Message Entry = Demote (number_of_view c.in-Demote.view) in
+    on_err_weaker c.take_demote.result
+    (λ leaves size list. part_as _ _ n.mark (g.D.Store.told c.args.store.now)
+    (g.D.Store.told c.take_demote.new.store) (heard_alike size n.me c.args.now list n.plain c.args.from c.args.message m
+    (ap heard c.in-Demote.is))
+    (leaves size list)) c.take_demote.ensures.part

@@ -1,0 +1,54 @@
+//! What a server is given.
+
+ghost use Rattle.std.specs.Prelude.{◌≡◌, is_some};
+ghost use Rattle.node.specs.Input.{input_of};
+ghost use Rattle.outputs.specs.Messages.{heard};
+
+use harp_base::ServerId;
+use wire::Message;
+
+/// What a server is given.
+#[derive(Debug, Drop)]
+pub enum Input {
+    /// Its time has come to send again what may be lost.
+    Tick,
+    /// It heard too little of the other storer of its view.
+    Suspect,
+    /// A server's message.
+    Message { from: ServerId, message: Message },
+}
+
+impl Input {
+    /// Whether a server does something with it. A client's message comes by another way, and is
+    /// nothing as a server's.
+    pub(crate) fn is_heeded(&self) -> bool
+        ensures { result ≡ is_some (input_of self.now) }
+    {
+        match self {
+            Input::Tick => true,
+            Input::Suspect => true,
+            Input::Message { message, .. } => is_heard(message),
+        }
+    }
+}
+
+/// Whether a message is one between servers.
+fn is_heard(message: &Message) -> bool
+    ensures { result ≡ is_some (heard message.now) }
+{
+    match message {
+        Message::Invite { .. } => true,
+        Message::Join { .. } => true,
+        Message::Form { .. } => true,
+        Message::Fetch { .. } => true,
+        Message::Give { .. } => true,
+        Message::Formed { .. } => true,
+        Message::Event { .. } => true,
+        Message::Beat { .. } => true,
+        Message::Ack { .. } => true,
+        Message::Demote { .. } => true,
+        Message::Ask { .. } => false,
+        Message::Answer { .. } => false,
+        Message::CannotServe { .. } => false,
+    }
+}

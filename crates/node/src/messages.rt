@@ -1,0 +1,141 @@
+//! A message that has come, by its form. After an error the server is halted.
+
+ghost use Rattle.std.specs.Prelude.{◌≡◌, ◌<◌, ◌≤◌, ◌^◌, List, ℕ, Err, OnErr, OnOk, false};
+ghost use Rattle.file_tree.specs.Book.{Entry};
+ghost use Rattle.harp_base.specs.Streams.{Rose};
+ghost use Rattle.node.specs.Disk.{MayLeave, disk_after, marked_by};
+ghost use Rattle.node.specs.Node.{server};
+ghost use Rattle.node.specs.Taking.{Fills, input_in, ruled};
+ghost use Rattle.outputs.specs.Makes.{Makes};
+
+use crate::fault::NodeFault;
+use crate::node::Node;
+use harp_base::ServerId;
+use harp_store::Store;
+use kept_log::Form;
+use outputs::Outputs;
+use std::alloc::Global;
+use view_form::JoinInfo;
+use wire::Message;
+
+impl Node {
+    /// Deals with a message that has come, from its tests to the test of opening: a misfit changes
+    /// nothing, nor does a client's message. An error leaves the mark on the disk as it was, or as
+    /// the message's moves write it.
+    pub(crate) fn take_message<D: Store>(
+        &mut self,
+        alloc: Global,
+        from: ServerId,
+        message: Message,
+        now: u64,
+        store: &mut D,
+        outs: &mut Outputs,
+    ) -> Result<(), NodeFault>
+        requires up { self.old.halted ≡ false }
+        requires now { now < 2 ^ 62 }
+        ensures makes { OnOk result ((items : List Entry) (size : List Entry → Entry → ℕ)
+            (list : List Entry) → Fills size list self.old message
+            → let s = server self.old items in Makes self.old.me now
+            (ruled size self.old.me now list s (input_in from message)) self.old.peers s
+            (server self.new items) outs.old outs.new) }
+        ensures me { self.new.me ≡ self.old.me }
+        ensures mark { OnOk result ((size : List Entry → Entry → ℕ) (list : List Entry)
+            → self.new.mark ≡ marked_by self.old.mark
+            (ruled size self.old.me now list self.old.plain (input_in from message))) }
+        ensures up { OnOk result (self.new.halted ≡ false) }
+        ensures written { OnOk result ((size : List Entry → Entry → ℕ) (list : List Entry)
+            → D.told store.new ≡ disk_after
+            (ruled size self.old.me now list self.old.plain (input_in from message))
+            self.new.mark (D.told store.old)) }
+        ensures part { OnErr result ((size : List Entry → Entry → ℕ) (list : List Entry)
+            → let ms = ruled size self.old.me now list self.old.plain (input_in from message) in
+            MayLeave ms (marked_by self.old.mark ms) (D.told store.old) (D.told store.new)) }
+        ensures running { result ≡ Err NodeFault.Halted → ⊥ }
+        ensures rose { result ≡ Err NodeFault.StoreFailed → Rose (D.faults store.old)
+            (D.faults store.new) }
+        ensures count { D.faults store.old ≤ D.faults store.new }
+    {
+        match message {
+            Message::Invite { view } => self.take_invite(alloc, from, view, now, store, outs),
+            Message::Join {
+                view,
+                held,
+                accepted,
+                base,
+                lb,
+                cp,
+                top,
+                horizon,
+            } => {
+                let info = JoinInfo {
+                    held,
+                    accepted,
+                    base,
+                    lb,
+                    cp,
+                    top,
+                    horizon,
+                };
+                self.take_join(alloc, from, view, info, now, store, outs)
+            }
+            Message::Form {
+                view,
+                storers,
+                source,
+                base,
+                cp,
+                start,
+                horizon,
+            } => {
+                let form = Form {
+                    storers,
+                    source,
+                    base,
+                    cp,
+                    start,
+                    horizon,
+                };
+                self.take_form(alloc, from, view, form, now, store, outs)
+            }
+            Message::Fetch { view, first } => {
+                self.take_fetch(alloc, from, view, first, now, outs)?;
+                Ok(())
+            }
+            Message::Give {
+                view,
+                first,
+                records,
+            } => self.take_give(alloc, from, view, first, records, now, store, outs),
+            Message::Formed { view, lb } => {
+                self.take_formed(alloc, from, view, lb, now, outs)?;
+                Ok(())
+            }
+            Message::Event {
+                view,
+                cp,
+                base,
+                record: item,
+            } => {
+                self.take_event(alloc, from, view, cp, base, item, now, outs)?;
+                Ok(())
+            }
+            Message::Beat { view, cp, base } => {
+                self.take_beat(alloc, from, view, cp, base, now, outs)?;
+                Ok(())
+            }
+            Message::Ack {
+                view,
+                top,
+                lb,
+                until,
+            } => {
+                self.take_ack(alloc, from, view, top, lb, until, now, outs)?;
+                Ok(())
+            }
+            Message::Demote { view } => self.take_demote(alloc, from, view, now, store, outs),
+            Message::Ask { .. } => Ok(()),
+            Message::Answer { .. } => Ok(()),
+            Message::CannotServe { .. } => Ok(()),
+        }
+    }
+}

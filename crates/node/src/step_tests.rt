@@ -1,0 +1,178 @@
+//! What servers do with messages, from their first boots to an open view, the expected outputs from
+//! a worked schedule.
+
+ghost use Rattle.std.specs.Prelude.{◌<◌, ◌^◌};
+
+use crate::{Input, Node};
+use harp_base::{Held, ServerId, ViewNo};
+use harp_store::{Mark, MemStore};
+use kept_log::Kept;
+use outputs::Outputs;
+use promise::{Deadline, Delta, Horizon};
+use std::alloc::Global;
+use std::test::Fail;
+use volatile_log::FrozenLog;
+use wire::Message;
+
+/// A server as it rests after its first boot, with the empty log.
+fn first(alloc: Global, me: ServerId) -> Node {
+    let horizon = Horizon::boot(0, Delta::first(), Delta::first());
+    let log = FrozenLog::of(0, 0, 0, 0, Vec::new(alloc));
+    Node::resting(me, Mark::first(me, 2000), horizon, Kept::Held(log))
+}
+
+fn view(count: u64) -> Result<ViewNo, Fail> {
+    let view = ViewNo::of(count, ServerId::Zero).ok_or("no view")?;
+    Ok(view)
+}
+
+/// A message of a server, at this reading of the receiver's clock.
+fn told(
+    alloc: Global,
+    node: &mut Node,
+    from: ServerId,
+    message: Message,
+    now: u64,
+    store: &mut MemStore,
+) -> Result<Outputs, Fail>
+    requires { now < 2 ^ 62 }
+{
+    Ok(node.step(alloc, Input::Message { from, message }, now, store)?)
+}
+
+/// The join of server 1, which tells the empty log.
+fn join() -> Result<Message, Fail> {
+    Ok(Message::Join {
+        view: view(1)?,
+        held: Held::Held,
+        accepted: view(0)?,
+        base: 0,
+        lb: 0,
+        cp: 0,
+        top: 0,
+        horizon: Deadline::new(2000),
+    })
+}
+
+/// Server 0 suspects, and is joined: it leads view 1.0, whose horizon is at 2000.
+fn lead(alloc: Global, node: &mut Node, store: &mut MemStore) -> Result<(), Fail> {
+    node.step(alloc, Input::Suspect, 0, store)?;
+    let outs = told(alloc, node, ServerId::One, join()?, 0, store)?;
+    if outs.chosen.is_none() {
+        return Err("no view is chosen".into());
+    }
+    Ok(())
+}
+
+/// Whether server 0 opens view 1.0 with what it is given at this reading of its clock, and tells it
+/// to server 2 and its partner.
+fn opens(outs: &Outputs, view: ViewNo) -> bool {
+    matches!(outs.opened, Some(opened) if opened.is_same(view))
+        && matches!(outs.sends.as_slice(), [first, second]
+            if first.to == ServerId::Two && matches!(first.message, Message::Demote { .. })
+            && second.to == ServerId::One
+            && matches!(second.message, Message::Beat { cp: 0, base: 0, .. }))
+}
+
+/// The partner's Formed comes too early, and a tick is early too: the horizon is over by each clock
+/// at 2050.
+fn opens_at_last(alloc: Global, node: &mut Node, store: &mut MemStore) -> Result<bool, Fail> {
+    lead(alloc, node, store)?;
+    let formed = Message::Formed {
+        view: view(1)?,
+        lb: 0,
+    };
+    let early = told(alloc, node, ServerId::One, formed, 1000, store)?;
+    let tick = node.step(alloc, Input::Tick, 2049, store)?;
+    let last = node.step(alloc, Input::Tick, 2050, store)?;
+    Ok(early.opened.is_none() && tick.opened.is_none() && opens(&last, view(1)?))
+}
+
+#[test]
+fn a_leader_opens_when_the_horizon_is_over(rt: HostRuntime) -> Result<(), Fail> {
+    let alloc = rt.alloc();
+    let mut store = MemStore::new(alloc);
+    let mut node = first(alloc, ServerId::Zero);
+    let opens = opens_at_last(alloc, &mut node, &mut store)?;
+    assert!(rt; opens);
+    Ok(())
+}
+
+/// A Formed that comes when the horizon is over.
+fn opens_at_once(alloc: Global, node: &mut Node, store: &mut MemStore) -> Result<bool, Fail> {
+    lead(alloc, node, store)?;
+    let formed = Message::Formed {
+        view: view(1)?,
+        lb: 0,
+    };
+    let outs = told(alloc, node, ServerId::One, formed, 2050, store)?;
+    Ok(opens(&outs, view(1)?))
+}
+
+#[test]
+fn a_late_formed_opens_the_view(rt: HostRuntime) -> Result<(), Fail> {
+    let alloc = rt.alloc();
+    let mut store = MemStore::new(alloc);
+    let mut node = first(alloc, ServerId::Zero);
+    let opens = opens_at_once(alloc, &mut node, &mut store)?;
+    assert!(rt; opens);
+    Ok(())
+}
+
+/// An Invite of a view to server 1, and whether it joins by it.
+fn joins(
+    alloc: Global,
+    node: &mut Node,
+    from: ServerId,
+    store: &mut MemStore,
+) -> Result<bool, Fail> {
+    let outs = told(
+        alloc,
+        node,
+        from,
+        Message::Invite { view: view(1)? },
+        0,
+        store,
+    )?;
+    Ok(matches!(outs.sends.as_slice(), [one]
+        if one.to == ServerId::Zero && matches!(one.message, Message::Join { .. })))
+}
+
+/// Another server than the coordinator invites, then the coordinator does.
+fn joins_once(alloc: Global, node: &mut Node, store: &mut MemStore) -> Result<bool, Fail> {
+    let misfit = joins(alloc, node, ServerId::Two, store)?;
+    let own = joins(alloc, node, ServerId::One, store)?;
+    Ok(!misfit && !own && joins(alloc, node, ServerId::Zero, store)?)
+}
+
+#[test]
+fn a_server_heeds_its_coordinator_alone(rt: HostRuntime) -> Result<(), Fail> {
+    let alloc = rt.alloc();
+    let mut store = MemStore::new(alloc);
+    let mut node = first(alloc, ServerId::One);
+    let once = joins_once(alloc, &mut node, &mut store)?;
+    assert!(rt; once);
+    Ok(())
+}
+
+/// A client's message as a server's, to a server whose view is due to open.
+fn ignores(alloc: Global, node: &mut Node, store: &mut MemStore) -> Result<bool, Fail> {
+    lead(alloc, node, store)?;
+    let refusal = Message::CannotServe {
+        client: 1,
+        number: 1,
+        cause: trace_lines::Cause::Old,
+    };
+    let outs = told(alloc, node, ServerId::One, refusal, 3000, store)?;
+    Ok(outs.sends.is_empty() && outs.opened.is_none())
+}
+
+#[test]
+fn a_clients_message_is_nothing(rt: HostRuntime) -> Result<(), Fail> {
+    let alloc = rt.alloc();
+    let mut store = MemStore::new(alloc);
+    let mut node = first(alloc, ServerId::Zero);
+    let ignores = ignores(alloc, &mut node, &mut store)?;
+    assert!(rt; ignores);
+    Ok(())
+}
