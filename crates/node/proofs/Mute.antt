@@ -124,7 +124,8 @@ none_message : (size : List Entry → Entry → ℕ) (q : Place) (clock : ℕ) (
     (s : Server Entry) (from : Place) (m : Message Entry) → KeepsMark m
     → write_mark (on_message size q clock list s from m) ≡ false
 none_message size q clock list s from (Fetch v index) keeps =
-    none_either (all_of (serving_joined s v)) _ _ (none_if (all_of (held_tests s index (top s))) _ refl)
+    none_either (all_of (serving_joined s v)) _ _ (none_if (all_of (held_tests s index (top s))) _
+    refl)
     (none_if (all_of (serving_accepted s v)) _
     (none_if (all_of (held_tests s index s.served)) _ refl))
 none_message size q clock list s from (Formed v lb) keeps =

@@ -17,7 +17,8 @@ use Rattle.outputs.specs.Said.{Said, said}
 use Rattle.outputs.specs.declared.outputs.Outputs.{Outputs}
 use Rattle.outputs.proofs.Makes.{makes_then, same_said}
 
-pub silent_if : (b : Bool) (ms : List (Move Entry)) → AreSilent ms → AreSilent (if b then ms else [])
+pub silent_if : (b : Bool) (ms : List (Move Entry)) → AreSilent ms
+    → AreSilent (if b then ms else [])
 silent_if true ms h = h
 silent_if false ms h = tt
 

@@ -26,8 +26,8 @@ use view_form::JoinInfo;
 use wire::Records;
 
 impl Node {
-    /// An Invite that has come: a misfit changes nothing. An error leaves the mark on the disk as it
-    /// was, or with the view promised.
+    /// An Invite that has come: a misfit changes nothing. An error leaves the mark on the disk as
+    /// it was, or with the view promised.
     pub(crate) fn take_invite<D: Store>(
         &mut self,
         alloc: Global,
@@ -180,7 +180,8 @@ impl Node {
         ensures up { OnOk result (self.new.halted ≡ false) }
         ensures written { OnOk result ((size : List Entry → Entry → ℕ) (list : List Entry)
             → D.told store.new ≡ disk_after (coming size now list self.old (place_of from)
-            (Give (number_of_view view) first (map entry_of records))) self.new.mark (D.told store.old)) }
+            (Give (number_of_view view) first (map entry_of records))) self.new.mark
+            (D.told store.old)) }
         ensures part { OnErr result ((size : List Entry → Entry → ℕ) (list : List Entry)
             → let ms = coming size now list self.old (place_of from)
             (Give (number_of_view view) first (map entry_of records)) in

@@ -43,7 +43,8 @@ returns-in_err-demote-clause-part g c =
     let n = c.args.self.now in
     let from = place_of c.args.from in
     let m = Demote (number_of_view c.args.view) in
-    err_so _ _ (taken_part c.args.now n from m (g.D.Store.told c.args.store.now) (g.D.Store.told c.demote.new.store)
+    err_so _ _ (taken_part c.args.now n from m (g.D.Store.told c.args.store.now) (g.D.Store.told
+    c.demote.new.store)
     (sym c.misfits_demote.ensures ∙ c.if-misfits_demote.false)
     (λ size list. c.in_err-demote.ensures.part))
 
@@ -67,7 +68,8 @@ returns-clause-makes g c items size list =
     (server c.demote.new.self items) (server c.try_open.new.self items)
     c.demote.new.self.me [] c.args.outs.now c.args.outs.now c.try_open.new.outs
     (sym c.misfits_demote.ensures ∙ c.if-misfits_demote.false) c.demote.ensures.me
-    (c.in_ok-demote.ensures.makes items c.args.now c.args.outs.now) (c.in_ok-try_open.ensures.makes items)
+    (c.in_ok-demote.ensures.makes items c.args.now c.args.outs.now)
+    (c.in_ok-try_open.ensures.makes items)
 
 pub returns-clause-mark : goal.returns-clause-mark
 returns-clause-mark g c size list =
@@ -75,7 +77,8 @@ returns-clause-mark g c size list =
     let from = place_of c.args.from in
     let m = Demote (number_of_view c.args.view) in
     mark_as _ _ n.mark c.try_open.new.self.mark (taken_alike size c.args.now list n from m
-    (sym c.misfits_demote.ensures ∙ c.if-misfits_demote.false)) (c.try_open.ensures.mark ∙ c.in_ok-demote.ensures.mark)
+    (sym c.misfits_demote.ensures ∙ c.if-misfits_demote.false)) (c.try_open.ensures.mark ∙
+    c.in_ok-demote.ensures.mark)
 
 pub returns-clause-written : goal.returns-clause-written
 returns-clause-written g c size list =
@@ -84,4 +87,5 @@ returns-clause-written g c size list =
     let m = Demote (number_of_view c.args.view) in
     disk_as _ _ c.demote.new.self.mark c.try_open.new.self.mark (g.D.Store.told c.args.store.now)
     (g.D.Store.told c.demote.new.store) (taken_alike size c.args.now list n from m
-    (sym c.misfits_demote.ensures ∙ c.if-misfits_demote.false)) c.try_open.ensures.mark c.in_ok-demote.ensures.written
+    (sym c.misfits_demote.ensures ∙ c.if-misfits_demote.false)) c.try_open.ensures.mark
+    c.in_ok-demote.ensures.written

@@ -44,7 +44,8 @@ returns-in_err-form-clause-part g c =
     let n = c.args.self.now in
     let from = place_of c.args.from in
     let m = Form (number_of_view c.args.view) (plan_of c.args.form) in
-    err_so _ _ (taken_part c.args.now n from m (g.D.Store.told c.args.store.now) (g.D.Store.told c.form.new.store)
+    err_so _ _ (taken_part c.args.now n from m (g.D.Store.told c.args.store.now) (g.D.Store.told
+    c.form.new.store)
     (sym c.misfits_form.ensures ∙ c.if-misfits_form.false)
     (λ size list. c.in_err-form.ensures.part))
 
@@ -76,7 +77,8 @@ returns-clause-mark g c size list =
     let from = place_of c.args.from in
     let m = Form (number_of_view c.args.view) (plan_of c.args.form) in
     mark_as _ _ n.mark c.try_open.new.self.mark (taken_alike size c.args.now list n from m
-    (sym c.misfits_form.ensures ∙ c.if-misfits_form.false)) (c.try_open.ensures.mark ∙ c.in_ok-form.ensures.mark)
+    (sym c.misfits_form.ensures ∙ c.if-misfits_form.false)) (c.try_open.ensures.mark ∙
+    c.in_ok-form.ensures.mark)
 
 pub returns-clause-written : goal.returns-clause-written
 returns-clause-written g c size list =
@@ -85,4 +87,5 @@ returns-clause-written g c size list =
     let m = Form (number_of_view c.args.view) (plan_of c.args.form) in
     disk_as _ _ c.form.new.self.mark c.try_open.new.self.mark (g.D.Store.told c.args.store.now)
     (g.D.Store.told c.form.new.store) (taken_alike size c.args.now list n from m
-    (sym c.misfits_form.ensures ∙ c.if-misfits_form.false)) c.try_open.ensures.mark c.in_ok-form.ensures.written
+    (sym c.misfits_form.ensures ∙ c.if-misfits_form.false)) c.try_open.ensures.mark
+    c.in_ok-form.ensures.written

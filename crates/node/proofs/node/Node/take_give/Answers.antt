@@ -45,7 +45,8 @@ returns-in_err-give-clause-part g c =
     let n = c.args.self.now in
     let from = place_of c.args.from in
     let m = Give (number_of_view c.args.view) c.args.first (map entry_of c.args.records) in
-    err_so _ _ (taken_part c.args.now n from m (g.D.Store.told c.args.store.now) (g.D.Store.told c.give.new.store)
+    err_so _ _ (taken_part c.args.now n from m (g.D.Store.told c.args.store.now) (g.D.Store.told
+    c.give.new.store)
     (sym c.misfits_give.ensures.test ∙ c.if-misfits_give.false)
     (λ size list. c.in_err-give.ensures.part))
 
@@ -77,7 +78,8 @@ returns-clause-mark g c size list =
     let from = place_of c.args.from in
     let m = Give (number_of_view c.args.view) c.args.first (map entry_of c.args.records) in
     mark_as _ _ n.mark c.try_open.new.self.mark (taken_alike size c.args.now list n from m
-    (sym c.misfits_give.ensures.test ∙ c.if-misfits_give.false)) (c.try_open.ensures.mark ∙ c.in_ok-give.ensures.mark)
+    (sym c.misfits_give.ensures.test ∙ c.if-misfits_give.false)) (c.try_open.ensures.mark ∙
+    c.in_ok-give.ensures.mark)
 
 pub returns-clause-written : goal.returns-clause-written
 returns-clause-written g c size list =
@@ -86,4 +88,5 @@ returns-clause-written g c size list =
     let m = Give (number_of_view c.args.view) c.args.first (map entry_of c.args.records) in
     disk_as _ _ c.give.new.self.mark c.try_open.new.self.mark (g.D.Store.told c.args.store.now)
     (g.D.Store.told c.give.new.store) (taken_alike size c.args.now list n from m
-    (sym c.misfits_give.ensures.test ∙ c.if-misfits_give.false)) c.try_open.ensures.mark c.in_ok-give.ensures.written
+    (sym c.misfits_give.ensures.test ∙ c.if-misfits_give.false)) c.try_open.ensures.mark
+    c.in_ok-give.ensures.written

@@ -43,7 +43,8 @@ returns-in_err-invite-clause-part g c =
     let n = c.args.self.now in
     let from = place_of c.args.from in
     let m = Invite (number_of_view c.args.view) in
-    err_so _ _ (taken_part c.args.now n from m (g.D.Store.told c.args.store.now) (g.D.Store.told c.invite.new.store)
+    err_so _ _ (taken_part c.args.now n from m (g.D.Store.told c.args.store.now) (g.D.Store.told
+    c.invite.new.store)
     (sym c.misfits_invite.ensures ∙ c.if-misfits_invite.false)
     (λ size list. c.in_err-invite.ensures.part))
 
@@ -75,7 +76,8 @@ returns-clause-mark g c size list =
     let from = place_of c.args.from in
     let m = Invite (number_of_view c.args.view) in
     mark_as _ _ n.mark c.try_open.new.self.mark (taken_alike size c.args.now list n from m
-    (sym c.misfits_invite.ensures ∙ c.if-misfits_invite.false)) (c.try_open.ensures.mark ∙ c.in_ok-invite.ensures.mark)
+    (sym c.misfits_invite.ensures ∙ c.if-misfits_invite.false)) (c.try_open.ensures.mark ∙
+    c.in_ok-invite.ensures.mark)
 
 pub returns-clause-written : goal.returns-clause-written
 returns-clause-written g c size list =
@@ -84,4 +86,5 @@ returns-clause-written g c size list =
     let m = Invite (number_of_view c.args.view) in
     disk_as _ _ c.invite.new.self.mark c.try_open.new.self.mark (g.D.Store.told c.args.store.now)
     (g.D.Store.told c.invite.new.store) (taken_alike size c.args.now list n from m
-    (sym c.misfits_invite.ensures ∙ c.if-misfits_invite.false)) c.try_open.ensures.mark c.in_ok-invite.ensures.written
+    (sym c.misfits_invite.ensures ∙ c.if-misfits_invite.false)) c.try_open.ensures.mark
+    c.in_ok-invite.ensures.written

@@ -37,8 +37,10 @@ returns-in-Invite-clause-written g c =
     let n = c.args.self.now in
     let m : Message Entry = Invite (number_of_view c.in-Invite.view) in
     on_ok_weaker c.take_invite.result
-    (λ writes size list. disk_as _ _ c.take_invite.new.self.mark c.take_invite.new.self.mark (g.D.Store.told c.args.store.now)
-    (g.D.Store.told c.take_invite.new.store) (heard_alike size n.me c.args.now list n.plain c.args.from c.args.message m
+    (λ writes size list. disk_as _ _ c.take_invite.new.self.mark c.take_invite.new.self.mark
+    (g.D.Store.told c.args.store.now)
+    (g.D.Store.told c.take_invite.new.store) (heard_alike size n.me c.args.now list n.plain
+    c.args.from c.args.message m
     (ap heard c.in-Invite.is))
     refl (writes size list)) c.take_invite.ensures.written
 
@@ -48,7 +50,8 @@ returns-in-Invite-clause-part g c =
     let m : Message Entry = Invite (number_of_view c.in-Invite.view) in
     on_err_weaker c.take_invite.result
     (λ leaves size list. part_as _ _ n.mark (g.D.Store.told c.args.store.now)
-    (g.D.Store.told c.take_invite.new.store) (heard_alike size n.me c.args.now list n.plain c.args.from c.args.message m
+    (g.D.Store.told c.take_invite.new.store) (heard_alike size n.me c.args.now list n.plain
+    c.args.from c.args.message m
     (ap heard c.in-Invite.is))
     (leaves size list)) c.take_invite.ensures.part
 
@@ -101,8 +104,10 @@ returns-in-Join-clause-written g c =
       horizon = c.in-Join.horizon;
     })) in
     on_ok_weaker c.take_join.result
-    (λ writes size list. disk_as _ _ c.take_join.new.self.mark c.take_join.new.self.mark (g.D.Store.told c.args.store.now)
-    (g.D.Store.told c.take_join.new.store) (heard_alike size n.me c.args.now list n.plain c.args.from c.args.message m
+    (λ writes size list. disk_as _ _ c.take_join.new.self.mark c.take_join.new.self.mark
+    (g.D.Store.told c.args.store.now)
+    (g.D.Store.told c.take_join.new.store) (heard_alike size n.me c.args.now list n.plain
+    c.args.from c.args.message m
     (ap heard c.in-Join.is))
     refl (writes size list)) c.take_join.ensures.written
 
@@ -120,7 +125,8 @@ returns-in-Join-clause-part g c =
     })) in
     on_err_weaker c.take_join.result
     (λ leaves size list. part_as _ _ n.mark (g.D.Store.told c.args.store.now)
-    (g.D.Store.told c.take_join.new.store) (heard_alike size n.me c.args.now list n.plain c.args.from c.args.message m
+    (g.D.Store.told c.take_join.new.store) (heard_alike size n.me c.args.now list n.plain
+    c.args.from c.args.message m
     (ap heard c.in-Join.is))
     (leaves size list)) c.take_join.ensures.part
 
@@ -170,8 +176,10 @@ returns-in-Form-clause-written g c =
       horizon = c.in-Form.horizon;
     })) in
     on_ok_weaker c.take_form.result
-    (λ writes size list. disk_as _ _ c.take_form.new.self.mark c.take_form.new.self.mark (g.D.Store.told c.args.store.now)
-    (g.D.Store.told c.take_form.new.store) (heard_alike size n.me c.args.now list n.plain c.args.from c.args.message m
+    (λ writes size list. disk_as _ _ c.take_form.new.self.mark c.take_form.new.self.mark
+    (g.D.Store.told c.args.store.now)
+    (g.D.Store.told c.take_form.new.store) (heard_alike size n.me c.args.now list n.plain
+    c.args.from c.args.message m
     (ap heard c.in-Form.is))
     refl (writes size list)) c.take_form.ensures.written
 
@@ -188,7 +196,8 @@ returns-in-Form-clause-part g c =
     })) in
     on_err_weaker c.take_form.result
     (λ leaves size list. part_as _ _ n.mark (g.D.Store.told c.args.store.now)
-    (g.D.Store.told c.take_form.new.store) (heard_alike size n.me c.args.now list n.plain c.args.from c.args.message m
+    (g.D.Store.told c.take_form.new.store) (heard_alike size n.me c.args.now list n.plain
+    c.args.from c.args.message m
     (ap heard c.in-Form.is))
     (leaves size list)) c.take_form.ensures.part
 
@@ -196,7 +205,8 @@ pub returns-in-Fetch-clause-makes : goal.returns-in-Fetch-clause-makes
 returns-in-Fetch-clause-makes g c items size list fills =
     let n = c.args.self.now in
     let m : Message Entry = Fetch (number_of_view c.in-Fetch.view) c.in-Fetch.first in
-    let sized = fills_fetch size list n c.args.message (number_of_view c.in-Fetch.view) c.in-Fetch.first
+    let sized = fills_fetch size list n c.args.message (number_of_view c.in-Fetch.view)
+    c.in-Fetch.first
     (ap heard c.in-Fetch.is) fills in
     heard_makes size n.me c.args.now list (server n items)
     (server c.take_fetch.new.self items) c.args.from c.args.message m n.peers c.args.outs.now
@@ -216,15 +226,18 @@ pub returns-in-Fetch-clause-written : goal.returns-in-Fetch-clause-written
 returns-in-Fetch-clause-written g c size list =
     let n = c.args.self.now in
     let m : Message Entry = Fetch (number_of_view c.in-Fetch.view) c.in-Fetch.first in
-    disk_as _ _ c.take_fetch.new.self.mark c.take_fetch.new.self.mark (g.D.Store.told c.args.store.now)
-    (g.D.Store.told c.args.store.now) (heard_keeps size n.me c.args.now list n.plain c.args.from c.args.message m
+    disk_as _ _ c.take_fetch.new.self.mark c.take_fetch.new.self.mark (g.D.Store.told
+    c.args.store.now)
+    (g.D.Store.told c.args.store.now) (heard_keeps size n.me c.args.now list n.plain c.args.from
+    c.args.message m
     (ap heard c.in-Fetch.is) tt)
     refl refl
 
 pub returns-in-Give-clause-makes : goal.returns-in-Give-clause-makes
 returns-in-Give-clause-makes g c =
     let n = c.args.self.now in
-    let m : Message Entry = Give (number_of_view c.in-Give.view) c.in-Give.first (map entry_of c.in-Give.records) in
+    let m : Message Entry = Give (number_of_view c.in-Give.view) c.in-Give.first (map entry_of
+    c.in-Give.records) in
     on_ok_weaker c.take_give.result
     (λ made items size list fills. heard_makes size n.me c.args.now list (server n items)
     (server c.take_give.new.self items) c.args.from c.args.message m n.peers c.args.outs.now
@@ -234,7 +247,8 @@ returns-in-Give-clause-makes g c =
 pub returns-in-Give-clause-mark : goal.returns-in-Give-clause-mark
 returns-in-Give-clause-mark g c =
     let n = c.args.self.now in
-    let m : Message Entry = Give (number_of_view c.in-Give.view) c.in-Give.first (map entry_of c.in-Give.records) in
+    let m : Message Entry = Give (number_of_view c.in-Give.view) c.in-Give.first (map entry_of
+    c.in-Give.records) in
     on_ok_weaker c.take_give.result
     (λ marks size list. mark_as _ _ n.mark c.take_give.new.self.mark
     (heard_alike size n.me c.args.now list n.plain c.args.from c.args.message m
@@ -244,20 +258,25 @@ returns-in-Give-clause-mark g c =
 pub returns-in-Give-clause-written : goal.returns-in-Give-clause-written
 returns-in-Give-clause-written g c =
     let n = c.args.self.now in
-    let m : Message Entry = Give (number_of_view c.in-Give.view) c.in-Give.first (map entry_of c.in-Give.records) in
+    let m : Message Entry = Give (number_of_view c.in-Give.view) c.in-Give.first (map entry_of
+    c.in-Give.records) in
     on_ok_weaker c.take_give.result
-    (λ writes size list. disk_as _ _ c.take_give.new.self.mark c.take_give.new.self.mark (g.D.Store.told c.args.store.now)
-    (g.D.Store.told c.take_give.new.store) (heard_alike size n.me c.args.now list n.plain c.args.from c.args.message m
+    (λ writes size list. disk_as _ _ c.take_give.new.self.mark c.take_give.new.self.mark
+    (g.D.Store.told c.args.store.now)
+    (g.D.Store.told c.take_give.new.store) (heard_alike size n.me c.args.now list n.plain
+    c.args.from c.args.message m
     (ap heard c.in-Give.is))
     refl (writes size list)) c.take_give.ensures.written
 
 pub returns-in-Give-clause-part : goal.returns-in-Give-clause-part
 returns-in-Give-clause-part g c =
     let n = c.args.self.now in
-    let m : Message Entry = Give (number_of_view c.in-Give.view) c.in-Give.first (map entry_of c.in-Give.records) in
+    let m : Message Entry = Give (number_of_view c.in-Give.view) c.in-Give.first (map entry_of
+    c.in-Give.records) in
     on_err_weaker c.take_give.result
     (λ leaves size list. part_as _ _ n.mark (g.D.Store.told c.args.store.now)
-    (g.D.Store.told c.take_give.new.store) (heard_alike size n.me c.args.now list n.plain c.args.from c.args.message m
+    (g.D.Store.told c.take_give.new.store) (heard_alike size n.me c.args.now list n.plain
+    c.args.from c.args.message m
     (ap heard c.in-Give.is))
     (leaves size list)) c.take_give.ensures.part
 
@@ -283,15 +302,18 @@ pub returns-in-Formed-clause-written : goal.returns-in-Formed-clause-written
 returns-in-Formed-clause-written g c size list =
     let n = c.args.self.now in
     let m : Message Entry = Formed (number_of_view c.in-Formed.view) c.in-Formed.lb in
-    disk_as _ _ c.take_formed.new.self.mark c.take_formed.new.self.mark (g.D.Store.told c.args.store.now)
-    (g.D.Store.told c.args.store.now) (heard_keeps size n.me c.args.now list n.plain c.args.from c.args.message m
+    disk_as _ _ c.take_formed.new.self.mark c.take_formed.new.self.mark (g.D.Store.told
+    c.args.store.now)
+    (g.D.Store.told c.args.store.now) (heard_keeps size n.me c.args.now list n.plain c.args.from
+    c.args.message m
     (ap heard c.in-Formed.is) tt)
     refl refl
 
 pub returns-in-Event-clause-makes : goal.returns-in-Event-clause-makes
 returns-in-Event-clause-makes g c items size list fills =
     let n = c.args.self.now in
-    let m : Message Entry = Event (number_of_view c.in-Event.view) c.in-Event.item.index c.in-Event.cp c.in-Event.base (entry_of c.in-Event.item) in
+    let m : Message Entry = Event (number_of_view c.in-Event.view) c.in-Event.item.index
+    c.in-Event.cp c.in-Event.base (entry_of c.in-Event.item) in
     heard_makes size n.me c.args.now list (server n items)
     (server c.take_event.new.self items) c.args.from c.args.message m n.peers c.args.outs.now
     c.take_event.new.outs (ap heard c.in-Event.is) tt
@@ -319,15 +341,18 @@ pub returns-in-Beat-clause-written : goal.returns-in-Beat-clause-written
 returns-in-Beat-clause-written g c size list =
     let n = c.args.self.now in
     let m : Message Entry = Beat (number_of_view c.in-Beat.view) c.in-Beat.cp c.in-Beat.base in
-    disk_as _ _ c.take_beat.new.self.mark c.take_beat.new.self.mark (g.D.Store.told c.args.store.now)
-    (g.D.Store.told c.args.store.now) (heard_keeps size n.me c.args.now list n.plain c.args.from c.args.message m
+    disk_as _ _ c.take_beat.new.self.mark c.take_beat.new.self.mark (g.D.Store.told
+    c.args.store.now)
+    (g.D.Store.told c.args.store.now) (heard_keeps size n.me c.args.now list n.plain c.args.from
+    c.args.message m
     (ap heard c.in-Beat.is) tt)
     refl refl
 
 pub returns-in-Ack-clause-makes : goal.returns-in-Ack-clause-makes
 returns-in-Ack-clause-makes g c items size list fills =
     let n = c.args.self.now in
-    let m : Message Entry = Ack (number_of_view c.in-Ack.view) c.in-Ack.top c.in-Ack.lb c.in-Ack.until in
+    let m : Message Entry = Ack (number_of_view c.in-Ack.view) c.in-Ack.top c.in-Ack.lb
+    c.in-Ack.until in
     heard_ack size n.me c.args.now list (server n items)
     (server c.take_ack.new.self items) c.args.from c.args.message m n.peers c.args.outs.now
     c.take_ack.new.outs (ap heard c.in-Ack.is)
@@ -336,7 +361,8 @@ returns-in-Ack-clause-makes g c items size list fills =
 pub returns-in-Ack-clause-mark : goal.returns-in-Ack-clause-mark
 returns-in-Ack-clause-mark g c size list =
     let n = c.args.self.now in
-    let m : Message Entry = Ack (number_of_view c.in-Ack.view) c.in-Ack.top c.in-Ack.lb c.in-Ack.until in
+    let m : Message Entry = Ack (number_of_view c.in-Ack.view) c.in-Ack.top c.in-Ack.lb
+    c.in-Ack.until in
     mark_as _ _ n.mark c.take_ack.new.self.mark
     (heard_keeps size n.me c.args.now list n.plain c.args.from c.args.message m
     (ap heard c.in-Ack.is) tt)
@@ -345,9 +371,11 @@ returns-in-Ack-clause-mark g c size list =
 pub returns-in-Ack-clause-written : goal.returns-in-Ack-clause-written
 returns-in-Ack-clause-written g c size list =
     let n = c.args.self.now in
-    let m : Message Entry = Ack (number_of_view c.in-Ack.view) c.in-Ack.top c.in-Ack.lb c.in-Ack.until in
+    let m : Message Entry = Ack (number_of_view c.in-Ack.view) c.in-Ack.top c.in-Ack.lb
+    c.in-Ack.until in
     disk_as _ _ c.take_ack.new.self.mark c.take_ack.new.self.mark (g.D.Store.told c.args.store.now)
-    (g.D.Store.told c.args.store.now) (heard_keeps size n.me c.args.now list n.plain c.args.from c.args.message m
+    (g.D.Store.told c.args.store.now) (heard_keeps size n.me c.args.now list n.plain c.args.from
+    c.args.message m
     (ap heard c.in-Ack.is) tt)
     refl refl
 
@@ -376,8 +404,10 @@ returns-in-Demote-clause-written g c =
     let n = c.args.self.now in
     let m : Message Entry = Demote (number_of_view c.in-Demote.view) in
     on_ok_weaker c.take_demote.result
-    (λ writes size list. disk_as _ _ c.take_demote.new.self.mark c.take_demote.new.self.mark (g.D.Store.told c.args.store.now)
-    (g.D.Store.told c.take_demote.new.store) (heard_alike size n.me c.args.now list n.plain c.args.from c.args.message m
+    (λ writes size list. disk_as _ _ c.take_demote.new.self.mark c.take_demote.new.self.mark
+    (g.D.Store.told c.args.store.now)
+    (g.D.Store.told c.take_demote.new.store) (heard_alike size n.me c.args.now list n.plain
+    c.args.from c.args.message m
     (ap heard c.in-Demote.is))
     refl (writes size list)) c.take_demote.ensures.written
 
@@ -387,6 +417,7 @@ returns-in-Demote-clause-part g c =
     let m : Message Entry = Demote (number_of_view c.in-Demote.view) in
     on_err_weaker c.take_demote.result
     (λ leaves size list. part_as _ _ n.mark (g.D.Store.told c.args.store.now)
-    (g.D.Store.told c.take_demote.new.store) (heard_alike size n.me c.args.now list n.plain c.args.from c.args.message m
+    (g.D.Store.told c.take_demote.new.store) (heard_alike size n.me c.args.now list n.plain
+    c.args.from c.args.message m
     (ap heard c.in-Demote.is))
     (leaves size list)) c.take_demote.ensures.part
