@@ -5,4 +5,5 @@ pub mod NextSteps
 pub mod NextLines
 pub mod PlayLoop
 pub mod TraceLaws
-pub mod Words
+pub mod WordLaws
+pub mod Checks

@@ -10,7 +10,7 @@ use Rattle.world.specs.State.{IsLeftBy, WorldValue}
 use Rattle.harp_cli.specs.declared.exit.Exit.{Exit}
 use Rattle.harp_cli.specs.declared.exit.Exit.TheVariants as exit
 use Rattle.harp_cli.specs.Play.{Reading, last_of, reading, reading_of, trace_of, trace_of_reading}
-use Rattle.harp_cli.specs.Play.{trace_text, usage_text}
+use Rattle.harp_cli.specs.Play.{trace_text}
 
 -- the whole trace of what is read was written, and the world is that of all its steps
 pub record EndsWhole (all : Reading) (before after : Option (List ℕ)) (world : WorldValue)
@@ -84,22 +84,15 @@ PlayEnds text source before after world exit.SourceFailed =
 PlayEnds text source before after world exit.SinkFailed = SinkFails (reading text) before after world
 PlayEnds text source before after world exit.NoMemory =
     GrewByPart before after (trace_text (trace_of text))
+PlayEnds text source before after world exit.SaysNo = ⊥
 PlayEnds text source before after world exit.RefusedWords = ⊥
 
 -- the last line was written
 abbrev pub IsWhole : Exit → Type 0
 IsWhole exit.Done = Unit {0}
 IsWhole exit.RefusedLine = Unit {0}
+IsWhole exit.SaysNo = ⊥
 IsWhole exit.RefusedWords = ⊥
 IsWhole exit.SourceFailed = ⊥
 IsWhole exit.SinkFailed = ⊥
 IsWhole exit.NoMemory = ⊥
-
--- on other words the usage text is written, or a first part of it
-abbrev pub UsageEnds : Option (List ℕ) → Option (List ℕ) → Exit → Type 0
-UsageEnds before after exit.RefusedWords = Appends before after usage_text
-UsageEnds before after exit.SinkFailed = GrewByPart before after usage_text
-UsageEnds before after exit.NoMemory = GrewByPart before after usage_text
-UsageEnds before after exit.Done = ⊥
-UsageEnds before after exit.RefusedLine = ⊥
-UsageEnds before after exit.SourceFailed = ⊥

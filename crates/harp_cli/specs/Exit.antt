@@ -11,6 +11,7 @@ use Rattle.harp_cli.specs.declared.exit.Stop.TheVariants as stop
 
 abbrev pub status_of : Exit → ℕ
 status_of exit.Done = 0
+status_of exit.SaysNo = 1
 status_of exit.RefusedWords = 2
 status_of exit.SourceFailed = 3
 status_of exit.SinkFailed = 4

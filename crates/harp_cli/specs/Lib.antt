@@ -2,3 +2,6 @@ pub mod Exit
 pub mod Play
 pub mod Ends
 pub mod OnTheWay
+pub mod Words
+pub mod Check
+pub mod Gen

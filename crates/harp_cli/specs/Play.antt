@@ -1,7 +1,6 @@
 -- The steps of a schedule's text, and the trace that is played of it.
-use Rattle.std.specs.Prelude.{◌≡◌, ℕ, ◌+◌, codes, map, String, string_bytes, nat_lt, List, [], ◌∷◌}
+use Rattle.std.specs.Prelude.{ℕ, ◌+◌, nat_lt, List, [], ◌∷◌}
 use Rattle.std.specs.Prelude.{◌++◌, length, Option, Some, None, Result, Ok, Err, if◌then◌else◌}
-use Rattle.std.specs.Global.{Global}
 use Rattle.std.specs.List.{flat_map}
 use Rattle.trace_lines.specs.declared.step.Step.{Step}
 use Rattle.trace_lines.specs.declared.line.Line.{Line}
@@ -95,11 +94,3 @@ trace_of text = trace_of_reading (reading text)
 -- the text of a trace: each line with its line feed
 unfoldable pub trace_text : Trace → List ℕ
 trace_text trace = flat_map (λ l. line_text l ++ 10 ∷ []) trace
-
--- the words are `play` alone
-abbrev pub IsPlay : List (String Global) → Type 0
-IsPlay words = map (λ w. string_bytes w) words ≡ codes "play" ∷ []
-
--- how the program is called
-abbrev pub usage_text : List ℕ
-usage_text = codes "usage: harp play\n"

@@ -10,15 +10,17 @@ use std::alloc::AllocError;
 /// How a command ended.
 #[derive(Clone, Copy, Debug, PartialEq, Eq)]
 pub enum Exit {
-    /// The input was read to its end, and no line was refused.
+    /// All was done: the input was read to its end, and no line was refused, nor a trace.
     Done,
+    /// A line of the trace that was checked breaks something.
+    SaysNo,
     /// The words are none that the program knows.
     RefusedWords,
     /// The source failed.
     SourceFailed,
     /// The sink failed.
     SinkFailed,
-    /// A line was refused.
+    /// A line was refused, or the trace that was checked lacks its last line.
     RefusedLine,
     /// There was no memory.
     NoMemory,
@@ -31,6 +33,7 @@ impl Exit {
     {
         match self {
             Exit::Done => 0,
+            Exit::SaysNo => 1,
             Exit::RefusedWords => 2,
             Exit::SourceFailed => 3,
             Exit::SinkFailed => 4,

@@ -156,6 +156,7 @@ pub fn play<S: Source, K: Sink>(
         → PlayEnds text (S.left source.new) (K.written sink.old) (K.written sink.new) world.new
         result }
     ensures words { result ≢ Exit.RefusedWords }
+    ensures judges { result ≢ Exit.SaysNo }
     ensures source_rose { result ≡ Exit.SourceFailed
         → Rose (S.faults source.old) (S.faults source.new) }
     ensures sink_rose { result ≡ Exit.SinkFailed → Rose (K.faults sink.old) (K.faults sink.new) }

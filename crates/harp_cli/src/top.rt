@@ -1,6 +1,6 @@
 //! The top call.
 
-ghost use Rattle.std.specs.Prelude.{◌≡◌, ◌≢◌, ℕ, List, Option, MatchOption, Some};
+ghost use Rattle.std.specs.Prelude.{◌≡◌, ◌≢◌, ℕ, List, Some};
 ghost use Rattle.harp_base.specs.Streams.{Rose};
 ghost use Rattle.harp_trace.specs.Acknowledged.{AreAcknowledged, AreAnsweredAtOnce};
 ghost use Rattle.harp_trace.specs.Faithful.{IsFaithful};
@@ -10,49 +10,31 @@ ghost use Rattle.schedule_text.specs.Reading.{meaning_of};
 ghost use Rattle.world.specs.State.{first_world};
 ghost use Rattle.harp_cli.specs.declared.exit.Exit.{Exit};
 ghost use Rattle.harp_cli.specs.Exit.{status_of};
-ghost use Rattle.harp_cli.specs.Play.{IsPlay, reading, trace_of};
-ghost use Rattle.harp_cli.specs.Ends.{PlayEnds, UsageEnds};
+ghost use Rattle.harp_cli.specs.Check.{CheckEnds, StatusAgrees};
+ghost use Rattle.harp_cli.specs.Ends.{PlayEnds};
+ghost use Rattle.harp_cli.specs.Gen.{GenEnds};
+ghost use Rattle.harp_cli.specs.Play.{reading, trace_of};
+ghost use Rattle.harp_cli.specs.Words.{IsCheck, IsForm, IsGen, IsPlay, UsageEnds};
 
-use crate::exit::Exit;
+use crate::check::check;
+use crate::generate::generate;
 use crate::play::play;
-use harp_base::{Sink, SinkFault, Source, write_all};
+use crate::words::{Command, command_of, write_usage};
+use harp_base::{Sink, Source};
 use std::alloc::Global;
 use std::thread::Threads;
 use world::World;
 
-/// What the words of a command ask for.
-#[derive(Clone, Copy, Debug, PartialEq, Eq)]
-enum Command {
-    Play,
-}
-
-fn command_of(words: &[String]) -> Option<Command>
-    ensures { MatchOption result (IsPlay words.now → ⊥) (λ _. IsPlay words.now) }
-{
-    match words {
-        [word] if word.as_str() == "play" => Some(Command::Play),
-        _ => None,
-    }
-}
-
-/// Writes how the program is called.
-fn write_usage<K: Sink>(sink: &mut K) -> Exit
-    ensures ends { UsageEnds (K.written sink.old) (K.written sink.new) result }
-    ensures rose { result ≡ Exit.SinkFailed → Rose (K.faults sink.old) (K.faults sink.new) }
-{
-    match write_all(sink, b"usage: harp play\n") {
-        Ok(()) => Exit::RefusedWords,
-        Err(SinkFault::Failed) => Exit::SinkFailed,
-        Err(SinkFault::NoMemory) => Exit::NoMemory,
-    }
-}
-
-/// Does what the words ask for, and gives the exit status: 0 done, 2 the words are refused, 3 the
-/// source failed, 4 the sink failed, 5 a line is refused, 6 there was no memory.
+/// Does what the words ask for, and gives the exit status: 0 done, 1 a trace breaks something, 2
+/// the words are refused, 3 the source failed, 4 the sink failed, 5 a line is refused, 6 there was
+/// no memory.
 ///
 /// `play` plays the schedule of the source in the world, which is new, and writes its trace to the
-/// sink. On other words the usage text is written and the world stays. Want of memory ends each of
-/// them. Nothing is said of the bytes of a source or a sink that doesn't tell them.
+/// sink. `check` judges the trace of the source, and writes `yes`, or `no L CAUSE` where line L is
+/// the first that breaks something, or `bad L CAUSE` where no trace is read at line L. `gen` writes
+/// the schedule of a seed. On other words the usage text is written. All but `play` leave the world.
+/// Want of memory ends each of them. Nothing is said of the bytes of a source or a sink that
+/// doesn't tell them.
 pub fn harp<R: Threads + Sync, S: Source, K: Sink>(
     _rt: &R,
     alloc: Global,
@@ -69,11 +51,23 @@ pub fn harp<R: Threads + Sync, S: Source, K: Sink>(
         × ((text : List ℕ) → S.left source.old ≡ Some text
         → PlayEnds text (S.left source.new) (K.written sink.old) (K.written sink.new) world.new
         exit) }
-    ensures usage { (IsPlay words.now → ⊥)
+    ensures check { IsCheck words.now → (exit : Exit) × (result ≡ status_of exit)
+        × (exit ≢ Exit.RefusedWords) × (world.new ≡ world.old)
+        × ((text : List ℕ) → S.left source.old ≡ Some text
+        → CheckEnds text (S.left source.new) (K.written sink.old) (K.written sink.new) exit) }
+    ensures check_agrees { IsCheck words.now → (text : List ℕ) → S.left source.old ≡ Some text
+        → StatusAgrees text result }
+    ensures generate { (seed lines : ℕ) → IsGen seed lines words.now
         → (exit : Exit) × (result ≡ status_of exit)
-        × UsageEnds (K.written sink.old) (K.written sink.new) exit × (world.new ≡ world.old) }
+        × GenEnds seed lines (K.written sink.old) (K.written sink.new) exit
+        × (world.new ≡ world.old) × (source.new ≡ source.old) }
+    ensures usage { (IsForm words.now → ⊥)
+        → (exit : Exit) × (result ≡ status_of exit)
+        × UsageEnds (K.written sink.old) (K.written sink.new) exit
+        × (world.new ≡ world.old) × (source.new ≡ source.old) }
     // The causes that hold of a source that tells no bytes too.
-    ensures refused_words { result ≡ 2 → IsPlay words.now → ⊥ }
+    ensures says_no { result ≡ 1 → IsCheck words.now }
+    ensures refused_words { result ≡ 2 → IsForm words.now → ⊥ }
     ensures source_failed { result ≡ 3 → Rose (S.faults source.old) (S.faults source.new) }
     ensures sink_failed { result ≡ 4 → Rose (K.faults sink.old) (K.faults sink.new) }
     // What each line of a text means, by the grammar of steps.
@@ -87,6 +81,8 @@ pub fn harp<R: Threads + Sync, S: Source, K: Sink>(
 {
     match command_of(words) {
         Some(Command::Play) => play(alloc, world, source, sink).status(),
+        Some(Command::Check) => check(alloc, source, sink).status(),
+        Some(Command::Gen { seed, lines }) => generate(alloc, seed, lines, sink).status(),
         None => write_usage(sink).status(),
     }
 }

@@ -5,7 +5,7 @@ ghost use Rattle.std.specs.Prelude.{◌≡◌, IfOk};
 use crate::boot_tests::{boots_as, rests};
 use crate::{Node, NodeFault};
 use event_record::{Changes, Index, Moment, Record, RecordFields};
-use harp_base::{Bounded, Call, Held, Reply, Role, SUPERUSER, ServerId, ViewNo};
+use harp_base::{Bounded, Call, Held, Reply, Role, SUPERUSER, ServerId, StateLine, ViewNo};
 use harp_store::{Mark, MemStore, Pick, Store};
 use kept_log::Kept;
 use promise::{Delta, Horizon};

@@ -6,6 +6,8 @@ mod callers;
 #[cfg(test)]
 mod calls;
 #[cfg(test)]
+mod checks;
+#[cfg(test)]
 mod ends;
 #[cfg(test)]
 mod failing;
@@ -16,4 +18,8 @@ mod plays;
 #[cfg(test)]
 mod row;
 #[cfg(test)]
+mod schedules;
+#[cfg(test)]
 mod side_by_side;
+#[cfg(test)]
+mod words;

@@ -251,11 +251,3 @@ fn plays_no_line_that_is_too_long(rt: HostRuntime) -> Result<(), Fail> {
     assert_eq!(rt; sink.written(), b"bad 1 too-long\n".as_slice());
     Ok(())
 }
-
-#[test]
-fn refuses_other_words(rt: HostRuntime) -> Result<(), Fail> {
-    let (status, sink) = result_of(&rt, "check", b"", &[], &[])?;
-    assert_eq!(rt; status, 2);
-    assert_eq!(rt; sink.written(), b"usage: harp play\n".as_slice());
-    Ok(())
-}

@@ -14,18 +14,32 @@ pub struct Row {
     pub status: u8,
 }
 
-/// The exit status of a command, and what it wrote.
+/// The exit status of a command of one word, and what it wrote.
 pub fn result_of<R: Threads + Sync + AllocGlobal>(
     rt: &R,
     word: &str,
-    schedule: &[u8],
+    text: &[u8],
+    source_fails: &[u64],
+    sink_fails: &[u64],
+) -> Result<(u8, MemSink), Fail> {
+    result_of_words(rt, &[word], text, source_fails, sink_fails)
+}
+
+/// The exit status of a command, and what it wrote.
+pub fn result_of_words<R: Threads + Sync + AllocGlobal>(
+    rt: &R,
+    texts: &[&str],
+    text: &[u8],
     source_fails: &[u64],
     sink_fails: &[u64],
 ) -> Result<(u8, MemSink), Fail> {
     let alloc = rt.alloc();
-    let words = vec![in alloc; String::from_str(alloc, word)?]?;
+    let mut words = Vec::new(alloc);
+    for word in texts {
+        words.push(String::from_str(alloc, word)?)?;
+    }
     let mut left = Bytes::new(alloc);
-    left.extend(schedule)?;
+    left.extend(text)?;
     let mut world = World::new(alloc)?;
     let mut source = MemSource::new(left, Vec::from_slice(alloc, source_fails)?);
     let mut sink = MemSink::new(alloc, Vec::from_slice(alloc, sink_fails)?)?;
