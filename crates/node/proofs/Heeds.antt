@@ -118,7 +118,7 @@ pub heeds_none : (s : Server Entry) (v t lb until : ℕ) → is_open s.mode ≡ 
 heeds_none s v t lb until closed =
     if_not (all_of (ack_tests s v)) _ [] (no_first (is_open s.mode) ((v == s.accepted) ∷ []) closed)
 
-partner_is_other : (p : Pair) → same (partner p) (leader p) ≡ false
+pub partner_is_other : (p : Pair) → same (partner p) (leader p) ≡ false
 partner_is_other S01 = refl
 partner_is_other S02 = refl
 partner_is_other S12 = refl

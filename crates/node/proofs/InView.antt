@@ -97,7 +97,7 @@ quiet_beats s = (
       (take 64 (drop (unacknowledged s - s.base) s.items)),
 )
 
-quiet_either : (b : Bool) (ms ns : List (Move Entry)) → AreQuiet ms → AreQuiet ns
+pub quiet_either : (b : Bool) (ms ns : List (Move Entry)) → AreQuiet ms → AreQuiet ns
     → AreQuiet (if b then ms else ns)
 quiet_either true ms ns h k = h
 quiet_either false ms ns h k = k

@@ -3,7 +3,7 @@ use Rattle.std.proofs.Common.{◌≡◌, ℕ, Bool, true, false, List, [], ◌�
 use Rattle.file_tree.specs.Book.{Entry}
 use Rattle.group_rules.specs.Names.{place_of}
 use Rattle.group_rules.specs.Open.{base_tests, rebase}
-use Rattle.group_rules.specs.Moves.{Appending, Basing, Committing, Heeding, Hearing, Move, Noting, Opening, Saying, Sending, act, acts}
+use Rattle.group_rules.specs.Moves.{Appending, Applying, Basing, Committing, Heeding, Hearing, Move, Noting, Opening, Reading, Saying, Sending, act, acts}
 use Rattle.group_rules.specs.Places.{Place, all_of, leader}
 use Rattle.group_rules.specs.State.{Plan, Server}
 use Rattle.harp_base.specs.declared.server.ServerId.{ServerId}
@@ -34,6 +34,8 @@ IsQuiet (Appending e) = Unit {0}
 IsQuiet (Noting t lb until) = Unit {0}
 IsQuiet (Committing n) = Unit {0}
 IsQuiet (Basing n) = Unit {0}
+IsQuiet (Applying n) = Unit {0}
+IsQuiet (Reading n e) = Unit {0}
 IsQuiet (Saying say) = Unit {0}
 IsQuiet (Sending to m) = Unit {0}
 IsQuiet m = ⊥
@@ -51,6 +53,8 @@ framed_act q clock s (Appending e) h = record { promised = refl; accepted = refl
 framed_act q clock s (Noting t lb until) h = record { promised = refl; accepted = refl; role = refl; lb = refl; plan = refl }
 framed_act q clock s (Committing n) h = record { promised = refl; accepted = refl; role = refl; lb = refl; plan = refl }
 framed_act q clock s (Basing n) h = record { promised = refl; accepted = refl; role = refl; lb = refl; plan = refl }
+framed_act q clock s (Applying n) h = record { promised = refl; accepted = refl; role = refl; lb = refl; plan = refl }
+framed_act q clock s (Reading n e) h = record { promised = refl; accepted = refl; role = refl; lb = refl; plan = refl }
 framed_act q clock s (Saying say) h = record { promised = refl; accepted = refl; role = refl; lb = refl; plan = refl }
 framed_act q clock s (Sending to m) h = record { promised = refl; accepted = refl; role = refl; lb = refl; plan = refl }
 framed_act q clock s m h = absurd h

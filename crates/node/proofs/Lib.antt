@@ -29,3 +29,6 @@ pub mod Storing
 pub mod Booting
 pub mod Powering
 pub mod Idle
+pub mod Cached
+pub mod Stores
+pub mod Asks

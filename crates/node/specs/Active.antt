@@ -1,5 +1,5 @@
 -- The leader or the partner that a server is.
-use Rattle.std.specs.Prelude.{Bool, true, false}
+use Rattle.std.specs.Prelude.{Bool, true, false, if◌then◌else◌}
 use Rattle.node.specs.declared.state.State.{State}
 use Rattle.node.specs.declared.state.State.TheVariants as state
 
@@ -18,3 +18,7 @@ is_followed (state.Joined kept joining) = false
 is_followed (state.Pulls kept joining plan staged) = false
 is_followed (state.Leads leader plan) = false
 is_followed (state.Follows partner plan) = true
+
+-- either of them
+abbrev pub is_active : State → Bool
+is_active s = if is_led s then true else is_followed s

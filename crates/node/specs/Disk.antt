@@ -7,6 +7,8 @@ use Rattle.group_rules.specs.State.{Follows, Leads, Outside, Role}
 use Rattle.harp_base.specs.View.{View}
 use Rattle.harp_base.specs.declared.state.Role.{Role as Part}
 use Rattle.harp_base.specs.declared.state.Role.TheVariants as part
+use Rattle.harp_cells.specs.declared.reads.CellFault.{CellFault}
+use Rattle.harp_cells.specs.declared.reads.CellFault.TheVariants as cell
 use Rattle.harp_store.specs.Disk.{Moments, after_step, with_mark}
 use Rattle.harp_store.specs.Mark.{MarkFields}
 use Rattle.harp_store.specs.declared.store.StoreFault.{StoreFault}
@@ -17,6 +19,11 @@ use Rattle.node.specs.declared.fault.NodeFault.TheVariants.{NoMemory, StoreFaile
 abbrev pub fault_of : StoreFault → NodeFault
 fault_of store.Failed = StoreFailed
 fault_of store.NoMemory = NoMemory
+
+-- and of a call that reads cells
+abbrev pub fault_read : CellFault → NodeFault
+fault_read cell.StoreFailed = StoreFailed
+fault_read cell.NoMemory = NoMemory
 
 -- the mark that promises another view
 abbrev pub promising : MarkFields → View → MarkFields

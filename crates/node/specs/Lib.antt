@@ -12,3 +12,6 @@ pub mod Misfits
 pub mod Demoting
 pub mod Taking
 pub mod Input
+pub mod Cached
+pub mod Stored
+pub mod Asking

@@ -1,5 +1,6 @@
 -- What a server is doing as fields of a server of the group's machine, and what stands of it.
 use Rattle.std.specs.Prelude.{◌≡◌, ◌≤◌, ℕ, ◌-◌, Bool, true, false, List, [], map, Option, None}
+use Rattle.cell_cache.specs.Entries.{Entries}
 use Rattle.event_record.specs.Record.{entry_of}
 use Rattle.event_record.specs.declared.record.RecordFields.{RecordFields}
 use Rattle.file_tree.specs.Book.{Entry}
@@ -176,6 +177,15 @@ peers_in (state.Joined kept joining) = []
 peers_in (state.Pulls kept joining plan staged) = []
 peers_in (state.Leads leader plan) = leader.peers
 peers_in (state.Follows partner plan) = []
+
+-- the cells of its store that a server keeps in memory: a leader or a partner alone keeps any
+abbrev pub cached_in : State → Entries
+cached_in state.Gone = []
+cached_in (state.Rests kept) = []
+cached_in (state.Joined kept joining) = []
+cached_in (state.Pulls kept joining plan staged) = []
+cached_in (state.Leads leader plan) = leader.cached
+cached_in (state.Follows partner plan) = partner.cached
 
 -- ---- what stands of a server
 

@@ -14,7 +14,7 @@ ghost use Rattle.kept_log.specs.Pulls.{CanTake, IsFor};
 ghost use Rattle.node.specs.Disk.{MayLeave, disk_after, marked_by, part_of};
 ghost use Rattle.node.specs.Forming.{Accepted, accepted_mark, joined_with, kept_from, telling};
 ghost use Rattle.node.specs.Node.{server};
-ghost use Rattle.node.specs.State.{HearsOthers, IsKept, heard_of};
+ghost use Rattle.node.specs.State.{HearsOthers, IsKept, cached_in, heard_of};
 ghost use Rattle.outputs.specs.Makes.{Makes};
 ghost use Rattle.volatile_log.specs.Log.{next, top};
 
@@ -54,6 +54,7 @@ impl Node {
             Makes self.old.me clock (accept_moves self.old.me s (plan_of pull.form)
             (map entry_of pull.staged.records)) [] s (server self.new items) outs.old outs.new) }
         ensures me { self.new.me ≡ self.old.me }
+        ensures cached { OnOk result (self.new.cached ≡ []) }
         ensures mark { OnOk result (self.new.mark ≡ marked_by self.old.mark
             (accept_moves self.old.me (joined_with self.old.plain pull.kept pull.joining)
             (plan_of pull.form) (map entry_of pull.staged.records))) }
@@ -145,7 +146,9 @@ fn active(
     requires start { top log ≡ form.start }
     requires base { AtBase (place_of me) log }
     requires others { HearsOthers (place_of me) joining.now }
-    ensures { IfOk result (λ state. Accepted me (number_of_view view) form log joining.now state) }
+    ensures accepted { IfOk result (λ state. Accepted me (number_of_view view) form log
+        joining.now state) }
+    ensures cached { IfOk result (λ state. cached_in state ≡ []) }
 {
     if leads(me, &form) {
         return leading(alloc, me, view, log, form, joining);
@@ -167,7 +170,9 @@ fn leading(
 ) -> Result<State, AllocError>
     requires leads { same (place_of me) (leader (plan_of form).storers) ≡ true }
     requires start { top log ≡ form.start }
-    ensures { IfOk result (λ state. Accepted me (number_of_view view) form log joining.now state) }
+    ensures accepted { IfOk result (λ state. Accepted me (number_of_view view) form log
+        joining.now state) }
+    ensures cached { IfOk result (λ state. cached_in state ≡ []) }
 {
     let partner = form.storers.partner();
     let heard = fitting(&form, joining);

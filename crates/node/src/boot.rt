@@ -50,6 +50,7 @@ impl Node {
         ensures me { IfOk result (λ n. n.me ≡ place_of me) }
         ensures up { IfOk result (λ n. n.halted ≡ false) }
         ensures peers { IfOk result (λ n. n.peers ≡ []) }
+        ensures cached { IfOk result (λ n. n.cached ≡ []) }
         ensures mark { (h : Moments) → D.told store.old ≡ Some h
             → HasBase (place_of me) (boot_mark me delta h.now.mark)
             → IfOk result (λ n. n.mark ≡ boot_mark me delta h.now.mark) }

@@ -8,6 +8,7 @@ ghost use Rattle.group_rules.specs.Places.{Trio, other_storers, same};
 ghost use Rattle.group_rules.specs.State.{Form as FormTold, Plan as Chosen, Report, Server};
 ghost use Rattle.harp_base.specs.Streams.{Rose};
 ghost use Rattle.kept_log.specs.Kept.{plan_of};
+ghost use Rattle.node.specs.Cached.{IsCachedAs};
 ghost use Rattle.node.specs.Disk.{MayLeave, disk_after, marked_by};
 ghost use Rattle.node.specs.Collecting.{choosing};
 ghost use Rattle.node.specs.Node.{server};
@@ -46,6 +47,7 @@ impl Node {
             Makes self.old.me clock (on_join self.old.me s (place_of from) (number_of_view view)
             (report info) s.duty) [] s (server self.new items) outs.old outs.new) }
         ensures me { self.new.me ≡ self.old.me }
+        ensures cached { OnOk result (IsCachedAs self.old.cached self.new.cached) }
         ensures mark { OnOk result (self.new.mark ≡ marked_by self.old.mark
             (on_join self.old.me self.old.plain (place_of from) (number_of_view view)
             (report info) self.old.plain.duty)) }
@@ -99,6 +101,7 @@ impl Node {
             Makes self.old.me clock (choosing self.old.me s reports chosen from) [] s
             (server self.new items) outs.old outs.new) }
         ensures me { self.new.me ≡ self.old.me }
+        ensures cached { OnOk result (IsCachedAs self.old.cached self.new.cached) }
         ensures mark { OnOk result ((reports : Trio (Option Report)) (from : ℕ) (chosen : Chosen)
             → choice.now ≡ plan (view_of from) chosen → self.new.mark ≡ marked_by self.old.mark
             (choosing self.old.me self.old.plain reports chosen from)) }

@@ -10,11 +10,12 @@ ghost use Rattle.harp_store.specs.Mark.{MarkFields};
 ghost use Rattle.harp_base.specs.View.{above};
 ghost use Rattle.group_rules.specs.Names.{number_of_view};
 ghost use Rattle.harp_base.specs.Streams.{Rose};
+ghost use Rattle.node.specs.Cached.{IsCachedAs};
 ghost use Rattle.node.specs.Disk.{MayLeave, disk_after, marked, marked_by};
 ghost use Rattle.node.specs.Active.{is_followed, is_led};
 ghost use Rattle.node.specs.Demoting.{GoesOn};
 ghost use Rattle.node.specs.Node.{server};
-ghost use Rattle.node.specs.State.{Fits, is_gone};
+ghost use Rattle.node.specs.State.{Fits, cached_in, is_gone};
 ghost use Rattle.outputs.specs.Makes.{Makes};
 
 use crate::fault::NodeFault;
@@ -45,6 +46,7 @@ impl Node {
             Makes self.old.me clock (on_demote self.old.me s (number_of_view view)) [] s
             (server self.new items) outs outs) }
         ensures me { self.new.me ≡ self.old.me }
+        ensures cached { OnOk result (IsCachedAs self.old.cached self.new.cached) }
         ensures mark { OnOk result (self.new.mark ≡ marked_by self.old.mark
             (on_demote self.old.me self.old.plain (number_of_view view))) }
         ensures up { OnOk result (self.new.halted ≡ false) }
@@ -88,6 +90,7 @@ impl Node {
         ensures state { (items : List Entry) → server self.new items
             ≡ demoted (server self.old items) (number_of_view view) }
         ensures me { self.new.me ≡ self.old.me }
+        ensures cached { self.new.cached ≡ [] }
         ensures mark { self.new.mark ≡ mark }
         ensures up { self.new.halted ≡ false }
     {
@@ -106,6 +109,7 @@ impl Node {
         ensures state { (items : List Entry) → server self.new items
             ≡ demoted (server self.old items) (number_of_view view) }
         ensures me { self.new.me ≡ self.old.me }
+        ensures cached { self.new.cached ≡ [] }
         ensures mark { self.new.mark ≡ mark }
         ensures up { self.new.halted ≡ false }
     {
@@ -123,6 +127,7 @@ fn without_log(state: State) -> State
     requires closed { (is_led state ≡ false) × (is_followed state ≡ false) }
     ensures up { is_gone result ≡ false }
     ensures drops { GoesOn state result }
+    ensures cached { cached_in result ≡ [] }
     ensures fits { (q : Place) (old new : MarkFields) → is_p2 q ≡ true → Fits q old state
         → Fits q new result }
 {

@@ -2,6 +2,7 @@
 
 ghost use Rattle.std.specs.Prelude.{◌≡◌};
 
+use harp_cells::CellFault;
 use harp_store::StoreFault;
 use std::alloc::AllocError;
 
@@ -34,6 +35,19 @@ impl From<StoreFault> for NodeFault {
         match fault {
             StoreFault::Failed => NodeFault::StoreFailed,
             StoreFault::NoMemory => NodeFault::NoMemory,
+        }
+    }
+}
+
+impl From<CellFault> for NodeFault {
+    ghost use Rattle.node.specs.Disk.{fault_read};
+
+    ghost from_gives = { λ given fault. fault ≡ fault_read given };
+
+    fn from(fault: CellFault) -> NodeFault {
+        match fault {
+            CellFault::StoreFailed => NodeFault::StoreFailed,
+            CellFault::NoMemory => NodeFault::NoMemory,
         }
     }
 }

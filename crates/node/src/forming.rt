@@ -9,6 +9,7 @@ ghost use Rattle.group_rules.specs.State.{Fetch, Server};
 ghost use Rattle.harp_base.specs.Streams.{Rose};
 ghost use Rattle.kept_log.specs.Kept.{plan_of};
 ghost use Rattle.kept_log.specs.declared.kept.Kept.{Kept};
+ghost use Rattle.node.specs.Cached.{IsCachedAs};
 ghost use Rattle.node.specs.Disk.{MayLeave, disk_after, marked_by};
 ghost use Rattle.node.specs.Forming.{joined_with, pulling_with};
 ghost use Rattle.node.specs.Node.{server};
@@ -45,6 +46,7 @@ impl Node {
             Makes self.old.me clock (on_form self.old.me s (number_of_view view) (plan_of form)) []
             s (server self.new items) outs.old outs.new) }
         ensures me { self.new.me ≡ self.old.me }
+        ensures cached { OnOk result (IsCachedAs self.old.cached self.new.cached) }
         ensures mark { OnOk result (self.new.mark ≡ marked_by self.old.mark
             (on_form self.old.me self.old.plain (number_of_view view) (plan_of form))) }
         ensures up { OnOk result (self.new.halted ≡ false) }
@@ -81,6 +83,7 @@ impl Node {
             Makes self.old.me clock (form_moves self.old.me s (plan_of form)) []
             s (server self.new items) outs.old outs.new) }
         ensures me { self.new.me ≡ self.old.me }
+        ensures cached { OnOk result (IsCachedAs self.old.cached self.new.cached) }
         ensures mark { OnOk result (self.new.mark ≡ marked_by self.old.mark
             (form_moves self.old.me self.old.plain (plan_of form))) }
         ensures up { OnOk result (self.new.halted ≡ false) }
@@ -136,6 +139,7 @@ impl Node {
             Makes self.old.me clock (form_moves self.old.me s (plan_of form)) []
             s (server self.new items) outs.old outs.new) }
         ensures me { self.new.me ≡ self.old.me }
+        ensures cached { OnOk result (self.new.cached ≡ []) }
         ensures mark { OnOk result (self.new.mark ≡ marked_by self.old.mark
             (form_moves self.old.me (joined_with self.old.plain kept joining) (plan_of form))) }
         ensures up { OnOk result (self.new.halted ≡ false) }
@@ -180,6 +184,7 @@ impl Node {
         ensures state { OnOk result ((items : List Entry) → server self.new items
             ≡ pulling_with (server self.old items) pull) }
         ensures me { self.new.me ≡ self.old.me }
+        ensures cached { OnOk result (self.new.cached ≡ []) }
         ensures mark { self.new.mark ≡ self.old.mark }
         ensures up { OnOk result (self.new.halted ≡ false) }
     {

@@ -29,6 +29,7 @@ impl Node {
             server self.new items ≡ acts self.old.me clock s
             (on_formed s (place_of from) (number_of_view view) lb) }
         ensures me { self.new.me ≡ self.old.me }
+        ensures cached { self.new.cached ≡ self.old.cached }
         ensures mark { self.new.mark ≡ self.old.mark }
         ensures up { self.new.halted ≡ false }
     {

@@ -7,6 +7,7 @@ ghost use Rattle.group_rules.specs.Names.{number_of_view, place_of};
 ghost use Rattle.group_rules.specs.Places.{all_of};
 ghost use Rattle.group_rules.specs.State.{Join};
 ghost use Rattle.harp_base.specs.Streams.{Rose};
+ghost use Rattle.node.specs.Cached.{IsCachedAs};
 ghost use Rattle.node.specs.Disk.{MayLeave, disk_after, marked_by};
 ghost use Rattle.node.specs.Node.{server};
 ghost use Rattle.outputs.specs.Makes.{Makes};
@@ -41,6 +42,7 @@ impl Node {
             Makes self.old.me clock (on_invite s (place_of from) (number_of_view view)) []
             s (server self.new items) outs.old outs.new) }
         ensures me { self.new.me ≡ self.old.me }
+        ensures cached { OnOk result (IsCachedAs self.old.cached self.new.cached) }
         ensures mark { OnOk result (self.new.mark ≡ marked_by self.old.mark
             (on_invite self.old.plain (place_of from) (number_of_view view))) }
         ensures up { OnOk result (self.new.halted ≡ false) }

@@ -10,6 +10,7 @@ ghost use Rattle.harp_store.specs.Disk.{MayHaveMade, after_step, with_mark};
 ghost use Rattle.harp_base.specs.Streams.{Rose};
 ghost use Rattle.harp_store.specs.Mark.{MarkFields};
 ghost use Rattle.kept_log.specs.Kept.{ap_in as kept_ap, base_in as kept_base, cp_in as kept_cp, held_in as kept_held, items_in as kept_items};
+ghost use Rattle.node.specs.Cached.{IsCachedAs};
 ghost use Rattle.node.specs.Disk.{MayLeave, disk_after, marked_by, promising};
 ghost use Rattle.node.specs.Node.{server};
 ghost use Rattle.node.specs.State.{CollectsStill, IsKept, Fits, ap_in, base_in, cp_in, duty_of, held_in, is_gone, items_in};
@@ -66,6 +67,7 @@ impl Node {
         ensures state { OnOk result ((items : List Entry) → server self.new items
             ≡ joined_server (server self.old items) (number_of_view view) (duty_of duty)) }
         ensures me { self.new.me ≡ self.old.me }
+        ensures cached { OnOk result (self.new.cached ≡ []) }
         ensures mark { OnOk result (self.new.mark ≡ promising self.old.mark view) }
         ensures up { OnOk result (self.new.halted ≡ false) }
         ensures written { OnOk result (D.told store.new
@@ -103,6 +105,7 @@ impl Node {
         ensures me { self.new.me ≡ self.old.me }
         ensures mark { OnOk result (self.new.mark ≡ marked_by self.old.mark
             (suspect self.old.me self.old.plain)) }
+        ensures cached { OnOk result (IsCachedAs self.old.cached self.new.cached) }
         ensures up { OnOk result (self.new.halted ≡ false) }
         ensures written { OnOk result (D.told store.new
             ≡ disk_after (suspect self.old.me self.old.plain) self.new.mark (D.told store.old)) }

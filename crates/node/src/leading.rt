@@ -38,6 +38,7 @@ impl Node {
             Makes self.old.me clock (on_ack s (number_of_view view) top lb until) self.old.peers s
             (server self.new items) outs.old outs.new) }
         ensures me { self.new.me ≡ self.old.me }
+        ensures cached { OnOk result (self.new.cached ≡ self.old.cached) }
         ensures mark { self.new.mark ≡ self.old.mark }
         ensures up { OnOk result (self.new.halted ≡ false) }
     {
@@ -65,6 +66,7 @@ impl Node {
             Makes self.old.me now (try_open self.old.me now s) [] s (server self.new items)
             outs.old outs.new) }
         ensures me { self.new.me ≡ self.old.me }
+        ensures cached { OnOk result (self.new.cached ≡ self.old.cached) }
         ensures mark { self.new.mark ≡ self.old.mark }
         ensures up { OnOk result (self.new.halted ≡ false) }
     {

@@ -3,12 +3,17 @@
 
 mod accepting;
 mod active;
+mod applying;
+mod asking;
 mod boot;
 #[cfg(test)]
 mod boot_tests;
 mod collecting;
 mod demoting;
+#[cfg(test)]
+mod disk_tests;
 mod fault;
+mod flushing;
 mod following;
 #[cfg(test)]
 mod formation_tests;
@@ -18,6 +23,7 @@ mod input;
 mod inviting;
 mod joining;
 mod leading;
+mod listing;
 mod messages;
 mod misfits;
 mod misfits_active;

@@ -3,6 +3,7 @@
 ghost use Rattle.std.specs.Prelude.{◌≡◌, ◌<◌, ◌≤◌, ◌^◌, List, ℕ, Err, OnErr, OnOk, false};
 ghost use Rattle.file_tree.specs.Book.{Entry};
 ghost use Rattle.harp_base.specs.Streams.{Rose};
+ghost use Rattle.node.specs.Cached.{IsCachedAs};
 ghost use Rattle.node.specs.Disk.{MayLeave, disk_after, marked_by};
 ghost use Rattle.node.specs.Node.{server};
 ghost use Rattle.node.specs.Taking.{Fills, input_in, ruled};
@@ -39,6 +40,7 @@ impl Node {
             (ruled size self.old.me now list s (input_in from message)) self.old.peers s
             (server self.new items) outs.old outs.new) }
         ensures me { self.new.me ≡ self.old.me }
+        ensures cached { OnOk result (IsCachedAs self.old.cached self.new.cached) }
         ensures mark { OnOk result ((size : List Entry → Entry → ℕ) (list : List Entry)
             → self.new.mark ≡ marked_by self.old.mark
             (ruled size self.old.me now list self.old.plain (input_in from message))) }

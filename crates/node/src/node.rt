@@ -47,6 +47,7 @@ impl Node {
         ensures up { result.halted ≡ false }
         ensures mark { result.mark ≡ mark }
         ensures peers { result.peers ≡ [] }
+        ensures cached { result.cached ≡ [] }
         ensures server { (items : List Entry) → server result items
             ≡ rested_with items mark horizon kept }
     {

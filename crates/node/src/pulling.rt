@@ -10,6 +10,7 @@ ghost use Rattle.group_rules.specs.Names.{number_of_view};
 ghost use Rattle.group_rules.specs.Places.{all_of};
 ghost use Rattle.harp_base.specs.Streams.{Rose};
 ghost use Rattle.kept_log.specs.Kept.{plan_of};
+ghost use Rattle.node.specs.Cached.{IsCachedAs};
 ghost use Rattle.node.specs.Disk.{MayLeave, disk_after, marked_by};
 ghost use Rattle.node.specs.Forming.{pulling_with};
 ghost use Rattle.node.specs.Node.{server};
@@ -54,6 +55,7 @@ impl Node {
             Makes self.old.me clock (on_give self.old.me s (number_of_view view) first
             (map entry_of records)) [] s (server self.new items) outs.old outs.new) }
         ensures me { self.new.me ≡ self.old.me }
+        ensures cached { OnOk result (IsCachedAs self.old.cached self.new.cached) }
         ensures mark { OnOk result (self.new.mark ≡ marked_by self.old.mark
             (on_give self.old.me self.old.plain (number_of_view view) first
             (map entry_of records))) }
@@ -122,6 +124,7 @@ impl Node {
             Makes self.old.me clock (on_give self.old.me s s.promised first
             (map entry_of records)) [] s (server self.new items) outs.old outs.new) }
         ensures me { self.new.me ≡ self.old.me }
+        ensures cached { OnOk result (self.new.cached ≡ []) }
         ensures mark { OnOk result (let s = pulling_with self.old.plain pull in
             self.new.mark ≡ marked_by self.old.mark
             (on_give self.old.me s s.promised first (map entry_of records))) }

@@ -5,6 +5,7 @@ ghost use Rattle.file_tree.specs.Book.{Entry};
 ghost use Rattle.group_rules.specs.Moves.{acts};
 ghost use Rattle.group_rules.specs.Open.{rebase};
 ghost use Rattle.harp_base.specs.Streams.{Rose};
+ghost use Rattle.node.specs.Cached.{IsCachedAs};
 ghost use Rattle.node.specs.Disk.{MayLeave, disk_after, marked_by};
 ghost use Rattle.node.specs.Input.{FillsInput, input_of};
 ghost use Rattle.node.specs.Node.{server};
@@ -40,9 +41,11 @@ impl Node {
             Steps self.old.me now (stepped size self.old.me now list s (input_of input))
             self.old.peers s (server self.new items) outs) }
         ensures me { self.new.me ≡ self.old.me }
+        ensures cached { OnOk result (IsCachedAs self.old.cached self.new.cached) }
         ensures mark { OnOk result ((size : List Entry → Entry → ℕ) (list : List Entry)
             → self.new.mark ≡ marked_by self.old.mark
             (stepped size self.old.me now list self.old.plain (input_of input))) }
+        ensures cached { IsCachedAs self.old.cached self.new.cached }
         ensures halted { (result ≡ Err NodeFault.Halted) ↔ (self.old.halted ≡ true) }
         ensures still { self.old.halted ≡ true → (self.new ≡ self.old)
             × (D.told store.new ≡ D.told store.old) }
@@ -95,6 +98,7 @@ impl Node {
             (ruled size self.old.me now list s (input_of input)) self.old.peers s
             (server self.new items) outs.old outs.new) }
         ensures me { self.new.me ≡ self.old.me }
+        ensures cached { OnOk result (IsCachedAs self.old.cached self.new.cached) }
         ensures mark { OnOk result ((size : List Entry → Entry → ℕ) (list : List Entry)
             → self.new.mark ≡ marked_by self.old.mark
             (ruled size self.old.me now list self.old.plain (input_of input))) }
@@ -130,6 +134,7 @@ impl Node {
         ensures state { (items : List Entry) (clock : ℕ) → let s = server self.old items in
             server self.new items ≡ acts self.old.me clock s (rebase s) }
         ensures me { self.new.me ≡ self.old.me }
+        ensures cached { self.new.cached ≡ self.old.cached }
         ensures mark { self.new.mark ≡ self.old.mark }
         ensures up { self.new.halted ≡ false }
     {

@@ -9,6 +9,7 @@ ghost use Rattle.group_rules.specs.State.{Demote, Form as SendsForm, Formed, Giv
 ghost use Rattle.group_rules.specs.Step.{Comes, rule};
 ghost use Rattle.harp_base.specs.Streams.{Rose};
 ghost use Rattle.kept_log.specs.Kept.{plan_of};
+ghost use Rattle.node.specs.Cached.{IsCachedAs};
 ghost use Rattle.node.specs.Disk.{MayLeave, disk_after, marked_by};
 ghost use Rattle.node.specs.Node.{server};
 ghost use Rattle.node.specs.Taking.{coming};
@@ -44,6 +45,7 @@ impl Node {
             (Invite (number_of_view view))))
             [] s (server self.new items) outs.old outs.new) }
         ensures me { self.new.me ≡ self.old.me }
+        ensures cached { OnOk result (IsCachedAs self.old.cached self.new.cached) }
         ensures mark { OnOk result ((size : List Entry → Entry → ℕ) (list : List Entry)
             → self.new.mark ≡ marked_by self.old.mark (coming size now list self.old
             (place_of from) (Invite (number_of_view view)))) }
@@ -87,6 +89,7 @@ impl Node {
             (Join (number_of_view view) (report info))))
             [] s (server self.new items) outs.old outs.new) }
         ensures me { self.new.me ≡ self.old.me }
+        ensures cached { OnOk result (IsCachedAs self.old.cached self.new.cached) }
         ensures mark { OnOk result ((size : List Entry → Entry → ℕ) (list : List Entry)
             → self.new.mark ≡ marked_by self.old.mark (coming size now list self.old
             (place_of from) (Join (number_of_view view) (report info)))) }
@@ -130,6 +133,7 @@ impl Node {
             (SendsForm (number_of_view view) (plan_of form))))
             [] s (server self.new items) outs.old outs.new) }
         ensures me { self.new.me ≡ self.old.me }
+        ensures cached { OnOk result (IsCachedAs self.old.cached self.new.cached) }
         ensures mark { OnOk result ((size : List Entry → Entry → ℕ) (list : List Entry)
             → self.new.mark ≡ marked_by self.old.mark (coming size now list self.old
             (place_of from) (SendsForm (number_of_view view) (plan_of form)))) }
@@ -174,6 +178,7 @@ impl Node {
             (Give (number_of_view view) first (map entry_of records))))
             [] s (server self.new items) outs.old outs.new) }
         ensures me { self.new.me ≡ self.old.me }
+        ensures cached { OnOk result (IsCachedAs self.old.cached self.new.cached) }
         ensures mark { OnOk result ((size : List Entry → Entry → ℕ) (list : List Entry)
             → self.new.mark ≡ marked_by self.old.mark (coming size now list self.old
             (place_of from) (Give (number_of_view view) first (map entry_of records)))) }
@@ -217,6 +222,7 @@ impl Node {
             (Demote (number_of_view view))))
             [] s (server self.new items) outs.old outs.new) }
         ensures me { self.new.me ≡ self.old.me }
+        ensures cached { OnOk result (IsCachedAs self.old.cached self.new.cached) }
         ensures mark { OnOk result ((size : List Entry → Entry → ℕ) (list : List Entry)
             → self.new.mark ≡ marked_by self.old.mark (coming size now list self.old
             (place_of from) (Demote (number_of_view view)))) }
@@ -258,6 +264,7 @@ impl Node {
             (Comes (place_of from) (Formed (number_of_view view) lb)))
             [] s (server self.new items) outs.old outs.new) }
         ensures me { self.new.me ≡ self.old.me }
+        ensures cached { OnOk result (IsCachedAs self.old.cached self.new.cached) }
         ensures mark { self.new.mark ≡ self.old.mark }
         ensures up { OnOk result (self.new.halted ≡ false) }
     {

@@ -43,6 +43,7 @@ impl Node {
             Makes self.old.me now (tick self.old.me now s) [] s (server self.new items)
             outs.old outs.new) }
         ensures me { self.new.me ≡ self.old.me }
+        ensures cached { OnOk result (self.new.cached ≡ self.old.cached) }
         ensures mark { self.new.mark ≡ self.old.mark }
         ensures up { OnOk result (self.new.halted ≡ false) }
     {
@@ -58,6 +59,7 @@ impl Node {
             Makes self.old.me now (if is_open s.mode then beats s else try_open self.old.me now s)
             [] s (server self.new items) outs.old outs.new) }
         ensures me { self.new.me ≡ self.old.me }
+        ensures cached { OnOk result (self.new.cached ≡ self.old.cached) }
         ensures mark { self.new.mark ≡ self.old.mark }
         ensures up { OnOk result (self.new.halted ≡ false) }
     {
@@ -108,7 +110,7 @@ impl Node {
     }
 
     /// Whether the server leads an open view, or follows the leader of one.
-    fn is_settled(&self) -> bool
+    pub(crate) fn is_settled(&self) -> bool
         requires { self.now.halted ≡ false }
         ensures { result ≡ is_settled self.now.plain.mode }
     {

@@ -5,10 +5,14 @@ use Rattle.node.proofs.Storers.{partner_place}
 use Rattle.view_replica.specs.Leading.{Leading}
 use Rattle.node.proofs.accepting.leading.Goals as goal
 
-pub returns-in-Some : goal.returns-in-Some
-returns-in-Some c = accepted_formed c.args.me (number_of_view c.args.view) c.args.form c.args.log
+pub returns-in-Some-clause-accepted : goal.returns-in-Some-clause-accepted
+returns-in-Some-clause-accepted c = accepted_formed c.args.me (number_of_view c.args.view) c.args.form c.args.log
     c.args.joining.now c.in-Ok.leader.beside c.formed.new.self c.in-Some.lb c.requires.leads
     (c.in-Ok.ensures.partner ∙ ap place_of c.partner-partner.ensures
     ∙ partner_place c.args.form.storers) c.in-Some.ensures
     (subst (λ (l : Leading). HearsFormed l c.formed.new.self c.in-Some.lb) c.in-Ok.ensures.ok
     c.formed.ensures.heard)
+
+pub returns-in-Some-clause-cached : goal.returns-in-Some-clause-cached
+returns-in-Some-clause-cached c = c.formed.ensures.cached
+    ∙ ap (λ (l : Leading). l.cached) c.in-Ok.ensures.ok

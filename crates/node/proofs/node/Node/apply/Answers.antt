@@ -1,0 +1,111 @@
+use Rattle.std.proofs.Common.{◌≡◌, ◌≤◌, ℕ, Some, refl, subst, sym, ◌∙◌}
+use Rattle.applier.specs.Fuzzy.{IsFuzzyTo, StaysFuzzy}
+use Rattle.fuzzy_cells.specs.History.{AllSetOnce, History}
+use Rattle.fuzzy_disks.specs.FuzzyDisk.{AreRecordsOf, IsFuzzyDisk}
+use Rattle.harp_store.specs.Disk.{Moments, Now, cells_told}
+use Rattle.node.proofs.Asks.{cached_at}
+use Rattle.node.proofs.Stores.{applied_made, log_at, log_with, no_changes, none_done, none_part, store_fits, stores_active}
+use Rattle.node.specs.State.{cached_in}
+use Rattle.node.specs.Stored.{changes_made, log_in}
+use Rattle.tree_log.specs.Applying.{applied_by}
+use Rattle.tree_log.specs.Reading.{HoldsTree}
+use Rattle.tree_log.specs.TreeLog.{changes_in}
+use Rattle.volatile_log.specs.Log.{LogValue, applied_to}
+use Rattle.node.proofs.node.Node.apply.Goals as goal
+
+pub returns-then-not-stores-clause-done : goal.returns-then-not-stores-clause-done
+returns-then-not-stores-clause-done g c =
+    let n = c.args.self.now in
+    none_done (changes_made c.args.most n) (g.D.Store.told c.args.store.now)
+    (no_changes n c.args.most (sym c.stores.ensures ∙ c.if-not-stores.true))
+
+pub returns-then-not-stores-clause-part : goal.returns-then-not-stores-clause-part
+returns-then-not-stores-clause-part g c =
+    none_part (changes_made c.args.most c.args.self.now) (g.D.Store.told c.args.store.now)
+
+pub apply_log-requires-clause-active : goal.apply_log-requires-clause-active
+apply_log-requires-clause-active g c =
+    let n = c.self.inside in
+    stores_active n.me n.mark n.horizon n.served n.duty n.state c.args.self.now c.self.view_is
+    (sym c.stores.ensures ∙ c.if-not-stores.false)
+
+pub apply_log-requires-clause-cached : goal.apply_log-requires-clause-cached
+apply_log-requires-clause-cached g c =
+    let n = c.self.inside in
+    cached_at n.me n.mark n.horizon n.served n.duty n.state n.state c.args.self.now
+    (cells_told (g.D.Store.told c.args.store.now)) c.self.view_is refl c.requires.cached
+
+pub returns-in_err-apply_log-clause-fuzzy : goal.returns-in_err-apply_log-clause-fuzzy
+returns-in_err-apply_log-clause-fuzzy g c history lb m h st =
+    let n = c.self.inside in
+    subst (λ (x : LogValue). (history : History) (lb m : ℕ) (h : Moments)
+    → g.D.Store.told c.args.store.now ≡ Some h → AllSetOnce history
+    → AreRecordsOf history x.base (changes_in x.records)
+    → IsFuzzyDisk history lb x.ap m h.now
+    → StaysFuzzy history lb x.ap (applied_by c.args.most x) m h
+    (g.D.Store.told c.apply_log.new.store))
+    (sym (log_at n.me n.mark n.horizon n.served n.duty n.state c.args.self.now c.self.view_is st
+    c.self.invariant.1)) c.apply_log.ensures.fuzzy history lb m h
+
+pub invariant_of-self-2 : goal.invariant_of-self-2
+invariant_of-self-2 g c =
+    let n = c.self.inside in
+    let log = log_in n.state in (
+      c.self.invariant.0,
+      store_fits n.me n.mark n.horizon n.served n.duty n.state c.apply_log.new.state
+          c.args.self.now (applied_to log (applied_by c.args.most log))
+          (cached_in c.apply_log.new.state) c.self.view_is
+          (sym c.stores.ensures ∙ c.if-not-stores.false) c.self.invariant.1
+          c.in_ok-apply_log.ensures.log refl,
+    )
+
+pub returns-clause-makes : goal.returns-clause-makes
+returns-clause-makes g c items clock outs =
+    let n = c.self.inside in
+    applied_made n.me n.mark n.horizon n.served n.duty n.state c.apply_log.new.state
+    c.args.self.now c.args.most (cached_in c.apply_log.new.state) items clock outs c.self.view_is
+    (sym c.stores.ensures ∙ c.if-not-stores.false) c.self.invariant.1
+    c.in_ok-apply_log.ensures.log
+
+pub returns-clause-fuzzy : goal.returns-clause-fuzzy
+returns-clause-fuzzy g c history lb m h st =
+    let n = c.self.inside in
+    subst (λ (x : LogValue). (history : History) (lb m : ℕ) (h : Moments)
+    → g.D.Store.told c.args.store.now ≡ Some h → AllSetOnce history
+    → AreRecordsOf history x.base (changes_in x.records)
+    → IsFuzzyDisk history lb x.ap m h.now
+    → StaysFuzzy history lb x.ap (applied_by c.args.most x) m h
+    (g.D.Store.told c.apply_log.new.store))
+    (sym (log_at n.me n.mark n.horizon n.served n.duty n.state c.args.self.now c.self.view_is st
+    c.self.invariant.1)) c.apply_log.ensures.fuzzy history lb m h
+
+pub returns-clause-reached : goal.returns-clause-reached
+returns-clause-reached g c history lb m h st =
+    let n = c.self.inside in
+    subst (λ (x : LogValue). (history : History) (lb m : ℕ) (h : Moments)
+    → g.D.Store.told c.args.store.now ≡ Some h → AllSetOnce history
+    → AreRecordsOf history x.base (changes_in x.records)
+    → IsFuzzyDisk history lb x.ap m h.now
+    → Now (IsFuzzyTo history lb (applied_by c.args.most x) m)
+    (g.D.Store.told c.apply_log.new.store))
+    (sym (log_at n.me n.mark n.horizon n.served n.duty n.state c.args.self.now c.self.view_is st
+    c.self.invariant.1)) c.in_ok-apply_log.ensures.reached history lb m h
+
+pub returns-clause-tree : goal.returns-clause-tree
+returns-clause-tree g c list upto le t =
+    let n = c.self.inside in
+    let st = sym c.stores.ensures ∙ c.if-not-stores.false in
+    let log = log_at n.me n.mark n.horizon n.served n.duty n.state c.args.self.now c.self.view_is st
+    c.self.invariant.1 in
+    let old = log_in n.state in
+    let to = applied_to old (applied_by c.args.most old) in
+    let new = c.apply_log.new.state in
+    let fits = store_fits n.me n.mark n.horizon n.served n.duty n.state new c.args.self.now to
+    (cached_in new) c.self.view_is st c.self.invariant.1 c.in_ok-apply_log.ensures.log refl in
+    let active = stores_active n.me n.mark n.horizon n.served n.duty n.state c.args.self.now
+    c.self.view_is st in
+    subst (λ (x : LogValue). HoldsTree list upto x (g.D.Store.told c.apply_log.new.store))
+    (sym (log_with n.me n.mark n.horizon n.served n.duty n.state new to (cached_in new) active
+    c.in_ok-apply_log.ensures.log fits))
+    (c.apply_log.ensures.tree list upto (subst (λ (x : LogValue). x.cp ≤ upto) log le)
+    (subst (λ (x : LogValue). HoldsTree list upto x (g.D.Store.told c.args.store.now)) log t))
