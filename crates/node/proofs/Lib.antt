@@ -32,3 +32,4 @@ pub mod Idle
 pub mod Cached
 pub mod Stores
 pub mod Asks
+pub mod Brought

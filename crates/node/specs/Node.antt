@@ -4,11 +4,10 @@ use Rattle.cell_cache.specs.Entries.{Entries}
 use Rattle.event_record.specs.declared.record.RecordFields.{RecordFields}
 use Rattle.file_tree.specs.Book.{Entry}
 use Rattle.group_rules.specs.Effects.{down}
-use Rattle.group_rules.specs.Names.{number_of_view, place_of, view_of}
-use Rattle.group_rules.specs.Places.{Place, next_view}
+use Rattle.group_rules.specs.Names.{number_of_view, place_of}
+use Rattle.group_rules.specs.Places.{Place}
 use Rattle.kept_log.specs.Kept.{with_kept}
 use Rattle.kept_log.specs.declared.kept.Kept.{Kept}
-use Rattle.node.specs.Disk.{promising}
 use Rattle.group_rules.specs.State.{Mark, Saved, Server}
 use Rattle.harp_base.specs.declared.peer.Peer.{Peer}
 use Rattle.harp_base.specs.declared.server.ServerId.{ServerId}
@@ -78,10 +77,6 @@ saved_with items v = record { base = v.base; cp = v.cp; items = items }
 -- the machine's server, the saved log on its disk having these records
 abbrev pub server : NodeValue → List Entry → Server Entry
 server n items = record (n.plain) { saved = option_map (saved_with items) n.mark.saved }
-
--- the mark that promises the node's next view of its own
-abbrev pub own_mark : NodeValue → MarkFields
-own_mark n = promising n.mark (view_of (next_view (number_of_view n.mark.promised) n.me))
 
 -- the machine's mark, the saved log having these records
 abbrev pub mark_with : List Entry → MarkFields → Mark Entry

@@ -1,12 +1,12 @@
 -- What a step brings to a server's disk, by its input.
-use Rattle.std.specs.Prelude.{◌≡◌, ℕ, Bool, List, [], Option, Some, if◌then◌else◌}
+use Rattle.std.specs.Prelude.{◌≡◌, ℕ, Bool, List, [], Option, None, Some, if◌then◌else◌}
 use Rattle.applier.specs.Applied.{IsOldOrSynced, flushed, lower}
 use Rattle.cell_cache.specs.Entries.{Entries}
 use Rattle.file_tree.specs.Book.{Entry}
 use Rattle.group_rules.specs.Disk.{flush_tests, settled_tests}
 use Rattle.group_rules.specs.Moves.{Move}
 use Rattle.group_rules.specs.Places.{all_of}
-use Rattle.group_rules.specs.Step.{Apply, Does, Flush, Input}
+use Rattle.group_rules.specs.Step.{Apply, Ask, Does, Flush, Input, ListTree}
 use Rattle.harp_cells.specs.declared.change.Change.{Change}
 use Rattle.harp_store.specs.Disk.{AfterPart, AtEachMoment, Moments, after_changes, cells_told}
 use Rattle.harp_store.specs.Mark.{MarkFields}
@@ -77,22 +77,32 @@ pub record FlushesAtOnce (old new : Option Moments) : Type 0 where
   pub cells : cells_told new ≡ cells_told old
   pub moments : (h : Moments) → old ≡ Some h → AtEachMoment (IsOldOrSynced h.now.mark) old new
 
--- ---- each input, which makes these moves at this server
+-- ---- what is given, if anything, which makes these moves at this server
 
--- THE MARK afterwards, in memory and on the disk
-abbrev pub mark_by : NodeValue → List (Move Entry) → Input → MarkFields
-mark_by n ms (Does Flush) = mark_flushed n
-mark_by n ms i = marked_by n.mark ms
+-- THE MARK afterwards, in memory and on the disk: neither an ask nor an apply nor a listing writes it
+abbrev pub mark_by : NodeValue → List (Move Entry) → Option Input → MarkFields
+mark_by n ms None = n.mark
+mark_by n ms (Some (Does (Ask client number cred call))) = n.mark
+mark_by n ms (Some (Does (Apply most))) = n.mark
+mark_by n ms (Some (Does Flush)) = mark_flushed n
+mark_by n ms (Some (Does ListTree)) = n.mark
+mark_by n ms (Some i) = marked_by n.mark ms
 
 -- THE DISK afterwards: a flush syncs it and writes the mark, an apply makes changes of cells, and
--- each other input at most writes the mark
-abbrev pub disk_by : NodeValue → List (Move Entry) → Input → Option Moments → Option Moments
-disk_by n ms (Does (Apply most)) told = after_changes (changes_made most n) told
-disk_by n ms (Does Flush) told = disk_flushed n told
-disk_by n ms i told = disk_after ms (marked_by n.mark ms) told
+-- what else is given at most writes the mark
+abbrev pub disk_by : NodeValue → List (Move Entry) → Option Input → Option Moments → Option Moments
+disk_by n ms None told = told
+disk_by n ms (Some (Does (Ask client number cred call))) told = told
+disk_by n ms (Some (Does (Apply most))) told = after_changes (changes_made most n) told
+disk_by n ms (Some (Does Flush)) told = disk_flushed n told
+disk_by n ms (Some (Does ListTree)) told = told
+disk_by n ms (Some i) told = disk_after ms (marked_by n.mark ms) told
 
 -- THE DISK after an error: a part of that
-abbrev pub LeavesBy : NodeValue → List (Move Entry) → Input → (old new : Option Moments) → Type 0
-LeavesBy n ms (Does (Apply most)) old new = AfterPart (changes_made most n) old new
-LeavesBy n ms (Does Flush) old new = FlushesAtOnce old new
-LeavesBy n ms i old new = MayLeave ms (marked_by n.mark ms) old new
+abbrev pub LeavesBy : NodeValue → List (Move Entry) → Option Input → (old new : Option Moments) → Type 0
+LeavesBy n ms None old new = new ≡ old
+LeavesBy n ms (Some (Does (Ask client number cred call))) old new = new ≡ old
+LeavesBy n ms (Some (Does (Apply most))) old new = AfterPart (changes_made most n) old new
+LeavesBy n ms (Some (Does Flush)) old new = FlushesAtOnce old new
+LeavesBy n ms (Some (Does ListTree)) old new = new ≡ old
+LeavesBy n ms (Some i) old new = MayLeave ms (marked_by n.mark ms) old new

@@ -4,7 +4,7 @@ ghost use Rattle.std.specs.Prelude.{◌≡◌, [], false, IfOk, OnOk};
 ghost use Rattle.cell_cache.specs.Entries.{AreOf};
 ghost use Rattle.harp_store.specs.Disk.{cells_told};
 
-use crate::Node;
+use crate::{Input, Node};
 use harp_base::{
     Bounded, Call, FIELD_LEFT, Held, Mode, Peer, SUPERUSER, ServerId, SetAttr, Time, ViewNo,
 };
@@ -114,7 +114,7 @@ fn lead<D: Store>(
     ensures up { OnOk result (node.new.halted ≡ false) }
     ensures cached { OnOk result (node.new.cached ≡ []) }
 {
-    node.suspect(alloc, store)?;
+    node.step(alloc, Input::Suspect, 0, store)?;
     node.collect(alloc, ServerId::One, view(1)?, first_join()?, store, outs)?;
     open(alloc, node, outs)
 }

@@ -4,7 +4,7 @@ ghost use Rattle.std.specs.Prelude.{◌≡◌, is_some};
 ghost use Rattle.node.specs.Input.{input_of};
 ghost use Rattle.outputs.specs.Messages.{heard};
 
-use harp_base::ServerId;
+use harp_base::{Call, Cred, Peer, ServerId};
 use wire::Message;
 
 /// What a server is given.
@@ -15,7 +15,26 @@ pub enum Input {
     /// It heard too little of the other storer of its view.
     Suspect,
     /// A server's message.
-    Message { from: ServerId, message: Message },
+    Message {
+        from: ServerId,
+        message: Message,
+    },
+    /// A client's call. The client numbers its calls.
+    Ask {
+        peer: Peer,
+        client: u32,
+        number: u64,
+        cred: Cred,
+        call: Call,
+    },
+    /// So many updates are put on the disk, at most.
+    Apply {
+        most: u32,
+    },
+    /// The disk is synced, and its mark says so.
+    Flush,
+    /// Its tree is listed.
+    List,
 }
 
 impl Input {
@@ -28,6 +47,10 @@ impl Input {
             Input::Tick => true,
             Input::Suspect => true,
             Input::Message { message, .. } => is_heard(message),
+            Input::Ask { .. } => true,
+            Input::Apply { .. } => true,
+            Input::Flush => true,
+            Input::List => true,
         }
     }
 }

@@ -1,11 +1,13 @@
 //! What servers do with messages, from their first boots to an open view, the expected outputs from
 //! a worked schedule.
 
-ghost use Rattle.std.specs.Prelude.{◌<◌, ◌^◌};
+ghost use Rattle.std.specs.Prelude.{◌≡◌, ◌<◌, ◌^◌, []};
+ghost use Rattle.cell_cache.specs.Entries.{AreOf};
+ghost use Rattle.harp_store.specs.Disk.{cells_told};
 
 use crate::{Input, Node};
 use harp_base::{Held, ServerId, ViewNo};
-use harp_store::{Mark, MemStore};
+use harp_store::{Mark, MemStore, Store};
 use kept_log::Kept;
 use outputs::Outputs;
 use promise::{Deadline, Delta, Horizon};
@@ -15,7 +17,9 @@ use volatile_log::FrozenLog;
 use wire::Message;
 
 /// A server as it rests after its first boot, with the empty log.
-fn first(alloc: Global, me: ServerId) -> Node {
+fn first(alloc: Global, me: ServerId) -> Node
+    ensures { result.cached ≡ [] }
+{
     let horizon = Horizon::boot(0, Delta::first(), Delta::first());
     let log = FrozenLog::of(0, 0, 0, 0, Vec::new(alloc));
     Node::resting(me, Mark::first(me, 2000), horizon, Kept::Held(log))
@@ -27,15 +31,17 @@ fn view(count: u64) -> Result<ViewNo, Fail> {
 }
 
 /// A message of a server, at this reading of the receiver's clock.
-fn told(
+fn told<D: Store>(
     alloc: Global,
     node: &mut Node,
     from: ServerId,
     message: Message,
     now: u64,
-    store: &mut MemStore,
+    store: &mut D,
 ) -> Result<Outputs, Fail>
-    requires { now < 2 ^ 62 }
+    requires now { now < 2 ^ 62 }
+    requires cached { AreOf (cells_told (D.told store.old)) node.old.cached }
+    ensures cached { AreOf (cells_told (D.told store.new)) node.new.cached }
 {
     Ok(node.step(alloc, Input::Message { from, message }, now, store)?)
 }
@@ -55,7 +61,10 @@ fn join() -> Result<Message, Fail> {
 }
 
 /// Server 0 suspects, and is joined: it leads view 1.0, whose horizon is at 2000.
-fn lead(alloc: Global, node: &mut Node, store: &mut MemStore) -> Result<(), Fail> {
+fn lead<D: Store>(alloc: Global, node: &mut Node, store: &mut D) -> Result<(), Fail>
+    requires cached { AreOf (cells_told (D.told store.old)) node.old.cached }
+    ensures cached { AreOf (cells_told (D.told store.new)) node.new.cached }
+{
     node.step(alloc, Input::Suspect, 0, store)?;
     let outs = told(alloc, node, ServerId::One, join()?, 0, store)?;
     if outs.chosen.is_none() {
@@ -76,7 +85,10 @@ fn opens(outs: &Outputs, view: ViewNo) -> bool {
 
 /// The partner's Formed comes too early, and a tick is early too: the horizon is over by each clock
 /// at 2050.
-fn opens_at_last(alloc: Global, node: &mut Node, store: &mut MemStore) -> Result<bool, Fail> {
+fn opens_at_last<D: Store>(alloc: Global, node: &mut Node, store: &mut D) -> Result<bool, Fail>
+    requires cached { AreOf (cells_told (D.told store.old)) node.old.cached }
+    ensures cached { AreOf (cells_told (D.told store.new)) node.new.cached }
+{
     lead(alloc, node, store)?;
     let formed = Message::Formed {
         view: view(1)?,
@@ -99,7 +111,10 @@ fn a_leader_opens_when_the_horizon_is_over(rt: HostRuntime) -> Result<(), Fail> 
 }
 
 /// A Formed that comes when the horizon is over.
-fn opens_at_once(alloc: Global, node: &mut Node, store: &mut MemStore) -> Result<bool, Fail> {
+fn opens_at_once<D: Store>(alloc: Global, node: &mut Node, store: &mut D) -> Result<bool, Fail>
+    requires cached { AreOf (cells_told (D.told store.old)) node.old.cached }
+    ensures cached { AreOf (cells_told (D.told store.new)) node.new.cached }
+{
     lead(alloc, node, store)?;
     let formed = Message::Formed {
         view: view(1)?,
@@ -120,12 +135,15 @@ fn a_late_formed_opens_the_view(rt: HostRuntime) -> Result<(), Fail> {
 }
 
 /// An Invite of a view to server 1, and whether it joins by it.
-fn joins(
+fn joins<D: Store>(
     alloc: Global,
     node: &mut Node,
     from: ServerId,
-    store: &mut MemStore,
-) -> Result<bool, Fail> {
+    store: &mut D,
+) -> Result<bool, Fail>
+    requires cached { AreOf (cells_told (D.told store.old)) node.old.cached }
+    ensures cached { AreOf (cells_told (D.told store.new)) node.new.cached }
+{
     let outs = told(
         alloc,
         node,
@@ -139,7 +157,10 @@ fn joins(
 }
 
 /// Another server than the coordinator invites, then the coordinator does.
-fn joins_once(alloc: Global, node: &mut Node, store: &mut MemStore) -> Result<bool, Fail> {
+fn joins_once<D: Store>(alloc: Global, node: &mut Node, store: &mut D) -> Result<bool, Fail>
+    requires cached { AreOf (cells_told (D.told store.old)) node.old.cached }
+    ensures cached { AreOf (cells_told (D.told store.new)) node.new.cached }
+{
     let misfit = joins(alloc, node, ServerId::Two, store)?;
     let own = joins(alloc, node, ServerId::One, store)?;
     Ok(!misfit && !own && joins(alloc, node, ServerId::Zero, store)?)
@@ -156,7 +177,10 @@ fn a_server_heeds_its_coordinator_alone(rt: HostRuntime) -> Result<(), Fail> {
 }
 
 /// A client's message as a server's, to a server whose view is due to open.
-fn ignores(alloc: Global, node: &mut Node, store: &mut MemStore) -> Result<bool, Fail> {
+fn ignores<D: Store>(alloc: Global, node: &mut Node, store: &mut D) -> Result<bool, Fail>
+    requires cached { AreOf (cells_told (D.told store.old)) node.old.cached }
+    ensures cached { AreOf (cells_told (D.told store.new)) node.new.cached }
+{
     lead(alloc, node, store)?;
     let refusal = Message::CannotServe {
         client: 1,

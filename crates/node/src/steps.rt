@@ -1,15 +1,16 @@
 //! The steps of a server.
 
 ghost use Rattle.std.specs.Prelude.{◌≡◌, ◌↔◌, ◌<◌, ◌≤◌, ◌^◌, List, ℕ, Err, IfOk, OnErr, OnOk, false, true};
+ghost use Rattle.cell_cache.specs.Entries.{AreOf};
 ghost use Rattle.file_tree.specs.Book.{Entry};
 ghost use Rattle.group_rules.specs.Moves.{acts};
 ghost use Rattle.group_rules.specs.Open.{rebase};
 ghost use Rattle.harp_base.specs.Streams.{Rose};
-ghost use Rattle.node.specs.Cached.{IsCachedAs};
-ghost use Rattle.node.specs.Disk.{MayLeave, disk_after, marked_by};
-ghost use Rattle.node.specs.Input.{FillsInput, input_of};
+ghost use Rattle.harp_store.specs.Disk.{cells_told};
+ghost use Rattle.node.specs.Input.{FillsInput, input_of, peers_of};
 ghost use Rattle.node.specs.Node.{server};
 ghost use Rattle.node.specs.Step.{Steps};
+ghost use Rattle.node.specs.Stored.{LeavesBy, disk_by, mark_by};
 ghost use Rattle.node.specs.Taking.{ruled, stepped};
 ghost use Rattle.outputs.specs.Makes.{Makes};
 
@@ -18,15 +19,15 @@ use crate::input::Input;
 use crate::node::Node;
 use crate::state::State;
 use harp_store::Store;
-use outputs::Outputs;
+use outputs::{Asker, Outputs};
 use std::alloc::Global;
 
 impl Node {
     /// A step of the server, at this reading of its clock, which is below 2^62: it does what the
     /// rules of the group say of what it is given, and its outputs are just what the rules say. A
-    /// client's message in place of a server's changes nothing. After an error the server is
-    /// halted, and then each step is Halted; its disk has the mark as it was or as the step's moves
-    /// write it.
+    /// client's message in place of a server's changes nothing. The cells that the server keeps in
+    /// memory are those of its store. After an error the server is halted, and then each step is
+    /// Halted; its disk has a part of what the step makes of it.
     pub fn step<D: Store>(
         &mut self,
         alloc: Global,
@@ -34,30 +35,31 @@ impl Node {
         now: u64,
         store: &mut D,
     ) -> Result<Outputs, NodeFault>
-        requires { now < 2 ^ 62 }
+        requires cached { AreOf (cells_told (D.told store.old)) self.old.cached }
+        requires now { now < 2 ^ 62 }
         ensures makes { IfOk result (λ outs. (items : List Entry) (size : List Entry → Entry → ℕ)
-            (list : List Entry) → FillsInput size list self.old input
+            (list : List Entry) → FillsInput size list self.old now (D.told store.old) input
             → let s = server self.old items in
             Steps self.old.me now (stepped size self.old.me now list s (input_of input))
-            self.old.peers s (server self.new items) outs) }
+            (peers_of self.old input) s (server self.new items) outs) }
         ensures me { self.new.me ≡ self.old.me }
-        ensures cached { OnOk result (IsCachedAs self.old.cached self.new.cached) }
+        ensures cached { AreOf (cells_told (D.told store.new)) self.new.cached }
         ensures mark { OnOk result ((size : List Entry → Entry → ℕ) (list : List Entry)
-            → self.new.mark ≡ marked_by self.old.mark
-            (stepped size self.old.me now list self.old.plain (input_of input))) }
-        ensures cached { IsCachedAs self.old.cached self.new.cached }
+            → self.new.mark ≡ mark_by self.old
+            (stepped size self.old.me now list self.old.plain (input_of input)) (input_of input)) }
         ensures halted { (result ≡ Err NodeFault.Halted) ↔ (self.old.halted ≡ true) }
         ensures still { self.old.halted ≡ true → (self.new ≡ self.old)
             × (D.told store.new ≡ D.told store.old) }
         ensures up { OnOk result (self.new.halted ≡ false) }
         ensures fails { OnErr result (self.new.halted ≡ true) }
         ensures written { OnOk result ((size : List Entry → Entry → ℕ) (list : List Entry)
-            → D.told store.new ≡ disk_after
-            (stepped size self.old.me now list self.old.plain (input_of input))
-            self.new.mark (D.told store.old)) }
+            → D.told store.new ≡ disk_by self.old
+            (stepped size self.old.me now list self.old.plain (input_of input)) (input_of input)
+            (D.told store.old)) }
         ensures part { OnErr result ((size : List Entry → Entry → ℕ) (list : List Entry)
-            → let ms = stepped size self.old.me now list self.old.plain (input_of input) in
-            MayLeave ms (marked_by self.old.mark ms) (D.told store.old) (D.told store.new)) }
+            → LeavesBy self.old
+            (stepped size self.old.me now list self.old.plain (input_of input)) (input_of input)
+            (D.told store.old) (D.told store.new)) }
         ensures rose { result ≡ Err NodeFault.StoreFailed → Rose (D.faults store.old)
             (D.faults store.new) }
         ensures count { D.faults store.old ≤ D.faults store.new }
@@ -80,8 +82,8 @@ impl Node {
         Ok(outs)
     }
 
-    /// A step but for the base: what the server does with what it is given. An error leaves the
-    /// mark on the disk as it was, or as the moves write it.
+    /// A step but for the base: what the server does with what it is given. An error leaves a part
+    /// of what this makes of the disk.
     fn rule<D: Store>(
         &mut self,
         alloc: Global,
@@ -91,25 +93,27 @@ impl Node {
         outs: &mut Outputs,
     ) -> Result<(), NodeFault>
         requires up { self.old.halted ≡ false }
+        requires cached { AreOf (cells_told (D.told store.old)) self.old.cached }
         requires now { now < 2 ^ 62 }
         ensures makes { OnOk result ((items : List Entry) (size : List Entry → Entry → ℕ)
-            (list : List Entry) → FillsInput size list self.old input
+            (list : List Entry) → FillsInput size list self.old now (D.told store.old) input
             → let s = server self.old items in Makes self.old.me now
-            (ruled size self.old.me now list s (input_of input)) self.old.peers s
+            (ruled size self.old.me now list s (input_of input)) (peers_of self.old input) s
             (server self.new items) outs.old outs.new) }
         ensures me { self.new.me ≡ self.old.me }
-        ensures cached { OnOk result (IsCachedAs self.old.cached self.new.cached) }
+        ensures cached { OnOk result (AreOf (cells_told (D.told store.new)) self.new.cached) }
         ensures mark { OnOk result ((size : List Entry → Entry → ℕ) (list : List Entry)
-            → self.new.mark ≡ marked_by self.old.mark
-            (ruled size self.old.me now list self.old.plain (input_of input))) }
+            → self.new.mark ≡ mark_by self.old
+            (ruled size self.old.me now list self.old.plain (input_of input)) (input_of input)) }
         ensures up { OnOk result (self.new.halted ≡ false) }
         ensures written { OnOk result ((size : List Entry → Entry → ℕ) (list : List Entry)
-            → D.told store.new ≡ disk_after
-            (ruled size self.old.me now list self.old.plain (input_of input))
-            self.new.mark (D.told store.old)) }
+            → D.told store.new ≡ disk_by self.old
+            (ruled size self.old.me now list self.old.plain (input_of input)) (input_of input)
+            (D.told store.old)) }
         ensures part { OnErr result ((size : List Entry → Entry → ℕ) (list : List Entry)
-            → let ms = ruled size self.old.me now list self.old.plain (input_of input) in
-            MayLeave ms (marked_by self.old.mark ms) (D.told store.old) (D.told store.new)) }
+            → LeavesBy self.old
+            (ruled size self.old.me now list self.old.plain (input_of input)) (input_of input)
+            (D.told store.old) (D.told store.new)) }
         ensures running { result ≡ Err NodeFault.Halted → ⊥ }
         ensures rose { result ≡ Err NodeFault.StoreFailed → Rose (D.faults store.old)
             (D.faults store.new) }
@@ -124,6 +128,24 @@ impl Node {
             Input::Message { from, message } => {
                 self.take_message(alloc, from, message, now, store, outs)
             }
+            Input::Ask {
+                peer,
+                client,
+                number,
+                cred,
+                call,
+            } => {
+                let asker = Asker {
+                    peer,
+                    client,
+                    number,
+                    cred,
+                };
+                self.ask(alloc, asker, &call, now, store, outs)
+            }
+            Input::Apply { most } => self.apply(alloc, most, store),
+            Input::Flush => self.flush(alloc, store),
+            Input::List => self.list(alloc, store, outs),
         }
     }
 

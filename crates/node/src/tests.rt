@@ -1,5 +1,9 @@
 //! A server's suspicion, the expected lines from a worked schedule.
 
+ghost use Rattle.std.specs.Prelude.{◌≡◌, []};
+ghost use Rattle.cell_cache.specs.Entries.{AreOf};
+ghost use Rattle.harp_store.specs.Disk.{cells_told};
+
 use crate::{Input, Node, NodeFault};
 use harp_base::{Held, Mode, Role, ServerId, StateLine, ViewNo};
 use harp_store::{Mark, MemStore, Pick, Store};
@@ -11,7 +15,9 @@ use volatile_log::FrozenLog;
 use wire::Message;
 
 /// Server 0 as it rests after its first boot, with the empty log.
-fn first(alloc: Global) -> Node {
+fn first(alloc: Global) -> Node
+    ensures { result.cached ≡ [] }
+{
     let horizon = Horizon::boot(0, Delta::first(), Delta::first());
     let log = FrozenLog::of(0, 0, 0, 0, Vec::new(alloc));
     let mark = Mark::first(ServerId::Zero, 2000);
@@ -44,7 +50,10 @@ fn calling() -> Result<StateLine, Fail> {
 }
 
 /// Whether a suspicion of server 0 invites the other two to the view 1.0.
-fn calls(alloc: Global, node: &mut Node, store: &mut MemStore) -> Result<bool, Fail> {
+fn calls<D: Store>(alloc: Global, node: &mut Node, store: &mut D) -> Result<bool, Fail>
+    requires cached { AreOf (cells_told (D.told store.old)) node.old.cached }
+    ensures cached { AreOf (cells_told (D.told store.new)) node.new.cached }
+{
     let next = view(1)?;
     let state = calling()?;
     let outs = node.step(alloc, Input::Suspect, 0, store)?;
@@ -64,7 +73,10 @@ fn a_suspicion_calls_for_the_next_view(rt: HostRuntime) -> Result<(), Fail> {
 }
 
 /// Why a suspicion gives nothing, where it does.
-fn suspects(alloc: Global, node: &mut Node, store: &mut MemStore) -> Option<NodeFault> {
+fn suspects<D: Store>(alloc: Global, node: &mut Node, store: &mut D) -> Option<NodeFault>
+    requires cached { AreOf (cells_told (D.told store.old)) node.old.cached }
+    ensures cached { AreOf (cells_told (D.told store.new)) node.new.cached }
+{
     node.step(alloc, Input::Suspect, 0, store).err()
 }
 

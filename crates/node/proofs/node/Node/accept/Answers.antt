@@ -30,7 +30,7 @@ invariant_of-self g c = (
       c.in_ok-state.state (c.accepted_mark-mark.ensures
       ∙ ap (accepted_mark c.self.inside.mark
       (role_in (plan_of c.args.pull.form).storers (place_of c.self.inside.me)))
-      c.lb-lb.ensures.value) c.promised-view.ensures.value c.in_ok-state.ensures,
+      c.lb-lb.ensures.value) c.promised-view.ensures.value c.in_ok-state.ensures.accepted,
 )
 
 pub returns-in_err-tell_formed-clause-part : goal.returns-in_err-tell_formed-clause-part
@@ -55,7 +55,7 @@ invariant_of-self-2 g c = (
       c.in_ok-state.state (c.accepted_mark-mark.ensures
       ∙ ap (accepted_mark c.self.inside.mark
       (role_in (plan_of c.args.pull.form).storers (place_of c.self.inside.me)))
-      c.lb-lb.ensures.value) c.promised-view.ensures.value c.in_ok-state.ensures,
+      c.lb-lb.ensures.value) c.promised-view.ensures.value c.in_ok-state.ensures.accepted,
 )
 
 pub returns-clause-makes : goal.returns-clause-makes
@@ -69,7 +69,7 @@ returns-clause-makes g c items clock = node_accepts c.self.inside.me c.self.insi
     ∙ ap (accepted_mark c.self.inside.mark
     (role_in (plan_of c.args.pull.form).storers (place_of c.self.inside.me)))
     c.lb-lb.ensures.value) c.lb-lb.ensures.value c.promised-view.ensures.value c.in-Ok.ensures.ok
-    c.in_ok-state.ensures
+    c.in_ok-state.ensures.accepted
     c.in_ok-tell_formed.ensures
 
 pub returns-clause-mark : goal.returns-clause-mark

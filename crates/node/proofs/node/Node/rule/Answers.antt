@@ -1,12 +1,21 @@
-use Rattle.std.proofs.Common.{ap, refl}
-use Rattle.std.specs.Prelude.{Some}
-use Rattle.group_rules.specs.Step.{Does, Tick}
+use Rattle.std.proofs.Common.{◌≡◌, [], inl, refl, subst, sym}
+use Rattle.std.proofs.lemmas.Result.{on_err_weaker, on_ok_weaker}
+use Rattle.group_rules.specs.Joining.{suspect}
+use Rattle.group_rules.specs.Names.{place_of}
 use Rattle.group_rules.specs.Tick.{tick}
+use Rattle.node.proofs.Brought.{both_ok, came_disk, came_mark, came_part, marks_cached}
+use Rattle.node.proofs.Cached.{stays_cached}
 use Rattle.node.proofs.Calls.{any_peers}
-use Rattle.node.proofs.Marks.{alike_none, alike_on, disk_as, mark_as}
-use Rattle.node.proofs.Stepped.{given_alike, given_makes, mute_tick, tick_unmarked}
-use Rattle.node.specs.Input.{input_of}
+use Rattle.node.proofs.Marks.{alike_none, disk_as, mark_as}
+use Rattle.node.proofs.Stepped.{mute_tick, tick_unmarked}
+use Rattle.node.specs.Disk.{marked_by}
+use Rattle.node.specs.Input.{FillsInput, input_of, peers_of}
 use Rattle.node.specs.Node.{server}
+use Rattle.node.specs.Stored.{LeavesBy, disk_by, mark_by}
+use Rattle.node.specs.Taking.{input_in, ruled}
+use Rattle.node.specs.declared.input.Input.{Input}
+use Rattle.outputs.specs.Makes.{Makes}
+use Rattle.outputs.specs.Messages.{heard}
 use Rattle.node.proofs.node.Node.rule.Goals as goal
 
 pub returns-in_ok-tick-in-Tick-clause-makes : goal.returns-in_ok-tick-in-Tick-clause-makes
@@ -14,26 +23,115 @@ returns-in_ok-tick-in-Tick-clause-makes g c items size list fills =
     let n = c.args.self.now in
     let s = server n items in
     let new = server c.tick.new.self items in
-    given_makes size n.me c.args.now list (input_of c.args.input) (Some (Does Tick)) n.peers s new
-    c.args.outs.now c.tick.new.outs (ap input_of c.in-Tick.is)
+    subst (λ (x : Input). Makes n.me c.args.now (ruled size n.me c.args.now list s (input_of x))
+    (peers_of n x) s new c.args.outs.now c.tick.new.outs) (sym c.in-Tick.is)
     (any_peers n.me c.args.now (tick n.me c.args.now s) n.peers s new c.args.outs.now
     c.tick.new.outs (mute_tick n.me c.args.now s) (c.in_ok-tick-in-Tick.ensures.makes items))
 
 pub returns-in_ok-tick-in-Tick-clause-mark : goal.returns-in_ok-tick-in-Tick-clause-mark
 returns-in_ok-tick-in-Tick-clause-mark g c size list =
     let n = c.args.self.now in
-    mark_as _ _ n.mark c.tick.new.self.mark
-    (alike_on _ _ _ (given_alike size n.me c.args.now list n.plain (input_of c.args.input)
-    (Some (Does Tick)) (ap input_of c.in-Tick.is))
-    (alike_none (tick n.me c.args.now n.plain) (tick_unmarked n.me c.args.now n.plain)))
-    c.tick.ensures.mark
+    subst (λ (x : Input). c.tick.new.self.mark ≡ mark_by n
+    (ruled size n.me c.args.now list n.plain (input_of x)) (input_of x)) (sym c.in-Tick.is)
+    (mark_as (tick n.me c.args.now n.plain) [] n.mark c.tick.new.self.mark
+    (alike_none (tick n.me c.args.now n.plain) (tick_unmarked n.me c.args.now n.plain))
+    c.tick.ensures.mark)
 
 pub returns-in_ok-tick-in-Tick-clause-written : goal.returns-in_ok-tick-in-Tick-clause-written
 returns-in_ok-tick-in-Tick-clause-written g c size list =
     let n = c.args.self.now in
-    disk_as _ _ c.tick.new.self.mark c.tick.new.self.mark (g.D.Store.told c.args.store.now)
-    (g.D.Store.told c.args.store.now)
-    (alike_on _ _ _ (given_alike size n.me c.args.now list n.plain (input_of c.args.input)
-    (Some (Does Tick)) (ap input_of c.in-Tick.is))
-    (alike_none (tick n.me c.args.now n.plain) (tick_unmarked n.me c.args.now n.plain)))
-    refl refl
+    let told = g.D.Store.told c.args.store.now in
+    subst (λ (x : Input). told ≡ disk_by n
+    (ruled size n.me c.args.now list n.plain (input_of x)) (input_of x) told) (sym c.in-Tick.is)
+    (disk_as (tick n.me c.args.now n.plain) []
+    (marked_by n.mark (tick n.me c.args.now n.plain))
+    (marked_by n.mark (tick n.me c.args.now n.plain)) told told
+    (alike_none (tick n.me c.args.now n.plain) (tick_unmarked n.me c.args.now n.plain)) refl refl)
+
+pub returns-in_ok-tick-in-Tick-clause-cached : goal.returns-in_ok-tick-in-Tick-clause-cached
+returns-in_ok-tick-in-Tick-clause-cached g c =
+    let told = g.D.Store.told c.args.store.now in
+    stays_cached c.args.self.now.cached c.tick.new.self.cached told told
+    (inl c.in_ok-tick-in-Tick.ensures.cached) refl c.requires.cached
+
+pub returns-in-Suspect-clause-cached : goal.returns-in-Suspect-clause-cached
+returns-in-Suspect-clause-cached g c =
+    let n = c.args.self.now in
+    both_ok c.suspicion.result
+    (λ kept written. marks_cached (suspect n.me n.plain) c.suspicion.new.self.mark c.args.self.now.cached
+    c.suspicion.new.self.cached (g.D.Store.told c.args.store.now)
+    (g.D.Store.told c.suspicion.new.store) c.requires.cached kept written)
+    c.suspicion.ensures.cached c.suspicion.ensures.written
+
+pub returns-in-Message-clause-cached : goal.returns-in-Message-clause-cached
+returns-in-Message-clause-cached g c =
+    let n = c.args.self.now in
+    both_ok c.take_message.result
+    (λ kept written. marks_cached (ruled (λ before e. 0) n.me c.args.now [] n.plain
+    (input_in c.in-Message.from c.in-Message.message)) c.take_message.new.self.mark n.cached
+    c.take_message.new.self.cached (g.D.Store.told c.args.store.now)
+    (g.D.Store.told c.take_message.new.store) c.requires.cached kept
+    (written (λ before e. 0) []))
+    c.take_message.ensures.cached c.take_message.ensures.written
+
+pub returns-in-Message-clause-mark : goal.returns-in-Message-clause-mark
+returns-in-Message-clause-mark g c =
+    let n = c.args.self.now in
+    on_ok_weaker c.take_message.result
+    (λ marks size list. subst (λ (x : Input). c.take_message.new.self.mark ≡ mark_by n
+    (ruled size n.me c.args.now list n.plain (input_of x)) (input_of x)) (sym c.in-Message.is)
+    (came_mark size c.args.now list n (place_of c.in-Message.from) (heard c.in-Message.message)
+    c.take_message.new.self.mark (marks size list))) c.take_message.ensures.mark
+
+pub returns-in-Message-clause-written : goal.returns-in-Message-clause-written
+returns-in-Message-clause-written g c =
+    let n = c.args.self.now in
+    let told = g.D.Store.told c.args.store.now in
+    let left = g.D.Store.told c.take_message.new.store in
+    both_ok c.take_message.result
+    (λ marks written size list. subst (λ (x : Input). left ≡ disk_by n
+    (ruled size n.me c.args.now list n.plain (input_of x)) (input_of x) told) (sym c.in-Message.is)
+    (came_disk size c.args.now list n (place_of c.in-Message.from) (heard c.in-Message.message)
+    c.take_message.new.self.mark told left (marks size list) (written size list)))
+    c.take_message.ensures.mark c.take_message.ensures.written
+
+pub returns-in-Message-clause-part : goal.returns-in-Message-clause-part
+returns-in-Message-clause-part g c =
+    let n = c.args.self.now in
+    let told = g.D.Store.told c.args.store.now in
+    let left = g.D.Store.told c.take_message.new.store in
+    on_err_weaker c.take_message.result
+    (λ leaves size list. subst (λ (x : Input). LeavesBy n
+    (ruled size n.me c.args.now list n.plain (input_of x)) (input_of x) told left)
+    (sym c.in-Message.is)
+    (came_part size c.args.now list n (place_of c.in-Message.from) (heard c.in-Message.message)
+    told left (leaves size list))) c.take_message.ensures.part
+
+pub returns-in-Ask-clause-makes : goal.returns-in-Ask-clause-makes
+returns-in-Ask-clause-makes g c =
+    let n = c.args.self.now in
+    let told = g.D.Store.told c.args.store.now in
+    on_ok_weaker c.ask.result
+    (λ asked items size list fills. subst (λ (x : Input). Makes n.me c.args.now
+    (ruled size n.me c.args.now list (server n items) (input_of x)) (peers_of n x)
+    (server n items) (server c.ask.new.self items) c.args.outs.now c.ask.new.outs)
+    (sym c.in-Ask.is) ((asked items list (subst (λ (x : Input). FillsInput size list n c.args.now
+    told x) c.in-Ask.is fills)).makes)) c.ask.ensures.asked
+
+pub returns-in-Apply-clause-makes : goal.returns-in-Apply-clause-makes
+returns-in-Apply-clause-makes g c =
+    let n = c.args.self.now in
+    on_ok_weaker c.apply.result
+    (λ made items size list fills. subst (λ (x : Input). Makes n.me c.args.now
+    (ruled size n.me c.args.now list (server n items) (input_of x)) (peers_of n x)
+    (server n items) (server c.apply.new.self items) c.args.outs.now c.args.outs.now)
+    (sym c.in-Apply.is) (made items c.args.now c.args.outs.now)) c.apply.ensures.makes
+
+pub returns-in-Flush-clause-makes : goal.returns-in-Flush-clause-makes
+returns-in-Flush-clause-makes g c =
+    let n = c.args.self.now in
+    on_ok_weaker c.flush.result
+    (λ made items size list fills. subst (λ (x : Input). Makes n.me c.args.now
+    (ruled size n.me c.args.now list (server n items) (input_of x)) (peers_of n x)
+    (server n items) (server c.flush.new.self items) c.args.outs.now c.args.outs.now)
+    (sym c.in-Flush.is) (made items c.args.now c.args.outs.now)) c.flush.ensures.makes
