@@ -1,10 +1,12 @@
 //! The formation of the first view, the expected lines from a worked schedule.
 
-ghost use Rattle.std.specs.Prelude.{◌≡◌, false};
+ghost use Rattle.std.specs.Prelude.{◌≡◌, [], false};
+ghost use Rattle.cell_cache.specs.Entries.{AreOf};
+ghost use Rattle.harp_store.specs.Disk.{cells_told};
 
 use crate::{Input, Node};
 use harp_base::{Held, Mode, Role, ServerId, StateLine, ViewNo};
-use harp_store::{Mark, MemStore};
+use harp_store::{Mark, MemStore, Store};
 use kept_log::{Form, Kept};
 use outputs::Outputs;
 use promise::{Deadline, Delta, Horizon};
@@ -16,7 +18,8 @@ use wire::{Message, Storers};
 
 /// A server as it rests after its first boot, with the empty log.
 fn first(alloc: Global, me: ServerId) -> Node
-    ensures { result.halted ≡ false }
+    ensures up { result.halted ≡ false }
+    ensures cached { result.cached ≡ [] }
 {
     let horizon = Horizon::boot(0, Delta::first(), Delta::first());
     let log = FrozenLog::of(0, 0, 0, 0, Vec::new(alloc));
@@ -89,8 +92,8 @@ fn an_invited_server_joins(rt: HostRuntime) -> Result<(), Fail> {
 }
 
 /// Whether a coordinator with its own join and that of server 1 forms the view 1.0, and leads it.
-fn forms(alloc: Global, node: &mut Node, store: &mut MemStore) -> Result<bool, Fail>
-    requires { node.old.halted ≡ false }
+fn forms<D: Store>(alloc: Global, node: &mut Node, store: &mut D) -> Result<bool, Fail>
+    requires { AreOf (cells_told (D.told store.old)) node.old.cached }
 {
     let state = shown(Mode::Waits, 1, Role::Leads(ServerId::One))?;
     let (next, info) = (view(1)?, first_join()?);
