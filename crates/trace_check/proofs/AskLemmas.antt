@@ -1,20 +1,20 @@
 -- What is kept of asks, as a trace grows.
-use Rattle.std.proofs.Common.{◌≡◌, ℕ, ◌<◌, ◌^◌, Bool, true, false, List, [], ◌∷◌, ◌++◌, refl, sym, ap, subst, ◌∙◌, append_assoc, arith, inl, inr, Some, ◌&&◌, ◌||◌}
+use Rattle.std.proofs.Common.{◌≡◌, ℕ, ◌<◌, ◌^◌, Bool, true, false, List, [], ◌∷◌, ◌++◌, refl, sym, ap, subst, ◌∙◌, inl, inr, Some, ◌||◌}
 use Rattle.std.specs.Prelude.{◌↔◌, ◌⊎◌, Contains, IsTrue}
 use Rattle.std.specs.Cmp.Lexicographic.{slice_cmp}
 use Rattle.std.specs.List.{list_any}
 use Rattle.std.specs.BTreeSet.{insert_key}
 use Rattle.std.specs.Cmp.{unsigned_tied}
-use Rattle.std.specs.Ordering.{is_eq, match_ordering, nat_cmp, ordering_then}
+use Rattle.std.specs.Ordering.{is_eq, match_ordering, nat_cmp}
 use Rattle.std.specs.declared.cmp.Ordering.{Ordering}
 use Rattle.std.specs.declared.cmp.Ordering.TheVariants.{Less, Equal, Greater}
 use Rattle.std.proofs.lemmas.Bool.{and_from, eq-eqb}
 use Rattle.std.proofs.lemmas.Map.Lookups.{exact_bytes}
 use Rattle.std.proofs.lemmas.List.{append-nil}
 use Rattle.std.proofs.lemmas.List.Elements.{Contains-push, Contains-push_cases, Contains-append_left}
-use Rattle.harp_base.specs.Calls.{CallFits, call_at, call_bytes}
-use Rattle.harp_base.specs.Fields.{◌⊗◌, u32_at, u32_bytes, u64_at, u64_bytes}
-use Rattle.harp_base.specs.Names.{CredFits, cred_at, cred_bytes}
+use Rattle.harp_base.specs.Calls.{CallFits, call_at}
+use Rattle.harp_base.specs.Fields.{◌⊗◌, u32_at, u64_at}
+use Rattle.harp_base.specs.Names.{CredFits, cred_at}
 use Rattle.harp_base.specs.declared.call.Call.{Call}
 use Rattle.harp_base.specs.declared.cred.Cred.{Cred}
 use Rattle.harp_base.specs.declared.server.ServerId.{ServerId}
@@ -30,7 +30,7 @@ use Rattle.trace_types.specs.declared.step.Step.TheVariants as step
 use Rattle.trace_claims.specs.Faithful.{WasAsked}
 use Rattle.trace_claims.specs.Trace.{Trace, step_of_line, steps}
 use Rattle.trace_claims.proofs.Places.{steps-append}
-use Rattle.trace_check.specs.Asks.{ask_bytes, begins_ask, AreAsksOf, AskedAs, AskFits, Has, IsAdded, TellsAsk}
+use Rattle.trace_check.specs.Asks.{ask_bytes, begins_ask, AreAsksOf, AskFits, Has, IsAdded, TellsAsk}
 use Rattle.trace_check.specs.declared.asks.Asks.{Asks}
 use Rattle.trace_check.proofs.MarkLemmas.{tied_then}
 use Rattle.trace_check.proofs.SameLemmas.{codec_same}

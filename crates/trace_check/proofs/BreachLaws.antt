@@ -1,21 +1,20 @@
 -- A trace that grows by a line.
-use Rattle.std.proofs.Common.{◌≡◌, ℕ, ◌+◌, Bool, true, false, List, [], ◌∷◌, ◌++◌, length, refl, sym, ap, subst, ◌∙◌, append_assoc}
+use Rattle.std.proofs.Common.{◌≡◌, ℕ, List, [], ◌∷◌, ◌++◌, refl, sym, ap, subst, ◌∙◌, append_assoc}
 use Rattle.std.specs.Prelude.{◌↔◌}
 use Rattle.std.proofs.lemmas.List.{append-nil}
-use Rattle.harp_base.specs.Update.{is_update}
 use Rattle.file_tree.specs.Book.{Entry, IsBook, MayFollow}
 use Rattle.file_tree.proofs.BookLaws.{book_push}
 use Rattle.trace_types.specs.declared.line.BookEntry.{BookEntry}
 use Rattle.trace_types.specs.declared.line.Line.{Line}
 use Rattle.trace_types.specs.declared.line.Line.TheVariants as line
 use Rattle.trace_claims.specs.Acknowledged.{IsAcknowledged}
-use Rattle.trace_claims.specs.Faithful.{IsBookReply, IsFaithful, IsNumbered, WasAsked}
+use Rattle.trace_claims.specs.Faithful.{IsBookReply, IsNumbered, WasAsked}
 use Rattle.trace_claims.specs.Reading.{UsesPromise}
 use Rattle.trace_claims.specs.Trace.{Trace, entered_by, entries, entry_of, AtEachPlace, AtPlacesAfter}
 use Rattle.trace_claims.proofs.Places.{entries-append}
 use Rattle.trace_check.specs.declared.breach.Breach.{Breach}
 use Rattle.trace_check.specs.declared.breach.Breach.TheVariants as breach
-use Rattle.trace_check.specs.Breaches.{ComesInOrder, HasOutcome, IsAccepted, IsFirst, IsInOrder, Keeps}
+use Rattle.trace_check.specs.Breaches.{HasOutcome, IsAccepted, IsFirst, IsInOrder, Keeps}
 
 -- a fact of each place, of one more line
 places_push : (P : Trace → Line → Type 0) (before lines : Trace) (l : Line)

@@ -1,52 +1,44 @@
 -- What a checker finds of a line, and what it knows after it.
-use Rattle.std.proofs.Common.{◌≡◌, ℕ, ◌+◌, ◌-◌, ◌<◌, ◌≤◌, ◌^◌, Bool, true, false, List, [], ◌∷◌, ◌++◌, length, Option, Some, None, is_some, refl, sym, ap, subst, ◌∙◌, arith, inl, inr}
-use Rattle.std.specs.Prelude.{◌↔◌, ◌⊎◌, IsTrue, MatchBool, min, not}
+use Rattle.std.proofs.Common.{◌≡◌, ℕ, ◌≤◌, Bool, true, false, [], ◌∷◌, ◌++◌, length, Option, Some, None, is_some, refl, sym, ap, subst, ◌∙◌, arith}
+use Rattle.std.specs.Prelude.{◌↔◌, ◌⊎◌}
 use Rattle.std.specs.Bool.{if◌then◌else◌}
 use Rattle.std.specs.Option.{option_map}
-use Rattle.std.proofs.lemmas.List.{append-nil, length-append}
-use Rattle.harp_base.specs.Trio.{value_of}
+use Rattle.std.proofs.lemmas.List.{length-append}
 use Rattle.harp_base.specs.Update.{is_update}
 use Rattle.harp_base.specs.View.{View}
 use Rattle.harp_base.specs.declared.call.Call.{Call}
 use Rattle.harp_base.specs.declared.cred.Cred.{Cred}
 use Rattle.harp_base.specs.declared.reply.Reply.{Reply}
 use Rattle.harp_base.specs.declared.server.ServerId.{ServerId}
-use Rattle.harp_base.specs.declared.state.Role.{Role}
 use Rattle.harp_base.specs.declared.state.Role.TheVariants as role
 use Rattle.harp_base.specs.declared.state.StateLine.{StateLine}
-use Rattle.file_tree.specs.Book.{Entry, IsNextUpdate, IsRead, tree_after, tree_next, updates}
+use Rattle.file_tree.specs.Book.{tree_after}
 use Rattle.file_tree.specs.Calls.{outcome}
 use Rattle.file_tree.specs.Tree.{Tree}
-use Rattle.file_tree.proofs.BookLaws.{tree_push}
 use Rattle.trace_types.specs.declared.step.Step.{Step}
 use Rattle.trace_types.specs.declared.step.Step.TheVariants as step
 use Rattle.trace_types.specs.declared.line.BookEntry.{BookEntry}
 use Rattle.trace_types.specs.declared.line.Line.{Line}
 use Rattle.trace_types.specs.declared.line.Line.TheVariants as line
-use Rattle.trace_claims.specs.Acknowledged.{HasAcknowledged, WithinOpening, answers_read}
-use Rattle.trace_claims.specs.Faithful.{IsReadReply, IsReplyIn, IsReplyTo, IsUpdateReply, WasAsked}
+use Rattle.trace_claims.specs.Acknowledged.{HasAcknowledged, WithinOpening}
+use Rattle.trace_claims.specs.Faithful.{IsReadReply, IsReplyIn, IsReplyTo, IsUpdateReply}
 use Rattle.trace_claims.specs.Reading.{HasPromise}
 use Rattle.trace_claims.specs.Servers.{AckDelivered, HasShown, PromiseDelivered, clock_after, first_open, last_state}
-use Rattle.trace_claims.specs.Trace.{Trace, entered_by, entries, entry_of, step_under_way}
-use Rattle.trace_claims.proofs.Places.{entries-append}
-use Rattle.trace_check.specs.Breaches.{ComesInOrder, IsFirst, IsVerdict, Keeps, rank}
+use Rattle.trace_claims.specs.Trace.{Trace, entered_by, entries}
+use Rattle.trace_check.specs.Breaches.{IsVerdict}
 use Rattle.trace_check.specs.Checker.{FollowsLine, Kept, Saw}
-use Rattle.trace_check.specs.ClocksRead.{AreClocksOf, last_moment}
-use Rattle.trace_check.specs.Keys.{place_key, way_key}
-use Rattle.trace_check.specs.Marks.{IsWithin, mark_at, Reaches}
+use Rattle.trace_check.specs.ClocksRead.{AreClocksOf}
+use Rattle.trace_check.specs.Keys.{place_key}
+use Rattle.trace_check.specs.Marks.{IsWithin, Reaches}
 use Rattle.trace_check.specs.Network.{IsNetworkOf}
 use Rattle.trace_check.specs.ServersSeen.{AreServersOf}
-use Rattle.trace_check.specs.declared.breach.Breach.{Breach}
-use Rattle.trace_check.specs.declared.breach.Breach.TheVariants as breach
 use Rattle.trace_check.specs.declared.checker.Checker.{Checker}
-use Rattle.trace_check.specs.declared.clocks.Clocks.{Clocks}
-use Rattle.trace_check.specs.declared.network.Network.{Network}
 use Rattle.trace_check.specs.declared.servers.Servers.{Servers}
 use Rattle.trace_check.specs.Asks.{AreAsksOf}
 use Rattle.trace_check.specs.History.{HasReply, IsHistoryOf}
 use Rattle.trace_check.specs.UnderWay.{IsUnderWay, reading_of}
 use Rattle.trace_check.specs.declared.under_way.Reading.{Reading}
-use Rattle.trace_check.proofs.BreachLaws.{accepts_more, entries_entered}
+use Rattle.trace_check.proofs.BreachLaws.{accepts_more}
 
 -- ---- how many entries
 

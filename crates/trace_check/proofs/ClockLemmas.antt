@@ -5,15 +5,13 @@ use Rattle.std.specs.Bool.{if◌then◌else◌}
 use Rattle.std.proofs.lemmas.List.Sums.{fold_push}
 use Rattle.harp_base.specs.Trio.{value_of, with_value}
 use Rattle.harp_base.specs.declared.server.ServerId.{ServerId}
-use Rattle.harp_base.specs.declared.server.ServerId.TheVariants as server
-use Rattle.harp_base.specs.declared.trio.Trio.{Trio}
 use Rattle.trace_types.specs.declared.step.Step.TheVariants as step
 use Rattle.trace_types.specs.declared.line.Line.{Line}
 use Rattle.trace_types.specs.declared.line.Line.TheVariants as line
 use Rattle.trace_claims.specs.Trace.{Trace}
 use Rattle.trace_claims.specs.Servers.{clock_after, clock_next, same_server}
 use Rattle.trace_check.specs.Readings.{clock_told}
-use Rattle.trace_check.specs.ClocksRead.{last_moment, AreClocksOf, IsAdvanced}
+use Rattle.trace_check.specs.ClocksRead.{last_moment, AreClocksOf}
 use Rattle.trace_check.specs.declared.clocks.Clocks.{Clocks}
 use Rattle.trace_check.specs.declared.readings.ClockTold.{ClockTold}
 use Rattle.trace_check.specs.declared.readings.ClockTold.TheVariants as clock

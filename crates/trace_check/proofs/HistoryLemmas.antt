@@ -1,21 +1,20 @@
 -- What is kept of the entered calls, as they grow.
-use Rattle.std.proofs.Common.{◌≡◌, ℕ, ◌+◌, ◌-◌, ◌<◌, ◌≤◌, Bool, true, false, List, [], ◌∷◌, ◌++◌, length, get_or, Option, Some, None, refl, sym, ap, subst, ◌∙◌, arith, ◌==◌, ◌&&◌, inl, inr}
+use Rattle.std.proofs.Common.{◌≡◌, ℕ, ◌+◌, ◌-◌, ◌<◌, ◌≤◌, Bool, true, false, List, [], ◌∷◌, length, get_or, Option, Some, None, refl, sym, ap, subst, ◌∙◌, arith, inl, inr}
 use Rattle.std.specs.Prelude.{◌↔◌, ◌⊎◌, map, filter, Contains, IfSome, IsTrue, MatchBool, nat_lt}
 use Rattle.std.specs.Bool.{if◌then◌else◌}
 use Rattle.std.specs.Option.{option_map}
 use Rattle.std.proofs.lemmas.Bool.{lt-ltb, ltb-true}
 use Rattle.std.proofs.lemmas.List.Elements.{All-contains, All-contains_itself, All-filter, filter_passes, Contains-append_cases, Contains-append_left, Contains-append_right, Contains-push, Contains-push_cases}
-use Rattle.std.proofs.lemmas.List.{length_push, map_push, get_or-map, get_or_default, length-map}
+use Rattle.std.proofs.lemmas.List.{get_or-map, get_or_default, length-map}
 use Rattle.harp_base.specs.declared.reply.Reply.{Reply}
 use Rattle.harp_base.specs.declared.call.Call.TheVariants.{Null}
 use Rattle.harp_base.specs.declared.reply.Reply.TheVariants.{Done}
 use Rattle.harp_base.specs.Update.{is_update}
-use Rattle.file_tree.specs.Book.{ComesNext, Entry, IsBook, IsNextUpdate, IsRead, MayFollow, last_next, last_of, last_stamp, stamp_next, tree_after, updates}
+use Rattle.file_tree.specs.Book.{Entry, IsBook, IsNextUpdate, IsRead, last_of, last_stamp, tree_after, updates}
 use Rattle.file_tree.specs.Calls.{outcome}
-use Rattle.file_tree.proofs.BookLaws.{last_push, stamp_push, updates_push_read, updates_push_update}
 use Rattle.file_tree.proofs.BookOrder.{book_numbered, follows_next, next_follows}
 use Rattle.trace_check.specs.History.{HasReply, IsHistoryOf, kept_of}
-use Rattle.trace_check.specs.Marks.{Key, is_key, mark_at, IsSet}
+use Rattle.trace_check.specs.Marks.{mark_at}
 use Rattle.trace_check.specs.declared.history.History.{History}
 use Rattle.trace_check.specs.declared.history.Kept.{Kept}
 

@@ -1,14 +1,11 @@
 -- What a map by keys says of marks.
-use Rattle.std.proofs.Common.{◌≡◌, ℕ, ◌≤◌, Bool, true, false, cond, List, [], ◌∷◌, Option, Some, None, is_some, refl, sym, ap, ◌∙◌, subst, arith, ◌==◌, ◌&&◌, inl, inr}
-use Rattle.std.specs.Prelude.{◌↔◌, ◌⊎◌}
-use Rattle.std.specs.Bool.{if◌then◌else◌}
+use Rattle.std.proofs.Common.{◌≡◌, ℕ, Bool, cond, [], ◌∷◌, Option, Some, refl, sym, ap, ◌∙◌, ◌==◌, ◌&&◌}
 use Rattle.std.specs.Cmp.{unsigned_tied}
 use Rattle.std.specs.Map.{lookup}
 use Rattle.std.specs.Ordering.{nat_cmp, ordering_then, is_eq}
 use Rattle.std.specs.declared.cmp.Ordering.{Ordering}
 use Rattle.std.specs.declared.cmp.Ordering.TheVariants.{Less, Equal, Greater}
-use Rattle.std.proofs.lemmas.Bool.{and_from, cases_lt, eq-eqb, eqb-true}
-use Rattle.trace_check.specs.Marks.{Key, Entries, is_key, mark_at, or_else, IsNoted, IsRaised, IsSet, IsWithin, Reaches}
+use Rattle.trace_check.specs.Marks.{Key, Entries, is_key, mark_at, IsSet}
 
 -- what a map of these keys compares by
 abbrev pub key_cmp : Key → Key → Ordering

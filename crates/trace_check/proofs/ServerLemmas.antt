@@ -1,5 +1,5 @@
 -- What is kept of servers, as a trace grows.
-use Rattle.std.proofs.Common.{◌≡◌, ℕ, ◌≤◌, Bool, true, false, cond, List, [], ◌∷◌, ◌++◌, Option, Some, None, refl, sym, ap, subst, ◌∙◌, ◌==◌, ◌&&◌, inl, inr}
+use Rattle.std.proofs.Common.{◌≡◌, ℕ, ◌≤◌, Bool, true, false, [], ◌∷◌, ◌++◌, Option, Some, None, refl, sym, ap, subst, ◌∙◌, ◌==◌, ◌&&◌, inl, inr}
 use Rattle.std.specs.Prelude.{◌↔◌, ◌⊎◌, MatchBool}
 use Rattle.std.specs.Bool.{if◌then◌else◌}
 use Rattle.std.specs.Option.{option_map}
@@ -14,7 +14,7 @@ use Rattle.harp_base.specs.declared.trio.Trio.{Trio}
 use Rattle.trace_types.specs.declared.line.Line.{Line}
 use Rattle.trace_types.specs.declared.line.Line.TheVariants as line
 use Rattle.trace_claims.specs.Trace.{Trace}
-use Rattle.trace_claims.specs.Servers.{HasShown, first_open, first_state, is_open, last_state, later_state, opens, same_server, same_view}
+use Rattle.trace_claims.specs.Servers.{HasShown, first_open, first_state, is_open, last_state, later_state, opens, same_server}
 use Rattle.trace_check.specs.Keys.{place_key}
 use Rattle.trace_check.specs.Marks.{mark_at, is_key, or_else, Entries, IsNoted, IsRaised, IsWithin, Reaches}
 use Rattle.trace_check.specs.Readings.{state_told}

@@ -1,5 +1,5 @@
 -- What a checker knows of the lines that it has seen.
-use Rattle.std.specs.Prelude.{◌≡◌, ◌++◌, ◌∷◌, [], None}
+use Rattle.std.specs.Prelude.{◌≡◌, ◌++◌, ◌∷◌, []}
 use Rattle.file_tree.specs.Book.{tree_after}
 use Rattle.trace_types.specs.declared.line.Line.{Line}
 use Rattle.trace_claims.specs.Trace.{Trace, entries}

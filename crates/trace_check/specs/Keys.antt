@@ -1,5 +1,4 @@
 -- The keys of marks.
-use Rattle.std.specs.Prelude.{ℕ}
 use Rattle.harp_base.specs.Server.{number_of}
 use Rattle.harp_base.specs.View.{View}
 use Rattle.harp_base.specs.declared.server.ServerId.{ServerId}

@@ -1,4 +1,4 @@
-use Rattle.std.proofs.Common.{sym, ap, is_some, ◌∙◌}
+use Rattle.std.proofs.Common.{sym, ◌∙◌}
 use Rattle.std.proofs.lemmas.Result.{IfOk-weaker}
 use Rattle.trace_claims.specs.Trace.{entries, step_under_way}
 use Rattle.trace_check.proofs.CheckerLemmas.{kept_reply, none_of, reply_reading, reply_update, some_of}

@@ -1,4 +1,4 @@
-use Rattle.std.proofs.Common.{Some, None, refl, subst}
+use Rattle.std.proofs.Common.{refl, subst}
 use Rattle.trace_check.specs.Breaches.{IsVerdict}
 use Rattle.trace_check.proofs.BreachLaws.{accepts_more, first_breaks}
 use Rattle.trace_check.proofs.checker.Checker.line.Goals as goal

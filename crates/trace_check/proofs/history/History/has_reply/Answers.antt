@@ -1,7 +1,5 @@
-use Rattle.std.proofs.Common.{◌≡◌, ◌-◌, ◌<◌, ◌≤◌, length, get_or, arith, ap, sym, subst, ◌∙◌}
-use Rattle.std.specs.Prelude.{IsTrue}
+use Rattle.std.proofs.Common.{◌-◌, length, get_or, arith, ap, ◌∙◌}
 use Rattle.std.proofs.lemmas.Result.{IfOk-weaker}
-use Rattle.trace_check.specs.History.{HasReply}
 use Rattle.trace_check.proofs.HistoryLemmas.{kept_is, no_place, reply_place}
 use Rattle.trace_check.proofs.history.History.has_reply.Goals as goal
 

@@ -1,4 +1,4 @@
-use Rattle.std.proofs.Common.{◌≡◌, ◌-◌, ℕ, Some, None, length, sym, ap, ◌∙◌, arith}
+use Rattle.std.proofs.Common.{ℕ, sym, ap, ◌∙◌, arith}
 use Rattle.trace_claims.specs.Trace.{entry_of}
 use Rattle.trace_check.specs.Marks.{mark_at}
 use Rattle.trace_check.proofs.HistoryLemmas.{first_number, number_rises, stamp_falls}

@@ -1,4 +1,4 @@
-use Rattle.std.proofs.Common.{◌≡◌, Some, None, refl, sym, ap, ◌∙◌}
+use Rattle.std.proofs.Common.{◌≡◌, Some, None, refl, ◌∙◌}
 use Rattle.std.proofs.lemmas.Result.{on_ok_weaker}
 use Rattle.trace_check.specs.Network.{ack_at}
 use Rattle.trace_check.proofs.NetworkLemmas.{at_number, delivers_ack, delivers_none, delivers_other}

@@ -1,6 +1,5 @@
 use Rattle.std.proofs.Common.{◌+◌, sym, ap, subst, ◌∙◌}
 use Rattle.std.specs.Prelude.{◌↔◌, IsTrue}
-use Rattle.trace_check.specs.Keys.{way_key}
 use Rattle.trace_check.specs.Marks.{mark_at, IsWithin}
 use Rattle.trace_check.proofs.network.Network.has_promised.Goals as goal
 

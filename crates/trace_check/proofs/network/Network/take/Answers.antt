@@ -1,6 +1,6 @@
-use Rattle.std.proofs.Common.{◌≡◌, Some, None, ◌∙◌, sym, subst}
+use Rattle.std.proofs.Common.{◌≡◌, Some, ◌∙◌, sym, subst}
 use Rattle.std.proofs.lemmas.Result.{on_ok_weaker}
-use Rattle.trace_check.specs.Network.{told_ack, IsSent}
+use Rattle.trace_check.specs.Network.{IsSent}
 use Rattle.trace_check.specs.Readings.{packet_told}
 use Rattle.trace_check.specs.declared.readings.PacketTold.TheVariants as packet
 use Rattle.trace_check.proofs.NetworkLemmas.{takes_delivered, takes_nothing, takes_sent}

@@ -1,4 +1,4 @@
-use Rattle.std.proofs.Common.{◌≡◌, ℕ, refl, subst}
+use Rattle.std.proofs.Common.{◌≡◌, refl, subst}
 use Rattle.std.specs.Prelude.{MatchBool}
 use Rattle.trace_claims.specs.Servers.{is_open}
 use Rattle.trace_check.specs.Marks.{IsNoted, IsRaised}

@@ -1,4 +1,4 @@
-use Rattle.std.proofs.Common.{◌≡◌, Bool, true, false, sym, ap, ◌∙◌}
+use Rattle.std.proofs.Common.{◌≡◌, true, false, sym, ap, ◌∙◌}
 use Rattle.std.proofs.lemmas.Result.{IfOk-weaker}
 use Rattle.trace_check.specs.declared.under_way.Reading.{Reading}
 use Rattle.trace_check.proofs.UnderWayLemmas.{enters_by, enters_is, not_first}
