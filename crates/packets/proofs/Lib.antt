@@ -1,0 +1,4 @@
+mod Spelled
+mod Firsts
+mod Ways
+pub mod Machine

@@ -1,0 +1,4 @@
+pub mod Posted
+pub mod Due
+pub mod Machine
+pub mod Kept
