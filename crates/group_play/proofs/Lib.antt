@@ -1,0 +1,12 @@
+pub mod TraceTexts
+pub mod Runs
+pub mod TakenLaws
+pub mod Parts
+pub mod Steps
+pub mod NextSteps
+pub mod ReadOn
+pub mod NextLines
+pub mod LineLeads
+pub mod PlayLoop
+pub mod PlayEnd
+pub mod TextLaws

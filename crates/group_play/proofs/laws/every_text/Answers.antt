@@ -1,0 +1,14 @@
+use Rattle.step_text.proofs.MeaningLaws.{explained}
+use Rattle.group_play.proofs.TextLaws.{book, disks, events, parts, right, views}
+use Rattle.group_play.proofs.laws.every_text.Goals as goal
+
+pub returns : goal.returns
+returns c = record {
+  meaning = explained;
+  right = right;
+  events = events;
+  book = book;
+  views = views;
+  disks = disks;
+  parts = parts;
+}

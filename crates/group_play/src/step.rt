@@ -1,0 +1,122 @@
+//! Taking the steps of a line: each step's lines are written before the next step is taken.
+
+ghost use Rattle.std.specs.Prelude.{◌≡◌, ◌≤◌, ℕ, List, Option, Some, MatchResult, true, Ok, Err};
+ghost use Rattle.harp_base.specs.Streams.{Rose};
+ghost use Rattle.group_disks.specs.Calls.{measures_of};
+ghost use Rattle.group_trace.specs.Pump.{most_deliveries};
+ghost use Rattle.group_trace.specs.Run.{is_elementary};
+ghost use Rattle.group_trace.specs.Scene.{Scene};
+ghost use Rattle.group_play.specs.OnTheWay.{HasCome, StopGives, TurnGives, with_pump};
+ghost use Rattle.group_play.specs.Reading.{Reading, with_given, with_step};
+ghost use Rattle.group_play.specs.Stage.{AreReadings, clocks_after};
+
+use crate::exit::Stop;
+use crate::stage::Stage;
+use crate::text::write_lines;
+use crate::turn::{Turn, refuse};
+use harp_base::{ServerId, Sink};
+use std::alloc::Global;
+use trace_types::Step;
+
+/// More deliveries than any pump needs.
+const MOST_DELIVERIES: u64 = 1 << 40;
+
+/// Takes a step of one server, of the clocks or of the group's delta, and writes its lines.
+fn take_elementary<W: Stage, K: Sink>(
+    alloc: Global,
+    number: u64,
+    step: Step,
+    world: &mut W,
+    sink: &mut K,
+) -> Result<Turn, Stop>
+    requires elementary { is_elementary step ≡ true }
+    requires readings { AreReadings (clocks_after (W.clocks world.old) step) }
+    requires now { AreReadings (W.clocks world.old) }
+    ensures ends { (all : Reading) (rest : Scene → Reading) (before : Option (List ℕ))
+        → HasCome W.spellings all (with_step (measures_of W.spellings) number step rest) before
+        (K.written sink.old) (W.stands world.old)
+        → MatchResult result
+        (TurnGives W.spellings all rest before (K.written sink.new) (W.stands world.new))
+        (StopGives W.spellings all before (K.written sink.new) (W.stands world.new)) }
+    ensures clocks { result ≡ Ok Turn.GoesOn → W.clocks world.new
+        ≡ clocks_after (W.clocks world.old) step }
+    ensures rose { result ≡ Err Stop.SinkFailed → Rose (K.faults sink.old) (K.faults sink.new) }
+    ensures count { K.faults sink.old ≤ K.faults sink.new }
+    ensures own { result ≡ Err Stop.SourceFailed → ⊥ }
+{
+    match world.step(alloc, step) {
+        Ok(lines) => match write_lines(alloc, lines.as_slice(), sink) {
+            Ok(()) => Ok(Turn::GoesOn),
+            Err(stop) => Err(stop),
+        },
+        Err(refusal) => match refusal.fault() {
+            Some(fault) => refuse(alloc, number, fault, sink),
+            None => Err(Stop::NoMemory),
+        },
+    }
+}
+
+/// Delivers the packets that were never delivered, in the order of their numbers, those sent
+/// meanwhile too.
+fn pump<W: Stage, K: Sink>(
+    alloc: Global,
+    number: u64,
+    among: Option<(ServerId, ServerId)>,
+    world: &mut W,
+    sink: &mut K,
+) -> Result<Turn, Stop>
+    requires { AreReadings (W.clocks world.old) }
+    ensures ends { (all : Reading) (rest : Scene → Reading) (before : Option (List ℕ))
+        → HasCome W.spellings all
+        (with_pump (measures_of W.spellings) number most_deliveries among rest) before
+        (K.written sink.old) (W.stands world.old)
+        → MatchResult result
+        (TurnGives W.spellings all rest before (K.written sink.new) (W.stands world.new))
+        (StopGives W.spellings all before (K.written sink.new) (W.stands world.new)) }
+    ensures clocks { result ≡ Ok Turn.GoesOn → W.clocks world.new ≡ W.clocks world.old }
+    ensures rose { result ≡ Err Stop.SinkFailed → Rose (K.faults sink.old) (K.faults sink.new) }
+    ensures count { K.faults sink.old ≤ K.faults sink.new }
+    ensures own { result ≡ Err Stop.SourceFailed → ⊥ }
+{
+    for _ in 0..MOST_DELIVERIES {
+        let Some(packet) = world.next(among) else {
+            return Ok(Turn::GoesOn);
+        };
+        match take_elementary(alloc, number, Step::Deliver { packet }, world, sink) {
+            Ok(Turn::GoesOn) => {}
+            Ok(Turn::Ended) => return Ok(Turn::Ended),
+            Ok(Turn::Refused) => return Ok(Turn::Refused),
+            Err(stop) => return Err(stop),
+        }
+    }
+    Ok(Turn::GoesOn)
+}
+
+/// Takes the step of the line with this number, and writes its lines.
+pub fn take_step<W: Stage, K: Sink>(
+    alloc: Global,
+    number: u64,
+    step: Step,
+    world: &mut W,
+    sink: &mut K,
+) -> Result<Turn, Stop>
+    requires readings { AreReadings (clocks_after (W.clocks world.old) step) }
+    requires now { AreReadings (W.clocks world.old) }
+    ensures ends { (all : Reading) (rest : Scene → Reading) (before : Option (List ℕ))
+        → HasCome W.spellings all
+        (with_given (measures_of W.spellings) number (Ok (Some step)) rest) before
+        (K.written sink.old) (W.stands world.old)
+        → MatchResult result
+        (TurnGives W.spellings all rest before (K.written sink.new) (W.stands world.new))
+        (StopGives W.spellings all before (K.written sink.new) (W.stands world.new)) }
+    ensures clocks { result ≡ Ok Turn.GoesOn → W.clocks world.new
+        ≡ clocks_after (W.clocks world.old) step }
+    ensures rose { result ≡ Err Stop.SinkFailed → Rose (K.faults sink.old) (K.faults sink.new) }
+    ensures count { K.faults sink.old ≤ K.faults sink.new }
+    ensures own { result ≡ Err Stop.SourceFailed → ⊥ }
+{
+    match step {
+        Step::Pump { among } => pump(alloc, number, among, world, sink),
+        step => take_elementary(alloc, number, step, world, sink),
+    }
+}

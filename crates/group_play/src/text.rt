@@ -1,0 +1,52 @@
+//! Lines of a trace as text.
+
+ghost use Rattle.std.specs.Prelude.{◌≡◌, ◌≤◌, ◌∷◌, [], ◌++◌, IfOk, OnOk, OnErr, Err};
+ghost use Rattle.std.specs.Io.KnownBytes.{Appends};
+ghost use Rattle.harp_base.specs.Streams.{GrewByPart, Rose};
+ghost use Rattle.group_play.specs.Trace.{trace_text};
+
+use crate::exit::Stop;
+use harp_base::{Bytes, Sink, write_all};
+use put_lines::write_line;
+use std::alloc::{AllocError, Global};
+use trace_types::Line;
+
+/// The text of these lines, each with its line feed.
+fn text_of(alloc: Global, lines: &[Line]) -> Result<Bytes, AllocError>
+    ensures { IfOk result (λ text. text ≡ trace_text lines.now) }
+{
+    let mut text = Bytes::new(alloc);
+    for line in lines {
+        write_line(alloc, line, &mut text)?;
+        text.extend(b"\n")?;
+    }
+    Ok(text)
+}
+
+/// Writes these lines; after a stop a first part of their text was written.
+pub fn write_lines<K: Sink>(alloc: Global, lines: &[Line], sink: &mut K) -> Result<(), Stop>
+    ensures all { OnOk result (Appends (K.written sink.old) (K.written sink.new)
+        (trace_text lines.now)) }
+    ensures part { OnErr result (GrewByPart (K.written sink.old) (K.written sink.new)
+        (trace_text lines.now)) }
+    ensures rose { result ≡ Err Stop.SinkFailed → Rose (K.faults sink.old) (K.faults sink.new) }
+    ensures count { K.faults sink.old ≤ K.faults sink.new }
+    ensures own { result ≡ Err Stop.SourceFailed → ⊥ }
+{
+    let text = text_of(alloc, lines)?;
+    write_all(sink, text.as_slice())?;
+    Ok(())
+}
+
+/// Writes the last line.
+pub fn write_last<K: Sink>(alloc: Global, last: Line, sink: &mut K) -> Result<(), Stop>
+    ensures all { OnOk result (Appends (K.written sink.old) (K.written sink.new)
+        (trace_text (last ∷ []))) }
+    ensures part { OnErr result (GrewByPart (K.written sink.old) (K.written sink.new)
+        (trace_text (last ∷ []))) }
+    ensures rose { result ≡ Err Stop.SinkFailed → Rose (K.faults sink.old) (K.faults sink.new) }
+    ensures count { K.faults sink.old ≤ K.faults sink.new }
+    ensures own { result ≡ Err Stop.SourceFailed → ⊥ }
+{
+    write_lines(alloc, &[last], sink)
+}
