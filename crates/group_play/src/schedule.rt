@@ -8,7 +8,8 @@ ghost use Rattle.line_reader.specs.Reading.{text_left};
 ghost use Rattle.disk_laws.specs.Laws.{DiskRunIsRight};
 ghost use Rattle.group_disks.specs.Calls.{measures_of};
 ghost use Rattle.group_disks.specs.Run.{first_disk_scene};
-ghost use Rattle.group_trace.specs.Scene.{Scene};
+ghost use Rattle.group_trace.specs.Run.{AreTaken};
+ghost use Rattle.group_trace.specs.Scene.{Scene, first_scene};
 ghost use Rattle.step_text.specs.Grammar.{Explains};
 ghost use Rattle.step_text.specs.Reading.{meaning_of};
 ghost use Rattle.trace_claims.specs.Right.{IsRight};
@@ -186,6 +187,9 @@ pub fn play<W: Stage, S: Source, K: Sink>(
     ensures sink_rose { result ≡ Exit.SinkFailed → Rose (K.faults sink.old) (K.faults sink.new) }
     // What each line of a text means, by the grammar of steps.
     ensures meaning { (line : List ℕ) → Explains line (meaning_of line) }
+    // The steps that are read of a text: none is refused.
+    ensures taken { (text : List ℕ) → AreTaken (measures_of W.spellings) first_scene
+        (reading (measures_of W.spellings) text).steps }
     // What the trace of a text is: closed, faithful, acknowledged, answered at once, and the rest.
     ensures right { (text : List ℕ) → IsRight (trace_of (measures_of W.spellings) text) }
     ensures events { (text : List ℕ) → steps (trace_of (measures_of W.spellings) text)

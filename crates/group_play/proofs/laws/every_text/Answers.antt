@@ -1,10 +1,11 @@
 use Rattle.step_text.proofs.MeaningLaws.{explained}
-use Rattle.group_play.proofs.TextLaws.{book, disks, events, parts, right, views}
+use Rattle.group_play.proofs.TextLaws.{book, disks, events, parts, right, taken, views}
 use Rattle.group_play.proofs.laws.every_text.Goals as goal
 
 pub returns : goal.returns
 returns c = record {
   meaning = explained;
+  taken = taken;
   right = right;
   events = events;
   book = book;

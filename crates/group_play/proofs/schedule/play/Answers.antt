@@ -1,7 +1,7 @@
 use Rattle.step_text.proofs.MeaningLaws.{explained}
 use Rattle.group_disks.specs.Calls.{measures_of}
 use Rattle.group_play.proofs.PlayEnd.{completes, ends-after, sink-caused, source-caused}
-use Rattle.group_play.proofs.TextLaws.{book, disks, events, parts, right, views}
+use Rattle.group_play.proofs.TextLaws.{book, disks, events, parts, right, taken, views}
 use Rattle.group_play.proofs.schedule.play.Goals as goal
 
 pub returns-clause-ends : goal.returns-clause-ends
@@ -35,6 +35,9 @@ returns-clause-sink_rose g c =
 
 pub returns-clause-meaning : goal.returns-clause-meaning
 returns-clause-meaning g c = explained
+
+pub returns-clause-taken : goal.returns-clause-taken
+returns-clause-taken g c = taken (measures_of g.W.Stage.spellings)
 
 pub returns-clause-right : goal.returns-clause-right
 returns-clause-right g c = right (measures_of g.W.Stage.spellings)
