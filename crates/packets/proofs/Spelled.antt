@@ -1,5 +1,6 @@
 -- The message that its bytes spell.
-use Rattle.std.proofs.Common.{◌≡◌, ℕ, ◌+◌, true, eqb, List, [], length, Ok, refl, sym, ap, ◌∙◌, append-nil, arith}
+use Rattle.std.proofs.Common.{◌≡◌, ℕ, ◌+◌, true, eqb, List, [], length, Ok, refl, sym, ap, ◌∙◌}
+use Rattle.std.proofs.Common.{append-nil, arith}
 use Rattle.std.proofs.lemmas.Bool.{eq-eqb}
 use Rattle.wire.specs.declared.message.Message.{Message}
 use Rattle.wire.specs.Messages.{MessageFits, decoded, message_at, message_bytes, whole}

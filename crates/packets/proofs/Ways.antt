@@ -1,6 +1,8 @@
 -- The first packets that are due from each server to each.
-use Rattle.std.proofs.Common.{◌≡◌, ℕ, zero, suc, ◌+◌, ◌<◌, ◌&&◌, ◌||◌, Bool, true, false, not, List, [], ◌∷◌}
-use Rattle.std.proofs.Common.{◌++◌, length, drop, Option, None, Some, refl, sym, ap, ◌∙◌, ◌⊎◌, inl, inr}
+use Rattle.std.proofs.Common.{◌≡◌, ℕ, zero, suc, ◌+◌, ◌<◌, ◌&&◌, ◌||◌, Bool, true, false, not, List}
+use Rattle.std.proofs.Common.{[], ◌∷◌}
+use Rattle.std.proofs.Common.{◌++◌, length, drop, Option, None, Some, refl, sym, ap, ◌∙◌, ◌⊎◌, inl}
+use Rattle.std.proofs.Common.{inr}
 use Rattle.std.proofs.Common.{arith, subst, if◌then◌else◌}
 use Rattle.std.specs.Prelude.{eqb, get_or, slice_get}
 use Rattle.std.specs.Option.{option_eq, option_or}
@@ -16,7 +18,8 @@ use Rattle.group_rules.specs.Places.{same}
 use Rattle.packets.specs.Posted.{Posted, arrived, delivered_at, posted}
 use Rattle.packets.specs.Due.{first_due, first_from, goes, is_among, lower}
 use Rattle.packets.specs.Kept.{AreFirst, Ways, way, with_way}
-use Rattle.packets.proofs.Firsts.{first_alike, first_moves, first_of_either, first_push, first_push_other}
+use Rattle.packets.proofs.Firsts.{first_alike, first_moves, first_of_either, first_push}
+use Rattle.packets.proofs.Firsts.{first_push_other}
 use Rattle.packets.proofs.Firsts.{first_stays, first_stays_other}
 
 -- ---- servers

@@ -1,5 +1,6 @@
 -- What was sent: packets by their numbers, from 0.
-use Rattle.std.specs.Prelude.{ℕ, zero, suc, Bool, true, false, List, [], ◌∷◌, length, Option, None, Some}
+use Rattle.std.specs.Prelude.{ℕ, zero, suc, Bool, true, false, List, [], ◌∷◌, length, Option, None}
+use Rattle.std.specs.Prelude.{Some}
 use Rattle.std.specs.List.{sum_by}
 use Rattle.harp_base.specs.declared.server.ServerId.{ServerId}
 use Rattle.wire.specs.declared.message.Message.{Message}

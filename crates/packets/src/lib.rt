@@ -8,3 +8,6 @@ mod packets;
 
 pub use packet::Packet;
 pub use packets::Packets;
+
+#[cfg(test)]
+mod tests;

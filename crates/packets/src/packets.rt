@@ -1,6 +1,7 @@
 //! All packets that were sent.
 
-ghost use Rattle.std.specs.Prelude.{◌≡◌, ◌<◌, ◌^◌, ◌-◌, ◌++◌, ◌∷◌, [], List, ℕ, length, min, slice_get};
+ghost use Rattle.std.specs.Prelude.{◌≡◌, ◌<◌, ◌^◌, ◌-◌, ◌++◌, ◌∷◌, [], List, ℕ, length, min};
+ghost use Rattle.std.specs.Prelude.{slice_get};
 ghost use Rattle.std.specs.Prelude.{Some, IfOk, OnErr, OnOk};
 ghost use Rattle.std.specs.Option.{option_map};
 ghost use Rattle.file_tree.specs.Book.{Entry};
@@ -114,7 +115,8 @@ impl Packets {
         // So it is in the machine.
         ensures machine { (packets : List (Sent Entry)) (numbers : List ℕ)
             → StandFor self.now packets numbers
-            → option_map place_of result ≡ option_map (λ (p : Sent Entry). p.from) (numbered packets n) }
+            → option_map place_of result
+            ≡ option_map (λ (p : Sent Entry). p.from) (numbered packets n) }
     {
         let at = n as usize;
         if at >= self.kept.len() {
@@ -130,7 +132,8 @@ impl Packets {
         // So it is in the machine.
         ensures machine { (packets : List (Sent Entry)) (numbers : List ℕ)
             → StandFor self.now packets numbers
-            → option_map place_of result ≡ option_map (λ (p : Sent Entry). p.to) (numbered packets n) }
+            → option_map place_of result
+            ≡ option_map (λ (p : Sent Entry). p.to) (numbered packets n) }
     {
         let at = n as usize;
         if at >= self.kept.len() {

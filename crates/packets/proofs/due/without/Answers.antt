@@ -13,7 +13,8 @@ returns-then-eq c ps is first =
     rw (← c.from-from.ensures, ← c.to-to.ensures, ← c.get.ensures, ← c.get-2.ensures)
     (sym c.eq.ensures ∙ c.if-eq.true) in
     subst (λ (w : Ways). AreFirst c.args.kept.now w)
-    (sym (c.with_way.ensures ∙ rw (c.first_after.ensures, c.from-from.ensures, c.to-to.ensures) refl))
+    (sym (c.with_way.ensures
+    ∙ rw (c.first_after.ensures, c.from-from.ensures, c.to-to.ensures) refl))
     (moved ps c.args.kept.now due c.args.n q is first c.requires c.index-kept-n.is was)
 
 pub returns : goal.returns
