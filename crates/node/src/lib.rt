@@ -35,6 +35,7 @@ mod power;
 mod power_tests;
 mod pull;
 mod pulling;
+mod role;
 #[cfg(test)]
 mod running_tests;
 mod same;
