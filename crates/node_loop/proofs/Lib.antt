@@ -1,1 +1,5 @@
 mod SentLaws
+mod Chains
+mod Fronts
+mod Results
+mod Scenes

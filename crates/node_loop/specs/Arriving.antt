@@ -6,8 +6,8 @@ use Rattle.node_link.specs.declared.link.Datagram.{Datagram}
 use Rattle.wire.specs.Messages.{MessageFits, message_bytes}
 use Rattle.wire.specs.declared.message.Message.{Message}
 use Rattle.wire.specs.declared.message.Message.TheVariants as message
-use Rattle.node_loop.specs.declared.input.Input.{Input}
-use Rattle.node_loop.specs.declared.input.Input.TheVariants as input
+use Rattle.node.specs.declared.input.Input.{Input}
+use Rattle.node.specs.declared.input.Input.TheVariants as input
 
 -- a server's message counts only where a server sent it
 abbrev pub from_server : Peer → Message → Option Input

@@ -7,7 +7,7 @@ use Rattle.node_link.specs.Traffic.{Traffic, TakesNext}
 use Rattle.node_link.specs.declared.link.Datagram.{Datagram}
 use Rattle.node_link.specs.declared.link.SentDatagram.{SentDatagram}
 use Rattle.node_link.specs.declared.clock.Reading.{Reading}
-use Rattle.node_loop.specs.declared.input.Input.{Input}
+use Rattle.node.specs.declared.input.Input.{Input}
 use Rattle.node_loop.specs.declared.turned.Turned.{Turned}
 use Rattle.node_loop.specs.Arriving.{Arrives}
 use Rattle.node_loop.specs.Turns.{Pacing, after_input, after_tick, tick_inputs}

@@ -10,8 +10,8 @@ use Rattle.node_link.specs.declared.link.LinkFault.{LinkFault}
 use Rattle.node_link.specs.declared.link.LinkFault.TheVariants as link
 use Rattle.node_loop.specs.declared.fault.LoopFault.{LoopFault}
 use Rattle.node_loop.specs.declared.fault.LoopFault.TheVariants as loop
-use Rattle.node_loop.specs.declared.input.Input.{Input}
-use Rattle.node_loop.specs.declared.input.Input.TheVariants.{Tick, Apply, Flush, Suspect, Message, Ask}
+use Rattle.node.specs.declared.input.Input.{Input}
+use Rattle.node.specs.declared.input.Input.TheVariants.{Tick, Apply, Flush, Suspect, Message, Ask, List as ListTree}
 
 -- when the server ticks next, its ticks so far, and how many of them it was quiet: since it heard
 -- the other storer of its view, or suspected last
@@ -79,6 +79,7 @@ is_of_other role Tick = false
 is_of_other role (Apply most) = false
 is_of_other role Flush = false
 is_of_other role Suspect = false
+is_of_other role ListTree = false
 
 abbrev pub after_input : Role → Input → Pacing → Pacing
 after_input role input p = record {

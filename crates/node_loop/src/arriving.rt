@@ -3,8 +3,8 @@
 ghost use Rattle.std.specs.Prelude.{◌≡◌, IfOk};
 ghost use Rattle.node_loop.specs.Arriving.{Arrives, from_server, input_of};
 
-use crate::input::Input;
 use harp_base::Peer;
+use node::Input;
 use node_link::Datagram;
 use std::alloc::{AllocError, Global};
 use wire::{DecodeFault, Message, decode};

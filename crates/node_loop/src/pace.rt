@@ -2,10 +2,10 @@
 
 ghost use Rattle.std.specs.Prelude.{◌≡◌, ◌<◌, ◌^◌, ◌∷◌, ◌++◌, ◌&&◌, nat_le, IfOk, OnOk, OnErr};
 ghost use Rattle.node_loop.specs.Turns.{after_input, after_tick, first_pace, given_if, is_of_other, is_other, may_suspect, patience, tick_inputs};
-ghost use Rattle.node_loop.specs.declared.input.Input.TheVariants.{Apply, Flush, Suspect, Tick};
+ghost use Rattle.node.specs.declared.input.Input.TheVariants.{Apply, Flush, Suspect, Tick};
 
-use crate::input::Input;
 use harp_base::{Role, ServerId};
+use node::Input;
 use std::alloc::{AllocError, Global};
 use std::marker::Model;
 
@@ -152,6 +152,7 @@ fn is_of_other(role: Role, input: &Input) -> bool
         Input::Apply { .. } => false,
         Input::Flush => false,
         Input::Suspect => false,
+        Input::List => false,
     }
 }
 

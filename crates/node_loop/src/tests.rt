@@ -1,7 +1,8 @@
 //! Turns over links and clocks in memory.
 
-use crate::{Input, LoopFault, Pace, take_turn};
+use crate::{LoopFault, Pace, take_turn};
 use harp_base::{Bytes, Call, Peer, Role, SUPERUSER, ServerId, ViewNo};
+use node::Input;
 use node_link::{Datagram, ListClock, MemLink, Waiting, readings_rise};
 use std::alloc::Global;
 use std::test::Fail;
@@ -22,6 +23,7 @@ fn letter(input: &Input) -> u8 {
         Input::Suspect => b's',
         Input::Message { .. } => b'm',
         Input::Ask { .. } => b'q',
+        Input::List => b'l',
     }
 }
 

@@ -7,10 +7,10 @@ ghost use Rattle.node_loop.specs.Turn.{Comes, IsTurn, LinkTurns, MayTellAll, rea
 
 use crate::arriving::arrived;
 use crate::fault::{LoopFault, of_link};
-use crate::input::Input;
 use crate::pace::Pace;
 use crate::turned::Turned;
 use harp_base::{Role, ServerId};
+use node::Input;
 use node_link::{Clock, Datagram, Link};
 use std::alloc::{AllocError, Global};
 

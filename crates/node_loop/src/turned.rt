@@ -1,6 +1,6 @@
 //! What a turn was.
 
-use crate::input::Input;
+use node::Input;
 use node_link::Datagram;
 
 /// A turn at a place: the reading of the clock that it began with, the datagram that it took, the

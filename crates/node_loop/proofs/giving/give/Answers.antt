@@ -1,0 +1,42 @@
+use Rattle.std.proofs.Common.{◌∙◌, ap, inr, refl, subst}
+use Rattle.node_loop.specs.declared.counts.Counts.{Counts}
+use Rattle.node_loop.specs.Run.{SendsInPart}
+use Rattle.node_loop.specs.Scene.{sent_after, with_all_sent}
+use Rattle.node_loop.proofs.Results.{on_err-one, on_ok-both}
+use Rattle.node_loop.proofs.giving.give.Goals as goal
+
+pub returns-in_ok-datagrams-in-Ok-clause-given : goal.returns-in_ok-datagrams-in-Ok-clause-given
+returns-in_ok-datagrams-in-Ok-clause-given g c =
+    let old = g.L.Link.told c.args.link.now in
+    let out = c.in_ok-datagrams-in-Ok.ensures in
+    on_ok-both c.send_all.result (λ all counts. record {
+      outs = c.in-Ok.outs;
+      step = record {
+        makes = c.in-Ok.ensures.makes;
+        me_stays = c.in-Ok.ensures.me;
+        mark = c.in-Ok.ensures.mark;
+        written = c.in-Ok.ensures.written;
+      };
+      link = all ∙ ap (λ ds. with_all_sent ds old) out;
+      sent = ap (λ (n : Counts). n.sent) counts
+          ∙ ap (λ ds. sent_after ds c.args.counts.now.sent) out;
+    }) c.send_all.ensures.all c.send_all.ensures.counts
+
+pub returns-in_ok-datagrams-in-Ok-clause-part : goal.returns-in_ok-datagrams-in-Ok-clause-part
+returns-in_ok-datagrams-in-Ok-clause-part g c =
+    let old = g.L.Link.told c.args.link.now in
+    let new = g.L.Link.told c.send_all.new.link in
+    on_err-one c.send_all.result (λ part. inr (record {
+      node = c.step.new.self;
+      disk = g.D.Store.told c.step.new.store;
+      outs = c.in-Ok.outs;
+      after = new;
+      step = record {
+        makes = c.in-Ok.ensures.makes;
+        me_stays = c.in-Ok.ensures.me;
+        mark = c.in-Ok.ensures.mark;
+        written = c.in-Ok.ensures.written;
+      };
+      sends = subst (λ ds. SendsInPart ds old new) c.in_ok-datagrams-in-Ok.ensures part;
+      sent_is = refl;
+    })) c.send_all.ensures.part

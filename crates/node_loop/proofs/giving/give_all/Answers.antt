@@ -1,0 +1,48 @@
+use Rattle.std.proofs.Common.{rules, ◌∙◌, ◌∷◌, arith, drop, inl, length, subst, suc, sym}
+use Rattle.std.proofs.lemmas.Iterator.Adapters.{YieldsList-from_vec}
+use Rattle.std.proofs.lemmas.Iterator.Consumers.{YieldsList-so_far, YieldsList-turn}
+use Rattle.node_loop.specs.Chain.{Stops}
+use Rattle.node_loop.specs.Run.{IsGiven, IsGivenInPart}
+use Rattle.node_loop.specs.Scene.{work}
+use Rattle.node_loop.specs.Turn.{sent_of}
+use Rattle.node_loop.proofs.Chains.{chain-push, stops-behind}
+use Rattle.node_loop.proofs.Fronts.{split-here}
+use Rattle.node_loop.proofs.giving.give_all.Goals as goal
+
+pub loop-input-preserved : goal.loop-input-preserved
+loop-input-preserved g c = record {
+  given = chain-push (IsGiven c.args.me c.args.now) c.loop-input.yielded c.in-Some.input
+      (work c.args.node.now (g.D.Store.told c.args.store.now)
+      (g.L.Link.told c.args.link.now) c.args.counts.now)
+      (work c.loop-input.node (g.D.Store.told c.loop-input.store)
+      (g.L.Link.told c.loop-input.link) c.loop-input.counts)
+      (work c.give.new.node (g.D.Store.told c.give.new.store)
+      (g.L.Link.told c.give.new.link) c.give.new.counts)
+      c.loop-input.invariant.given c.in-Ok.ensures.given;
+  up = c.in-Ok.ensures.up;
+  taken = c.in-Ok.ensures.taken ∙ c.loop-input.invariant.taken;
+  link_count = omega (arith, c.loop-input.invariant.link_count, c.in-Ok.ensures.link_count);
+  disk_count = omega (arith, c.loop-input.invariant.disk_count, c.in-Ok.ensures.disk_count);
+}
+
+pub returns-in-Err-clause-part : goal.returns-in-Err-clause-part
+returns-in-Err-clause-part g c =
+    let all = c.args.inputs.items in
+    let so_far = c.loop-input.yielded in
+    let from = YieldsList-from_vec {s = c.into_iter-input-iterator.result} all (search rules)
+    (search rules) in
+    let turn = YieldsList-turn from so_far c.loop-input.input-iterator c.loop-input.yielded_by
+    c.next.result c.next.new.self c.in-Some.input c.in-Some.is c.next.ensures.steps in
+    let start = work c.args.node.now (g.D.Store.told c.args.store.now)
+    (g.L.Link.told c.args.link.now) c.args.counts.now in
+    let here = work c.loop-input.node (g.D.Store.told c.loop-input.store)
+    (g.L.Link.told c.loop-input.link) c.loop-input.counts in
+    let sent = sent_of (g.L.Link.told c.give.new.link) in
+    subst (λ xs. Stops (IsGiven c.args.me c.args.now) (IsGivenInPart c.args.me c.args.now) xs start
+    sent)
+    (sym (split-here all so_far c.in-Some.input
+    (YieldsList-so_far from so_far c.loop-input.input-iterator c.loop-input.yielded_by)
+    turn.0 turn.1))
+    (stops-behind (IsGiven c.args.me c.args.now) (IsGivenInPart c.args.me c.args.now) so_far
+    (c.in-Some.input ∷ drop (suc (length so_far)) all) start here sent
+    c.loop-input.invariant.given (inl c.in-Err.ensures.part))

@@ -1,0 +1,45 @@
+use Rattle.std.proofs.Common.{◌∙◌, ap, inr, subst}
+use Rattle.node_loop.specs.declared.counts.Counts.{Counts}
+use Rattle.node_loop.specs.Chain.{Chain, Stops}
+use Rattle.node_loop.specs.Run.{IsGiven, IsGivenInPart}
+use Rattle.node_loop.specs.Scene.{work}
+use Rattle.node_loop.specs.Turn.{IsTurn, sent_of}
+use Rattle.node_loop.proofs.Results.{on_err-one, on_ok-one}
+use Rattle.node_loop.proofs.rounds.turn.Goals as goal
+
+pub returns-clause-turns : goal.returns-clause-turns
+returns-clause-turns g c =
+    let t = c.in_ok-turned.turned in
+    on_ok-one c.give_all.result (λ given. record {
+      turned = t;
+      before = g.L.Link.told c.take_turn.new.link;
+      turn = subst (λ role. IsTurn c.args.me role c.args.running.now.pace c.take_turn.new.pace t)
+          c.role-role.ensures c.in_ok-turned.ensures.turn;
+      link = c.in_ok-turned.ensures.link;
+      clock = c.in_ok-turned.ensures.clock;
+      taken = c.give_all.ensures.taken ∙ ap (λ (n : Counts). n.taken) c.take.ensures;
+      given = subst (λ n. Chain (IsGiven c.args.me t.now) t.inputs.items
+          (work c.args.running.now.node (g.D.Store.told c.args.store.now)
+          (g.L.Link.told c.take_turn.new.link) (record { taken = 0; sent = n }))
+          (work c.give_all.new.node (g.D.Store.told c.give_all.new.store)
+          (g.L.Link.told c.give_all.new.link) c.give_all.new.counts))
+          (ap (λ (n : Counts). n.sent) c.take.ensures) given;
+    }) c.give_all.ensures.given
+
+pub returns-clause-part : goal.returns-clause-part
+returns-clause-part g c =
+    let t = c.in_ok-turned.turned in
+    on_err-one c.give_all.result (λ part. inr (record {
+      turned = t;
+      before = g.L.Link.told c.take_turn.new.link;
+      pace = c.take_turn.new.pace;
+      turn = subst (λ role. IsTurn c.args.me role c.args.running.now.pace c.take_turn.new.pace t)
+          c.role-role.ensures c.in_ok-turned.ensures.turn;
+      link = c.in_ok-turned.ensures.link;
+      given = subst (λ n. Stops (IsGiven c.args.me t.now) (IsGivenInPart c.args.me t.now)
+          t.inputs.items
+          (work c.args.running.now.node (g.D.Store.told c.args.store.now)
+          (g.L.Link.told c.take_turn.new.link) (record { taken = 0; sent = n }))
+          (sent_of (g.L.Link.told c.give_all.new.link)))
+          (ap (λ (n : Counts). n.sent) c.take.ensures) part;
+    })) c.give_all.ensures.part

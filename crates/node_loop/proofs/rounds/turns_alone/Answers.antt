@@ -1,0 +1,45 @@
+use Rattle.std.proofs.Common.{◌+◌, ◌-◌, ◌∷◌, [], arith, inl, subst, sym}
+use Rattle.node_loop.specs.Chain.{Chain, Stops}
+use Rattle.node_loop.specs.Run.{TurnsAt, TurnsAtInPart, rounds}
+use Rattle.node_loop.specs.Scene.{alone, spot}
+use Rattle.node_loop.specs.Turn.{sent_of}
+use Rattle.node_loop.proofs.Chains.{chain-push, stops-behind}
+use Rattle.node_loop.proofs.Scenes.{part-alone, rounds-more, stops-sooner, turns-alone}
+use Rattle.node_loop.proofs.rounds.turns_alone.Goals as goal
+
+pub loop-preserved : goal.loop-preserved
+loop-preserved g c =
+    let me = c.args.me in
+    let before = spot c.args.running.now (g.D.Store.told c.args.store.now)
+    (g.L.Link.told c.args.link.now) (g.C.Clock.told c.args.clock.now) c.args.counts.now in
+    let here = spot c.loop.running (g.D.Store.told c.loop.store)
+    (g.L.Link.told c.loop.link) (g.C.Clock.told c.loop.clock) c.loop.counts in
+    let next = spot c.turn.new.running (g.D.Store.told c.turn.new.store)
+    (g.L.Link.told c.turn.new.link) (g.C.Clock.told c.turn.new.clock) c.turn.new.counts in
+    record {
+      turned = subst (λ xs. Chain TurnsAt xs (alone me before) (alone me next))
+          (sym (rounds-more c.loop.counter (me ∷ [])))
+          (chain-push TurnsAt (rounds c.loop.counter (me ∷ [])) me (alone me before)
+          (alone me here) (alone me next) c.loop.invariant.turned
+          (turns-alone me here next c.in-Ok.ensures.turns));
+      up = c.in-Ok.ensures.up;
+      link_count = omega (arith, c.loop.invariant.link_count, c.in-Ok.ensures.link_count);
+      disk_count = omega (arith, c.loop.invariant.disk_count, c.in-Ok.ensures.disk_count);
+    }
+
+pub returns-in-Err-clause-part : goal.returns-in-Err-clause-part
+returns-in-Err-clause-part g c =
+    let me = c.args.me in
+    let before = spot c.args.running.now (g.D.Store.told c.args.store.now)
+    (g.L.Link.told c.args.link.now) (g.C.Clock.told c.args.clock.now) c.args.counts.now in
+    let here = spot c.loop.running (g.D.Store.told c.loop.store)
+    (g.L.Link.told c.loop.link) (g.C.Clock.told c.loop.clock) c.loop.counts in
+    let sent = sent_of (g.L.Link.told c.turn.new.link) in
+    let n = c.loop.counter in
+    stops-sooner TurnsAtInPart (me ∷ []) (alone me before) sent (c.args.turns - (n + 1)) (n + 1)
+    c.args.turns (omega arith)
+    (subst (λ xs. Stops TurnsAt TurnsAtInPart xs (alone me before) sent)
+    (sym (rounds-more n (me ∷ [])))
+    (stops-behind TurnsAt TurnsAtInPart (rounds n (me ∷ [])) (me ∷ []) (alone me before)
+    (alone me here) sent c.loop.invariant.turned
+    (inl (part-alone me here sent c.in-Err.ensures.part))))

@@ -1,0 +1,145 @@
+-- THE NODE RUN: what servers are given and send, turn by turn, from their boots on.
+use Rattle.std.specs.Prelude.{◌≡◌, ◌⊎◌, ℕ, zero, suc, List, [], ◌++◌, Option}
+use Rattle.harp_base.specs.Trio.{value_of}
+use Rattle.harp_base.specs.declared.server.ServerId.{ServerId}
+use Rattle.harp_base.specs.declared.trio.Trio.{Trio}
+use Rattle.harp_store.specs.Disk.{Moments}
+use Rattle.node.specs.Node.{NodeValue}
+use Rattle.node.specs.declared.input.Input.{Input}
+use Rattle.node_link.specs.Readings.{MayTell}
+use Rattle.node_link.specs.Traffic.{Traffic}
+use Rattle.node_link.specs.declared.clock.Reading.{Reading}
+use Rattle.node_link.specs.declared.link.SentDatagram.{SentDatagram}
+use Rattle.outputs.specs.declared.outputs.Outputs.{Outputs}
+use Rattle.node_loop.specs.declared.counts.Served.{Served}
+use Rattle.node_loop.specs.declared.running.Running.{Running}
+use Rattle.node_loop.specs.declared.turned.Turned.{Turned}
+use Rattle.node_loop.specs.Chain.{Chain, Stops}
+use Rattle.node_loop.specs.Outgoing.{datagrams}
+use Rattle.node_loop.specs.Scene.{AtWork, Scene, Spot, at_work, sent_after, spot, taken_after, with_all_sent, with_spot}
+use Rattle.node_loop.specs.Step.{IsBoot, IsStep}
+use Rattle.node_loop.specs.Turn.{IsTurn, LinkTurns, MayTellAll, readings_of, sent_of}
+use Rattle.node_loop.specs.Turns.{Pacing, first_pace}
+
+-- ---- a boot
+
+-- A BOOT of a server, at a reading of the clock: it ticks at once
+pub record IsBooted (place : ServerId) (delta : ℕ) (server : Running) (old new : Option Moments)
+    (before after : Option (List Reading)) : Type 0 where
+  pub now : ℕ
+  pub boot : IsBoot place delta now old new server.node
+  pub pace : server.pace ≡ first_pace now
+  pub clock : MayTell (record { place = place; millis = now }) before after
+
+-- ---- one input
+
+-- A node is given an input at a reading of its clock: it takes a step, and what goes out of it is
+-- sent, in its order
+pub record IsGiven (place : ServerId) (now : ℕ) (input : Input) (a b : AtWork) : Type 0 where
+  pub outs : Outputs
+  pub step : IsStep input now a.node b.node a.disk b.disk outs
+  pub link : b.link ≡ with_all_sent (datagrams place outs) a.link
+  pub sent : b.sent ≡ sent_after (datagrams place outs) a.sent
+
+-- a front of these datagrams was sent
+pub record SendsInPart (all : List SentDatagram) (old new : Option Traffic) : Type 0 where
+  pub front : List SentDatagram
+  pub rest : List SentDatagram
+  pub parts : all ≡ front ++ rest
+  pub sent : new ≡ with_all_sent front old
+
+-- it takes the step, and a front of what goes out is sent
+pub record SendsAFront (place : ServerId) (now : ℕ) (input : Input) (a : AtWork)
+    (sent : Option (List SentDatagram)) : Type 0 where
+  pub node : NodeValue
+  pub disk : Option Moments
+  pub outs : Outputs
+  pub after : Option Traffic
+  pub step : IsStep input now a.node node a.disk disk outs
+  pub sends : SendsInPart (datagrams place outs) a.link after
+  pub sent_is : sent ≡ sent_of after
+
+-- or nothing of it is sent
+abbrev pub IsGivenInPart : ServerId → ℕ → Input → AtWork → Option (List SentDatagram) → Type 0
+IsGivenInPart place now input a sent = (sent ≡ sent_of a.link) ⊎ SendsAFront place now input a sent
+
+-- ---- one turn of a place
+
+-- A TURN, of a server with the role that its mark has: it is given what the turn gives, one input
+-- after the other, each at the turn's last reading
+pub record Turns (place : ServerId) (a c : Spot) : Type 0 where
+  pub turned : Turned
+  pub before : Option Traffic
+  pub turn : IsTurn place a.server.node.mark.role a.server.pace c.server.pace turned
+  pub link : LinkTurns place a.server.pace turned a.link before
+  pub clock : MayTellAll (readings_of place turned) a.clock c.clock
+  pub taken : c.counts.taken ≡ taken_after turned.taken a.counts.taken
+  pub given : Chain (IsGiven place turned.now) turned.inputs.items
+      (at_work (record a { link = before })) (at_work c)
+
+-- it is given a front of that, and the next input in part
+pub record GivesAFront (place : ServerId) (a : Spot) (sent : Option (List SentDatagram)) : Type 0 where
+  pub turned : Turned
+  pub before : Option Traffic
+  pub pace : Pacing
+  pub turn : IsTurn place a.server.node.mark.role a.server.pace pace turned
+  pub link : LinkTurns place a.server.pace turned a.link before
+  pub given : Stops (IsGiven place turned.now) (IsGivenInPart place turned.now) turned.inputs.items
+      (at_work (record a { link = before })) sent
+
+-- or nothing of the turn is sent
+abbrev pub IsTurnInPart : ServerId → Spot → Option (List SentDatagram) → Type 0
+IsTurnInPart place a sent = (sent ≡ sent_of a.link) ⊎ GivesAFront place a sent
+
+-- ---- in a scene
+
+-- the server of a place is booted from its disk; nothing is taken or sent
+pub record BootsAt (delta : ℕ) (place : ServerId) (a c : Scene) : Type 0 where
+  pub server : Running
+  pub disk : Option Moments
+  pub clock : Option (List Reading)
+  pub boots : IsBooted place delta server (value_of a.disks place) disk a.clock clock
+  pub is : c ≡ with_spot place (spot server disk a.link clock a.counts) a
+
+-- the server of a place takes a turn
+pub record TurnsAt (place : ServerId) (a c : Scene) : Type 0 where
+  pub old : Spot
+  pub new : Spot
+  pub was : a ≡ with_spot place old a
+  pub turns : Turns place old new
+  pub is : c ≡ with_spot place new a
+
+-- or a part of one
+pub record TurnsAtInPart (place : ServerId) (a : Scene)
+    (sent : Option (List SentDatagram)) : Type 0 where
+  pub old : Spot
+  pub was : a ≡ with_spot place old a
+  pub turns : IsTurnInPart place old sent
+
+-- ---- the run
+
+-- so many rounds of turns at these places
+abbrev pub rounds : ℕ → List ServerId → List ServerId
+rounds zero places = []
+rounds (suc n) places = rounds n places ++ places
+
+-- THE RUN: the server of each place is booted, in their order, and then they take so many rounds of
+-- turns. This is where it led, and what was counted
+pub record IsRun (delta : ℕ) (places : List ServerId) (turns : ℕ) (a : Scene) (served : Served)
+    (disks : Trio (Option Moments)) (link : Option Traffic) (clock : Option (List Reading)) : Type 0 where
+  pub booted : Scene
+  pub end : Scene
+  pub boots : Chain (BootsAt delta) places a booted
+  pub turned : Chain TurnsAt (rounds turns places) booted end
+  pub disks_are : disks ≡ end.disks
+  pub link_is : link ≡ end.link
+  pub clock_is : clock ≡ end.clock
+  pub served_is : served
+      ≡ record { turns = turns; taken = end.counts.taken; sent = end.counts.sent }
+
+-- A RUN THAT WAS CUT OFF: nothing was sent, or what a front of its turns sends, and a part of what
+-- the next turn does
+abbrev pub IsCutOff : ℕ → List ServerId → ℕ → Scene → Option (List SentDatagram) → Type 0
+IsCutOff delta places turns a sent = (sent ≡ sent_of a.link)
+    ⊎ ((booted : Scene) × Chain (BootsAt delta) places a booted
+    × Stops TurnsAt TurnsAtInPart (rounds turns places) booted sent)

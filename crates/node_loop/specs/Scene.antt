@@ -1,0 +1,142 @@
+-- Servers that run, what they share, and what each counts.
+use Rattle.std.specs.Prelude.{◌≡◌, ◌≤◌, ℕ, ◌+◌, ◌-◌, ◌^◌, min, false, List, [], ◌∷◌, ◌++◌, length, Option, None, Some}
+use Rattle.cell_cache.specs.Entries.{AreOf}
+use Rattle.harp_base.specs.Memory.{raised}
+use Rattle.harp_base.specs.Streams.{Rose}
+use Rattle.harp_base.specs.Trio.{value_of, with_value}
+use Rattle.harp_base.specs.declared.server.ServerId.{ServerId}
+use Rattle.harp_base.specs.declared.server.ServerId.TheVariants.{Zero, One, Two}
+use Rattle.harp_base.specs.declared.trio.Trio.{Trio}
+use Rattle.harp_store.specs.Disk.{Moments, cells_told}
+use Rattle.node.specs.Node.{NodeValue}
+use Rattle.node_link.specs.Traffic.{Traffic}
+use Rattle.node_link.specs.declared.clock.Reading.{Reading}
+use Rattle.node_link.specs.declared.link.Datagram.{Datagram}
+use Rattle.node_link.specs.declared.link.SentDatagram.{SentDatagram}
+use Rattle.node_loop.specs.declared.counts.Counts.{Counts}
+use Rattle.node_loop.specs.declared.running.Running.{Running}
+
+-- ---- counts
+
+-- dropped datagrams count too
+abbrev pub taken_after : Option Datagram → ℕ → ℕ
+taken_after None n = n
+taken_after (Some d) n = raised n
+
+-- as far as a u64 counts
+abbrev pub sent_after : List SentDatagram → ℕ → ℕ
+sent_after ds n = min (n + length ds) (2 ^ 64 - 1)
+
+-- datagrams more were sent
+abbrev pub with_all_sent : List SentDatagram → Option Traffic → Option Traffic
+with_all_sent ds None = None
+with_all_sent ds (Some t) = Some (record { taken = t.taken; sent = t.sent ++ ds; left = t.left })
+
+-- ---- one server
+
+-- a node at work: it, its disk, the link that it sends over, and how many datagrams were sent
+pub record AtWork : Type 0 where
+  pub node : NodeValue
+  pub disk : Option Moments
+  pub link : Option Traffic
+  pub sent : ℕ
+
+abbrev pub work : NodeValue → Option Moments → Option Traffic → Counts → AtWork
+work node disk link counts = record { node = node; disk = disk; link = link; sent = counts.sent }
+
+-- A server at its place: it and its disk; and what it shares with others, the link, the readings of
+-- the clock, and the counts
+pub record Spot : Type 0 where
+  pub server : Running
+  pub disk : Option Moments
+  pub link : Option Traffic
+  pub clock : Option (List Reading)
+  pub counts : Counts
+
+abbrev pub spot : Running → Option Moments → Option Traffic → Option (List Reading) → Counts → Spot
+spot server disk link clock counts = record {
+  server = server;
+  disk = disk;
+  link = link;
+  clock = clock;
+  counts = counts;
+}
+
+abbrev pub at_work : Spot → AtWork
+at_work s = work s.server.node s.disk s.link s.counts
+
+-- no step of it failed, and the cells that it keeps in memory are those of its disk
+pub record IsUp (n : NodeValue) (disk : Option Moments) : Type 0 where
+  pub runs : n.halted ≡ false
+  pub cached : AreOf (cells_told disk) n.cached
+
+-- ---- the servers
+
+-- THE SCENE: the servers that were booted, the disks, and what the servers share
+pub record Scene : Type 0 where
+  pub servers : Trio (Option Running)
+  pub disks : Trio (Option Moments)
+  pub link : Option Traffic
+  pub clock : Option (List Reading)
+  pub counts : Counts
+
+-- a server at its place in the scene; the others stay
+abbrev pub with_spot : ServerId → Spot → Scene → Scene
+with_spot place s a = record {
+  servers = with_value a.servers place (Some s.server);
+  disks = with_value a.disks place s.disk;
+  link = s.link;
+  clock = s.clock;
+  counts = s.counts;
+}
+
+abbrev pub nobody : {T : Type 0} → Trio (Option T)
+nobody = record { zero = None; one = None; two = None }
+
+-- something at this place alone
+abbrev pub only : {T : Type 0} → ServerId → Option T → Trio (Option T)
+only place x = with_value nobody place x
+
+abbrev pub each : {A B : Type 0} → (A → B) → Trio A → Trio B
+each f trio = record { zero = f trio.zero; one = f trio.one; two = f trio.two }
+
+-- the places of a group, ascending
+abbrev pub all_places : List ServerId
+all_places = Zero ∷ One ∷ Two ∷ []
+
+-- before the first boot
+abbrev pub start : Trio (Option Moments) → Option Traffic → Option (List Reading) → Scene
+start disks link clock = record {
+  servers = nobody;
+  disks = disks;
+  link = link;
+  clock = clock;
+  counts = record { taken = 0; sent = 0 };
+}
+
+-- three servers that run
+abbrev pub scene : Trio Running → Trio (Option Moments) → Option Traffic → Option (List Reading)
+    → Counts → Scene
+scene servers disks link clock counts = record {
+  servers = each Some servers;
+  disks = disks;
+  link = link;
+  clock = clock;
+  counts = counts;
+}
+
+-- one that runs alone
+abbrev pub alone : ServerId → Spot → Scene
+alone place s = with_spot place s (start nobody None None)
+
+abbrev pub AreUp : Trio Running → Trio (Option Moments) → Type 0
+AreUp servers disks =
+    (place : ServerId) → IsUp (value_of servers place).node (value_of disks place)
+
+-- one of these counts of faults rose
+abbrev pub OneRose : Trio ℕ → Trio ℕ → Type 0
+OneRose old new = (place : ServerId) × Rose (value_of old place) (value_of new place)
+
+-- none of these counts fell
+abbrev pub NoneFell : Trio ℕ → Trio ℕ → Type 0
+NoneFell old new = (place : ServerId) → value_of old place ≤ value_of new place

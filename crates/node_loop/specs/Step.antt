@@ -1,0 +1,49 @@
+-- A node's boot, and its steps.
+use Rattle.std.specs.Prelude.{◌≡◌, ℕ, false, List, [], Option, Some}
+use Rattle.file_tree.specs.Book.{Entry}
+use Rattle.group_rules.specs.Effects.{booted}
+use Rattle.group_rules.specs.Names.{place_of}
+use Rattle.harp_base.specs.declared.server.ServerId.{ServerId}
+use Rattle.harp_store.specs.Disk.{Moments, reads}
+use Rattle.node.specs.Boot.{HasBase, HoldSaved, after_boot, boot_mark, booted_without, mark_before}
+use Rattle.node.specs.Input.{FillsInput, input_of, peers_of}
+use Rattle.node.specs.Node.{NodeValue, server}
+use Rattle.node.specs.Step.{Steps}
+use Rattle.node.specs.Stored.{disk_by, mark_by}
+use Rattle.node.specs.Taking.{stepped}
+use Rattle.node.specs.declared.input.Input.{Input}
+use Rattle.outputs.specs.declared.outputs.Outputs.{Outputs}
+use Rattle.power_save.specs.Saved.{IsNotSaved}
+
+-- A node is booted from its disk at a reading of its clock: with the log that was saved there, or
+-- without one where that isn't whole
+pub record IsBoot (me : ServerId) (delta now : ℕ) (old new : Option Moments)
+    (n : NodeValue) : Type 0 where
+  pub boots : (h : Moments) (items : List Entry) → old ≡ Some h
+      → HoldSaved (reads h.now) (boot_mark me delta h.now.mark) items
+      → server n items ≡ booted (place_of me) now delta (mark_before me delta items h.now.mark)
+  pub lost : (h : Moments) (items : List Entry) → old ≡ Some h
+      → IsNotSaved (reads h.now) (boot_mark me delta h.now.mark)
+      → server n items
+      ≡ booted_without (place_of me) now delta (mark_before me delta items h.now.mark)
+  pub me_is : n.me ≡ place_of me
+  pub up : n.halted ≡ false
+  pub peers : n.peers ≡ []
+  pub mark : (h : Moments) → old ≡ Some h → HasBase (place_of me) (boot_mark me delta h.now.mark)
+      → n.mark ≡ boot_mark me delta h.now.mark
+  pub written : new ≡ after_boot me delta old
+
+-- A node takes a step at a reading of its clock: it does what the rules of the group say of what it
+-- is given, its outputs are just what they say, and so are its mark and its disk. Where the rules
+-- read the tree, its disk can tell it
+pub record IsStep (input : Input) (now : ℕ) (n m : NodeValue) (old new : Option Moments)
+    (outs : Outputs) : Type 0 where
+  pub makes : (items : List Entry) (size : List Entry → Entry → ℕ) (list : List Entry)
+      → FillsInput size list n now old input
+      → Steps n.me now (stepped size n.me now list (server n items) (input_of input))
+      (peers_of n input) (server n items) (server m items) outs
+  pub me_stays : m.me ≡ n.me
+  pub mark : (size : List Entry → Entry → ℕ) (list : List Entry) → m.mark
+      ≡ mark_by n (stepped size n.me now list n.plain (input_of input)) (input_of input)
+  pub written : (size : List Entry → Entry → ℕ) (list : List Entry) → new
+      ≡ disk_by n (stepped size n.me now list n.plain (input_of input)) (input_of input) old

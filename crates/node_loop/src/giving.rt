@@ -1,0 +1,124 @@
+//! Giving inputs to a server, and sending what goes out.
+
+ghost use Rattle.std.specs.Prelude.{◌≡◌, ◌≤◌, ◌<◌, ◌^◌, OnErr, OnOk, Err};
+ghost use Rattle.harp_base.specs.Streams.{Rose};
+ghost use Rattle.node_loop.specs.Chain.{Chain, Stops};
+ghost use Rattle.node_loop.specs.Run.{IsGiven, IsGivenInPart, SendsInPart};
+ghost use Rattle.node_loop.specs.Scene.{IsUp, sent_after, with_all_sent, work};
+ghost use Rattle.node_loop.specs.Turn.{sent_of};
+
+use crate::counts::Counts;
+use crate::fault::{LoopFault, of_link};
+use crate::outgoing::datagrams_of;
+use harp_base::ServerId;
+use harp_store::Store;
+use node::{Input, Node, NodeFault};
+use node_link::{Link, SentDatagram};
+use std::alloc::Global;
+
+/// Sends datagrams, one after the other.
+fn send_all<L: Link>(
+    alloc: Global,
+    datagrams: Vec<SentDatagram>,
+    link: &mut L,
+    counts: &mut Counts,
+) -> Result<(), LoopFault>
+    ensures all { OnOk result (L.told link.new
+        ≡ with_all_sent datagrams.items (L.told link.old)) }
+    ensures counts { OnOk result (counts.new
+        ≡ record counts.old { sent = sent_after datagrams.items counts.old.sent }) }
+    ensures taken { counts.new.taken ≡ counts.old.taken }
+    ensures part { OnErr result (SendsInPart datagrams.items (L.told link.old)
+        (L.told link.new)) }
+    ensures rose { result ≡ Err LoopFault.LinkFailed
+        → Rose (L.faults link.old) (L.faults link.new) }
+    ensures count { L.faults link.old ≤ L.faults link.new }
+    ensures disk { result ≡ Err LoopFault.StoreFailed → ⊥ }
+{
+    // Read for its bound.
+    let _so_far = counts.sent;
+    for d in datagrams {
+        match link.send(alloc, d.place, d.to, d.bytes.as_slice()) {
+            Ok(()) => counts.send(),
+            Err(fault) => return Err(of_link(fault)),
+        }
+    }
+    Ok(())
+}
+
+/// Gives an input to a server at a reading of its clock, and sends what goes out.
+fn give<L: Link, D: Store>(
+    alloc: Global,
+    me: ServerId,
+    now: u64,
+    input: Input,
+    node: &mut Node,
+    link: &mut L,
+    store: &mut D,
+    counts: &mut Counts,
+) -> Result<(), LoopFault>
+    requires up { IsUp node.old (D.told store.old) }
+    requires now { now < 2 ^ 62 }
+    ensures given { OnOk result (IsGiven me now input
+        (work node.old (D.told store.old) (L.told link.old) counts.old)
+        (work node.new (D.told store.new) (L.told link.new) counts.new)) }
+    ensures part { OnErr result (IsGivenInPart me now input
+        (work node.old (D.told store.old) (L.told link.old) counts.old)
+        (sent_of (L.told link.new))) }
+    ensures up { OnOk result (IsUp node.new (D.told store.new)) }
+    ensures taken { counts.new.taken ≡ counts.old.taken }
+    ensures link_rose { result ≡ Err LoopFault.LinkFailed
+        → Rose (L.faults link.old) (L.faults link.new) }
+    ensures link_count { L.faults link.old ≤ L.faults link.new }
+    ensures disk_rose { result ≡ Err LoopFault.StoreFailed
+        → Rose (D.faults store.old) (D.faults store.new) }
+    ensures disk_count { D.faults store.old ≤ D.faults store.new }
+{
+    match node.step(alloc, input, now, store) {
+        Ok(outs) => {
+            let datagrams = datagrams_of(alloc, me, outs)?;
+            send_all(alloc, datagrams, link, counts)
+        }
+        Err(NodeFault::StoreFailed) => Err(LoopFault::StoreFailed),
+        Err(NodeFault::Halted) => unreachable!(),
+        Err(NodeFault::NoMemory) => Err(LoopFault::NoMemory),
+    }
+}
+
+/// Gives inputs to a server in their order, each at the same reading of its clock; what goes out of
+/// one is sent before the next.
+pub fn give_all<L: Link, D: Store>(
+    alloc: Global,
+    me: ServerId,
+    now: u64,
+    inputs: Vec<Input>,
+    node: &mut Node,
+    link: &mut L,
+    store: &mut D,
+    counts: &mut Counts,
+) -> Result<(), LoopFault>
+    requires up { IsUp node.old (D.told store.old) }
+    requires now { now < 2 ^ 62 }
+    ensures given { OnOk result (Chain (IsGiven me now) inputs.items
+        (work node.old (D.told store.old) (L.told link.old) counts.old)
+        (work node.new (D.told store.new) (L.told link.new) counts.new)) }
+    ensures part { OnErr result (Stops (IsGiven me now) (IsGivenInPart me now) inputs.items
+        (work node.old (D.told store.old) (L.told link.old) counts.old)
+        (sent_of (L.told link.new))) }
+    ensures up { OnOk result (IsUp node.new (D.told store.new)) }
+    ensures taken { counts.new.taken ≡ counts.old.taken }
+    ensures link_rose { result ≡ Err LoopFault.LinkFailed
+        → Rose (L.faults link.old) (L.faults link.new) }
+    ensures link_count { L.faults link.old ≤ L.faults link.new }
+    ensures disk_rose { result ≡ Err LoopFault.StoreFailed
+        → Rose (D.faults store.old) (D.faults store.new) }
+    ensures disk_count { D.faults store.old ≤ D.faults store.new }
+{
+    for input in inputs {
+        match give(alloc, me, now, input, node, link, store, counts) {
+            Ok(()) => {}
+            Err(fault) => return Err(fault),
+        }
+    }
+    Ok(())
+}
