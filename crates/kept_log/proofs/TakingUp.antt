@@ -5,18 +5,18 @@ use Rattle.std.proofs.lemmas.List.{length-append, length-drop, length-map, lengt
 use Rattle.event_record.specs.Record.{entry_of}
 use Rattle.event_record.specs.declared.record.RecordFields.{RecordFields}
 use Rattle.file_tree.specs.Book.{Entry}
-use Rattle.group_rules.specs.Form.{adopted}
-use Rattle.group_rules.proofs.Tests.{if_not}
-use Rattle.group_rules.specs.Limits.{by_held}
+use Rattle.group_rules.specs.Form.{adopted, keeps}
+use Rattle.group_rules.proofs.Tests.{if_is, if_not}
+use Rattle.group_rules.specs.Limits.{by_held, is_log}
 use Rattle.group_rules.specs.Places.{Place, is_p2, same}
 use Rattle.group_rules.specs.State.{Plan, Server}
-use Rattle.kept_log.specs.Kept.{cp_in, held_in, lb_in, with_kept}
-use Rattle.kept_log.specs.Pulls.{CanTake, IsFor, TakesUp, needless}
+use Rattle.kept_log.specs.Kept.{cp_in, held_in, lb_in, log_in, with_kept}
+use Rattle.kept_log.specs.Pulls.{CanTake, IsFor, TakesUp, adopted_records, needless}
 use Rattle.kept_log.specs.declared.kept.Kept.{Kept}
 use Rattle.kept_log.specs.declared.kept.Kept.TheVariants as kept
 use Rattle.log_laws.proofs.Logs.{adopts_held, resumes}
 use Rattle.log_laws.specs.Laws.{new_log}
-use Rattle.volatile_log.specs.Log.{IsLog, LogValue, StagedValue, adopted_log, committed_to, next, resumed_log, top}
+use Rattle.volatile_log.specs.Log.{IsLog, LogValue, StagedValue, adopted_by_empty, adopted_by_lost, adopted_log, committed_to, next, resumed_log, top}
 
 -- ---- which logs go on
 
@@ -88,6 +88,8 @@ source_takes_up q l plan staged log h can source is =
     record {
       adopts = λ s. ap new_log is ∙ resumes q s l plan h source from (on_disk q l plan can)
           ∙ source_alone q (with_kept s (kept.Held l)) plan _ (map entry_of staged) source;
+      records = λ s. ap (λ (x : LogValue). x.records) is
+          ∙ sym (if_is (same q plan.source) _ _ source);
       top = ap top is ∙ resumed_top l plan.base from (omega (arith, whole, can.base)) ∙ whole;
       placed = λ p2. rw is (
         omega (arith, (can.placed p2).0, from),
@@ -111,14 +113,18 @@ held_takes_up q l plan staged log h can other stores for full is =
     let all = length-append (take (l.cp - l.base) l.records) staged.records in
     let left = length-drop (plan.base - l.base) (take
     (l.cp - l.base) l.records ++ staged.records) in
-    let kept = length-take (l.cp - l.base) l.records in
+    let front = length-take (l.cp - l.base) l.records in
     record {
       adopts = λ s. ap new_log is ∙ adopts_held q s l plan staged.records h other stores low;
+      records = λ s. ap (λ (x : LogValue). x.records) is
+          ∙ sym (if_not (same q plan.source) _ _ other
+          ∙ if_is (keeps q (with_kept s (kept.Held l)) plan) _ _
+          (if_not (is_p2 q) (same q plan.source) true stores));
       top = ap top is ∙ omega (
         arith,
         all,
         left,
-        kept,
+        front,
         h.lb,
         h.ap,
         h.cp,
@@ -132,6 +138,27 @@ held_takes_up q l plan staged log h can other stores for full is =
       );
       placed = λ p2. absurd (let clash : true ≡ false = sym p2 ∙ stores in cc);
     }
+
+-- a lost data server has what it pulled
+pub lost_records : (q : Place) (lb : ℕ) (plan : Plan) (staged : List RecordFields)
+    (log : LogValue) → same q plan.source ≡ false → log ≡ adopted_by_lost lb staged plan.base plan.cp
+    → (s : Server Entry) → log.records
+    ≡ adopted_records q (with_kept s (kept.Lost lb)) plan (log_in (kept.Lost lb)).records staged
+lost_records q lb plan staged log other is s = ap (λ (x : LogValue). x.records) is
+    ∙ sym (if_not (same q plan.source) _ _ other)
+
+no_matter : (b : Bool) (xs ys : List RecordFields) → (if (if b then false else false) then xs else ys) ≡ ys
+no_matter true xs ys = refl
+no_matter false xs ys = refl
+
+-- and so has the witness
+pub witness_records : (q : Place) (k : Kept) (plan : Plan) (staged : List RecordFields)
+    (log : LogValue) (cp : ℕ) → same q plan.source ≡ false → is_p2 q ≡ true
+    → log ≡ adopted_by_empty staged plan.base cp
+    → (s : Server Entry) → log.records
+    ≡ adopted_records q (with_kept s k) plan (log_in k).records staged
+witness_records q k plan staged log cp other p2 is s = ap (λ (x : LogValue). x.records) is
+    ∙ sym (rw (other, p2) (no_matter (is_log (held_in k)) _ staged))
 
 pub cp_told : (lb : ℕ) (k : Kept) → by_held (held_in k) (cp_in k) (lb_in lb k) ≡ cp_in k
 cp_told lb (kept.Held l) = refl

@@ -1,5 +1,5 @@
 -- What a fetch is given, and the records of a Give.
-use Rattle.std.specs.Prelude.{◌≡◌, ℕ, ◌-◌, ◌≤◌, List, [], ◌∷◌, map, take, Option, None, Some}
+use Rattle.std.specs.Prelude.{◌≡◌, ℕ, ◌-◌, ◌<◌, ◌≤◌, List, [], ◌∷◌, Contains, IfSome, map, take, Option, None, Some}
 use Rattle.event_record.specs.Record.{entry_of}
 use Rattle.event_record.specs.declared.record.RecordFields.{RecordFields}
 use Rattle.file_tree.specs.Book.{Entry}
@@ -18,9 +18,18 @@ given_moves to v index (Some rs) = Sending to (Give v index (map entry_of rs)) �
 
 -- A server with this log gives the found records: whoever fetches from this index on, it is what
 -- the machine gives
--- up to `last`, where the records take as many bytes as their entries do in the list
+-- up to `last`, where the records, if any, take as many bytes as their entries do in the list
 abbrev pub GivesFound : Server Entry → LogValue → ℕ → ℕ → Option (List RecordFields) → Type 0
 GivesFound s log index last found =
     (size : List Entry → Entry → ℕ) (list : List Entry) (to : Place) (v : ℕ) → last ≤ top log
-    → Sized size record_size (take (index - 1) list) (asked_for log index last)
+    → (log.base < index → Sized size record_size (take (index - 1) list)
+    (asked_for log index last))
     → given_moves to v index found ≡ gives size list s to v index last
+
+-- each of these records stands among those
+abbrev pub StandIn : (all some : List RecordFields) → Type 0
+StandIn all some = (r : RecordFields) → Contains some r → Contains all r
+
+-- the found records, if any, are the log's
+abbrev pub FoundIn : LogValue → Option (List RecordFields) → Type 0
+FoundIn log found = IfSome found (StandIn log.records)

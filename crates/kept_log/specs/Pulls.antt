@@ -1,13 +1,13 @@
 -- Which part a storer can take in a view, what it pulls, and what it goes on with.
-use Rattle.std.specs.Prelude.{◌≡◌, ℕ, ◌+◌, ◌<◌, ◌≤◌, ◌^◌, Bool, true, false, List, map, if◌then◌else◌}
+use Rattle.std.specs.Prelude.{◌≡◌, ℕ, ◌+◌, ◌-◌, ◌<◌, ◌≤◌, ◌^◌, ◌++◌, Bool, true, false, List, map, take, drop, if◌then◌else◌}
 use Rattle.event_record.specs.Record.{entry_of}
 use Rattle.event_record.specs.declared.record.RecordFields.{RecordFields}
 use Rattle.file_tree.specs.Book.{Entry}
-use Rattle.group_rules.specs.Form.{adopted}
+use Rattle.group_rules.specs.Form.{adopted, keeps}
 use Rattle.group_rules.specs.Limits.{is_log}
 use Rattle.group_rules.specs.Places.{Place, is_p2, same}
 use Rattle.group_rules.specs.State.{Plan, Server}
-use Rattle.kept_log.specs.Kept.{AtBase, IsPlaced, base_in, cp_in, held_in, lb_in, top_in, with_kept}
+use Rattle.kept_log.specs.Kept.{AtBase, IsPlaced, base_in, cp_in, held_in, lb_in, log_in, top_in, with_kept}
 use Rattle.kept_log.specs.declared.kept.Kept.{Kept}
 use Rattle.log_laws.specs.Laws.{new_log}
 use Rattle.volatile_log.specs.Log.{LogValue, StagedValue, room, top}
@@ -41,11 +41,22 @@ needless q k plan = if same q plan.source then plan.start else
 abbrev pub IsFor : Place → Kept → Plan → StagedValue → Type 0
 IsFor q k plan staged = (staged.first ≡ needless q k plan + 1) × (staged.start ≡ plan.start)
 
+-- the records that a storer goes on with, whole: of its own and of the staged ones those whose
+-- entries the machine adopts
+abbrev pub adopted_records : Place → Server Entry → Plan → (own staged : List RecordFields)
+    → List RecordFields
+adopted_records q s plan own staged =
+    if same q plan.source then drop (plan.base - s.base) own
+    else (if keeps q s plan then drop (plan.base - s.base) (take (s.cp - s.base) own ++ staged)
+    else staged)
+
 -- A storer goes on with this log when it accepts: it is the machine's, with all records that the
 -- view starts with
 pub record TakesUp (q : Place) (k : Kept) (plan : Plan) (staged : List RecordFields)
     (log : LogValue) : Type 0 where
   pub adopts : (s : Server Entry)
       → new_log log ≡ adopted q (with_kept s k) plan (map entry_of staged)
+  pub records : (s : Server Entry)
+      → log.records ≡ adopted_records q (with_kept s k) plan (log_in k).records staged
   pub top : top log ≡ plan.start
   pub placed : AtBase q log

@@ -8,7 +8,7 @@ ghost use Rattle.group_rules.specs.Names.{place_of};
 ghost use Rattle.group_rules.specs.Places.{Place, is_p2};
 ghost use Rattle.group_rules.specs.State.{Empty, Mark, Server};
 ghost use Rattle.kept_log.specs.Boots.{rests, role_of, saved_of, takes_saved};
-ghost use Rattle.kept_log.specs.Kept.{IsPlaced, held_in, with_kept};
+ghost use Rattle.kept_log.specs.Kept.{IsPlaced, held_in, log_in, with_kept};
 ghost use Rattle.kept_log.specs.declared.kept.Kept.TheVariants as kept;
 
 use crate::form::is_witness;
@@ -74,6 +74,7 @@ impl Kept {
         ensures drops { (s : Server Entry) → with_kept s result
             ≡ record s { held = Empty; base = 0; ap = 0; cp = 0; items = [] } }
         ensures placed { (q : Place) → is_p2 q ≡ true → IsPlaced q result }
+        ensures records { (log_in result).records ≡ [] }
     {
         match self {
             Kept::Held(log) => Kept::Empty(witness::demote(log)),

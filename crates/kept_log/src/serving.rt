@@ -3,7 +3,7 @@
 ghost use Rattle.std.specs.Prelude.{◌≡◌, ◌<◌, ◌≤◌, ◌^◌, length, option_map, IfOk, IfSome};
 ghost use Rattle.file_tree.specs.Book.{Entry};
 ghost use Rattle.group_rules.specs.State.{Server};
-ghost use Rattle.kept_log.specs.Gives.{GivesFound};
+ghost use Rattle.kept_log.specs.Gives.{FoundIn, GivesFound};
 ghost use Rattle.kept_log.specs.Kept.{log_in, with_kept};
 ghost use Rattle.log_laws.specs.Laws.{with_log};
 
@@ -18,8 +18,9 @@ impl Kept {
     /// the view, and its view's start where it accepted it. They are as many as take at most 48,000
     /// bytes as they are spelled, and at least one; None where the first one isn't held.
     pub fn serve(&self, alloc: Global, first: u64, last: u64) -> Result<Option<Records>, AllocError>
-        ensures { IfOk result (λ found. (s : Server Entry)
+        ensures given { IfOk result (λ found. (s : Server Entry)
             → GivesFound (with_kept s self.now) (log_in self.now) first last found) }
+        ensures own { IfOk result (FoundIn (log_in self.now)) }
     {
         match self {
             Kept::Held(log) => {
@@ -39,8 +40,9 @@ pub fn serve_active(
     first: u64,
     last: u64,
 ) -> Result<Option<Records>, AllocError>
-    ensures { IfOk result (λ found. (s : Server Entry)
+    ensures given { IfOk result (λ found. (s : Server Entry)
         → GivesFound (with_log s log.now) log.now first last found) }
+    ensures own { IfOk result (FoundIn log.now) }
 {
     let _ = log.top();
     Ok(as_records(witness::serve_active(alloc, log, first, last)?))

@@ -1,5 +1,5 @@
 -- What a server gives to another that fetches records.
-use Rattle.std.specs.Prelude.{◌≡◌, ◌≤◌, ℕ, ◌-◌, List, Option, None, Some, take, drop, if◌then◌else◌, ⊤}
+use Rattle.std.specs.Prelude.{◌≡◌, ◌<◌, ◌≤◌, ℕ, ◌-◌, List, Option, None, Some, take, drop, if◌then◌else◌, ⊤}
 use Rattle.event_record.specs.declared.record.RecordFields.{RecordFields}
 use Rattle.file_tree.specs.Book.{Entry}
 use Rattle.group_rules.specs.Places.{Place, all_of}
@@ -19,10 +19,10 @@ last_served s v = if all_of (serving_joined s v) then Some (top s)
 abbrev pub asked_of : NodeValue → ℕ → ℕ → List RecordFields
 asked_of n index last = take (last - (index - 1)) (drop (index - 1 - n.plain.base) n.records)
 
--- they take as many bytes as their entries do in this list
+-- where the log has the first one, they take as many bytes as their entries do in this list
 abbrev pub AreSized : (List Entry → Entry → ℕ) → List Entry → NodeValue → ℕ → ℕ → Type 0
-AreSized size list n index last = Sized size record_size (take (index - 1) list)
-    (asked_of n index last)
+AreSized size list n index last = n.plain.base < index
+    → Sized size record_size (take (index - 1) list) (asked_of n index last)
 
 -- so do those that a fetch of this view is given
 abbrev pub AreSizedTo : (List Entry → Entry → ℕ) → List Entry → NodeValue → ℕ → Option ℕ → Type 0

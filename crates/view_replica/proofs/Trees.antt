@@ -1,7 +1,7 @@
 -- How trees can still be read.
-use Rattle.std.proofs.Common.{◌≡◌, ℕ, ◌+◌, ◌≤◌, ◌-◌, true, List, [], ◌∷◌, ◌++◌, Option, max, sym, ap, ◌∙◌, subst, arith}
-use Rattle.std.specs.Prelude.{OnOk, Result, Ok, Err}
-use Rattle.std.proofs.lemmas.List.{length-drop}
+use Rattle.std.proofs.Common.{◌≡◌, ℕ, ◌+◌, ◌≤◌, ◌-◌, Bool, true, false, length, if◌then◌else◌, List, [], ◌∷◌, ◌++◌, Option, max, sym, ap, ◌∙◌, subst, arith}
+use Rattle.std.specs.Prelude.{◌==◌, drop, OnOk, Result, Ok, Err}
+use Rattle.std.proofs.lemmas.List.{append-nil, drop-append-le, length-drop}
 use Rattle.event_record.specs.declared.record.RecordFields.{RecordFields}
 use Rattle.file_tree.specs.Book.{Entry}
 use Rattle.harp_base.specs.Update.{is_update}
@@ -9,11 +9,11 @@ use Rattle.harp_store.specs.Disk.{Moments}
 use Rattle.tree_log.specs.Reading.{HoldsTree, IsNextRecord}
 use Rattle.tree_log.proofs.Holding.{committed_holds}
 use Rattle.view_replica.specs.Commits.{IsUnderWay, noted}
-use Rattle.view_replica.specs.Following.{Following}
+use Rattle.view_replica.specs.Following.{Following, next_of, settled, with_next}
 use Rattle.view_replica.specs.Leading.{Leading}
 use Rattle.view_replica.specs.Trees.{KeepsTree, KeepsTreeOfNext}
 use Rattle.outputs.specs.Said.{Said}
-use Rattle.volatile_log.specs.Log.{LogValue, committed_to, dropped_to, top}
+use Rattle.volatile_log.specs.Log.{LogValue, committed_to, dropped_to, top, with_record}
 
 -- commits leave what can be read
 pub commits_keep : (old new : LogValue) (n : ℕ) → new ≡ committed_to old n → KeepsTree old new
@@ -62,3 +62,31 @@ drop_tops f dropped base is within =
     let left = length-drop (max f.log.base base - f.log.base) f.log.records in
     let at : top (dropped_to f.log (max f.log.base base)) ≡ top f.log = omega (arith, left, within) in
     ap (λ (x : Following). top x.log) is ∙ at
+
+-- ---- the records behind an Event
+
+next_if : (b : Bool) (l : LogValue) (m base : ℕ) (r : RecordFields)
+    → m - l.base ≡ base - l.base → base - l.base ≤ length l.records
+    → let d = dropped_to l m in (if b then with_record d r else d).records
+    ≡ drop (base - l.base) (l.records ++ (if b then r ∷ [] else []))
+next_if true l m base r left within =
+    ap (λ k. drop k l.records ++ r ∷ []) left
+    ∙ sym (drop-append-le (base - l.base) l.records (r ∷ []) within)
+next_if false l m base r left within =
+    ap (λ k. drop k l.records) left ∙ ap (drop (base - l.base)) (sym (append-nil l.records))
+
+pub event_records : (f dropped taken new : Following) (base cp : ℕ) (r : RecordFields)
+    → dropped ≡ record f { log = dropped_to f.log (max f.log.base base) }
+    → taken ≡ record dropped { log = with_next dropped.log r } → new ≡ settled taken cp
+    → base ≤ top f.log
+    → new.log.records ≡ drop (base - f.log.base) (f.log.records ++ next_of f.log r)
+event_records f dropped taken new base cp r drops takes settles within =
+    let m = max f.log.base base in
+    let d = dropped_to f.log m in
+    let tops : top d ≡ top f.log =
+    (let n = length-drop (m - f.log.base) f.log.records in omega (arith, n, within)) in
+    ap (λ (x : Following). x.log.records) settles
+    ∙ ap (λ (x : Following). x.log.records) takes
+    ∙ ap (λ (x : Following). (with_next x.log r).records) drops
+    ∙ ap (λ k. (if r.index == k + 1 then with_record d r else d).records) tops
+    ∙ next_if (r.index == top f.log + 1) f.log m base r (omega arith) (omega (arith, within))

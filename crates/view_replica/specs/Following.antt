@@ -1,5 +1,5 @@
 -- The partner of a view as a server of the group's machine.
-use Rattle.std.specs.Prelude.{ℕ, ◌+◌, ◌==◌, Bool, true, false, [], Option, None, Some, max, min, if◌then◌else◌}
+use Rattle.std.specs.Prelude.{ℕ, ◌+◌, ◌==◌, Bool, true, false, List, [], ◌∷◌, Option, None, Some, max, min, if◌then◌else◌}
 use Rattle.cell_cache.specs.Entries.{Entries}
 use Rattle.file_tree.specs.Book.{Entry}
 use Rattle.group_rules.specs.Places.{Zero, One, Two, Pair, Place, S01, S02, S12, nobody, partner}
@@ -82,6 +82,10 @@ unsettled view a start log = record {
 -- a log with a record, where that is the next one
 abbrev pub with_next : LogValue → RecordFields → LogValue
 with_next log r = if r.index == top log + 1 then with_record log r else log
+
+-- a record, where that is the next one of a log
+abbrev pub next_of : LogValue → RecordFields → List RecordFields
+next_of log r = if r.index == top log + 1 then r ∷ [] else []
 
 -- the partner after it heeded an Event or a Beat with this CP, its log having the record and the
 -- base of it

@@ -8,7 +8,7 @@ ghost use Rattle.group_rules.specs.Open.{base_tests, on_formed, rebase};
 ghost use Rattle.group_rules.specs.Places.{Zero, all_of};
 ghost use Rattle.view_replica.specs.Leading.{Outer, led, partner_of, place_led, waiting};
 ghost use Rattle.view_replica.specs.Trees.{KeepsTree};
-ghost use Rattle.volatile_log.specs.Log.{lowered_to, top};
+ghost use Rattle.volatile_log.specs.Log.{dropped_to, lowered_to, top};
 
 mod acks;
 mod asks;
@@ -199,6 +199,7 @@ impl Leader {
             ≡ acts (place_led self.old o) clock s (rebase s) }
         ensures peers { self.new.peers ≡ self.old.peers }
         ensures cached { self.new.cached ≡ self.old.cached }
+        ensures log { self.new.log ≡ dropped_to self.old.log self.new.log.base }
         ensures tree { KeepsTree self.old.log self.new.log }
     {
         let base = self.log.lb().min(self.told_lb);

@@ -1,6 +1,7 @@
 //! The partner of a view.
 
-ghost use Rattle.std.specs.Prelude.{◌≡◌, ℕ, ◌<◌, ◌≤◌, ◌^◌, ◌+◌, ◌-◌, ◌++◌, ◌∷◌, [], length, max, IfErr, IfOk, OnOk};
+ghost use Rattle.outputs.specs.Records.{records_sent};
+ghost use Rattle.std.specs.Prelude.{◌≡◌, ℕ, ◌<◌, ◌≤◌, ◌^◌, ◌+◌, ◌-◌, ◌++◌, ◌∷◌, [], drop, length, max, IfErr, IfOk, OnOk};
 ghost use Rattle.event_record.specs.Record.{entry_of};
 ghost use Rattle.group_rules.specs.Effects.{taken};
 ghost use Rattle.group_rules.specs.Limits.{is_live, room};
@@ -11,7 +12,7 @@ ghost use Rattle.group_rules.specs.Replicate.{on_event};
 ghost use Rattle.group_rules.specs.Tick.{again};
 ghost use Rattle.outputs.specs.Makes.{Makes};
 ghost use Rattle.outputs.specs.Said.{said};
-ghost use Rattle.view_replica.specs.Following.{acknowledged, followed, leader_of, place_followed, settled, unsettled, with_next};
+ghost use Rattle.view_replica.specs.Following.{acknowledged, followed, leader_of, next_of, place_followed, settled, unsettled, with_next};
 ghost use Rattle.view_replica.specs.Leading.{Outer, at_horizon};
 ghost use Rattle.view_replica.specs.Trees.{KeepsTree, KeepsTreeOfNext};
 ghost use Rattle.volatile_log.specs.Log.{dropped_to, lowered_to, top};
@@ -222,6 +223,8 @@ impl Partner {
         ensures log { OnOk result (self.new ≡ settled (record self.old {
           log = with_next (dropped_to self.old.log (max self.old.log.base base)) item;
         }) cp) }
+        ensures records { OnOk result (self.new.log.records ≡ drop (base - self.old.log.base)
+            (self.old.log.records ++ next_of self.old.log item)) }
         ensures makes { OnOk result ((o : Outer)
             → let s = followed self.old (at_horizon o horizon.old) in
             let q = place_followed self.old o in
@@ -254,9 +257,10 @@ impl Partner {
     /// A partner that isn't settled sends its Formed again.
     #[tactic(auto, unfolding(group_rules::specs::Places::all_of))]
     pub fn tick(&self, outs: &mut Outputs) -> Result<(), AllocError>
-        ensures { OnOk result ((o : Outer) (clock : ℕ) → let s = followed self.now o in
+        ensures makes { OnOk result ((o : Outer) (clock : ℕ) → let s = followed self.now o in
             let q = place_followed self.now o in Makes q clock
             (again q s) [] s s outs.old outs.new) }
+        ensures records { OnOk result (records_sent outs.new ≡ records_sent outs.old) }
     {
         if self.settled {
             return Ok(());

@@ -1,13 +1,13 @@
 //! The leader's commits.
 
-ghost use Rattle.std.specs.Prelude.{◌≡◌, ℕ, ◌+◌, ◌-◌, ◌<◌, ◌≤◌, ◌∷◌, length, drop, max, OnOk, true};
+ghost use Rattle.std.specs.Prelude.{◌≡◌, ℕ, ◌+◌, ◌-◌, ◌<◌, ◌≤◌, ◌∷◌, length, drop, max, OnOk, false, true};
 ghost use Rattle.group_rules.specs.Replicate.{on_ack};
 ghost use Rattle.outputs.specs.Makes.{Makes};
 ghost use Rattle.outputs.specs.Said.{said};
 ghost use Rattle.view_replica.specs.Commits.{CommitsNext, IsUnderWay, noted};
 ghost use Rattle.view_replica.specs.Leading.{Outer, led, place_led};
 ghost use Rattle.view_replica.specs.Trees.{KeepsTree};
-ghost use Rattle.volatile_log.specs.Log.{top as top_of};
+ghost use Rattle.volatile_log.specs.Log.{committed_to, top as top_of};
 
 use crate::leader::Leader;
 use crate::records::{entry_copy, record_after};
@@ -36,10 +36,13 @@ impl Leader {
             outs.old outs.new) }
         ensures peers { OnOk result (self.old.opened ≡ true → self.new.peers
             ≡ drop (top - self.old.log.cp) self.old.peers) }
+        ensures still { OnOk result (self.old.opened ≡ false → self.new ≡ self.old) }
         // One peer waits for each record above CP, so each record that is committed is answered.
         ensures waiting { self.old.opened ≡ true → self.old.log.cp + length self.old.peers
             ≡ top_of self.old.log }
         ensures cached { OnOk result (self.new.cached ≡ self.old.cached) }
+        ensures log { OnOk result (self.new.log
+            ≡ committed_to self.old.log self.new.log.cp) }
         ensures tree { OnOk result (KeepsTree self.old.log self.new.log) }
     {
         // The contract speaks of the whole leader, so its model is opened here.

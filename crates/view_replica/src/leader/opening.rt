@@ -1,5 +1,6 @@
 //! How a leader opens its view.
 
+ghost use Rattle.outputs.specs.Records.{records_sent};
 ghost use Rattle.std.specs.Prelude.{◌≡◌, ℕ, ◌+◌, ◌<◌, ◌≤◌, ◌^◌, ◌++◌, ◌∷◌, [], OnOk, Some, false};
 ghost use Rattle.group_rules.specs.Open.{open_moves, try_open};
 ghost use Rattle.outputs.specs.Makes.{Makes};
@@ -7,7 +8,7 @@ ghost use Rattle.outputs.specs.Said.{said};
 ghost use Rattle.view_replica.specs.Commits.{above, announced, opened};
 ghost use Rattle.view_replica.specs.Leading.{Outer, led, place_led};
 ghost use Rattle.view_replica.specs.Trees.{KeepsTree};
-ghost use Rattle.volatile_log.specs.Log.{top};
+ghost use Rattle.volatile_log.specs.Log.{committed_to, top};
 
 use crate::leader::{Beside, Leader};
 use crate::records::{entry_copy, record_after};
@@ -31,7 +32,10 @@ impl Leader {
             → let s = led self.old o in let q = place_led self.old o in
             Makes q now (try_open q now s) [] s (led self.new o) outs.old outs.new) }
         ensures peers { OnOk result (self.new.peers ≡ self.old.peers) }
+        ensures records { OnOk result (records_sent outs.new ≡ records_sent outs.old) }
         ensures cached { OnOk result (self.new.cached ≡ self.old.cached) }
+        ensures log { OnOk result (self.new.log
+            ≡ committed_to self.old.log self.new.log.cp) }
         ensures tree { OnOk result (KeepsTree self.old.log self.new.log) }
     {
         if self.opened {
@@ -56,7 +60,10 @@ impl Leader {
             Makes (place_led self.old o) clock (open_moves s lb) [] s
             (led self.new o) outs.old outs.new) }
         ensures peers { OnOk result (self.new.peers ≡ self.old.peers) }
+        ensures records { OnOk result (records_sent outs.new ≡ records_sent outs.old) }
         ensures cached { OnOk result (self.new.cached ≡ self.old.cached) }
+        ensures log { OnOk result (self.new.log
+            ≡ committed_to self.old.log self.new.log.cp) }
         ensures tree { OnOk result (KeepsTree self.old.log self.new.log) }
     {
         self.enter_all(alloc, outs)?;
@@ -67,9 +74,10 @@ impl Leader {
 
     /// All records above CP are entered.
     fn enter_all(&self, alloc: Global, outs: &mut Outputs) -> Result<(), AllocError>
-        ensures { OnOk result (said outs.new ≡ record (said outs.old) {
+        ensures said { OnOk result (said outs.new ≡ record (said outs.old) {
           committed = (said outs.old).committed ++ above self.now.log.cp self.now;
         }) }
+        ensures records { records_sent outs.new ≡ records_sent outs.old }
     {
         for n in self.log.cp()..self.log.top() {
             let entry = entry_copy(alloc, record_after(self.log.log(), n))?;
@@ -94,9 +102,10 @@ impl Leader {
 
     /// The witness that isn't needed and the partner hear that the view is open.
     fn announce(&self, outs: &mut Outputs) -> Result<(), AllocError>
-        ensures { OnOk result (said outs.new ≡ record (said outs.old) {
+        ensures said { OnOk result (said outs.new ≡ record (said outs.old) {
           sends = (said outs.old).sends ++ announced self.now;
         }) }
+        ensures records { OnOk result (records_sent outs.new ≡ records_sent outs.old) }
     {
         let view = self.view;
         match self.beside {

@@ -14,7 +14,7 @@ ghost use Rattle.view_replica.specs.Commits.{above};
 ghost use Rattle.view_replica.specs.Leading.{Outer, led, partner_of, place_led};
 ghost use Rattle.view_replica.specs.Resending.{records_after, sent_again};
 ghost use Rattle.view_replica.specs.Trees.{KeepsTree};
-ghost use Rattle.volatile_log.specs.Log.{top};
+ghost use Rattle.volatile_log.specs.Log.{committed_to, top};
 
 use crate::leader::Leader;
 use crate::records::{event_of, record_after};
@@ -33,10 +33,12 @@ impl Leader {
             → let s = led self.old o in let q = place_led self.old o in
             Makes q now (if is_open s.mode then beats s else try_open q now s) [] s
             (led self.new o) outs.old outs.new) }
-        ensures records { OnOk result (self.old.opened ≡ true
-            → records_sent outs.new ≡ records_sent outs.old ++ sent_again self.old) }
+        ensures records { OnOk result (records_sent outs.new ≡ records_sent outs.old
+            ++ (if self.old.opened then sent_again self.old else [])) }
         ensures peers { OnOk result (self.new.peers ≡ self.old.peers) }
         ensures cached { OnOk result (self.new.cached ≡ self.old.cached) }
+        ensures log { OnOk result (self.new.log
+            ≡ committed_to self.old.log self.new.log.cp) }
         ensures tree { OnOk result (KeepsTree self.old.log self.new.log) }
     {
         if !self.opened {

@@ -12,7 +12,7 @@ returns-in-Rests c =
     IfOk-weaker c.serve.result _ _
     (λ found given items. finds_rests n.me n.mark n.horizon n.served n.duty n.state c.in-Rests.kept
     c.args.self.now items c.args.first c.args.last found c.self.view_is c.in-Rests.is given)
-    c.serve.ensures
+    c.serve.ensures.given
 
 pub returns-in-Joined : goal.returns-in-Joined
 returns-in-Joined c =
@@ -22,7 +22,7 @@ returns-in-Joined c =
     c.in-Joined.kept
     c.in-Joined.field-1
     c.args.self.now items c.args.first c.args.last found c.self.view_is c.in-Joined.is given)
-    c.serve-in-Joined.ensures
+    c.serve-in-Joined.ensures.given
 
 pub returns-in-Pulls : goal.returns-in-Pulls
 returns-in-Pulls c =
@@ -31,7 +31,7 @@ returns-in-Pulls c =
     (λ found given items. finds_pulls n.me n.mark n.horizon n.served n.duty n.state c.in-Pulls.kept
     c.in-Pulls.field-1 c.in-Pulls.field-2 c.in-Pulls.field-3
     c.args.self.now items c.args.first c.args.last found c.self.view_is c.in-Pulls.is given)
-    c.serve-in-Pulls.ensures
+    c.serve-in-Pulls.ensures.given
 
 pub returns-in-Leads : goal.returns-in-Leads
 returns-in-Leads c =
@@ -41,7 +41,7 @@ returns-in-Leads c =
     c.in-Leads.leader c.in-Leads.field-1 c.args.self.now items c.args.first c.args.last found
     c.self.view_is c.in-Leads.is (λ t. subst (λ (l : LogValue).
     GivesFound (with_log t l) l c.args.first c.args.last found) c.log.ensures (given t)))
-    c.serve_active.ensures
+    c.serve_active.ensures.given
 
 pub returns-in-Follows : goal.returns-in-Follows
 returns-in-Follows c =
@@ -51,4 +51,4 @@ returns-in-Follows c =
     c.in-Follows.partner c.in-Follows.field-1 c.args.self.now items c.args.first c.args.last found
     c.self.view_is c.in-Follows.is (λ t. subst (λ (l : LogValue).
     GivesFound (with_log t l) l c.args.first c.args.last found) c.log-in-Follows.ensures (given t)))
-    c.serve_active-in-Follows.ensures
+    c.serve_active-in-Follows.ensures.given

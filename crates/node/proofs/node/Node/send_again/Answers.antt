@@ -58,4 +58,4 @@ returns-in-Follows c =
     plan n.state now items clock again c.args.outs.now c.tick.new.outs c.in-Follows.is
     c.self.view_is c.self.invariant.1
     (made (outer n.me n.mark n.horizon n.served n.duty plan) clock))
-    c.tick.ensures
+    c.tick.ensures.makes

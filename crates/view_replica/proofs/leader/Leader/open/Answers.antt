@@ -9,4 +9,4 @@ pub returns-clause-tree : goal.returns-clause-tree
 returns-clause-tree c = on_ok_weaker c.announce.result
     (λ told. commits_keep c.args.self.now.log c.become_open.new.self.log
     (top c.args.self.now.log) (ap (λ (l : Leading). l.log) c.become_open.ensures))
-    c.announce.ensures
+    c.announce.ensures.said

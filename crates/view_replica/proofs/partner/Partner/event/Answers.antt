@@ -1,6 +1,6 @@
 use Rattle.std.proofs.lemmas.Result.{on_ok_weaker}
 use Rattle.view_replica.proofs.Follows.{heeds_event, room_left}
-use Rattle.view_replica.proofs.Trees.{between_keeps, drop_tops}
+use Rattle.view_replica.proofs.Trees.{between_keeps, drop_tops, event_records}
 use Rattle.view_replica.proofs.partner.Partner.event.Goals as goal
 
 pub take-requires : goal.take-requires
@@ -23,4 +23,11 @@ returns-clause-tree c = on_ok_weaker c.acknowledge.result
     (drop_tops c.args.self.now c.drop_to.new.self c.args.base c.drop_to.ensures.log
     c.drop_to.ensures.within) c.drop_to.ensures.tree c.in_ok-take.ensures.tree
     c.acknowledge.ensures.tree)
+    c.acknowledge.ensures.said
+
+pub returns-clause-records : goal.returns-clause-records
+returns-clause-records c = on_ok_weaker c.acknowledge.result
+    (λ told. event_records c.args.self.now c.drop_to.new.self c.take.new.self
+    c.acknowledge.new.self c.args.base c.args.cp c.args.item c.drop_to.ensures.log
+    c.in_ok-take.ensures.log c.acknowledge.ensures.state c.drop_to.ensures.within)
     c.acknowledge.ensures.said
