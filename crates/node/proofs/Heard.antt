@@ -1,6 +1,7 @@
 -- A message that has come, from what is made of it by its form.
 use Rattle.std.proofs.Common.{◌≡◌, ℕ, ◌≤◌, List, [], Option, ap, refl, sym, subst, inl}
 use Rattle.std.specs.Prelude.{None, Some, IfSome, option_map}
+use Rattle.event_record.specs.declared.record.RecordFields.{RecordFields}
 use Rattle.file_tree.specs.Book.{Entry}
 use Rattle.group_rules.specs.Moves.{Move}
 use Rattle.group_rules.specs.Names.{place_of}
@@ -19,8 +20,10 @@ use Rattle.node.proofs.Calls.{any_peers}
 use Rattle.node.proofs.Marks.{IsAlike, alike_none, alike_on, alike_same, part_as}
 use Rattle.node.proofs.Mute.{IsNoAck, KeepsMark, mute_rule, rule_unmarked}
 use Rattle.node.proofs.Sent.{none_made}
+use Rattle.node.specs.Stock.{Stock, Stocks}
 use Rattle.outputs.specs.Makes.{Makes}
 use Rattle.outputs.specs.Messages.{heard}
+use Rattle.outputs.specs.Records.{carried}
 use Rattle.outputs.specs.declared.outputs.Outputs.{Outputs}
 use Rattle.wire.specs.declared.message.Message.{Message as Wire}
 
@@ -93,3 +96,23 @@ pub client_alike : (size : List Entry → Entry → ℕ) (q : Place) (clock : �
 client_alike size q clock list s from w is = alike_same _ _
     (ap (λ (o : Option (Message Entry)). ruled size q clock list s
     (option_map (Comes (place_of from)) o)) is)
+
+-- what a message makes of the records and of those who wait
+pub heard_stocks : (size : List Entry → Entry → ℕ) (q : Place) (clock : ℕ) (list : List Entry)
+    (s : Server Entry) (from : ServerId) (w : Wire) (m : Message Entry)
+    (came : List RecordFields) (old new : Stock) → heard w ≡ Some m → carried w ≡ came
+    → Stocks came q s (rule size q clock list s (Comes (place_of from) m)) old new
+    → Stocks (carried w) q s (ruled size q clock list s (input_in from w)) old new
+heard_stocks size q clock list s from w m came old new is brought h =
+    subst (λ (rs : List RecordFields). Stocks rs q s
+    (ruled size q clock list s (input_in from w)) old new) (sym brought)
+    (subst (λ (o : Option (Message Entry)). Stocks came q s
+    (ruled size q clock list s (option_map (Comes (place_of from)) o)) old new) (sym is) h)
+
+pub client_stocks : (size : List Entry → Entry → ℕ) (q : Place) (clock : ℕ) (list : List Entry)
+    (s : Server Entry) (from : ServerId) (w : Wire) (old : Stock) → heard w ≡ None
+    → Stocks (carried w) q s (ruled size q clock list s (input_in from w)) old old
+client_stocks size q clock list s from w old is =
+    subst (λ (o : Option (Message Entry)). Stocks (carried w) q s
+    (ruled size q clock list s (option_map (Comes (place_of from)) o)) old old) (sym is)
+    (λ clock list askers. refl)

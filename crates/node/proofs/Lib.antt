@@ -33,3 +33,8 @@ pub mod Cached
 pub mod Stores
 pub mod Asks
 pub mod Brought
+pub mod Stocks
+pub mod Bare
+pub mod Wholes
+pub mod Stocked
+pub mod Sizing

@@ -34,7 +34,7 @@ sent_events : (to : Place) (v cp base n : ℕ) (es : List Entry) → AreSent (ev
 sent_events to v cp base n [] = tt
 sent_events to v cp base n (e ∷ es) = (tt, sent_events to v cp base (n + 1) es)
 
-sent_beats : (s : Server Entry) → AreSent (beats s)
+pub sent_beats : (s : Server Entry) → AreSent (beats s)
 sent_beats s = (
   tt,
   sent_events (partner s.plan.storers) s.accepted s.cp s.base (unacknowledged s)

@@ -15,3 +15,4 @@ pub mod Input
 pub mod Cached
 pub mod Stored
 pub mod Asking
+pub mod Stock

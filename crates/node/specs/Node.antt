@@ -12,7 +12,7 @@ use Rattle.group_rules.specs.State.{Mark, Saved, Server}
 use Rattle.harp_base.specs.declared.peer.Peer.{Peer}
 use Rattle.harp_base.specs.declared.server.ServerId.{ServerId}
 use Rattle.harp_store.specs.Mark.{MarkFields, SavedNumbers}
-use Rattle.node.specs.State.{ap_in, base_in, cached_in, cp_in, duty_of, heard_in, held_in, is_gone, items_in, mode_in, peers_in, plan_in, records_in, report_in, role_of, staged_in, told_in, wanted_in}
+use Rattle.node.specs.State.{ap_in, base_in, cached_in, cp_in, duty_of, heard_in, held_in, is_gone, items_in, mode_in, peers_in, plan_in, pulled_in, records_in, report_in, role_of, staged_in, told_in, wanted_in}
 use Rattle.node.specs.declared.state.State.{State}
 use Rattle.node.specs.declared.state.Task.{Task}
 use Rattle.promise.specs.Promise.{HorizonValue}
@@ -48,15 +48,16 @@ server_in mark horizon served duty s = record {
 }
 
 -- A node: its place, whether it is halted, its mark as it stands on the disk, and its server but
--- for the saved log, whose records are on the disk alone; its log's records, whole; who waits for
--- those above CP; and the cells of its store that it keeps in memory. Of a halted one the server
--- tells nothing
+-- for the saved log, whose records are on the disk alone; its log's records, whole, and those that
+-- it pulled; who waits for those above CP; and the cells of its store that it keeps in memory. Of a
+-- halted one the server tells nothing
 pub record NodeValue : Type 0 where
   pub me : Place
   pub halted : Bool
   pub mark : MarkFields
   pub plain : Server Entry
   pub records : List RecordFields
+  pub pulled : List RecordFields
   pub peers : List Peer
   pub cached : Entries
 
@@ -67,6 +68,7 @@ value me mark horizon served duty s = record {
   mark = mark;
   plain = server_in mark horizon served duty s;
   records = records_in s;
+  pulled = pulled_in s;
   peers = peers_in s;
   cached = cached_in s;
 }

@@ -143,6 +143,15 @@ staged_in (state.Pulls kept joining plan staged) = map entry_of staged.records
 staged_in (state.Leads leader plan) = []
 staged_in (state.Follows partner plan) = []
 
+-- the staged records, whole
+abbrev pub pulled_in : State → List RecordFields
+pulled_in state.Gone = []
+pulled_in (state.Rests kept) = []
+pulled_in (state.Joined kept joining) = []
+pulled_in (state.Pulls kept joining plan staged) = staged.records
+pulled_in (state.Leads leader plan) = []
+pulled_in (state.Follows partner plan) = []
+
 abbrev pub heard_in : State → Trio (Option ℕ)
 heard_in state.Gone = nobody
 heard_in (state.Rests kept) = nobody

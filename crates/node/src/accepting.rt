@@ -1,5 +1,6 @@
 //! How a storer accepts its view.
 
+ghost use Rattle.node.specs.Stock.{StartsWith, stock};
 ghost use Rattle.std.specs.Prelude.{◌≡◌, [], ◌<◌, ◌≤◌, ◌^◌, List, None, false, true, map, ℕ, Err, IfOk, OnErr, OnOk};
 ghost use Rattle.event_record.specs.Record.{entry_of};
 ghost use Rattle.file_tree.specs.Book.{Entry};
@@ -9,8 +10,8 @@ ghost use Rattle.group_rules.specs.Names.{number_of_view, place_of};
 ghost use Rattle.group_rules.specs.Places.{get, is_in, leader, partner, same};
 ghost use Rattle.group_rules.specs.State.{Server};
 ghost use Rattle.harp_base.specs.Streams.{Rose};
-ghost use Rattle.kept_log.specs.Kept.{AtBase, plan_of};
-ghost use Rattle.kept_log.specs.Pulls.{CanTake, IsFor};
+ghost use Rattle.kept_log.specs.Kept.{AtBase, plan_of, log_in};
+ghost use Rattle.kept_log.specs.Pulls.{CanTake, IsFor, adopted_records};
 ghost use Rattle.node.specs.Disk.{MayLeave, disk_after, marked_by, part_of};
 ghost use Rattle.node.specs.Forming.{Accepted, accepted_mark, joined_with, kept_from, telling};
 ghost use Rattle.node.specs.Node.{server};
@@ -54,6 +55,12 @@ impl Node {
             Makes self.old.me clock (accept_moves self.old.me s (plan_of pull.form)
             (map entry_of pull.staged.records)) [] s (server self.new items) outs.old outs.new) }
         ensures me { self.new.me ≡ self.old.me }
+        ensures stock { OnOk result (stock self.new ≡ record {
+          log = adopted_records self.old.me (joined_with self.old.plain pull.kept pull.joining)
+              (plan_of pull.form) (log_in pull.kept).records pull.staged.records;
+          pulled = [];
+          waits = [];
+        }) }
         ensures cached { OnOk result (self.new.cached ≡ []) }
         ensures mark { OnOk result (self.new.mark ≡ marked_by self.old.mark
             (accept_moves self.old.me (joined_with self.old.plain pull.kept pull.joining)
@@ -148,6 +155,7 @@ fn active(
     requires others { HearsOthers (place_of me) joining.now }
     ensures accepted { IfOk result (λ state. Accepted me (number_of_view view) form log
         joining.now state) }
+    ensures stock { IfOk result (StartsWith log.records) }
     ensures cached { IfOk result (λ state. cached_in state ≡ []) }
 {
     if leads(me, &form) {
@@ -172,6 +180,7 @@ fn leading(
     requires start { top log ≡ form.start }
     ensures accepted { IfOk result (λ state. Accepted me (number_of_view view) form log
         joining.now state) }
+    ensures stock { IfOk result (StartsWith log.records) }
     ensures cached { IfOk result (λ state. cached_in state ≡ []) }
 {
     let partner = form.storers.partner();

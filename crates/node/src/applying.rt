@@ -1,5 +1,6 @@
 //! What a server brings to its store. After an error the server is halted.
 
+ghost use Rattle.node.specs.Stock.{stock};
 ghost use Rattle.std.specs.Prelude.{◌≡◌, ◌≤◌, [], List, ℕ, Err, OnErr, OnOk, Some, false, true};
 ghost use Rattle.applier.specs.Applied.{AfterPart, after_changes};
 ghost use Rattle.applier.specs.Fuzzy.{IsFuzzyTo, StaysFuzzy};
@@ -46,6 +47,7 @@ impl Node {
             Makes self.old.me clock (apply self.old.me s most) [] s (server self.new items)
             outs outs) }
         ensures me { self.new.me ≡ self.old.me }
+        ensures stock { OnOk result (stock self.new ≡ stock self.old) }
         ensures mark { self.new.mark ≡ self.old.mark }
         ensures up { OnOk result (self.new.halted ≡ false) }
         ensures done { OnOk result (D.told store.new

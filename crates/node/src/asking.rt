@@ -49,6 +49,7 @@ impl Node {
             → Asked now list (on_ask self.old.me now list (server self.old items) asker.client
             asker.number asker.cred call.now) asker.peer items self.old self.new
             outs.old outs.new) }
+        ensures pulled { OnOk result (self.new.pulled ≡ self.old.pulled) }
         ensures me { self.new.me ≡ self.old.me }
         ensures mark { self.new.mark ≡ self.old.mark }
         ensures up { OnOk result (self.new.halted ≡ false) }

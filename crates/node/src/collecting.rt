@@ -1,5 +1,6 @@
 //! The joins of a coordinator's view, and its choice.
 
+ghost use Rattle.node.specs.Stock.{Stocks, stock};
 ghost use Rattle.std.specs.Prelude.{◌≡◌, ◌∷◌, [], ◌≤◌, List, Option, Some, false, ℕ, Err, OnErr, OnOk, if◌then◌else◌};
 ghost use Rattle.file_tree.specs.Book.{Entry};
 ghost use Rattle.group_rules.specs.Joining.{on_join, to_each};
@@ -47,6 +48,10 @@ impl Node {
             Makes self.old.me clock (on_join self.old.me s (place_of from) (number_of_view view)
             (report info) s.duty) [] s (server self.new items) outs.old outs.new) }
         ensures me { self.new.me ≡ self.old.me }
+        ensures stock { OnOk result ((items : List Entry) → let s = server self.old items in
+            Stocks [] self.old.me s
+            (on_join self.old.me s (place_of from) (number_of_view view) (report info) s.duty)
+            (stock self.old) (stock self.new)) }
         ensures cached { OnOk result (IsCachedAs self.old.cached self.new.cached) }
         ensures mark { OnOk result (self.new.mark ≡ marked_by self.old.mark
             (on_join self.old.me self.old.plain (place_of from) (number_of_view view)
@@ -101,6 +106,10 @@ impl Node {
             Makes self.old.me clock (choosing self.old.me s reports chosen from) [] s
             (server self.new items) outs.old outs.new) }
         ensures me { self.new.me ≡ self.old.me }
+        ensures stock { OnOk result ((reports : Trio (Option Report)) (from : ℕ)
+            (chosen : Chosen) (items : List Entry) → choice.now ≡ plan (view_of from) chosen
+            → let s = server self.old items in Stocks [] self.old.me s
+            (choosing self.old.me s reports chosen from) (stock self.old) (stock self.new)) }
         ensures cached { OnOk result (IsCachedAs self.old.cached self.new.cached) }
         ensures mark { OnOk result ((reports : Trio (Option Report)) (from : ℕ) (chosen : Chosen)
             → choice.now ≡ plan (view_of from) chosen → self.new.mark ≡ marked_by self.old.mark

@@ -1,6 +1,7 @@
 //! How the witness leaves its view.
 
-ghost use Rattle.std.specs.Prelude.{◌≡◌, ◌≤◌, [], List, ℕ, Err, IfSome, OnErr, OnOk, false, if◌then◌else◌, nat_lt, true};
+ghost use Rattle.node.specs.Stock.{Stocks, stock, stock_in};
+ghost use Rattle.std.specs.Prelude.{◌≡◌, ◌≤◌, [], List, ℕ, Err, IfSome, OnErr, OnOk, false, if◌then◌else◌, nat_lt, true, ◌∷◌};
 ghost use Rattle.file_tree.specs.Book.{Entry};
 ghost use Rattle.group_rules.specs.Disk.{on_demote};
 ghost use Rattle.group_rules.specs.Effects.{demoted};
@@ -15,7 +16,7 @@ ghost use Rattle.node.specs.Disk.{MayLeave, disk_after, marked, marked_by};
 ghost use Rattle.node.specs.Active.{is_followed, is_led};
 ghost use Rattle.node.specs.Demoting.{GoesOn};
 ghost use Rattle.node.specs.Node.{server};
-ghost use Rattle.node.specs.State.{Fits, cached_in, is_gone};
+ghost use Rattle.node.specs.State.{Fits, cached_in, is_gone, pulled_in};
 ghost use Rattle.outputs.specs.Makes.{Makes};
 
 use crate::fault::NodeFault;
@@ -46,6 +47,10 @@ impl Node {
             Makes self.old.me clock (on_demote self.old.me s (number_of_view view)) [] s
             (server self.new items) outs outs) }
         ensures me { self.new.me ≡ self.old.me }
+        ensures stock { OnOk result ((items : List Entry) → let s = server self.old items in
+            Stocks [] self.old.me s
+            (on_demote self.old.me s (number_of_view view))
+            (stock self.old) (stock self.new)) }
         ensures cached { OnOk result (IsCachedAs self.old.cached self.new.cached) }
         ensures mark { OnOk result (self.new.mark ≡ marked_by self.old.mark
             (on_demote self.old.me self.old.plain (number_of_view view))) }
@@ -90,6 +95,8 @@ impl Node {
         ensures state { (items : List Entry) → server self.new items
             ≡ demoted (server self.old items) (number_of_view view) }
         ensures me { self.new.me ≡ self.old.me }
+        ensures stock { (items : List Entry) → Stocks [] self.old.me (server self.old items)
+            (Demoting (number_of_view view) ∷ []) (stock self.old) (stock self.new) }
         ensures cached { self.new.cached ≡ [] }
         ensures mark { self.new.mark ≡ mark }
         ensures up { self.new.halted ≡ false }
@@ -109,6 +116,8 @@ impl Node {
         ensures state { (items : List Entry) → server self.new items
             ≡ demoted (server self.old items) (number_of_view view) }
         ensures me { self.new.me ≡ self.old.me }
+        ensures stock { (items : List Entry) → Stocks [] self.old.me (server self.old items)
+            (Demoting (number_of_view view) ∷ []) (stock self.old) (stock self.new) }
         ensures cached { self.new.cached ≡ [] }
         ensures mark { self.new.mark ≡ mark }
         ensures up { self.new.halted ≡ false }
@@ -128,6 +137,8 @@ fn without_log(state: State) -> State
     ensures up { is_gone result ≡ false }
     ensures drops { GoesOn state result }
     ensures cached { cached_in result ≡ [] }
+    ensures stock { stock_in result
+        ≡ record { log = []; pulled = pulled_in state; waits = [] } }
     ensures fits { (q : Place) (old new : MarkFields) → is_p2 q ≡ true → Fits q old state
         → Fits q new result }
 {

@@ -1,5 +1,6 @@
 //! How a server makes its store durable. After an error the server is halted.
 
+ghost use Rattle.node.specs.Stock.{stock};
 ghost use Rattle.std.specs.Prelude.{◌≡◌, ◌≤◌, [], List, ℕ, Err, OnErr, OnOk, Some, false, true};
 ghost use Rattle.applier.specs.Applied.{IsOldOrSynced, flushed, lower};
 ghost use Rattle.cell_cache.specs.Entries.{AreOf};
@@ -37,6 +38,7 @@ impl Node {
             Makes self.old.me clock (flush self.old.me s) [] s (server self.new items)
             outs outs) }
         ensures me { self.new.me ≡ self.old.me }
+        ensures stock { OnOk result (stock self.new ≡ stock self.old) }
         ensures mark { OnOk result (self.new.mark ≡ mark_flushed self.old) }
         ensures up { OnOk result (self.new.halted ≡ false) }
         ensures done { OnOk result (D.told store.new ≡ disk_flushed self.old (D.told store.old)) }

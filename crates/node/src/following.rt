@@ -1,6 +1,7 @@
 //! What a partner heeds of its view. After an error the server is halted.
 
-ghost use Rattle.std.specs.Prelude.{◌≡◌, ◌+◌, ◌-◌, ◌<◌, ◌≤◌, ◌^◌, [], List, OnOk, false, length, true};
+ghost use Rattle.node.specs.Stock.{Stocks, stock};
+ghost use Rattle.std.specs.Prelude.{◌≡◌, ◌+◌, ◌-◌, ◌<◌, ◌≤◌, ◌^◌, [], List, OnOk, false, length, true, ◌∷◌};
 ghost use Rattle.event_record.specs.Record.{entry_of};
 ghost use Rattle.file_tree.specs.Book.{Entry};
 ghost use Rattle.group_rules.specs.Effects.{taken};
@@ -49,6 +50,9 @@ impl Node {
             (taken s item.index (entry_of item))) [] s (server self.new items)
             outs.old outs.new) }
         ensures me { self.new.me ≡ self.old.me }
+        ensures stock { OnOk result ((items : List Entry) (from : Place)
+            → let s = server self.old items in Stocks (item ∷ []) self.old.me s
+            (on_event self.old.me now s from (number_of_view view) cp base (taken s item.index (entry_of item))) (stock self.old) (stock self.new)) }
         ensures cached { OnOk result (self.new.cached ≡ self.old.cached) }
         ensures mark { self.new.mark ≡ self.old.mark }
         ensures up { OnOk result (self.new.halted ≡ false) }
@@ -85,6 +89,9 @@ impl Node {
             → Makes self.old.me now (on_event self.old.me now s from (number_of_view view) cp base
             s.items) [] s (server self.new items) outs.old outs.new) }
         ensures me { self.new.me ≡ self.old.me }
+        ensures stock { OnOk result ((items : List Entry) (from : Place)
+            → let s = server self.old items in Stocks [] self.old.me s
+            (on_event self.old.me now s from (number_of_view view) cp base s.items) (stock self.old) (stock self.new)) }
         ensures cached { OnOk result (self.new.cached ≡ self.old.cached) }
         ensures mark { self.new.mark ≡ self.old.mark }
         ensures up { OnOk result (self.new.halted ≡ false) }

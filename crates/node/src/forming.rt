@@ -1,5 +1,6 @@
 //! The part of a storer that a Form gives.
 
+ghost use Rattle.node.specs.Stock.{Stocks, stock, stock_kept};
 ghost use Rattle.std.specs.Prelude.{◌≡◌, ◌∷◌, [], ◌≤◌, List, false, ℕ, Err, OnErr, OnOk};
 ghost use Rattle.file_tree.specs.Book.{Entry};
 ghost use Rattle.group_rules.specs.Form.{form_moves, on_form};
@@ -46,6 +47,10 @@ impl Node {
             Makes self.old.me clock (on_form self.old.me s (number_of_view view) (plan_of form)) []
             s (server self.new items) outs.old outs.new) }
         ensures me { self.new.me ≡ self.old.me }
+        ensures stock { OnOk result ((items : List Entry) → let s = server self.old items in
+            Stocks [] self.old.me s
+            (on_form self.old.me s (number_of_view view) (plan_of form))
+            (stock self.old) (stock self.new)) }
         ensures cached { OnOk result (IsCachedAs self.old.cached self.new.cached) }
         ensures mark { OnOk result (self.new.mark ≡ marked_by self.old.mark
             (on_form self.old.me self.old.plain (number_of_view view) (plan_of form))) }
@@ -83,6 +88,10 @@ impl Node {
             Makes self.old.me clock (form_moves self.old.me s (plan_of form)) []
             s (server self.new items) outs.old outs.new) }
         ensures me { self.new.me ≡ self.old.me }
+        ensures stock { OnOk result ((items : List Entry) → let s = server self.old items in
+            Stocks [] self.old.me s
+            (form_moves self.old.me s (plan_of form))
+            (stock self.old) (stock self.new)) }
         ensures cached { OnOk result (IsCachedAs self.old.cached self.new.cached) }
         ensures mark { OnOk result (self.new.mark ≡ marked_by self.old.mark
             (form_moves self.old.me self.old.plain (plan_of form))) }
@@ -139,6 +148,10 @@ impl Node {
             Makes self.old.me clock (form_moves self.old.me s (plan_of form)) []
             s (server self.new items) outs.old outs.new) }
         ensures me { self.new.me ≡ self.old.me }
+        ensures stock { OnOk result ((items : List Entry) → let s = joined_with (server self.old items) kept joining in
+            Stocks [] self.old.me s
+            (form_moves self.old.me s (plan_of form))
+            (stock_kept kept []) (stock self.new)) }
         ensures cached { OnOk result (self.new.cached ≡ []) }
         ensures mark { OnOk result (self.new.mark ≡ marked_by self.old.mark
             (form_moves self.old.me (joined_with self.old.plain kept joining) (plan_of form))) }
@@ -184,6 +197,8 @@ impl Node {
         ensures state { OnOk result ((items : List Entry) → server self.new items
             ≡ pulling_with (server self.old items) pull) }
         ensures me { self.new.me ≡ self.old.me }
+        ensures stock { OnOk result (stock self.new
+            ≡ stock_kept pull.kept pull.staged.records) }
         ensures cached { OnOk result (self.new.cached ≡ []) }
         ensures mark { self.new.mark ≡ self.old.mark }
         ensures up { OnOk result (self.new.halted ≡ false) }

@@ -1,5 +1,6 @@
 //! The Formed of other servers.
 
+ghost use Rattle.node.specs.Stock.{stock};
 ghost use Rattle.std.specs.Prelude.{◌≡◌, List, false, true, ℕ, Some};
 ghost use Rattle.file_tree.specs.Book.{Entry};
 ghost use Rattle.group_rules.specs.Misfits.{heard_tests};
@@ -29,6 +30,7 @@ impl Node {
             server self.new items ≡ acts self.old.me clock s
             (on_formed s (place_of from) (number_of_view view) lb) }
         ensures me { self.new.me ≡ self.old.me }
+        ensures stock { stock self.new ≡ stock self.old }
         ensures cached { self.new.cached ≡ self.old.cached }
         ensures mark { self.new.mark ≡ self.old.mark }
         ensures up { self.new.halted ≡ false }

@@ -1,5 +1,6 @@
 //! Invitations to a view.
 
+ghost use Rattle.node.specs.Stock.{Stocks, stock};
 ghost use Rattle.std.specs.Prelude.{◌≡◌, [], ◌==◌, ◌≤◌, List, None, Some, false, nat_lt, option_map, ℕ, Err, OnErr, OnOk, if◌then◌else◌};
 ghost use Rattle.file_tree.specs.Book.{Entry};
 ghost use Rattle.group_rules.specs.Joining.{joined_tests, on_invite};
@@ -42,6 +43,10 @@ impl Node {
             Makes self.old.me clock (on_invite s (place_of from) (number_of_view view)) []
             s (server self.new items) outs.old outs.new) }
         ensures me { self.new.me ≡ self.old.me }
+        ensures stock { OnOk result ((items : List Entry) → let s = server self.old items in
+            Stocks [] self.old.me s
+            (on_invite s (place_of from) (number_of_view view))
+            (stock self.old) (stock self.new)) }
         ensures cached { OnOk result (IsCachedAs self.old.cached self.new.cached) }
         ensures mark { OnOk result (self.new.mark ≡ marked_by self.old.mark
             (on_invite self.old.plain (place_of from) (number_of_view view))) }

@@ -1,5 +1,6 @@
 //! Suspicion, invitations and joins.
 
+ghost use Rattle.node.specs.Stock.{Stocks, stock};
 ghost use Rattle.std.specs.Prelude.{◌≡◌, ◌++◌, ◌∷◌, [], ◌==◌, ◌≤◌, List, None, Some, false, nat_lt, option_map, true, ℕ, Err, IfSome, OnErr, OnOk, if◌then◌else◌};
 ghost use Rattle.file_tree.specs.Book.{Entry};
 ghost use Rattle.group_rules.specs.Effects.{joined_server, report_of};
@@ -9,11 +10,11 @@ ghost use Rattle.group_rules.specs.Places.{Place};
 ghost use Rattle.harp_store.specs.Disk.{MayHaveMade, after_step, with_mark};
 ghost use Rattle.harp_base.specs.Streams.{Rose};
 ghost use Rattle.harp_store.specs.Mark.{MarkFields};
-ghost use Rattle.kept_log.specs.Kept.{ap_in as kept_ap, base_in as kept_base, cp_in as kept_cp, held_in as kept_held, items_in as kept_items};
+ghost use Rattle.kept_log.specs.Kept.{ap_in as kept_ap, base_in as kept_base, cp_in as kept_cp, held_in as kept_held, items_in as kept_items, log_in};
 ghost use Rattle.node.specs.Cached.{IsCachedAs};
 ghost use Rattle.node.specs.Disk.{MayLeave, disk_after, marked_by, promising};
 ghost use Rattle.node.specs.Node.{server};
-ghost use Rattle.node.specs.State.{CollectsStill, IsKept, Fits, ap_in, base_in, cp_in, duty_of, held_in, is_gone, items_in};
+ghost use Rattle.node.specs.State.{CollectsStill, IsKept, Fits, ap_in, base_in, cp_in, duty_of, held_in, is_gone, items_in, records_in};
 ghost use Rattle.outputs.specs.Makes.{Makes};
 ghost use Rattle.group_rules.specs.State.{Log};
 ghost use Rattle.view_form.specs.Choice.{report};
@@ -67,6 +68,8 @@ impl Node {
         ensures state { OnOk result ((items : List Entry) → server self.new items
             ≡ joined_server (server self.old items) (number_of_view view) (duty_of duty)) }
         ensures me { self.new.me ≡ self.old.me }
+        ensures stock { OnOk result (stock self.new
+            ≡ record (stock self.old) { pulled = []; waits = [] }) }
         ensures cached { OnOk result (self.new.cached ≡ []) }
         ensures mark { OnOk result (self.new.mark ≡ promising self.old.mark view) }
         ensures up { OnOk result (self.new.halted ≡ false) }
@@ -103,6 +106,10 @@ impl Node {
             Makes self.old.me clock (suspect self.old.me s) [] s (server self.new items)
             outs.old outs.new) }
         ensures me { self.new.me ≡ self.old.me }
+        ensures stock { OnOk result ((items : List Entry) → let s = server self.old items in
+            Stocks [] self.old.me s
+            (suspect self.old.me s)
+            (stock self.old) (stock self.new)) }
         ensures mark { OnOk result (self.new.mark ≡ marked_by self.old.mark
             (suspect self.old.me self.old.plain)) }
         ensures cached { OnOk result (IsCachedAs self.old.cached self.new.cached) }
@@ -160,6 +167,7 @@ pub(crate) fn kept_of(state: State) -> Kept
     ensures ap { kept_ap result ≡ ap_in state }
     ensures cp { kept_cp result ≡ cp_in state }
     ensures items { kept_items result ≡ items_in state }
+    ensures records { (log_in result).records ≡ records_in state }
     ensures kept { (me : Place) (mark : MarkFields) → Fits me mark state
         → IsKept me mark result }
 {

@@ -1,5 +1,7 @@
 //! What a leader heeds of its view, and how it opens it. After an error the server is halted.
 
+ghost use Rattle.outputs.specs.Records.{records_sent};
+ghost use Rattle.node.specs.Stock.{stock, Stocks};
 ghost use Rattle.std.specs.Prelude.{◌≡◌, ◌≤◌, [], List, ℕ, OnOk, false, true};
 ghost use Rattle.file_tree.specs.Book.{Entry};
 ghost use Rattle.group_rules.specs.Names.{number_of_view};
@@ -38,6 +40,10 @@ impl Node {
             Makes self.old.me clock (on_ack s (number_of_view view) top lb until) self.old.peers s
             (server self.new items) outs.old outs.new) }
         ensures me { self.new.me ≡ self.old.me }
+        ensures stock { OnOk result ((items : List Entry) → let s = server self.old items in
+            Stocks [] self.old.me s
+            (on_ack s (number_of_view view) top lb until)
+            (stock self.old) (stock self.new)) }
         ensures cached { OnOk result (self.new.cached ≡ self.old.cached) }
         ensures mark { self.new.mark ≡ self.old.mark }
         ensures up { OnOk result (self.new.halted ≡ false) }
@@ -66,6 +72,8 @@ impl Node {
             Makes self.old.me now (try_open self.old.me now s) [] s (server self.new items)
             outs.old outs.new) }
         ensures me { self.new.me ≡ self.old.me }
+        ensures stock { OnOk result (stock self.new ≡ stock self.old) }
+        ensures records { OnOk result (records_sent outs.new ≡ records_sent outs.old) }
         ensures cached { OnOk result (self.new.cached ≡ self.old.cached) }
         ensures mark { self.new.mark ≡ self.old.mark }
         ensures up { OnOk result (self.new.halted ≡ false) }

@@ -1,5 +1,6 @@
 //! The listing of a server's tree. After an error the server is halted.
 
+ghost use Rattle.node.specs.Stock.{stock};
 ghost use Rattle.std.specs.Prelude.{◌≡◌, ◌≤◌, [], List, ℕ, Err, OnOk, Some, false, true};
 ghost use Rattle.cell_cache.specs.Entries.{AreOf};
 ghost use Rattle.file_tree.specs.Book.{Entry};
@@ -44,6 +45,7 @@ impl Node {
             → outs.new.listing ≡ Some (listing_at self.old.plain.cp list)) }
         ensures silent { stores self.old ≡ false → outs.new ≡ outs.old }
         ensures me { self.new.me ≡ self.old.me }
+        ensures stock { OnOk result (stock self.new ≡ stock self.old) }
         ensures mark { self.new.mark ≡ self.old.mark }
         ensures up { OnOk result (self.new.halted ≡ false) }
         ensures records { records_sent outs.new ≡ records_sent outs.old }

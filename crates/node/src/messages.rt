@@ -1,6 +1,9 @@
 //! A message that has come, by its form. After an error the server is halted.
 
-ghost use Rattle.std.specs.Prelude.{◌≡◌, ◌<◌, ◌≤◌, ◌^◌, List, ℕ, Err, OnErr, OnOk, false};
+ghost use Rattle.kept_log.specs.Gives.{StandIn};
+ghost use Rattle.outputs.specs.Records.{carried, records_sent};
+ghost use Rattle.node.specs.Stock.{Stocks, stock, IsFetch};
+ghost use Rattle.std.specs.Prelude.{◌≡◌, ◌<◌, ◌≤◌, ◌^◌, List, ℕ, Err, OnErr, OnOk, false, ◌++◌};
 ghost use Rattle.file_tree.specs.Book.{Entry};
 ghost use Rattle.harp_base.specs.Streams.{Rose};
 ghost use Rattle.node.specs.Cached.{IsCachedAs};
@@ -40,6 +43,13 @@ impl Node {
             (ruled size self.old.me now list s (input_in from message)) self.old.peers s
             (server self.new items) outs.old outs.new) }
         ensures me { self.new.me ≡ self.old.me }
+        ensures stock { OnOk result ((items : List Entry) (size : List Entry → Entry → ℕ)
+            (list : List Entry) → let s = server self.old items in
+            Stocks (carried message) self.old.me s
+            (ruled size self.old.me now list s (input_in from message))
+            (stock self.old) (stock self.new)) }
+        ensures sent { OnOk result (IsFetch message → StandIn (records_sent outs.old
+            ++ self.old.records) (records_sent outs.new)) }
         ensures cached { OnOk result (IsCachedAs self.old.cached self.new.cached) }
         ensures mark { OnOk result ((size : List Entry → Entry → ℕ) (list : List Entry)
             → self.new.mark ≡ marked_by self.old.mark

@@ -1,5 +1,6 @@
 //! The records of a Give, at a storer that pulls.
 
+ghost use Rattle.node.specs.Stock.{Stocks, stock, stock_kept};
 ghost use Rattle.std.specs.Prelude.{◌≡◌, ◌+◌, ◌==◌, ◌∷◌, [], ◌≤◌, List, false, length, map, nat_le, true, ℕ, Err, OnErr, OnOk};
 ghost use Rattle.event_record.specs.Record.{entry_of};
 ghost use Rattle.file_tree.specs.Book.{Entry};
@@ -55,6 +56,10 @@ impl Node {
             Makes self.old.me clock (on_give self.old.me s (number_of_view view) first
             (map entry_of records)) [] s (server self.new items) outs.old outs.new) }
         ensures me { self.new.me ≡ self.old.me }
+        ensures stock { OnOk result ((items : List Entry) → let s = server self.old items in
+            Stocks records self.old.me s
+            (on_give self.old.me s (number_of_view view) first (map entry_of records))
+            (stock self.old) (stock self.new)) }
         ensures cached { OnOk result (IsCachedAs self.old.cached self.new.cached) }
         ensures mark { OnOk result (self.new.mark ≡ marked_by self.old.mark
             (on_give self.old.me self.old.plain (number_of_view view) first
@@ -124,6 +129,10 @@ impl Node {
             Makes self.old.me clock (on_give self.old.me s s.promised first
             (map entry_of records)) [] s (server self.new items) outs.old outs.new) }
         ensures me { self.new.me ≡ self.old.me }
+        ensures stock { OnOk result ((items : List Entry) → let s = pulling_with (server self.old items) pull in
+            Stocks records self.old.me s
+            (on_give self.old.me s s.promised first (map entry_of records))
+            (stock_kept pull.kept pull.staged.records) (stock self.new)) }
         ensures cached { OnOk result (self.new.cached ≡ []) }
         ensures mark { OnOk result (let s = pulling_with self.old.plain pull in
             self.new.mark ≡ marked_by self.old.mark

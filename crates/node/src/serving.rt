@@ -1,13 +1,14 @@
 //! The records that a server gives to another that fetches them.
 
-ghost use Rattle.std.specs.Prelude.{◌≡◌, ◌-◌, ◌≤◌, [], List, ℕ, IfOk, OnOk, Option, false, take};
+ghost use Rattle.outputs.specs.Records.{records_sent};
+ghost use Rattle.std.specs.Prelude.{◌≡◌, ◌-◌, ◌≤◌, [], List, ℕ, IfOk, OnOk, Option, false, take, ◌++◌, IfSome};
 ghost use Rattle.file_tree.specs.Book.{Entry};
 ghost use Rattle.group_rules.specs.Limits.{is_joining, is_log};
 ghost use Rattle.group_rules.specs.Names.{number_of_view, place_of};
 ghost use Rattle.group_rules.specs.Places.{Place};
 ghost use Rattle.group_rules.specs.Serving.{on_fetch};
 ghost use Rattle.group_rules.specs.State.{top};
-ghost use Rattle.kept_log.specs.Gives.{given_moves};
+ghost use Rattle.kept_log.specs.Gives.{given_moves, StandIn};
 ghost use Rattle.node.specs.Node.{server};
 ghost use Rattle.node.specs.Serving.{FindsGiven, IsSized, last_served};
 ghost use Rattle.outputs.specs.Makes.{Makes};
@@ -34,12 +35,14 @@ impl Node {
         outs: &mut Outputs,
     ) -> Result<(), AllocError>
         requires { self.now.halted ≡ false }
-        ensures { OnOk result ((items : List Entry) (clock : ℕ) (size : List Entry → Entry → ℕ)
+        ensures makes { OnOk result ((items : List Entry) (clock : ℕ) (size : List Entry → Entry → ℕ)
             (list : List Entry) → self.now.plain.served ≤ top self.now.plain
             → IsSized size list self.now (number_of_view view) first
             → let s = server self.now items in Makes self.now.me clock
             (on_fetch size list s (place_of from) (number_of_view view) first) [] s s
             outs.old outs.new) }
+        ensures sent { OnOk result (StandIn (records_sent outs.old ++ self.now.records)
+            (records_sent outs.new)) }
     {
         let Some(last) = self.last_served(view) else {
             return Ok(());
@@ -78,8 +81,9 @@ impl Node {
     /// The records of the server's log from this index on that a Give has space for, up to `last`.
     fn found(&self, alloc: Global, first: u64, last: u64) -> Result<Option<Records>, AllocError>
         requires { self.now.halted ≡ false }
-        ensures { IfOk result (λ found. (items : List Entry) → FindsGiven self.now items first last
+        ensures given { IfOk result (λ found. (items : List Entry) → FindsGiven self.now items first last
             found) }
+        ensures own { IfOk result (λ found. IfSome found (StandIn self.now.records)) }
     {
         match &self.state {
             State::Gone => unreachable!(),

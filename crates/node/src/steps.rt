@@ -1,18 +1,25 @@
 //! The steps of a server.
 
-ghost use Rattle.std.specs.Prelude.{◌≡◌, ◌↔◌, ◌<◌, ◌≤◌, ◌^◌, List, ℕ, Err, IfOk, OnErr, OnOk, false, true};
+ghost use Rattle.std.specs.Prelude.{◌≡◌, ◌↔◌, ◌<◌, ◌≤◌, ◌^◌, ◌++◌, [], List, ℕ, Err, IfOk, None, OnErr, OnOk, false, true};
 ghost use Rattle.cell_cache.specs.Entries.{AreOf};
+ghost use Rattle.event_record.specs.declared.record.RecordFields.{RecordFields};
 ghost use Rattle.file_tree.specs.Book.{Entry};
 ghost use Rattle.group_rules.specs.Moves.{acts};
 ghost use Rattle.group_rules.specs.Open.{rebase};
 ghost use Rattle.harp_base.specs.Streams.{Rose};
 ghost use Rattle.harp_store.specs.Disk.{cells_told};
-ghost use Rattle.node.specs.Input.{FillsInput, input_of, peers_of};
+ghost use Rattle.kept_log.specs.Gives.{StandIn};
+ghost use Rattle.node.specs.Input.{FillsInput, FillsSized, came, input_of, peers_of};
 ghost use Rattle.node.specs.Node.{server};
-ghost use Rattle.node.specs.Step.{Steps};
+ghost use Rattle.node.specs.Serving.{entry_size};
+ghost use Rattle.node.specs.Step.{ListsFor, StepsWhole};
+ghost use Rattle.node.specs.Stock.{Stocks, stock, stock_after};
 ghost use Rattle.node.specs.Stored.{LeavesBy, disk_by, mark_by};
 ghost use Rattle.node.specs.Taking.{ruled, stepped};
 ghost use Rattle.outputs.specs.Makes.{Makes};
+ghost use Rattle.outputs.specs.Records.{records_sent};
+ghost use Rattle.outputs.specs.Said.{nothing, said};
+ghost use Rattle.view_replica.specs.Asking.{recorded};
 
 use crate::fault::NodeFault;
 use crate::input::Input;
@@ -37,11 +44,13 @@ impl Node {
     ) -> Result<Outputs, NodeFault>
         requires cached { AreOf (cells_told (D.told store.old)) self.old.cached }
         requires now { now < 2 ^ 62 }
-        ensures makes { IfOk result (λ outs. (items : List Entry) (size : List Entry → Entry → ℕ)
-            (list : List Entry) → FillsInput size list self.old now (D.told store.old) input
-            → let s = server self.old items in
-            Steps self.old.me now (stepped size self.old.me now list s (input_of input))
-            (peers_of self.old input) s (server self.new items) outs) }
+        ensures steps { IfOk result (λ outs. (items list : List Entry)
+            → FillsInput list self.old now (D.told store.old) input
+            → StepsWhole now list items input
+            (stepped entry_size self.old.me now list (server self.old items) (input_of input))
+            self.old self.new outs) }
+        ensures listing { IfOk result (λ outs. ListsFor input self.old (D.told store.old) None
+            outs.listing) }
         ensures me { self.new.me ≡ self.old.me }
         ensures cached { AreOf (cells_told (D.told store.new)) self.new.cached }
         ensures mark { OnOk result ((size : List Entry → Entry → ℕ) (list : List Entry)
@@ -96,10 +105,23 @@ impl Node {
         requires cached { AreOf (cells_told (D.told store.old)) self.old.cached }
         requires now { now < 2 ^ 62 }
         ensures makes { OnOk result ((items : List Entry) (size : List Entry → Entry → ℕ)
-            (list : List Entry) → FillsInput size list self.old now (D.told store.old) input
+            (list : List Entry) → FillsSized size list self.old now (D.told store.old) input
             → let s = server self.old items in Makes self.old.me now
             (ruled size self.old.me now list s (input_of input)) (peers_of self.old input) s
             (server self.new items) outs.old outs.new) }
+        ensures stock { OnOk result ((items : List Entry) (size : List Entry → Entry → ℕ)
+            (list : List Entry) → FillsSized size list self.old now (D.told store.old) input
+            → let s = server self.old items in stock self.new ≡ stock_after self.old.me now list
+            (came input) (peers_of self.old input) s
+            (ruled size self.old.me now list s (input_of input)) (stock self.old)) }
+        ensures sent { OnOk result ((items : List Entry) (size : List Entry → Entry → ℕ)
+            (list : List Entry) → FillsSized size list self.old now (D.told store.old) input
+            → said outs.old ≡ nothing → records_sent outs.old ≡ []
+            → StandIn (self.old.records ++ recorded self.old.plain.accepted list
+            (ruled size self.old.me now list (server self.old items) (input_of input)))
+            (records_sent outs.new)) }
+        ensures listing { OnOk result (ListsFor input self.old (D.told store.old)
+            outs.old.listing outs.new.listing) }
         ensures me { self.new.me ≡ self.old.me }
         ensures cached { OnOk result (AreOf (cells_told (D.told store.new)) self.new.cached) }
         ensures mark { OnOk result ((size : List Entry → Entry → ℕ) (list : List Entry)
@@ -155,6 +177,9 @@ impl Node {
         requires { self.old.halted ≡ false }
         ensures state { (items : List Entry) (clock : ℕ) → let s = server self.old items in
             server self.new items ≡ acts self.old.me clock s (rebase s) }
+        ensures stock { (came : List RecordFields) (items : List Entry)
+            → let s = server self.old items in
+            Stocks came self.old.me s (rebase s) (stock self.old) (stock self.new) }
         ensures me { self.new.me ≡ self.old.me }
         ensures cached { self.new.cached ≡ self.old.cached }
         ensures mark { self.new.mark ≡ self.old.mark }

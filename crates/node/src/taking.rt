@@ -1,7 +1,10 @@
 //! Messages of a running view, from their tests to the test of opening. After an error the server
 //! is halted.
 
-ghost use Rattle.std.specs.Prelude.{◌≡◌, ◌<◌, ◌≤◌, ◌^◌, [], List, ℕ, OnOk, false};
+ghost use Rattle.kept_log.specs.Gives.{StandIn};
+ghost use Rattle.outputs.specs.Records.{records_sent};
+ghost use Rattle.node.specs.Stock.{stock, Stocks};
+ghost use Rattle.std.specs.Prelude.{◌≡◌, ◌<◌, ◌≤◌, ◌^◌, [], List, ℕ, OnOk, false, ◌∷◌, ◌++◌};
 ghost use Rattle.event_record.specs.Record.{entry_of};
 ghost use Rattle.file_tree.specs.Book.{Entry};
 ghost use Rattle.group_rules.specs.Names.{number_of_view, place_of};
@@ -38,6 +41,9 @@ impl Node {
             (Comes (place_of from) (Fetch (number_of_view view) first)))
             [] s (server self.new items) outs.old outs.new) }
         ensures me { self.new.me ≡ self.old.me }
+        ensures stock { OnOk result (stock self.new ≡ stock self.old) }
+        ensures sent { OnOk result (StandIn (records_sent outs.old ++ self.old.records)
+            (records_sent outs.new)) }
         ensures cached { OnOk result (self.new.cached ≡ self.old.cached) }
         ensures mark { self.new.mark ≡ self.old.mark }
         ensures up { OnOk result (self.new.halted ≡ false) }
@@ -69,6 +75,10 @@ impl Node {
             (Event (number_of_view view) item.index cp base (entry_of item))))
             [] s (server self.new items) outs.old outs.new) }
         ensures me { self.new.me ≡ self.old.me }
+        ensures stock { OnOk result ((items : List Entry) (size : List Entry → Entry → ℕ)
+            (list : List Entry) → let s = server self.old items in Stocks (item ∷ []) self.old.me s
+            (rule size self.old.me now list s (Comes (place_of from)
+            (Event (number_of_view view) item.index cp base (entry_of item)))) (stock self.old) (stock self.new)) }
         ensures cached { OnOk result (self.new.cached ≡ self.old.cached) }
         ensures mark { self.new.mark ≡ self.old.mark }
         ensures up { OnOk result (self.new.halted ≡ false) }
@@ -99,6 +109,10 @@ impl Node {
             (Comes (place_of from) (Beat (number_of_view view) cp base)))
             [] s (server self.new items) outs.old outs.new) }
         ensures me { self.new.me ≡ self.old.me }
+        ensures stock { OnOk result ((items : List Entry) (size : List Entry → Entry → ℕ)
+            (list : List Entry) → let s = server self.old items in Stocks [] self.old.me s
+            (rule size self.old.me now list s (Comes (place_of from)
+            (Beat (number_of_view view) cp base))) (stock self.old) (stock self.new)) }
         ensures cached { OnOk result (self.new.cached ≡ self.old.cached) }
         ensures mark { self.new.mark ≡ self.old.mark }
         ensures up { OnOk result (self.new.halted ≡ false) }
@@ -129,6 +143,10 @@ impl Node {
             (Comes (place_of from) (Ack (number_of_view view) top lb until)))
             self.old.peers s (server self.new items) outs.old outs.new) }
         ensures me { self.new.me ≡ self.old.me }
+        ensures stock { OnOk result ((items : List Entry) (size : List Entry → Entry → ℕ)
+            (list : List Entry) → let s = server self.old items in Stocks [] self.old.me s
+            (rule size self.old.me now list s (Comes (place_of from)
+            (Ack (number_of_view view) top lb until))) (stock self.old) (stock self.new)) }
         ensures cached { OnOk result (self.new.cached ≡ self.old.cached) }
         ensures mark { self.new.mark ≡ self.old.mark }
         ensures up { OnOk result (self.new.halted ≡ false) }

@@ -1,6 +1,7 @@
 //! Messages of a view that is being formed, from their tests to the test of opening. After an error
 //! the server is halted.
 
+ghost use Rattle.node.specs.Stock.{stock, Stocks};
 ghost use Rattle.std.specs.Prelude.{◌≡◌, ◌≤◌, [], List, ℕ, Err, OnErr, OnOk, false, map};
 ghost use Rattle.event_record.specs.Record.{entry_of};
 ghost use Rattle.file_tree.specs.Book.{Entry};
@@ -45,6 +46,10 @@ impl Node {
             (Invite (number_of_view view))))
             [] s (server self.new items) outs.old outs.new) }
         ensures me { self.new.me ≡ self.old.me }
+        ensures stock { OnOk result ((items : List Entry) (size : List Entry → Entry → ℕ)
+            (list : List Entry) → let s = server self.old items in Stocks [] self.old.me s
+            (rule size self.old.me now list s (Comes (place_of from)
+            (Invite (number_of_view view)))) (stock self.old) (stock self.new)) }
         ensures cached { OnOk result (IsCachedAs self.old.cached self.new.cached) }
         ensures mark { OnOk result ((size : List Entry → Entry → ℕ) (list : List Entry)
             → self.new.mark ≡ marked_by self.old.mark (coming size now list self.old
@@ -89,6 +94,10 @@ impl Node {
             (Join (number_of_view view) (report info))))
             [] s (server self.new items) outs.old outs.new) }
         ensures me { self.new.me ≡ self.old.me }
+        ensures stock { OnOk result ((items : List Entry) (size : List Entry → Entry → ℕ)
+            (list : List Entry) → let s = server self.old items in Stocks [] self.old.me s
+            (rule size self.old.me now list s (Comes (place_of from)
+            (Join (number_of_view view) (report info)))) (stock self.old) (stock self.new)) }
         ensures cached { OnOk result (IsCachedAs self.old.cached self.new.cached) }
         ensures mark { OnOk result ((size : List Entry → Entry → ℕ) (list : List Entry)
             → self.new.mark ≡ marked_by self.old.mark (coming size now list self.old
@@ -133,6 +142,10 @@ impl Node {
             (SendsForm (number_of_view view) (plan_of form))))
             [] s (server self.new items) outs.old outs.new) }
         ensures me { self.new.me ≡ self.old.me }
+        ensures stock { OnOk result ((items : List Entry) (size : List Entry → Entry → ℕ)
+            (list : List Entry) → let s = server self.old items in Stocks [] self.old.me s
+            (rule size self.old.me now list s (Comes (place_of from)
+            (SendsForm (number_of_view view) (plan_of form)))) (stock self.old) (stock self.new)) }
         ensures cached { OnOk result (IsCachedAs self.old.cached self.new.cached) }
         ensures mark { OnOk result ((size : List Entry → Entry → ℕ) (list : List Entry)
             → self.new.mark ≡ marked_by self.old.mark (coming size now list self.old
@@ -178,6 +191,10 @@ impl Node {
             (Give (number_of_view view) first (map entry_of records))))
             [] s (server self.new items) outs.old outs.new) }
         ensures me { self.new.me ≡ self.old.me }
+        ensures stock { OnOk result ((items : List Entry) (size : List Entry → Entry → ℕ)
+            (list : List Entry) → let s = server self.old items in Stocks records self.old.me s
+            (rule size self.old.me now list s (Comes (place_of from)
+            (Give (number_of_view view) first (map entry_of records)))) (stock self.old) (stock self.new)) }
         ensures cached { OnOk result (IsCachedAs self.old.cached self.new.cached) }
         ensures mark { OnOk result ((size : List Entry → Entry → ℕ) (list : List Entry)
             → self.new.mark ≡ marked_by self.old.mark (coming size now list self.old
@@ -222,6 +239,10 @@ impl Node {
             (Demote (number_of_view view))))
             [] s (server self.new items) outs.old outs.new) }
         ensures me { self.new.me ≡ self.old.me }
+        ensures stock { OnOk result ((items : List Entry) (size : List Entry → Entry → ℕ)
+            (list : List Entry) → let s = server self.old items in Stocks [] self.old.me s
+            (rule size self.old.me now list s (Comes (place_of from)
+            (Demote (number_of_view view)))) (stock self.old) (stock self.new)) }
         ensures cached { OnOk result (IsCachedAs self.old.cached self.new.cached) }
         ensures mark { OnOk result ((size : List Entry → Entry → ℕ) (list : List Entry)
             → self.new.mark ≡ marked_by self.old.mark (coming size now list self.old
@@ -264,6 +285,7 @@ impl Node {
             (Comes (place_of from) (Formed (number_of_view view) lb)))
             [] s (server self.new items) outs.old outs.new) }
         ensures me { self.new.me ≡ self.old.me }
+        ensures stock { OnOk result (stock self.new ≡ stock self.old) }
         ensures cached { OnOk result (IsCachedAs self.old.cached self.new.cached) }
         ensures mark { self.new.mark ≡ self.old.mark }
         ensures up { OnOk result (self.new.halted ≡ false) }

@@ -1,5 +1,8 @@
 //! What a server does from time to time. After an error it is halted.
 
+ghost use Rattle.kept_log.specs.Gives.{StandIn};
+ghost use Rattle.outputs.specs.Records.{records_sent};
+ghost use Rattle.node.specs.Stock.{stock};
 ghost use Rattle.std.specs.Prelude.{◌≡◌, ◌++◌, ◌∷◌, [], List, ℕ, OnOk, Some, false, map, option_map, if◌then◌else◌};
 ghost use Rattle.file_tree.specs.Book.{Entry};
 ghost use Rattle.group_rules.specs.Joining.{to_each};
@@ -43,6 +46,9 @@ impl Node {
             Makes self.old.me now (tick self.old.me now s) [] s (server self.new items)
             outs.old outs.new) }
         ensures me { self.new.me ≡ self.old.me }
+        ensures stock { OnOk result (stock self.new ≡ stock self.old) }
+        ensures sent { OnOk result (StandIn (records_sent outs.old ++ self.old.records)
+            (records_sent outs.new)) }
         ensures cached { OnOk result (self.new.cached ≡ self.old.cached) }
         ensures mark { self.new.mark ≡ self.old.mark }
         ensures up { OnOk result (self.new.halted ≡ false) }
@@ -59,6 +65,9 @@ impl Node {
             Makes self.old.me now (if is_open s.mode then beats s else try_open self.old.me now s)
             [] s (server self.new items) outs.old outs.new) }
         ensures me { self.new.me ≡ self.old.me }
+        ensures stock { OnOk result (stock self.new ≡ stock self.old) }
+        ensures sent { OnOk result (StandIn (records_sent outs.old ++ self.old.records)
+            (records_sent outs.new)) }
         ensures cached { OnOk result (self.new.cached ≡ self.old.cached) }
         ensures mark { self.new.mark ≡ self.old.mark }
         ensures up { OnOk result (self.new.halted ≡ false) }
@@ -75,8 +84,9 @@ impl Node {
     /// sends its Forms again until the view is settled.
     fn do_duty(&self, outs: &mut Outputs) -> Result<(), AllocError>
         requires { self.now.halted ≡ false }
-        ensures { OnOk result ((items : List Entry) (clock : ℕ) → let s = server self.now items in
+        ensures makes { OnOk result ((items : List Entry) (clock : ℕ) → let s = server self.now items in
             Makes self.now.me clock (duties self.now.me s s.duty) [] s s outs.old outs.new) }
+        ensures records { OnOk result (records_sent outs.new ≡ records_sent outs.old) }
     {
         match &self.duty {
             Task::Free => Ok(()),
@@ -144,8 +154,9 @@ impl Node {
     /// A server that pulls sends its Fetch again, and a partner that isn't settled its Formed.
     fn send_again(&self, outs: &mut Outputs) -> Result<(), AllocError>
         requires { self.now.halted ≡ false }
-        ensures { OnOk result ((items : List Entry) (clock : ℕ) → let s = server self.now items in
+        ensures makes { OnOk result ((items : List Entry) (clock : ℕ) → let s = server self.now items in
             Makes self.now.me clock (again self.now.me s) [] s s outs.old outs.new) }
+        ensures records { OnOk result (records_sent outs.new ≡ records_sent outs.old) }
     {
         match &self.state {
             State::Gone => unreachable!(),
@@ -171,10 +182,11 @@ fn invite_again(
     joined: &Option<JoinInfo>,
     outs: &mut Outputs,
 ) -> Result<(), AllocError>
-    ensures { OnOk result (said outs.new ≡ record (said outs.old) {
+    ensures said { OnOk result (said outs.new ≡ record (said outs.old) {
       sends = (said outs.old).sends ++ map as_heard (sends_said
           (invite_again (number_of_view view) (place_of to) (option_map report joined.now)));
     }) }
+    ensures records { OnOk result (records_sent outs.new ≡ records_sent outs.old) }
 {
     match joined {
         Some(_) => Ok(()),
@@ -184,11 +196,12 @@ fn invite_again(
 
 /// Sends the Form of a choice to the storers of its view other than this server, the leader first.
 fn send_forms(me: ServerId, view: ViewNo, plan: &Form, outs: &mut Outputs) -> Result<(), AllocError>
-    ensures { OnOk result (said outs.new ≡ record (said outs.old) {
+    ensures said { OnOk result (said outs.new ≡ record (said outs.old) {
       sends = (said outs.old).sends ++ map as_heard (sends_said (to_each
           (SendsForm (number_of_view view) (plan_of plan.now))
           (other_storers (place_of me) (plan_of plan.now).storers)));
     }) }
+    ensures records { OnOk result (records_sent outs.new ≡ records_sent outs.old) }
 {
     send_form(me, plan.storers.leader(), view, plan, outs)?;
     send_form(me, plan.storers.partner(), view, plan, outs)
@@ -202,10 +215,11 @@ fn send_form(
     plan: &Form,
     outs: &mut Outputs,
 ) -> Result<(), AllocError>
-    ensures { OnOk result (said outs.new ≡ record (said outs.old) {
+    ensures said { OnOk result (said outs.new ≡ record (said outs.old) {
       sends = (said outs.old).sends ++ (if same (place_of me) (place_of to) then []
           else (place_of to, Some (SendsForm (number_of_view view) (plan_of plan.now))) ∷ []);
     }) }
+    ensures records { OnOk result (records_sent outs.new ≡ records_sent outs.old) }
 {
     if is_one(me, to) {
         return Ok(());

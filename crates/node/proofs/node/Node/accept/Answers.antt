@@ -1,11 +1,15 @@
-use Rattle.std.proofs.Common.{ap, inr, map, ◌∙◌}
+use Rattle.std.proofs.Common.{ap, inr, map, ◌∙◌, List, []}
 use Rattle.event_record.specs.Record.{entry_of}
 use Rattle.group_rules.specs.Form.{role_of as role_in}
 use Rattle.group_rules.specs.Names.{place_of}
-use Rattle.kept_log.specs.Kept.{plan_of}
+use Rattle.kept_log.specs.Kept.{plan_of, log_in}
 use Rattle.node.proofs.Accepts.{node_accepts, node_active, node_leaves, node_marks}
 use Rattle.node.proofs.Saying.{err_so}
 use Rattle.node.specs.Forming.{accepted_mark, joined_with}
+use Rattle.event_record.specs.declared.record.RecordFields.{RecordFields}
+use Rattle.kept_log.specs.Pulls.{adopted_records}
+use Rattle.node.specs.Node.{NodeValue}
+use Rattle.node.proofs.Stocks.{as_stock}
 use Rattle.node.proofs.node.Node.accept.Goals as goal
 
 pub returns-in_err-write_mark-clause-part : goal.returns-in_err-write_mark-clause-part
@@ -82,3 +86,12 @@ returns-clause-mark g c = node_marks c.self.inside.me c.self.inside.mark
     ∙ ap (accepted_mark c.self.inside.mark
     (role_in (plan_of c.args.pull.form).storers (place_of c.self.inside.me)))
     c.lb-lb.ensures.value) c.in-Ok.ensures.ok
+
+pub returns-clause-stock : goal.returns-clause-stock
+returns-clause-stock g c = c.in_ok-state.ensures.stock
+    ∙ ap (λ (xs : List RecordFields). as_stock xs [] [])
+    (c.in-Ok.ensures.ok.records c.args.self.now.plain
+    ∙ ap (λ (n : NodeValue). adopted_records n.me
+    (joined_with c.args.self.now.plain c.args.pull.kept c.args.pull.joining)
+    (plan_of c.args.pull.form) (log_in c.args.pull.kept).records c.args.pull.staged.records)
+    c.self.view_is)

@@ -1,4 +1,4 @@
-use Rattle.std.proofs.Common.{◌≡◌, ◌≤◌, ℕ, Some, refl, subst, sym, ◌∙◌}
+use Rattle.std.proofs.Common.{◌≡◌, ◌≤◌, ℕ, Some, refl, subst, sym, ◌∙◌, ap}
 use Rattle.applier.specs.Fuzzy.{IsFuzzyTo, StaysFuzzy}
 use Rattle.fuzzy_cells.specs.History.{AllSetOnce, History}
 use Rattle.fuzzy_disks.specs.FuzzyDisk.{AreRecordsOf, IsFuzzyDisk}
@@ -11,6 +11,8 @@ use Rattle.tree_log.specs.Applying.{applied_by}
 use Rattle.tree_log.specs.Reading.{HoldsTree}
 use Rattle.tree_log.specs.TreeLog.{changes_in}
 use Rattle.volatile_log.specs.Log.{LogValue, applied_to}
+use Rattle.node.proofs.Stocked.{logged_stock}
+use Rattle.node.specs.Stock.{stock, stock_in}
 use Rattle.node.proofs.node.Node.apply.Goals as goal
 
 pub returns-then-not-stores-clause-done : goal.returns-then-not-stores-clause-done
@@ -109,3 +111,11 @@ returns-clause-tree g c list upto le t =
     c.in_ok-apply_log.ensures.log fits))
     (c.apply_log.ensures.tree list upto (subst (λ (x : LogValue). x.cp ≤ upto) log le)
     (subst (λ (x : LogValue). HoldsTree list upto x (g.D.Store.told c.args.store.now)) log t))
+
+pub returns-clause-stock : goal.returns-clause-stock
+returns-clause-stock g c =
+    let n = c.self.inside in
+    let log = log_in n.state in
+    ap stock_in c.in_ok-apply_log.ensures.log
+    ∙ logged_stock n.state (applied_to log (applied_by c.args.most log))
+    (cached_in c.apply_log.new.state) refl ∙ ap stock c.self.view_is

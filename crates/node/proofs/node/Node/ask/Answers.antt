@@ -1,11 +1,12 @@
-use Rattle.std.proofs.Common.{sym, subst}
+use Rattle.std.proofs.Common.{sym, subst, ap, ◌∙◌}
 use Rattle.group_rules.specs.Names.{place_of}
 use Rattle.harp_store.specs.Disk.{cells_told}
 use Rattle.kept_log.specs.Kept.{plan_of}
 use Rattle.node.proofs.Asks.{asked_led, cached_at, grown_leads, reads_so, refuses_away}
-use Rattle.node.specs.State.{Fits, outer}
+use Rattle.node.specs.State.{Fits, outer, pulled_in}
 use Rattle.node.specs.declared.state.State.{State}
 use Rattle.node.specs.declared.state.State.TheVariants as state
+use Rattle.node.specs.Node.{NodeValue}
 use Rattle.node.proofs.node.Node.ask.Goals as goal
 
 pub returns-in_default-clause-asked : goal.returns-in_default-clause-asked
@@ -56,3 +57,12 @@ returns-clause-asked g c items list holds =
     (reads_so n.me n.mark n.horizon n.served n.duty l c.in-Some.plan n.state c.args.self.now list
     k.client c.args.call.now c.args.now (g.D.Store.told c.args.store.now) at c.self.view_is
     c.self.invariant.1 holds))
+
+pub returns-in_default-clause-pulled : goal.returns-in_default-clause-pulled
+returns-in_default-clause-pulled g c =
+    ap pulled_in (c.take_leader.ensures.stays (sym c.in_default.ensures.found))
+    ∙ ap (λ (n : NodeValue). n.pulled) c.self.view_is
+
+pub returns-clause-pulled : goal.returns-clause-pulled
+returns-clause-pulled g c = ap pulled_in (sym c.in-Some.ensures.value.0)
+    ∙ ap (λ (n : NodeValue). n.pulled) c.self.view_is

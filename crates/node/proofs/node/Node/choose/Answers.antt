@@ -3,6 +3,8 @@ use Rattle.group_rules.specs.Names.{view_of}
 use Rattle.node.proofs.Collects.{chosen_disk, chosen_marks, chosen_part, node_chooses}
 use Rattle.node.proofs.Saying.{on_err, on_ok}
 use Rattle.node.specs.Node.{server}
+use Rattle.node.proofs.Stocked.{chosen_stock}
+use Rattle.node.specs.Stock.{stock}
 use Rattle.node.proofs.node.Node.choose.Goals as goal
 
 pub returns-clause-makes : goal.returns-clause-makes
@@ -41,3 +43,11 @@ returns-clause-part g c = on_err c.form_part.result _ _ c.form_part.ensures.part
     c.of-form.result reports from chosen (g.D.Store.told c.args.store.now)
     (g.D.Store.told c.form_part.new.store) c.self.view_is c.promised-view.ensures.value
     (c.of-form.ensures (view_of from) chosen is) h)
+
+pub returns-clause-stock : goal.returns-clause-stock
+returns-clause-stock g c = on_ok c.form_part.result _ _ c.form_part.ensures.stock
+    (λ h reports from chosen items is. chosen_stock c.self.inside.me c.self.inside.mark
+    c.self.inside.horizon c.self.inside.served
+    c.self.inside.duty c.self.inside.state c.args.self.now c.promised-view.result
+    c.of-form.result reports from chosen items (stock c.form_part.new.self) c.self.view_is
+    c.promised-view.ensures.value (c.of-form.ensures (view_of from) chosen is) (h items))

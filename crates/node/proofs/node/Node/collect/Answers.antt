@@ -1,8 +1,12 @@
-use Rattle.std.proofs.Common.{ap, refl, sym, ◌∙◌}
+use Rattle.std.proofs.Common.{ap, refl, sym, ◌∙◌, [], ◌∷◌}
 use Rattle.group_rules.specs.Choose.{greatest}
 use Rattle.node.proofs.Chosen.{chooses_from, disk_from, marks_from, node_collects, none_moves, part_from, some_moves}
 use Rattle.node.proofs.Saying.{disk_so, makes_so, mark_so, on_err, on_ok, part_so}
 use Rattle.node.specs.Node.{NodeValue, server}
+use Rattle.node.proofs.Stocked.{stock_from}
+use Rattle.node.proofs.Stocks.{stocks_so}
+use Rattle.node.specs.Stock.{stock, stock_in}
+use Rattle.group_rules.specs.Joining.{chosen_moves}
 use Rattle.node.proofs.node.Node.collect.Goals as goal
 
 pub returns-in-None-clause-makes : goal.returns-in-None-clause-makes
@@ -107,3 +111,31 @@ returns-in-Some-clause-part g c = on_err c.choose.result _ _ c.choose.ensures.pa
     c.self.inside.duty c.self.inside.state c.args.self.now ch.reports
     (greatest ch.reports) ch.chosen _ _ c.self.view_is
     (h ch.reports (greatest ch.reports) ch.chosen ch.is)))
+
+pub returns-in-None-clause-stock : goal.returns-in-None-clause-stock
+returns-in-None-clause-stock g c items = stocks_so [] _ _ _ _ (stock c.args.self.now) _
+    (none_moves c.self.inside.me c.self.inside.mark c.self.inside.horizon c.self.inside.served
+    c.self.inside.duty c.self.inside.state c.args.self.now
+    (λ (n : NodeValue). server n items) c.in-Collects.collector c.join-chosen.new.self c.args.from _
+    c.args.info
+    (record { promised = λ n. refl; duty = λ n. refl }) (sym c.replace.ensures.value ∙
+    c.in-Collects.is) c.self.view_is (sym c.has_promised.ensures.test ∙
+    c.if-not-has_promised.false) c.self.invariant.0
+    c.join-chosen.ensures.joins (sym c.join-chosen.ensures.plan ∙ c.in-None.is))
+    (λ clock list askers. ap stock c.self.view_is)
+
+pub returns-in-Some-clause-stock : goal.returns-in-Some-clause-stock
+returns-in-Some-clause-stock g c = on_ok c.choose.result _ _ c.choose.ensures.stock
+    (λ h items. let ch = some_moves c.self.inside.me c.self.inside.mark c.self.inside.horizon
+    c.self.inside.served
+    c.self.inside.duty c.self.inside.state c.args.self.now
+    (λ (n : NodeValue). server n items) c.in-Collects.collector c.args.from _ c.args.info c.in-Some.choice
+    (record { promised = λ n. refl; duty = λ n. refl }) (sym c.replace.ensures.value ∙
+    c.in-Collects.is) c.self.view_is (sym c.has_promised.ensures.test ∙
+    c.if-not-has_promised.false) c.self.invariant.0
+    (sym c.join-chosen.ensures.plan ∙ c.in-Some.is) in
+    stocks_so [] _ _ _ _ (stock c.args.self.now) (stock c.choose.new.self) ch.moves
+    (stock_from c.self.inside.me c.self.inside.mark c.self.inside.horizon c.self.inside.served
+    c.self.inside.duty c.self.inside.state c.args.self.now ch.reports (greatest ch.reports)
+    ch.chosen items (stock c.choose.new.self) c.self.view_is
+    (h ch.reports (greatest ch.reports) ch.chosen items ch.is)))

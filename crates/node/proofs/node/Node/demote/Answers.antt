@@ -1,10 +1,13 @@
-use Rattle.std.proofs.Common.{[], true, false, ap, rules, sym, ◌∙◌}
+use Rattle.std.proofs.Common.{[], true, false, ap, rules, sym, ◌∙◌, ◌∷◌, refl}
 use Rattle.group_rules.specs.Disk.{on_demote}
 use Rattle.group_rules.specs.Names.{number_of_view}
 use Rattle.group_rules.specs.Places.{is_p2}
 use Rattle.node.proofs.Demoted.{above_at, demotes, heeds_demotion, leaves_part, mark_back, marks, no_mark, no_witness, not_above, writes_it, writes_none}
 use Rattle.node.proofs.Heeds.{leaves}
 use Rattle.node.specs.Node.{NodeValue, server}
+use Rattle.group_rules.specs.Moves.{Demoting}
+use Rattle.node.proofs.Stocks.{stocks_so}
+use Rattle.node.specs.Stock.{stock}
 use Rattle.node.proofs.node.Node.demote.Goals as goal
 
 pub returns-then-not-is_witness-clause-makes : goal.returns-then-not-is_witness-clause-makes
@@ -167,3 +170,49 @@ returns-clause-written g c = writes_it c.demoted_mark-mark.result c.rest.new.sel
     c.is_above.result true c.self.view_is c.accepted.ensures c.is_above.ensures
     c.if-not-is_above.false))
     c.rest.ensures.mark c.in_ok-write_mark.ensures.written
+
+pub returns-then-not-is_witness-clause-stock : goal.returns-then-not-is_witness-clause-stock
+returns-then-not-is_witness-clause-stock g c items = stocks_so [] c.args.self.now.me (server c.args.self.now items)
+    (on_demote c.args.self.now.me (server c.args.self.now items) (number_of_view c.args.view)) []
+    (stock c.args.self.now) (stock c.args.self.now)
+    (no_witness c.args.self.now.me c.args.self.now.plain (number_of_view c.args.view)
+    (ap (λ (n : NodeValue). is_p2 n.me) (sym c.self.view_is) ∙ sym c.is_witness.ensures
+    ∙ c.if-not-is_witness.true)) (λ clock list askers. refl)
+
+pub returns-then-not-is_above-clause-stock : goal.returns-then-not-is_above-clause-stock
+returns-then-not-is_above-clause-stock g c items = stocks_so [] c.args.self.now.me (server c.args.self.now items)
+    (on_demote c.args.self.now.me (server c.args.self.now items) (number_of_view c.args.view)) []
+    (stock c.args.self.now) (stock c.args.self.now)
+    (not_above c.args.self.now.me c.args.self.now.plain (number_of_view c.args.view)
+    (above_at c.self.inside.me c.self.inside.mark c.self.inside.horizon c.self.inside.served
+    c.self.inside.duty c.self.inside.state c.args.self.now c.args.view c.accepted.result
+    c.is_above.result false c.self.view_is c.accepted.ensures c.is_above.ensures
+    c.if-not-is_above.true)) (λ clock list askers. refl)
+
+pub returns-then-is_above-clause-stock : goal.returns-then-is_above-clause-stock
+returns-then-is_above-clause-stock g c items = stocks_so [] c.args.self.now.me (server c.args.self.now items)
+    (on_demote c.args.self.now.me (server c.args.self.now items) (number_of_view c.args.view))
+    (Demoting (number_of_view c.args.view) ∷ []) (stock c.args.self.now)
+    (stock c.go_on.new.self)
+    (heeds_demotion c.args.self.now.me c.args.self.now.plain (number_of_view c.args.view)
+    (ap (λ (n : NodeValue). is_p2 n.me) (sym c.self.view_is) ∙ sym c.is_witness.ensures
+    ∙ c.if-not-is_witness.false)
+    (above_at c.self.inside.me c.self.inside.mark c.self.inside.horizon c.self.inside.served
+    c.self.inside.duty c.self.inside.state c.args.self.now c.args.view c.accepted.result
+    c.is_above.result true c.self.view_is c.accepted.ensures c.is_above.ensures
+    c.if-not-is_above.false))
+    (c.go_on.ensures.stock items)
+
+pub returns-clause-stock : goal.returns-clause-stock
+returns-clause-stock g c items = stocks_so [] c.args.self.now.me (server c.args.self.now items)
+    (on_demote c.args.self.now.me (server c.args.self.now items) (number_of_view c.args.view))
+    (Demoting (number_of_view c.args.view) ∷ []) (stock c.args.self.now)
+    (stock c.rest.new.self)
+    (heeds_demotion c.args.self.now.me c.args.self.now.plain (number_of_view c.args.view)
+    (ap (λ (n : NodeValue). is_p2 n.me) (sym c.self.view_is) ∙ sym c.is_witness.ensures
+    ∙ c.if-not-is_witness.false)
+    (above_at c.self.inside.me c.self.inside.mark c.self.inside.horizon c.self.inside.served
+    c.self.inside.duty c.self.inside.state c.args.self.now c.args.view c.accepted.result
+    c.is_above.result true c.self.view_is c.accepted.ensures c.is_above.ensures
+    c.if-not-is_above.false))
+    (c.rest.ensures.stock items)

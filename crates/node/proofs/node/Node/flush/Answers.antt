@@ -1,4 +1,4 @@
-use Rattle.std.proofs.Common.{◌≡◌, ℕ, Some, refl, subst, sym, ◌∙◌}
+use Rattle.std.proofs.Common.{◌≡◌, ℕ, Some, refl, subst, sym, ◌∙◌, ap}
 use Rattle.fuzzy_disks.specs.FuzzyDisk.{IsFuzzyByMark, IsFuzzyDisk}
 use Rattle.harp_store.specs.Disk.{AtEachMoment, Moments, cells_told}
 use Rattle.node.proofs.Asks.{cached_at}
@@ -7,6 +7,8 @@ use Rattle.node.specs.Node.{NodeValue}
 use Rattle.node.specs.State.{cached_in}
 use Rattle.node.specs.Stored.{log_in}
 use Rattle.volatile_log.specs.Log.{lowered_to}
+use Rattle.node.proofs.Stocked.{logged_stock}
+use Rattle.node.specs.Stock.{stock, stock_in}
 use Rattle.node.proofs.node.Node.flush.Goals as goal
 
 pub flush_log-requires-clause-active : goal.flush_log-requires-clause-active
@@ -62,3 +64,11 @@ returns-clause-fuzzy g c history m h st =
     (g.D.Store.told c.flush_log.new.store))
     (sym (ap_is n.me n.mark n.horizon n.served n.duty n.state now c.self.view_is
     (flushes_stores now st) c.self.invariant.1)) (c.flush_log.ensures.fuzzy history m h))
+
+pub returns-clause-stock : goal.returns-clause-stock
+returns-clause-stock g c =
+    let n = c.self.inside in
+    let log = log_in n.state in
+    ap stock_in c.in_ok-flush_log.ensures.log
+    ∙ logged_stock n.state (lowered_to log log.ap)
+    (cached_in c.flush_log.new.state) refl ∙ ap stock c.self.view_is

@@ -1,12 +1,15 @@
-use Rattle.std.proofs.Common.{true, ap, subst, sym, ◌∙◌}
+use Rattle.std.proofs.Common.{true, ap, subst, sym, ◌∙◌, []}
 use Rattle.group_rules.specs.Effects.{demoted}
 use Rattle.group_rules.specs.Names.{number_of_view, place_of}
 use Rattle.group_rules.specs.Places.{is_p2}
 use Rattle.harp_store.specs.Mark.{MarkFields}
 use Rattle.node.proofs.Demoted.{closed_at, mark_at, under_at}
 use Rattle.node.specs.Node.{NodeValue, server, value}
-use Rattle.node.specs.State.{Fits}
+use Rattle.node.specs.State.{Fits, pulled_in}
 use Rattle.node.specs.declared.state.State.{State}
+use Rattle.node.proofs.Stocked.{demoted_stock}
+use Rattle.node.specs.Stock.{stock_in}
+use Rattle.node.proofs.Stocks.{as_stock}
 use Rattle.node.proofs.node.Node.go_on.Goals as goal
 
 pub without_log-requires-clause-closed : goal.without_log-requires-clause-closed
@@ -37,3 +40,14 @@ returns-clause-state c items =
     ∙ ap (λ (s : State). demoted (server (value n.me n.mark n.horizon n.served n.duty s) items)
     (number_of_view c.args.view)) c.replace.ensures.value
     ∙ ap (λ (x : NodeValue). demoted (server x items) (number_of_view c.args.view)) c.self.view_is
+
+pub returns-clause-stock : goal.returns-clause-stock
+returns-clause-stock c items =
+    let n = c.self.inside in
+    demoted_stock n.me n.mark n.horizon n.served n.duty n.state c.args.self.now
+    (number_of_view c.args.view) true items (stock_in c.without_log.result) c.self.view_is
+    (under_at n.me n.mark n.horizon n.served n.duty n.state c.args.self.now c.args.view true
+    c.self.view_is c.requires.below)
+    (c.without_log.ensures.stock
+    ∙ ap (λ (s : State). as_stock [] (pulled_in s) [])
+    c.replace.ensures.value)

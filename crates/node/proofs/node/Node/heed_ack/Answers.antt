@@ -1,4 +1,4 @@
-use Rattle.std.proofs.Common.{◌≡◌, ◌≤◌, ◌==◌, true, false, ℕ, sym, subst}
+use Rattle.std.proofs.Common.{◌≡◌, ◌≤◌, ◌==◌, true, false, ℕ, sym, subst, [], ap, refl}
 use Rattle.std.proofs.lemmas.Bool.{eqb-true}
 use Rattle.group_rules.specs.Names.{number_of_view}
 use Rattle.group_rules.specs.Replicate.{on_ack}
@@ -9,6 +9,10 @@ use Rattle.node.specs.State.{outer}
 use Rattle.node.specs.declared.state.State.TheVariants as state
 use Rattle.outputs.specs.Makes.{Makes}
 use Rattle.view_replica.specs.Leading.{led}
+use Rattle.node.proofs.Stocked.{ack_stock, stayed_stock}
+use Rattle.node.proofs.Stocks.{stocks_so}
+use Rattle.node.specs.Stock.{stock, stock_in}
+use Rattle.volatile_log.specs.Log.{LogValue}
 use Rattle.node.proofs.node.Node.heed_ack.Goals as goal
 
 pub returns-then-not-is_view-clause-makes : goal.returns-then-not-is_view-clause-makes
@@ -83,3 +87,36 @@ returns-clause-makes c items clock =
     c.args.outs.now c.ack.new.outs c.in-Some.ensures.value.0 c.self.view_is c.self.invariant.1
     (quiet_ack (led l o) (led l o).accepted c.args.top c.args.lb c.args.until)
     (c.in_ok-ack.ensures.makes o clock))
+
+pub returns-then-not-is_view-clause-stock : goal.returns-then-not-is_view-clause-stock
+returns-then-not-is_view-clause-stock c items =
+    let n = c.self.inside in
+    let now = c.args.self.now in
+    stocks_so [] now.me (server now items) _ [] (stock now) (stock now)
+    (other_view_ack (server now items) (number_of_view c.args.view) c.args.top c.args.lb c.args.until
+    (accepted_test n.me n.mark n.horizon n.served n.duty n.state now c.args.view
+    c.accepted.result c.is_view.result false c.self.view_is c.accepted.ensures c.is_view.ensures
+    c.if-not-is_view.true)) (λ clock list askers. refl)
+
+pub returns-in_default-clause-stock : goal.returns-in_default-clause-stock
+returns-in_default-clause-stock c items =
+    let n = c.self.inside in
+    let now = c.args.self.now in
+    let led = sym c.in_default.ensures.found in
+    stocks_so [] now.me (server now items) _ [] (stock now) (stock_in c.take_leader.new.from)
+    (heeds_none (server now items) (number_of_view c.args.view) c.args.top c.args.lb c.args.until
+    (not_open n.me n.mark n.horizon n.served n.duty n.state now c.self.view_is led))
+    (λ clock list askers. stayed_stock n.me n.mark n.horizon n.served n.duty n.state
+    c.take_leader.new.from now c.self.view_is (c.take_leader.ensures.stays led))
+
+pub returns-clause-stock : goal.returns-clause-stock
+returns-clause-stock c items =
+    let n = c.self.inside in
+    ack_stock n.me n.mark n.horizon n.served n.duty items n.state c.in-Some.leader c.ack.new.self
+    c.in-Some.plan c.args.self.now (number_of_view c.args.view) c.args.top c.args.lb c.args.until
+    c.in-Some.ensures.value.0 c.self.view_is
+    (accepted_test n.me n.mark n.horizon n.served n.duty n.state c.args.self.now c.args.view
+    c.accepted.result c.is_view.result true c.self.view_is c.accepted.ensures c.is_view.ensures
+    c.if-not-is_view.false)
+    (ap (λ (g : LogValue). g.records) c.in_ok-ack.ensures.log) c.in_ok-ack.ensures.peers
+    c.in_ok-ack.ensures.still

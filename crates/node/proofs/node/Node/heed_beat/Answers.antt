@@ -1,4 +1,4 @@
-use Rattle.std.proofs.Common.{◌≡◌, ◌≤◌, ◌==◌, [], true, false, ℕ, sym, subst}
+use Rattle.std.proofs.Common.{◌≡◌, ◌≤◌, ◌==◌, [], true, false, ℕ, sym, subst, ◌∷◌, refl}
 use Rattle.std.proofs.lemmas.Bool.{eqb-true}
 use Rattle.group_rules.specs.Names.{number_of_view, place_of}
 use Rattle.group_rules.specs.Places.{Place, leader}
@@ -12,6 +12,9 @@ use Rattle.node.specs.declared.state.State.TheVariants as state
 use Rattle.kept_log.specs.Kept.{plan_of}
 use Rattle.outputs.specs.Makes.{Makes}
 use Rattle.view_replica.specs.Following.{followed, place_followed}
+use Rattle.node.proofs.Stocked.{beat_stock, stayed_stock}
+use Rattle.node.proofs.Stocks.{stocks_so}
+use Rattle.node.specs.Stock.{stock, stock_in}
 use Rattle.node.proofs.node.Node.heed_beat.Goals as goal
 
 pub returns-then-not-is_view-clause-makes : goal.returns-then-not-is_view-clause-makes
@@ -112,3 +115,39 @@ returns-clause-makes c items from led =
     (λ q t. on_event q c.args.now t (leader t.plan.storers) t.accepted c.args.cp c.args.base
     t.items) c.args.outs.now c.beat.new.outs
     c.in-Some.ensures.value.0 c.self.view_is (followed_at c) (follows c) made))
+
+pub returns-then-not-is_view-clause-stock : goal.returns-then-not-is_view-clause-stock
+returns-then-not-is_view-clause-stock c items from =
+    let n = c.self.inside in
+    let now = c.args.self.now in
+    stocks_so [] now.me (server now items) _ [] (stock now) (stock now)
+    (not_in_view now.me c.args.now (server now items) from (number_of_view c.args.view) c.args.cp
+    c.args.base (server now items).items (other_view (server now items) (number_of_view c.args.view)
+    (accepted_test n.me n.mark n.horizon n.served n.duty n.state now c.args.view
+    c.accepted.result c.is_view.result false c.self.view_is c.accepted.ensures c.is_view.ensures
+    c.if-not-is_view.true))) (λ clock list askers. refl)
+
+pub returns-in_default-clause-stock : goal.returns-in_default-clause-stock
+returns-in_default-clause-stock c items from =
+    let n = c.self.inside in
+    let now = c.args.self.now in
+    let other = sym c.in_default.ensures.found in
+    stocks_so [] now.me (server now items) _ [] (stock now) (stock_in c.take_partner.new.from)
+    (not_followed n.me n.mark n.horizon n.served n.duty n.state now items c.args.now from
+    (number_of_view c.args.view) c.args.cp c.args.base (server now items).items c.self.view_is c.self.invariant.1 other)
+    (λ clock list askers. stayed_stock n.me n.mark n.horizon n.served n.duty n.state
+    c.take_partner.new.from now c.self.view_is (c.take_partner.ensures.stays other))
+
+pub returns-clause-stock : goal.returns-clause-stock
+returns-clause-stock c items from =
+    let n = c.self.inside in
+    beat_stock n.me n.mark n.horizon n.served n.duty items n.state c.in-Some.partner
+    c.beat.new.self c.in-Some.plan c.args.self.now (number_of_view c.args.view) c.args.now from
+    c.args.cp c.args.base c.in-Some.ensures.value.0 c.self.view_is (followed_at c)
+    c.beat.ensures.log
+    (in_view_followed n.me n.mark n.horizon n.served n.duty n.state c.in-Some.partner
+    c.in-Some.plan c.args.self.now (number_of_view c.args.view) c.self.view_is
+    c.in-Some.ensures.value.0
+    (accepted_test n.me n.mark n.horizon n.served n.duty n.state c.args.self.now c.args.view
+    c.accepted.result c.is_view.result true c.self.view_is c.accepted.ensures c.is_view.ensures
+    c.if-not-is_view.false))

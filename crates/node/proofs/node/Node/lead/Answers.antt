@@ -1,8 +1,13 @@
-use Rattle.std.proofs.Common.{[], sym}
+use Rattle.std.proofs.Common.{[], sym, ap}
 use Rattle.node.proofs.Heeds.{leads_none, stays}
 use Rattle.node.proofs.InView.{leads, leads_fits, leads_made, quiet_leads}
 use Rattle.node.specs.State.{outer}
 use Rattle.view_replica.specs.Leading.{led, place_led}
+use Rattle.node.proofs.Stocked.{led_stock, stayed_stock}
+use Rattle.volatile_log.specs.Log.{LogValue}
+use Rattle.std.proofs.lemmas.List.Elements.{Contains-append_left}
+use Rattle.node.proofs.Wholes.{leads_sent}
+use Rattle.outputs.specs.Records.{records_sent}
 use Rattle.node.proofs.node.Node.lead.Goals as goal
 
 pub returns-in_default-clause-makes : goal.returns-in_default-clause-makes
@@ -36,3 +41,27 @@ returns-clause-makes c items =
     c.args.self.now items c.args.now (leads c.args.now) (λ x. []) c.args.outs.now
     c.tick.new.outs c.in-Some.ensures.value.0 c.self.view_is c.self.invariant.1
     (quiet_leads (place_led l o) c.args.now (led l o)) (c.in_ok-tick.ensures.makes o)
+
+pub returns-in_default-clause-stock : goal.returns-in_default-clause-stock
+returns-in_default-clause-stock c =
+    let n = c.self.inside in
+    stayed_stock n.me n.mark n.horizon n.served n.duty n.state c.take_leader.new.from
+    c.args.self.now c.self.view_is (c.take_leader.ensures.stays (sym c.in_default.ensures.found))
+
+pub returns-clause-stock : goal.returns-clause-stock
+returns-clause-stock c =
+    let n = c.self.inside in
+    led_stock n.me n.mark n.horizon n.served n.duty n.state c.in-Some.leader c.tick.new.self
+    c.in-Some.plan c.args.self.now c.in-Some.ensures.value.0 c.self.view_is
+    (ap (λ (g : LogValue). g.records) c.in_ok-tick.ensures.log) c.in_ok-tick.ensures.peers
+
+pub returns-in_default-clause-sent : goal.returns-in_default-clause-sent
+returns-in_default-clause-sent c r h =
+    Contains-append_left (records_sent c.args.outs.now) c.args.self.now.records r h
+
+pub returns-clause-sent : goal.returns-clause-sent
+returns-clause-sent c =
+    let n = c.self.inside in
+    leads_sent n.me n.mark n.horizon n.served n.duty n.state c.in-Some.leader c.in-Some.plan
+    c.args.self.now (records_sent c.args.outs.now) (records_sent c.tick.new.outs)
+    c.in-Some.ensures.value.0 c.self.view_is c.in_ok-tick.ensures.records

@@ -1,4 +1,4 @@
-use Rattle.std.proofs.Common.{false, ap, ◌∙◌}
+use Rattle.std.proofs.Common.{false, ap, ◌∙◌, List, []}
 use Rattle.file_tree.specs.Book.{Entry}
 use Rattle.group_rules.specs.Effects.{demoted, down, first_mark}
 use Rattle.group_rules.specs.Names.{number_of_view, place_of}
@@ -6,6 +6,10 @@ use Rattle.group_rules.specs.Places.{Zero, is_p2}
 use Rattle.group_rules.specs.State.{Server}
 use Rattle.node.proofs.Demoted.{keeps_lb, mark_at, rests_demoted, under_at}
 use Rattle.node.specs.Node.{NodeValue, server}
+use Rattle.event_record.specs.declared.record.RecordFields.{RecordFields}
+use Rattle.node.proofs.Stocked.{demoted_stock}
+use Rattle.node.specs.Stock.{stock_kept}
+use Rattle.node.proofs.Stocks.{as_stock}
 use Rattle.node.proofs.node.Node.rest.Goals as goal
 
 any : Server Entry
@@ -30,3 +34,13 @@ returns-clause-state c items =
     c.self.view_is c.requires.below)
     c.forget.ensures.drops
     ∙ ap (λ (x : NodeValue). demoted (server x items) (number_of_view c.args.view)) c.self.view_is
+
+pub returns-clause-stock : goal.returns-clause-stock
+returns-clause-stock c items =
+    let n = c.self.inside in
+    demoted_stock n.me n.mark n.horizon n.served n.duty n.state c.args.self.now
+    (number_of_view c.args.view) false items (stock_kept c.forget.result []) c.self.view_is
+    (under_at n.me n.mark n.horizon n.served n.duty n.state c.args.self.now c.args.view false
+    c.self.view_is c.requires.below)
+    (ap (λ (xs : List RecordFields). as_stock xs [] [])
+    c.forget.ensures.records)

@@ -10,32 +10,32 @@ use Rattle.node.specs.Node.{server}
 use Rattle.node.specs.State.{outer}
 use Rattle.node.proofs.node.Node.send_again.Goals as goal
 
-pub returns-in-Rests : goal.returns-in-Rests
-returns-in-Rests c items clock =
+pub returns-in-Rests-clause-makes : goal.returns-in-Rests-clause-makes
+returns-in-Rests-clause-makes c items clock =
     let n = c.self.inside in
     let now = c.args.self.now in
     leaves now.me clock (again now.me (server now items)) (server now items) [] c.args.outs.now
     (none_again n.me n.mark n.horizon n.served n.duty n.state now items c.self.view_is
     c.self.invariant.1 (ap sends_again c.in-Rests.is))
 
-pub returns-in-Joined : goal.returns-in-Joined
-returns-in-Joined c items clock =
+pub returns-in-Joined-clause-makes : goal.returns-in-Joined-clause-makes
+returns-in-Joined-clause-makes c items clock =
     let n = c.self.inside in
     let now = c.args.self.now in
     leaves now.me clock (again now.me (server now items)) (server now items) [] c.args.outs.now
     (none_again n.me n.mark n.horizon n.served n.duty n.state now items c.self.view_is
     c.self.invariant.1 (ap sends_again c.in-Joined.is))
 
-pub returns-in-Leads : goal.returns-in-Leads
-returns-in-Leads c items clock =
+pub returns-in-Leads-clause-makes : goal.returns-in-Leads-clause-makes
+returns-in-Leads-clause-makes c items clock =
     let n = c.self.inside in
     let now = c.args.self.now in
     leaves now.me clock (again now.me (server now items)) (server now items) [] c.args.outs.now
     (none_again n.me n.mark n.horizon n.served n.duty n.state now items c.self.view_is
     c.self.invariant.1 (ap sends_again c.in-Leads.is))
 
-pub returns-in-Pulls : goal.returns-in-Pulls
-returns-in-Pulls c =
+pub returns-in-Pulls-clause-makes : goal.returns-in-Pulls-clause-makes
+returns-in-Pulls-clause-makes c =
     let n = c.self.inside in
     let now = c.args.self.now in
     on_ok_weaker c.send.result
@@ -48,8 +48,8 @@ returns-in-Pulls c =
     c.self.invariant.1) c.promised.ensures.value c.next.ensures.value told)
     c.send.ensures.said
 
-pub returns-in-Follows : goal.returns-in-Follows
-returns-in-Follows c =
+pub returns-in-Follows-clause-makes : goal.returns-in-Follows-clause-makes
+returns-in-Follows-clause-makes c =
     let n = c.self.inside in
     let now = c.args.self.now in
     let plan = c.in-Follows.field-1 in

@@ -6,9 +6,17 @@ use Rattle.group_rules.specs.Places.{Place}
 use Rattle.harp_store.specs.Disk.{cells_told}
 use Rattle.node.proofs.Brought.{disk_stepped, mark_stepped, none_left, part_stepped}
 use Rattle.node.proofs.Stepped.{step_made, step_none}
-use Rattle.node.specs.Input.{input_of, peers_of}
+use Rattle.node.specs.Input.{input_of, peers_of, came}
 use Rattle.node.specs.Node.{server}
 use Rattle.node.specs.Taking.{stepped}
+use Rattle.std.specs.Prelude.{None, Option}
+use Rattle.node.proofs.Wholes.{fills_sized, lists_none, no_listing, stand_none, stands_stepped, stock_none, stock_stepped}
+use Rattle.node.specs.Serving.{entry_size}
+use Rattle.node.specs.Step.{ListsFor}
+use Rattle.node.specs.Stock.{stock, stock_after}
+use Rattle.outputs.specs.Records.{records_sent}
+use Rattle.outputs.specs.Said.{Said}
+use Rattle.tree_listing.specs.declared.listing.Listing.{Listing}
 use Rattle.node.proofs.node.Node.step.Goals as goal
 
 pub returns-then-is_halted-clause-part : goal.returns-then-is_halted-clause-part
@@ -17,12 +25,22 @@ returns-then-is_halted-clause-part g c size list =
     none_left n (stepped size n.me c.args.now list n.plain (input_of c.args.input))
     (input_of c.args.input) (g.D.Store.told c.args.store.now)
 
-pub returns-then-not-is_heeded-clause-makes : goal.returns-then-not-is_heeded-clause-makes
-returns-then-not-is_heeded-clause-makes g c items size list fills =
+pub returns-then-not-is_heeded-clause-steps : goal.returns-then-not-is_heeded-clause-steps
+returns-then-not-is_heeded-clause-steps g c items list fills =
     let n = c.args.self.now in
-    step_none size n.me c.args.now list (input_of c.args.input) (peers_of n c.args.input)
-    (server n items) c.new-outs.result (sym c.is_heeded.ensures ∙ c.if-not-is_heeded.true)
-    c.new-outs.ensures.said
+    let i = c.args.input in
+    let none = sym c.is_heeded.ensures ∙ c.if-not-is_heeded.true in record {
+      machine = step_none entry_size n.me c.args.now list (input_of i) (peers_of n i) (server n items)
+          c.new-outs.result none c.new-outs.ensures.said;
+      whole = stock_none entry_size n.me c.args.now list (came i) (peers_of n i) (server n items)
+          (input_of i) (stock n) none;
+      sent = stand_none _ (records_sent c.new-outs.result) c.new-outs.ensures.records;
+    }
+
+pub returns-then-not-is_heeded-clause-listing : goal.returns-then-not-is_heeded-clause-listing
+returns-then-not-is_heeded-clause-listing g c = lists_none c.args.input c.args.self.now
+    (g.D.Store.told c.args.store.now) None c.new-outs.result.listing
+    (sym c.is_heeded.ensures ∙ c.if-not-is_heeded.true)
 
 pub returns-in-Err-clause-part : goal.returns-in-Err-clause-part
 returns-in-Err-clause-part g c size list =
@@ -31,16 +49,37 @@ returns-in-Err-clause-part g c size list =
     (g.D.Store.told c.args.store.now) (g.D.Store.told c.rule.new.store)
     (c.in-Err.ensures.part size list)
 
-pub returns-clause-makes : goal.returns-clause-makes
-returns-clause-makes g c items size list fills =
+pub returns-clause-steps : goal.returns-clause-steps
+returns-clause-steps g c items list fills =
     let n = c.args.self.now in
+    let i = c.args.input in
+    let sized = fills_sized list n c.args.now (g.D.Store.told c.args.store.now) i fills in
+    let s = server n items in
     let mid = server c.rule.new.self items in
-    step_made size n.me c.args.now list (input_of c.args.input) (peers_of n c.args.input)
-    (server n items) mid (server c.rebase.new.self items) c.new-outs.result c.rule.new.outs
-    (sym c.is_heeded.ensures ∙ c.if-not-is_heeded.false) c.new-outs.ensures.said
-    (c.in-Ok.ensures.makes items size list fills)
-    (c.rebase.ensures.state items c.args.now
-    ∙ ap (λ (p : Place). acts p c.args.now mid (rebase mid)) c.rule.ensures.me)
+    let some = sym c.is_heeded.ensures ∙ c.if-not-is_heeded.false in
+    let made = c.in-Ok.ensures.makes items entry_size list sized in record {
+      machine = step_made entry_size n.me c.args.now list (input_of i) (peers_of n i)
+          s mid (server c.rebase.new.self items) c.new-outs.result c.rule.new.outs
+          some c.new-outs.ensures.said made
+          (c.rebase.ensures.state items c.args.now
+          ∙ ap (λ (p : Place). acts p c.args.now mid (rebase mid)) c.rule.ensures.me);
+      whole = stock_stepped entry_size n.me c.args.now list (came i) (peers_of n i) s mid (input_of i)
+          (stock n) (stock c.rule.new.self) (stock c.rebase.new.self) some made.state
+          (c.in-Ok.ensures.stock items entry_size list sized)
+          (c.rebase.ensures.stock (came i) items c.args.now list (peers_of n i)
+          ∙ ap (λ (p : Place). stock_after p c.args.now list (came i) (peers_of n i) mid
+          (rebase mid) (stock c.rule.new.self)) c.rule.ensures.me);
+      sent = stands_stepped entry_size n.me c.args.now list s (input_of i) n.records n.plain.accepted
+          (records_sent c.rule.new.outs)
+          (c.in-Ok.ensures.sent items entry_size list sized c.new-outs.ensures.said
+          c.new-outs.ensures.records);
+    }
+
+pub returns-clause-listing : goal.returns-clause-listing
+returns-clause-listing g c = subst (λ (o : Option Listing). ListsFor c.args.input c.args.self.now
+    (g.D.Store.told c.args.store.now) o c.rule.new.outs.listing)
+    (no_listing c.new-outs.result.listing (ap (λ (x : Said). x.listed) c.new-outs.ensures.said))
+    c.in-Ok.ensures.listing
 
 pub returns-clause-cached : goal.returns-clause-cached
 returns-clause-cached g c =

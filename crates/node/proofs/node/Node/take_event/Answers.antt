@@ -1,4 +1,4 @@
-use Rattle.std.proofs.Common.{[], sym, ◌∙◌}
+use Rattle.std.proofs.Common.{[], ◌∷◌, refl, sym, ◌∙◌}
 use Rattle.std.proofs.lemmas.Result.{on_ok_weaker}
 use Rattle.event_record.specs.Record.{entry_of}
 use Rattle.group_rules.specs.Misfits.{misfits}
@@ -8,6 +8,8 @@ use Rattle.group_rules.specs.State.{Event}
 use Rattle.group_rules.specs.Step.{on_message}
 use Rattle.node.proofs.Takes.{ignored, taken_then}
 use Rattle.node.specs.Node.{server}
+use Rattle.node.proofs.Stocks.{stocks_misfit, stocks_on, stocks_taken}
+use Rattle.node.specs.Stock.{stock}
 use Rattle.node.proofs.node.Node.take_event.Goals as goal
 
 pub returns-then-misfits_event-clause-makes : goal.returns-then-misfits_event-clause-makes
@@ -38,3 +40,28 @@ returns-clause-makes c =
     c.heed_event.ensures.me (c.in_ok-heed_event.ensures.makes items from
     (c.misfits_event.ensures.from c.if-misfits_event.false)) (opens items))
     c.try_open.ensures.makes
+
+pub returns-then-misfits_event-clause-stock : goal.returns-then-misfits_event-clause-stock
+returns-then-misfits_event-clause-stock c items size list =
+    let n = c.args.self.now in
+    let from = place_of c.args.from in
+    let m = Event (number_of_view c.args.view) c.args.item.index c.args.cp c.args.base
+    (entry_of c.args.item) in
+    stocks_misfit size n.me c.args.now list (server n items) from m (misfits n.me n.plain from m)
+    (c.args.item ∷ []) (stock n)
+    (sym c.misfits_event.ensures.test ∙ c.if-misfits_event.true)
+
+pub returns-clause-stock : goal.returns-clause-stock
+returns-clause-stock c =
+    let n = c.args.self.now in
+    let from = place_of c.args.from in
+    let m = Event (number_of_view c.args.view) c.args.item.index c.args.cp c.args.base
+    (entry_of c.args.item) in
+    on_ok_weaker c.try_open.result
+    (λ opens items size list. stocks_taken size n.me c.args.now list (server n items) from m
+    (misfits n.me n.plain from m) (c.args.item ∷ []) (stock n)
+    (stock c.try_open.new.self) (sym c.misfits_event.ensures.test ∙ c.if-misfits_event.false)
+    (stocks_on (c.args.item ∷ []) n.me (server n items)
+    (on_message size n.me c.args.now list (server n items) from m) (stock n)
+    (stock c.heed_event.new.self) (stock c.try_open.new.self) (c.in_ok-heed_event.ensures.stock items from) opens))
+    c.try_open.ensures.stock

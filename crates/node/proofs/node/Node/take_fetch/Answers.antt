@@ -1,4 +1,4 @@
-use Rattle.std.proofs.Common.{[], sym, ◌∙◌, refl}
+use Rattle.std.proofs.Common.{List, [], ◌++◌, sym, ◌∙◌, refl, subst}
 use Rattle.std.proofs.lemmas.Result.{on_ok_weaker}
 use Rattle.group_rules.specs.Misfits.{misfits}
 use Rattle.group_rules.specs.Names.{number_of_view, place_of}
@@ -7,6 +7,10 @@ use Rattle.group_rules.specs.State.{Fetch}
 use Rattle.group_rules.specs.Step.{on_message}
 use Rattle.node.proofs.Takes.{ignored, taken_then}
 use Rattle.node.specs.Node.{server}
+use Rattle.event_record.specs.declared.record.RecordFields.{RecordFields}
+use Rattle.kept_log.specs.Gives.{StandIn}
+use Rattle.outputs.specs.Records.{records_sent}
+use Rattle.std.proofs.lemmas.List.Elements.{Contains-append_left}
 use Rattle.node.proofs.node.Node.take_fetch.Goals as goal
 
 pub returns-then-misfits_fetch-clause-makes : goal.returns-then-misfits_fetch-clause-makes
@@ -31,5 +35,17 @@ returns-clause-makes c =
     (server n items) (server c.try_open.new.self items) n.me [] c.args.outs.now
     c.heed_fetch.new.outs c.try_open.new.outs (sym c.misfits_fetch.ensures ∙
     c.if-misfits_fetch.false)
-    refl (c.in_ok-heed_fetch.ensures items c.args.now size list within sized) (opens items))
+    refl (c.in_ok-heed_fetch.ensures.makes items c.args.now size list within sized) (opens items))
     c.try_open.ensures.makes
+
+pub returns-clause-sent : goal.returns-clause-sent
+returns-clause-sent c =
+    let n = c.args.self.now in
+    on_ok_weaker c.try_open.result
+    (λ same. subst (λ (xs : List RecordFields). StandIn (records_sent c.args.outs.now ++ n.records)
+    xs) (sym same) c.in_ok-heed_fetch.ensures.sent)
+    c.try_open.ensures.records
+
+pub returns-then-misfits_fetch-clause-sent : goal.returns-then-misfits_fetch-clause-sent
+returns-then-misfits_fetch-clause-sent c r h =
+    Contains-append_left (records_sent c.args.outs.now) c.args.self.now.records r h

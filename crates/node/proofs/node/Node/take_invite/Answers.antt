@@ -8,6 +8,8 @@ use Rattle.node.proofs.Saying.{err_so}
 use Rattle.node.proofs.Marks.{disk_as, mark_as, misfit_alike, opened_part, taken_alike, taken_part}
 use Rattle.node.proofs.Takes.{ignored, taken_then}
 use Rattle.node.specs.Node.{server}
+use Rattle.node.proofs.Stocks.{stocks_misfit, stocks_on, stocks_taken}
+use Rattle.node.specs.Stock.{stock}
 use Rattle.node.proofs.node.Node.take_invite.Goals as goal
 
 pub returns-then-misfits_invite-clause-makes : goal.returns-then-misfits_invite-clause-makes
@@ -88,3 +90,25 @@ returns-clause-written g c size list =
     (g.D.Store.told c.invite.new.store) (taken_alike size c.args.now list n from m
     (sym c.misfits_invite.ensures ∙ c.if-misfits_invite.false)) c.try_open.ensures.mark
     c.in_ok-invite.ensures.written
+
+pub returns-then-misfits_invite-clause-stock : goal.returns-then-misfits_invite-clause-stock
+returns-then-misfits_invite-clause-stock g c items size list =
+    let n = c.args.self.now in
+    let from = place_of c.args.from in
+    let m = Invite (number_of_view c.args.view) in
+    stocks_misfit size n.me c.args.now list (server n items) from m (misfits n.me n.plain from m)
+    [] (stock n)
+    (sym c.misfits_invite.ensures ∙ c.if-misfits_invite.true)
+
+pub returns-clause-stock : goal.returns-clause-stock
+returns-clause-stock g c items size list =
+    let n = c.args.self.now in
+    let from = place_of c.args.from in
+    let m = Invite (number_of_view c.args.view) in
+    stocks_taken size n.me c.args.now list (server n items) from m
+    (misfits n.me n.plain from m) [] (stock n) (stock c.try_open.new.self)
+    (sym c.misfits_invite.ensures ∙ c.if-misfits_invite.false)
+    (stocks_on [] n.me (server n items)
+    (on_message size n.me c.args.now list (server n items) from m) (stock n)
+    (stock c.invite.new.self) (stock c.try_open.new.self) (c.in_ok-invite.ensures.stock items)
+    c.in_ok-try_open.ensures.stock)

@@ -1,15 +1,19 @@
-use Rattle.std.proofs.Common.{ap, map, refl}
+use Rattle.std.proofs.Common.{[], ◌∷◌, ap, map, refl}
 use Rattle.std.proofs.lemmas.Result.{on_err_weaker, on_ok_weaker}
 use Rattle.event_record.specs.Record.{entry_of}
-use Rattle.group_rules.specs.Names.{number_of_view}
+use Rattle.group_rules.specs.Names.{number_of_view, place_of}
 use Rattle.group_rules.specs.State.{Ack, Beat, Demote, Event, Fetch, Form, Formed, Give, Invite, Join, Message}
 use Rattle.file_tree.specs.Book.{Entry}
 use Rattle.kept_log.specs.Kept.{plan_of}
-use Rattle.node.proofs.Heard.{fills_fetch, heard_ack, heard_alike, heard_keeps, heard_makes}
+use Rattle.node.proofs.Heard.{fills_fetch, heard_ack, heard_alike, heard_keeps, heard_makes, heard_stocks}
 use Rattle.node.proofs.Marks.{disk_as, mark_as, part_as}
 use Rattle.node.specs.Node.{server}
 use Rattle.outputs.specs.Messages.{heard}
 use Rattle.view_form.specs.Choice.{report}
+use Rattle.node.proofs.Stocks.{idle_fetch, idle_formed, idle_rule, stocks_idle}
+use Rattle.node.specs.Stock.{stock}
+use Rattle.group_rules.specs.Step.{Comes, rule}
+use Rattle.outputs.specs.Records.{carried}
 use Rattle.node.proofs.node.Node.take_message.Goals as goal
 
 pub returns-in-Invite-clause-makes : goal.returns-in-Invite-clause-makes
@@ -421,3 +425,117 @@ returns-in-Demote-clause-part g c =
     c.args.from c.args.message m
     (ap heard c.in-Demote.is))
     (leaves size list)) c.take_demote.ensures.part
+
+pub returns-in-Invite-clause-stock : goal.returns-in-Invite-clause-stock
+returns-in-Invite-clause-stock g c =
+    let n = c.args.self.now in
+    let m : Message Entry = Invite (number_of_view c.in-Invite.view) in
+    on_ok_weaker c.take_invite.result
+    (λ h items size list. heard_stocks size n.me c.args.now list (server n items) c.args.from c.args.message m
+    [] (stock n) (stock c.take_invite.new.self) (ap heard c.in-Invite.is) (ap carried c.in-Invite.is)
+    (h items size list)) c.take_invite.ensures.stock
+
+pub returns-in-Join-clause-stock : goal.returns-in-Join-clause-stock
+returns-in-Join-clause-stock g c =
+    let n = c.args.self.now in
+    let m : Message Entry = Join (number_of_view c.in-Join.view) (report (record {
+      held = c.in-Join.held;
+      accepted = c.in-Join.accepted;
+      base = c.in-Join.base;
+      lb = c.in-Join.lb;
+      cp = c.in-Join.cp;
+      top = c.in-Join.top;
+      horizon = c.in-Join.horizon;
+    })) in
+    on_ok_weaker c.take_join.result
+    (λ h items size list. heard_stocks size n.me c.args.now list (server n items) c.args.from c.args.message m
+    [] (stock n) (stock c.take_join.new.self) (ap heard c.in-Join.is) (ap carried c.in-Join.is)
+    (h items size list)) c.take_join.ensures.stock
+
+pub returns-in-Form-clause-stock : goal.returns-in-Form-clause-stock
+returns-in-Form-clause-stock g c =
+    let n = c.args.self.now in
+    let m : Message Entry = Form (number_of_view c.in-Form.view) (plan_of (record {
+      storers = c.in-Form.storers;
+      source = c.in-Form.source;
+      base = c.in-Form.base;
+      cp = c.in-Form.cp;
+      start = c.in-Form.start;
+      horizon = c.in-Form.horizon;
+    })) in
+    on_ok_weaker c.take_form.result
+    (λ h items size list. heard_stocks size n.me c.args.now list (server n items) c.args.from c.args.message m
+    [] (stock n) (stock c.take_form.new.self) (ap heard c.in-Form.is) (ap carried c.in-Form.is)
+    (h items size list)) c.take_form.ensures.stock
+
+pub returns-in-Give-clause-stock : goal.returns-in-Give-clause-stock
+returns-in-Give-clause-stock g c =
+    let n = c.args.self.now in
+    let m : Message Entry = Give (number_of_view c.in-Give.view) c.in-Give.first (map entry_of
+    c.in-Give.records) in
+    on_ok_weaker c.take_give.result
+    (λ h items size list. heard_stocks size n.me c.args.now list (server n items) c.args.from c.args.message m
+    c.in-Give.records (stock n) (stock c.take_give.new.self) (ap heard c.in-Give.is) (ap carried c.in-Give.is)
+    (h items size list)) c.take_give.ensures.stock
+
+pub returns-in-Demote-clause-stock : goal.returns-in-Demote-clause-stock
+returns-in-Demote-clause-stock g c =
+    let n = c.args.self.now in
+    let m : Message Entry = Demote (number_of_view c.in-Demote.view) in
+    on_ok_weaker c.take_demote.result
+    (λ h items size list. heard_stocks size n.me c.args.now list (server n items) c.args.from c.args.message m
+    [] (stock n) (stock c.take_demote.new.self) (ap heard c.in-Demote.is) (ap carried c.in-Demote.is)
+    (h items size list)) c.take_demote.ensures.stock
+
+pub returns-in-Event-clause-stock : goal.returns-in-Event-clause-stock
+returns-in-Event-clause-stock g c items size list =
+    let n = c.args.self.now in
+    let m : Message Entry = Event (number_of_view c.in-Event.view) c.in-Event.item.index
+    c.in-Event.cp c.in-Event.base (entry_of c.in-Event.item) in
+    heard_stocks size n.me c.args.now list (server n items) c.args.from c.args.message m (c.in-Event.item ∷ []) (stock n)
+    (stock c.take_event.new.self) (ap heard c.in-Event.is) (ap carried c.in-Event.is)
+    (c.in_ok-take_event-in-Event.ensures.stock items size list)
+
+pub returns-in-Beat-clause-stock : goal.returns-in-Beat-clause-stock
+returns-in-Beat-clause-stock g c items size list =
+    let n = c.args.self.now in
+    let m : Message Entry = Beat (number_of_view c.in-Beat.view) c.in-Beat.cp c.in-Beat.base in
+    heard_stocks size n.me c.args.now list (server n items) c.args.from c.args.message m [] (stock n)
+    (stock c.take_beat.new.self) (ap heard c.in-Beat.is) (ap carried c.in-Beat.is)
+    (c.in_ok-take_beat-in-Beat.ensures.stock items size list)
+
+pub returns-in-Ack-clause-stock : goal.returns-in-Ack-clause-stock
+returns-in-Ack-clause-stock g c items size list =
+    let n = c.args.self.now in
+    let m : Message Entry = Ack (number_of_view c.in-Ack.view) c.in-Ack.top c.in-Ack.lb
+    c.in-Ack.until in
+    heard_stocks size n.me c.args.now list (server n items) c.args.from c.args.message m [] (stock n)
+    (stock c.take_ack.new.self) (ap heard c.in-Ack.is) (ap carried c.in-Ack.is)
+    (c.in_ok-take_ack-in-Ack.ensures.stock items size list)
+
+pub returns-in-Fetch-clause-stock : goal.returns-in-Fetch-clause-stock
+returns-in-Fetch-clause-stock g c items size list =
+    let n = c.args.self.now in
+    let from = place_of c.args.from in
+    let m : Message Entry = Fetch (number_of_view c.in-Fetch.view) c.in-Fetch.first in
+    heard_stocks size n.me c.args.now list (server n items) c.args.from c.args.message m [] (stock n)
+    (stock c.take_fetch.new.self) (ap heard c.in-Fetch.is) (ap carried c.in-Fetch.is)
+    (stocks_idle [] n.me (server n items) (rule size n.me c.args.now list (server n items) (Comes from m)) (stock n)
+    (stock c.take_fetch.new.self) (idle_rule size n.me c.args.now list (server n items) from m
+    (idle_fetch size list (server n items) (place_of c.args.from) (number_of_view c.in-Fetch.view)
+    c.in-Fetch.first)) c.in_ok-take_fetch-in-Fetch.ensures.stock)
+
+pub returns-in-Formed-clause-stock : goal.returns-in-Formed-clause-stock
+returns-in-Formed-clause-stock g c items size list =
+    let n = c.args.self.now in
+    let from = place_of c.args.from in
+    let m : Message Entry = Formed (number_of_view c.in-Formed.view) c.in-Formed.lb in
+    heard_stocks size n.me c.args.now list (server n items) c.args.from c.args.message m [] (stock n)
+    (stock c.take_formed.new.self) (ap heard c.in-Formed.is) (ap carried c.in-Formed.is)
+    (stocks_idle [] n.me (server n items) (rule size n.me c.args.now list (server n items) (Comes from m)) (stock n)
+    (stock c.take_formed.new.self) (idle_rule size n.me c.args.now list (server n items) from m
+    (idle_formed (server n items) (place_of c.args.from) (number_of_view c.in-Formed.view)
+    c.in-Formed.lb)) c.in_ok-take_formed-in-Formed.ensures.stock)
+
+pub returns-in-Fetch-clause-sent : goal.returns-in-Fetch-clause-sent
+returns-in-Fetch-clause-sent g c fetch = c.in_ok-take_fetch-in-Fetch.ensures.sent

@@ -3,14 +3,19 @@ use Rattle.event_record.specs.Record.{entry_of}
 use Rattle.event_record.specs.declared.record.RecordFields.{RecordFields}
 use Rattle.group_rules.specs.Form.{accept_moves, wanted}
 use Rattle.group_rules.specs.Names.{place_of}
-use Rattle.group_rules.specs.Places.{Place, is_in, same}
-use Rattle.kept_log.specs.Kept.{plan_of, with_kept}
-use Rattle.node.proofs.Forms.{begins_so, joined_is, no_test, none_at, not_source, part_at, pulling, stores_at, wanted_at, whole_at}
+use Rattle.group_rules.specs.Places.{Place, is_in, partner, same}
+use Rattle.kept_log.specs.Kept.{plan_of, with_kept, log_in}
+use Rattle.node.proofs.Forms.{begins, begins_so, joined_is, no_test, none_at, not_source, part_at, pulling, stores_at, wanted_at, whole_at}
 use Rattle.node.proofs.Saying.{disk_so, makes_so, mark_so, on_err, on_ok, part_so, unsaid}
 use Rattle.node.specs.Forming.{joined_with}
 use Rattle.node.specs.Node.{NodeValue, server}
 use Rattle.node.specs.State.{IsPulling}
 use Rattle.outputs.specs.Said.{said}
+use Rattle.group_rules.proofs.Tests.{if_is}
+use Rattle.node.proofs.Stocked.{accepting_stock}
+use Rattle.node.proofs.Stocks.{as_stock, idle_if, stocks_so}
+use Rattle.node.specs.Stock.{stock, stock_kept}
+use Rattle.kept_log.specs.Pulls.{adopted_records}
 use Rattle.node.proofs.node.Node.take_part.Goals as goal
 
 pub returns-then-not-fits-clause-makes : goal.returns-then-not-fits-clause-makes
@@ -175,3 +180,43 @@ returns-clause-written g c = disk_so _ _ _ c.fetch.new.self.mark _
     (sym c.lb.ensures.value) c.self.view_is c.fits.ensures.test c.if-not-fits.false
     (λ s. no_test _ (λ whole. true≢false (sym (c.is_full-full.ensures.1
     ((c.in_ok-staged.ensures.none s).0 whole)) ∙ c.if-full.false)))) refl
+
+pub returns-then-not-fits-clause-stock : goal.returns-then-not-fits-clause-stock
+returns-then-not-fits-clause-stock g c items = stocks_so [] _ _ _ [] (stock_kept c.args.kept []) _
+    (none_at c.self.inside.me c.self.inside.mark c.self.inside.horizon c.self.inside.served
+    c.self.inside.duty c.self.inside.state c.args.self.now
+    (λ (n : NodeValue). server n items) c.args.kept c.args.joining (plan_of c.args.form) c.fits.result
+    c.lb.result
+    (sym c.lb.ensures.value) c.self.view_is c.fits.ensures.test c.if-not-fits.true)
+    (λ clock list askers. refl)
+
+pub returns-then-full-clause-stock : goal.returns-then-full-clause-stock
+returns-then-full-clause-stock g c = on_ok c.accept.result _ _ c.accept.ensures.stock
+    (λ h items. let s = joined_with (server c.args.self.now items) c.args.kept c.args.joining in
+    let plan = plan_of c.args.form in
+    stocks_so [] c.args.self.now.me s _ (accept_moves c.args.self.now.me s plan [])
+    (stock_kept c.args.kept []) (stock c.accept.new.self)
+    (whole_at c.self.inside.me c.self.inside.mark c.self.inside.horizon c.self.inside.served
+    c.self.inside.duty c.self.inside.state c.args.self.now
+    (λ (n : NodeValue). server n items) c.args.kept c.args.joining (plan_of c.args.form) c.fits.result
+    c.lb.result
+    (sym c.lb.ensures.value) c.self.view_is c.fits.ensures.test c.if-not-fits.false
+    (λ s. (c.in_ok-staged.ensures.none s).1 (c.is_full-full.ensures.0 c.if-full.true)))
+    (accepting_stock [] c.args.self.now.me s plan _ _ _ c.args.kept [] (stock c.accept.new.self)
+    (idle_if (same c.args.self.now.me (partner plan.storers)) _ [] (tt, tt) tt)
+    (h ∙ ap (λ (rs : List RecordFields). as_stock (adopted_records c.args.self.now.me s plan (log_in c.args.kept).records rs) [] []) c.in_ok-staged.ensures.list.1)))
+
+pub returns-clause-stock : goal.returns-clause-stock
+returns-clause-stock g c items =
+    let s = joined_with (server c.args.self.now items) c.args.kept c.args.joining in
+    stocks_so [] c.args.self.now.me s _ (begins c.args.self.now.me s (plan_of c.args.form))
+    (stock_kept c.args.kept []) (stock c.fetch.new.self)
+    (part_at c.self.inside.me c.self.inside.mark c.self.inside.horizon c.self.inside.served
+    c.self.inside.duty c.self.inside.state c.args.self.now
+    (λ (n : NodeValue). server n items) c.args.kept c.args.joining (plan_of c.args.form) c.fits.result
+    c.lb.result
+    (sym c.lb.ensures.value) c.self.view_is c.fits.ensures.test c.if-not-fits.false
+    (λ s. no_test _ (λ whole. true≢false (sym (c.is_full-full.ensures.1
+    ((c.in_ok-staged.ensures.none s).0 whole)) ∙ c.if-full.false))))
+    (λ clock list askers. c.in_ok-fetch.ensures.stock
+    ∙ ap (stock_kept c.args.kept) c.in_ok-staged.ensures.list.1)
