@@ -6,9 +6,10 @@ use Rattle.group_rules.specs.Names.{place_of}
 use Rattle.harp_base.specs.declared.server.ServerId.{ServerId}
 use Rattle.harp_store.specs.Disk.{Moments, reads}
 use Rattle.node.specs.Boot.{HasBase, HoldSaved, after_boot, boot_mark, booted_without, mark_before}
-use Rattle.node.specs.Input.{FillsInput, input_of, peers_of}
+use Rattle.node.specs.Input.{FillsInput, input_of}
 use Rattle.node.specs.Node.{NodeValue, server}
-use Rattle.node.specs.Step.{Steps}
+use Rattle.node.specs.Serving.{entry_size}
+use Rattle.node.specs.Step.{StepsWhole}
 use Rattle.node.specs.Stored.{disk_by, mark_by}
 use Rattle.node.specs.Taking.{stepped}
 use Rattle.node.specs.declared.input.Input.{Input}
@@ -38,10 +39,9 @@ pub record IsBoot (me : ServerId) (delta now : ℕ) (old new : Option Moments)
 -- read the tree, its disk can tell it
 pub record IsStep (input : Input) (now : ℕ) (n m : NodeValue) (old new : Option Moments)
     (outs : Outputs) : Type 0 where
-  pub makes : (items : List Entry) (size : List Entry → Entry → ℕ) (list : List Entry)
-      → FillsInput size list n now old input
-      → Steps n.me now (stepped size n.me now list (server n items) (input_of input))
-      (peers_of n input) (server n items) (server m items) outs
+  pub steps : (items list : List Entry) → FillsInput list n now old input
+      → StepsWhole now list items input
+      (stepped entry_size n.me now list (server n items) (input_of input)) n m outs
   pub me_stays : m.me ≡ n.me
   pub mark : (size : List Entry → Entry → ℕ) (list : List Entry) → m.mark
       ≡ mark_by n (stepped size n.me now list n.plain (input_of input)) (input_of input)

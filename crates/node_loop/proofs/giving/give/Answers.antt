@@ -12,7 +12,7 @@ returns-in_ok-datagrams-in-Ok-clause-given g c =
     on_ok-both c.send_all.result (λ all counts. record {
       outs = c.in-Ok.outs;
       step = record {
-        makes = c.in-Ok.ensures.makes;
+        steps = c.in-Ok.ensures.steps;
         me_stays = c.in-Ok.ensures.me;
         mark = c.in-Ok.ensures.mark;
         written = c.in-Ok.ensures.written;
@@ -32,7 +32,7 @@ returns-in_ok-datagrams-in-Ok-clause-part g c =
       outs = c.in-Ok.outs;
       after = new;
       step = record {
-        makes = c.in-Ok.ensures.makes;
+        steps = c.in-Ok.ensures.steps;
         me_stays = c.in-Ok.ensures.me;
         mark = c.in-Ok.ensures.mark;
         written = c.in-Ok.ensures.written;
