@@ -1,0 +1,12 @@
+pub mod Lists
+pub mod Right
+pub mod Logs
+pub mod Moves
+pub mod Plain
+pub mod Rules
+pub mod Saved
+pub mod Steps
+pub mod Starts
+pub mod Told
+pub mod Sends
+pub mod Trees

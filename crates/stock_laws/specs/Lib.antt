@@ -1,0 +1,4 @@
+pub mod Stocks
+pub mod Laws
+pub mod Sent
+pub mod Trees
