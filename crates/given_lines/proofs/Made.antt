@@ -1,6 +1,6 @@
 -- What the lists of a step's outputs make, as loops go over them.
-use Rattle.std.proofs.Common.{◌≡◌, ℕ, suc, ◌+◌, Bool, true, false, List, [], ◌∷◌, ◌++◌, append_assoc, length, map, nat_le, if◌then◌else◌, drop, get_or, ◌<◌, ◌≤◌}
-use Rattle.std.proofs.Common.{refl, sym, ap, ◌∙◌, arith, append-nil, Option, None, Some}
+use Rattle.std.proofs.Common.{◌≡◌, ℕ, ◌+◌, Bool, true, false, List, [], ◌∷◌, ◌++◌, append_assoc, length, map, nat_le, if◌then◌else◌, drop, get_or, ◌<◌, ◌≤◌}
+use Rattle.std.proofs.Common.{refl, sym, ap, ◌∙◌, arith, append-nil}
 use Rattle.std.proofs.lemmas.List.{at_drop_all, length-append}
 use Rattle.harp_base.specs.declared.server.ServerId.{ServerId}
 use Rattle.trace_types.specs.declared.line.Line.{Line}

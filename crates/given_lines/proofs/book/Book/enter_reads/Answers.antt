@@ -1,4 +1,4 @@
-use Rattle.std.proofs.Common.{◌≡◌, ◌∷◌, ◌+◌, ◌∙◌, [], ap, length, sym}
+use Rattle.std.proofs.Common.{◌≡◌, ◌+◌, ◌∙◌, ap, length}
 use Rattle.std.proofs.lemmas.List.{length-append}
 use Rattle.given_lines.specs.Book.{BookValue, with_reads}
 use Rattle.given_lines.specs.Given.{read_in, reads_in}

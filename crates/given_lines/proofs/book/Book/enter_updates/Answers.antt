@@ -1,4 +1,4 @@
-use Rattle.std.proofs.Common.{◌≡◌, ◌∷◌, ◌+◌, ◌∙◌, [], ap, arith, length, sym}
+use Rattle.std.proofs.Common.{◌≡◌, ◌∷◌, ◌+◌, ◌∙◌, [], ap, arith, length}
 use Rattle.std.proofs.lemmas.List.{length-append}
 use Rattle.outputs.specs.Said.{entered}
 use Rattle.given_lines.specs.Book.{BookValue, new_updates}
