@@ -1,6 +1,8 @@
 //! Applying the changes of committed records to a store, and flushing it.
 #![tactic(auto)]
 
+mod laws;
+
 ghost use Rattle.std.specs.Prelude.{◌≡◌, ◌≤◌, ◌<◌, ◌^◌, ◌+◌, ◌⊎◌, ℕ, min, length, Option, Some, None, IfOk, OnOk, OnErr, Err};
 ghost use Rattle.harp_base.specs.Streams.{Rose};
 ghost use Rattle.harp_store.specs.declared.store.StoreFault.TheVariants.{Failed};
@@ -8,14 +10,16 @@ ghost use Rattle.harp_store.specs.Disk.{AtEachMoment, Moments, Now, MayHaveMade,
 ghost use Rattle.fuzzy_cells.specs.History.{AllSetOnce, History};
 ghost use Rattle.fuzzy_disks.specs.FuzzyDisk.{AreRecordsOf, IsFuzzyByMark, IsFuzzyDisk};
 ghost use Rattle.applier.specs.Fuzzy.{IsFuzzyTo, StaysFuzzy};
-ghost use Rattle.applier.specs.Applied.{after_changes, AfterPart, CrashesLeave, IsAfterPart, IsLeftInPart, changes_at, changes_between, lower, flushed, IsOldOrSynced};
+ghost use Rattle.applier.specs.Applied.{after_changes, AfterPart, CrashesLeave, IsAfterPart, IsLeftInPart, changes_at, changes_between, lower, flushed, FlushesInPart, IsOldOrSynced};
 
 use harp_cells::{Change, ChangeLog};
 use harp_store::{Mark, Store, StoreFault};
+pub use laws::flush_laws;
 use std::alloc::Global;
 
 /// Syncs the store, and then writes the mark with this number as the one up to which all updates
 /// are on the disk. At each moment the mark on the disk is the old one, or all cells are synced.
+/// Where it fails, a first part of the two calls is made.
 pub fn flush<D: Store>(
     alloc: Global,
     store: &mut D,
@@ -26,6 +30,7 @@ pub fn flush<D: Store>(
     ensures done { OnOk result (D.told store.new ≡ flushed (lower ap mark.old) (D.told store.old)) }
     ensures mark { OnOk result (mark.new ≡ lower ap mark.old) }
     ensures kept { OnErr result (mark.new ≡ mark.old) }
+    ensures part { FlushesInPart (lower ap mark.old) (D.told store.old) (D.told store.new) }
     ensures moments { (h : Moments) → D.told store.old ≡ Some h
         → AtEachMoment (IsOldOrSynced h.now.mark) (D.told store.old) (D.told store.new) }
     ensures fuzzy { (history : History) (m : ℕ) (h : Moments) → D.told store.old ≡ Some h

@@ -12,7 +12,6 @@ use Rattle.record_changes.specs.Records.{history_of}
 use Rattle.record_changes.proofs.Histories.{once, stand}
 use Rattle.group_rules.specs.Disk.{apply, settled_tests}
 use Rattle.group_safety.specs.Disks.{Disks, DisksOk, disks_after, disks_begun, disks_by, disks_cut, disks_cut_delivered, disks_delivered, disks_stepped, empty_disks}
-use Rattle.group_rules.specs.FixedStart.{fixed_start}
 use Rattle.group_safety.specs.Laws.{Whole}
 use Rattle.group_rules.specs.Limits.{delta_tests, is_log, room}
 use Rattle.group_rules.specs.Moves.{Applying, Booting, Falling, Move, moved_by}
@@ -334,15 +333,6 @@ first_stores = record { each = all }
   where
     all : (q : Place) → is_p2 q ≡ false → IsBetween (history_of []) (first_group.server q).lb
         (applied_in (first_group.server q)) 0 (synced_to no_cells)
-    all Zero p = new_disks (history_of [])
-    all One p = new_disks (history_of [])
-    all Two p = absurd (true≢false p)
-
-pub fixed_stores : StoresOk fixed_start empty_disks empty_stores
-fixed_stores = record { each = all }
-  where
-    all : (q : Place) → is_p2 q ≡ false → IsBetween (history_of []) (fixed_start.server q).lb
-        (applied_in (fixed_start.server q)) 0 (synced_to no_cells)
     all Zero p = new_disks (history_of [])
     all One p = new_disks (history_of [])
     all Two p = absurd (true≢false p)

@@ -2,7 +2,6 @@
 
 ghost use Rattle.std.specs.Prelude.{List};
 ghost use Rattle.trace_types.specs.declared.step.Step.{Step};
-ghost use Rattle.group_rules.specs.FixedStart.{fixed_start};
 ghost use Rattle.group_rules.specs.Step.{first_group};
 ghost use Rattle.group_safety.specs.Disks.{empty_disks};
 ghost use Rattle.group_trace.specs.Run.{AreTaken};
@@ -36,7 +35,6 @@ pub fn stops_count_calls()
 /// flushed, saved, cut off and crashed. At first every disk is empty.
 pub fn stores_stay_between()
     ensures first { StoresOk first_group empty_disks empty_stores }
-    ensures fixed { StoresOk fixed_start empty_disks empty_stores }
     ensures kept { StoresStay }
     ensures fuzzy { StoresAreFuzzy }
 {}

@@ -6,7 +6,7 @@ ghost use Rattle.group_rules.specs.Effects.{rested};
 ghost use Rattle.group_rules.specs.Limits.{can_have, is_log};
 ghost use Rattle.group_rules.specs.Names.{place_of};
 ghost use Rattle.group_rules.specs.Places.{Place, is_p2};
-ghost use Rattle.group_rules.specs.State.{Empty, Mark, Server};
+ghost use Rattle.group_rules.specs.State.{Empty, Log, Mark, Server};
 ghost use Rattle.kept_log.specs.Boots.{rests, role_of, saved_of, takes_saved};
 ghost use Rattle.kept_log.specs.Kept.{IsPlaced, held_in, log_in, with_kept};
 ghost use Rattle.kept_log.specs.declared.kept.Kept.TheVariants as kept;
@@ -39,6 +39,8 @@ impl Kept {
             → takes_saved (place_of me) m m.saved ≡ false
             → rested (place_of me) clock delta m ≡ rests clock delta m result }
         ensures placed { IsPlaced (place_of me) result }
+        ensures without { is_log (held_in result) ≡ false }
+        ensures records { (log_in result).records ≡ [] }
     {
         match role {
             Role::Outside => {
@@ -61,6 +63,8 @@ impl Kept {
             → log.lb ≡ m.lb → log.ap ≡ m.lb → m.saved ≡ Some (saved_of log)
             → rested (place_of me) clock delta m ≡ rests clock delta m result }
         ensures placed { IsPlaced (place_of me) result }
+        ensures held { held_in result ≡ Log }
+        ensures records { (log_in result).records ≡ log.records }
     {
         let _ = log.cp();
         if is_witness(me) {

@@ -6,7 +6,7 @@ use Rattle.std.proofs.lemmas.List.{append-nil, drop_all}
 use Rattle.trace_types.specs.declared.line.Line.{Line}
 use Rattle.step_spelling.specs.Lines.{line_text}
 use Rattle.text_fields.specs.declared.fault.TextFault.{TextFault}
-use Rattle.text_fields.specs.declared.fault.TextFault.TheVariants.{Grammar, Unbuilt, NoMemory}
+use Rattle.text_fields.specs.declared.fault.TextFault.TheVariants.{Grammar, NoMemory}
 use Rattle.text_fields.specs.Fields.{Read, Gives, ◌>>=◌}
 use Rattle.text_fields.proofs.Places.{bind_ok, ok_is, passed}
 use Rattle.text_fields.proofs.Faults.{Placed}
@@ -62,7 +62,6 @@ explained text = by (meaning_of text) (line_placed text) refl
     by : (r : Result Line TextFault) → Placed r → meaning_of text ≡ r → Explains text r
     by (Ok l) placed is = line_takes text l is
     by (Err (Grammar n)) placed is = λ l stands. let other = line_again text l stands in cc
-    by (Err Unbuilt) placed is = absurd placed
     by (Err NoMemory) placed is = absurd placed
 
 -- what is read is spelled so

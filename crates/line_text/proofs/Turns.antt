@@ -4,7 +4,7 @@ use Rattle.std.specs.Prelude.{IsErr, IsErrAnd}
 use Rattle.std.proofs.lemmas.List.{append-nil}
 use Rattle.harp_base.specs.declared.reply.DirEntry.{DirEntry}
 use Rattle.text_fields.specs.declared.fault.TextFault.{TextFault}
-use Rattle.text_fields.specs.declared.fault.TextFault.TheVariants.{Grammar, Unbuilt, NoMemory}
+use Rattle.text_fields.specs.declared.fault.TextFault.TheVariants.{Grammar, NoMemory}
 use Rattle.text_fields.specs.Fields.{Read, ◌>>=◌, Fails, Gives, spaced_at}
 use Rattle.text_fields.proofs.Places.{read_of}
 use Rattle.step_text.specs.Reading.{is_digit_at}
@@ -85,8 +85,6 @@ pub entries_fault : (f : TextFault) (room : ℕ) (done : List DirEntry) (line : 
 entries_fault NoMemory room done line at all is lt digit fails = tt
 entries_fault (Grammar n) room done line at all is lt digit fails =
     is ∙ entries_fail room done line at (Grammar n) lt digit fails
-entries_fault Unbuilt room done line at all is lt digit fails =
-    is ∙ entries_fail room done line at Unbuilt lt digit fails
 
 -- a fault that `?` hands on
 pub handed_on : {X Y : Type 0} (view : X → Y) (r : Result X TextFault) (e : TextFault)

@@ -3,7 +3,7 @@ use Rattle.std.specs.Prelude.{◌≡◌, ℕ, List, Result, Ok, Err}
 use Rattle.trace_types.specs.declared.line.Line.{Line}
 use Rattle.step_spelling.specs.Lines.{line_text}
 use Rattle.text_fields.specs.declared.fault.TextFault.{TextFault}
-use Rattle.text_fields.specs.declared.fault.TextFault.TheVariants.{Grammar, Unbuilt, NoMemory}
+use Rattle.text_fields.specs.declared.fault.TextFault.TheVariants.{Grammar, NoMemory}
 use Rattle.line_text.specs.Fits.{LineFits}
 
 -- the bytes are the spelling of this line
@@ -15,5 +15,4 @@ pub record IsTraceLine (text : List ℕ) (l : Line) : Type 0 where
 abbrev pub Explains : List ℕ → Result Line TextFault → Type 0
 Explains text (Ok l) = IsTraceLine text l
 Explains text (Err (Grammar place)) = (l : Line) → IsTraceLine text l → ⊥
-Explains text (Err Unbuilt) = ⊥
 Explains text (Err NoMemory) = ⊥

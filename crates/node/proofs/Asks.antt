@@ -1,12 +1,11 @@
 -- Asks, at a leader and at the others.
-use Rattle.std.proofs.Common.{◌≡◌, ℕ, ◌+◌, ◌≤◌, ◌==◌, Bool, true, false, List, [], ◌∷◌, ◌++◌, Option, None, Some, refl, sym, ap, ◌∙◌, subst, if◌then◌else◌}
+use Rattle.std.proofs.Common.{◌≡◌, ℕ, ◌+◌, ◌==◌, Bool, true, false, List, [], ◌∷◌, ◌++◌, Option, None, Some, refl, sym, ap, ◌∙◌, subst, if◌then◌else◌}
 use Rattle.std.specs.Prelude.{◌&&◌, ◌||◌, nat_le, nat_lt}
 use Rattle.std.proofs.lemmas.List.{append-nil}
 use Rattle.cell_cache.specs.Entries.{AreOf, Entries}
-use Rattle.event_record.specs.declared.record.RecordFields.{RecordFields}
 use Rattle.file_tree.specs.Book.{Entry, last_of}
 use Rattle.group_rules.specs.Ask.{append, hint_of, new_entry, on_ask, read_entry, read_moves, refuse, update_moves}
-use Rattle.group_rules.specs.Limits.{is_active, is_open, limit, room}
+use Rattle.group_rules.specs.Limits.{is_active, is_open}
 use Rattle.group_rules.specs.Moves.{Appending, Move, Reading, Saying, Sending}
 use Rattle.group_rules.specs.Names.{place_of}
 use Rattle.group_rules.specs.Places.{Pair, Place, all_of, leader, partner, same}
@@ -45,7 +44,7 @@ use Rattle.tree_log.specs.Reading.{HoldsTree}
 use Rattle.view_replica.specs.Asking.{Asked as AskedLed, IsGrown, appended, reads_tree as reads_led, recorded}
 use Rattle.view_replica.specs.Following.{storers_followed}
 use Rattle.view_replica.specs.Leading.{Leading, led, mode_led, place_led}
-use Rattle.volatile_log.specs.Log.{LogValue, top as top_of}
+use Rattle.volatile_log.specs.Log.{LogValue}
 
 -- ---- a server that doesn't lead
 

@@ -1,17 +1,16 @@
 -- Moves that send no records.
-use Rattle.std.proofs.Common.{◌≡◌, ℕ, ◌+◌, Bool, true, false, List, [], ◌∷◌, ◌++◌, length, refl, ap, sym, ◌∙◌, subst, if◌then◌else◌}
+use Rattle.std.proofs.Common.{◌≡◌, ℕ, ◌+◌, Bool, true, false, List, [], ◌∷◌, ◌++◌, length, refl, ap, ◌∙◌, subst, if◌then◌else◌}
 use Rattle.std.specs.Prelude.{◌==◌, ◌||◌, ◌-◌, ◌/◌, nat_lt, drop, take, map, Option, None, Some}
 use Rattle.std.specs.List.{flat_map}
 use Rattle.event_record.specs.declared.record.RecordFields.{RecordFields}
 use Rattle.file_tree.specs.Book.{Entry}
 use Rattle.group_rules.specs.Choose.{choose}
 use Rattle.group_rules.specs.Disk.{demote_tests}
-use Rattle.group_rules.specs.Form.{accept_moves, adopted, fits, form_moves, pull_tests, wanted}
+use Rattle.group_rules.specs.Form.{accept_moves, fits, form_moves, pull_tests, wanted}
 use Rattle.group_rules.specs.Joining.{chosen_moves, joined_tests, on_join, suspect, to_each}
 use Rattle.group_rules.specs.Limits.{is_joins, limit}
 use Rattle.group_rules.specs.Misfits.{misfits}
 use Rattle.group_rules.specs.Moves.{Move, Pulling, Sending, acts}
-use Rattle.group_rules.specs.Names.{place_of}
 use Rattle.group_rules.specs.Open.{formed_tests, open_heard, open_moves, open_tests, try_open}
 use Rattle.group_rules.specs.Places.{Place, Trio, all_of, get, is_s01, other_storers, others, partner, same, with_at}
 use Rattle.group_rules.specs.Replicate.{ack_tests, answers, is_in_view}

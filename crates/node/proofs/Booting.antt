@@ -2,14 +2,15 @@
 use Rattle.std.proofs.Common.{◌≡◌, ◌+◌, ◌<◌, ◌^◌, ℕ, Bool, true, false, List, [], ◌∷◌, length, max, Option, None, Some, refl, ap, sym, subst, ◌∙◌, inl, inr, arith, true≢false, if◌then◌else◌}
 use Rattle.std.specs.Prelude.{IfSome, IsSome, option_map, map, ◌&&◌}
 use Rattle.event_record.specs.Record.{entry_of}
+use Rattle.event_record.specs.declared.record.RecordFields.{RecordFields}
 use Rattle.file_tree.specs.Book.{Entry}
 use Rattle.group_rules.specs.Effects.{booted, empty_log, first_mark as first_mark_of, lengthened, load_tests, lost_log, rested, resting}
-use Rattle.group_rules.specs.Limits.{can_have, is_outside}
+use Rattle.group_rules.specs.Limits.{can_have, is_log, is_outside}
 use Rattle.group_rules.specs.Names.{place_of}
 use Rattle.group_rules.specs.Places.{Place, all_of, is_p2}
-use Rattle.group_rules.specs.State.{Empty, Lost, Mark, Saved, Server, longest_of}
+use Rattle.group_rules.specs.State.{Empty, Held, Log, Lost, Mark, Saved, Server, longest_of}
 use Rattle.harp_base.specs.declared.server.ServerId.{ServerId}
-use Rattle.harp_base.specs.declared.server.ServerId.TheVariants as server
+use Rattle.harp_base.specs.declared.server.ServerId.TheVariants as id
 use Rattle.harp_base.specs.declared.state.Role.{Role as Part}
 use Rattle.harp_base.specs.declared.state.Role.TheVariants as part
 use Rattle.harp_cells.specs.Effect.{Cells}
@@ -17,14 +18,16 @@ use Rattle.harp_store.specs.Disk.{Moments, after_step, cells_told, reads}
 use Rattle.harp_store.specs.Mark.{MarkFields, SavedNumbers, first_mark}
 use Rattle.kept_log.proofs.Booting.{rests_held}
 use Rattle.kept_log.specs.Boots.{rests, role_of as role_booted, saved_of, takes_saved}
-use Rattle.kept_log.specs.Kept.{lb_in}
+use Rattle.kept_log.specs.Kept.{held_in, lb_in, log_in}
 use Rattle.kept_log.specs.declared.kept.Kept.{Kept}
 use Rattle.kept_log.specs.declared.kept.Kept.TheVariants as kept
-use Rattle.node.specs.Boot.{HasBase, HoldSaved, after_boot, boot_mark, booted_disk, booted_without, has_boot_mark, mark_before}
-use Rattle.node.specs.Node.{mark_with, rested_with, saved_with}
+use Rattle.node.specs.Boot.{HasBase, HoldSaved, HoldWhole, after_boot, boot_mark, booted_disk, booted_stock, booted_without, has_boot_mark, mark_before}
+use Rattle.node.specs.Node.{NodeValue, mark_with, rested_with, saved_with, server}
 use Rattle.node.specs.State.{role_of}
+use Rattle.node.specs.Stock.{Stock, stock, stock_kept}
 use Rattle.power_save.specs.Entries.{HoldEntries}
-use Rattle.power_save.specs.Saved.{HasNumbers, IsNotSaved}
+use Rattle.power_save.proofs.Records.{same_log}
+use Rattle.power_save.specs.Saved.{HasNumbers, HoldRecords, IsNotSaved}
 use Rattle.promise.specs.Promise.{HorizonValue}
 use Rattle.volatile_log.specs.Log.{IsLog, LogValue, top}
 
@@ -147,6 +150,52 @@ loaded_at q mark log k order can h at boots =
     lb_with q m log k order can h.synced (was_saved log mark h) boots
     ∙ low_same (is_p2 q) log mark.lb mark.saved h.saved h.numbers at
 
+-- ---- the records of a log that was loaded
+
+-- they are those that the cells hold whole
+held_whole : (cells : Cells) (log : LogValue) (saved : List RecordFields)
+    (numbers : Option SavedNumbers) → IsSome numbers
+    → ((s : SavedNumbers) → numbers ≡ Some s
+    → (log.base ≡ s.base) × (log.cp ≡ s.cp) × (top log ≡ s.top))
+    → ((s : SavedNumbers) → numbers ≡ Some s → HoldRecords s.ring cells log.base log.records)
+    → IfSome numbers (λ v. (v.top ≡ v.base + length saved)
+    × HoldRecords v.ring cells v.base saved) → log.records ≡ saved
+held_whole cells log saved None there h held whole = cc
+held_whole cells log saved (Some s) there h held whole =
+    let base = (h s refl).0 in
+    let high = (h s refl).2 in
+    same_log s.ring cells s.base log.records saved (omega (arith, base, high, whole.0))
+    (subst (λ (n : ℕ). HoldRecords s.ring cells n log.records) base (held s refl)) whole.1
+
+pub loaded_whole : (cells : Cells) (mark : MarkFields) (log : LogValue) (saved : List RecordFields)
+    (k : Kept) → HasNumbers log mark
+    → ((s : SavedNumbers) → mark.saved ≡ Some s → HoldRecords s.ring cells log.base log.records)
+    → HoldWhole cells mark saved → held_in k ≡ Log → (log_in k).records ≡ log.records
+    → (log_in k).records ≡ (if is_log (held_in k) then saved else [])
+loaded_whole cells mark log saved k h held whole is records =
+    records ∙ held_whole cells log saved mark.saved h.saved h.numbers held whole
+    ∙ ap (λ (x : Held). if is_log x then saved else []) (sym is)
+
+pub unloaded_whole : (saved records : List RecordFields) (held : Held) → records ≡ []
+    → is_log held ≡ false → records ≡ (if is_log held then saved else [])
+unloaded_whole saved records held none is = none
+    ∙ ap (λ (b : Bool). if b then saved else []) (sym is)
+
+-- and so the server has them that rests with it
+pub booted_whole : (n : NodeValue) (mark : MarkFields) (horizon : HorizonValue) (k : Kept)
+    (saved : List RecordFields) → stock n ≡ stock_kept k []
+    → server n [] ≡ rested_with [] mark horizon k
+    → (log_in k).records ≡ (if is_log (held_in k) then saved else [])
+    → stock n ≡ booted_stock n.plain saved
+booted_whole n mark horizon k saved rests is records =
+    rests
+    ∙ ap (λ (rs : List RecordFields). let x : Stock = record {
+      log = rs;
+      pulled = [];
+      waits = [];
+    } in x) (records
+    ∙ ap (λ (s : Server Entry). if is_log s.held then saved else []) (sym is))
+
 -- ---- what rests after a boot
 
 -- the LB of the mark is that of what it keeps
@@ -175,17 +224,17 @@ rests_from items mark low horizon clock delta longest k lowers until long =
 first_is : (me : ServerId) (delta : ℕ) (items : List Entry) → items ≡ [] → max delta delta ≡ delta
     → mark_with items (first_mark me delta)
     ≡ lengthened delta (first_mark_of Entry delta (place_of me))
-first_is server.Zero delta items none same =
-    ap (λ (x : List Entry). mark_with x (first_mark server.Zero delta)) none
-    ∙ ap (λ (n : ℕ). record (mark_with [] (first_mark server.Zero delta)) { longest = Some n })
+first_is id.Zero delta items none same =
+    ap (λ (x : List Entry). mark_with x (first_mark id.Zero delta)) none
+    ∙ ap (λ (n : ℕ). record (mark_with [] (first_mark id.Zero delta)) { longest = Some n })
     (sym same)
-first_is server.One delta items none same =
-    ap (λ (x : List Entry). mark_with x (first_mark server.One delta)) none
-    ∙ ap (λ (n : ℕ). record (mark_with [] (first_mark server.One delta)) { longest = Some n })
+first_is id.One delta items none same =
+    ap (λ (x : List Entry). mark_with x (first_mark id.One delta)) none
+    ∙ ap (λ (n : ℕ). record (mark_with [] (first_mark id.One delta)) { longest = Some n })
     (sym same)
-first_is server.Two delta items none same =
-    ap (λ (x : List Entry). mark_with x (first_mark server.Two delta)) none
-    ∙ ap (λ (n : ℕ). record (mark_with [] (first_mark server.Two delta)) { longest = Some n })
+first_is id.Two delta items none same =
+    ap (λ (x : List Entry). mark_with x (first_mark id.Two delta)) none
+    ∙ ap (λ (n : ℕ). record (mark_with [] (first_mark id.Two delta)) { longest = Some n })
     (sym same)
 
 none_left : (items : List Entry) (a b : SavedNumbers) → Some a ≡ Some b → a.top ≡ 0

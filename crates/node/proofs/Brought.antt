@@ -1,5 +1,5 @@
 -- What a whole step brings to a server's mark and disk, from what its rule does.
-use Rattle.std.proofs.Common.{◌≡◌, ℕ, List, [], Option, None, Some, Result, Ok, Err, refl, sym, ap, ◌∙◌, subst, inl, inr}
+use Rattle.std.proofs.Common.{◌≡◌, ℕ, List, Option, None, Some, Result, Ok, Err, refl, ap, ◌∙◌, inl, inr}
 use Rattle.std.specs.Prelude.{OnOk, option_map}
 use Rattle.cell_cache.specs.Entries.{AreOf, Entries}
 use Rattle.file_tree.specs.Book.{Entry}
@@ -7,15 +7,13 @@ use Rattle.group_rules.specs.Moves.{Move}
 use Rattle.group_rules.specs.Places.{Place}
 use Rattle.group_rules.specs.State.{Message}
 use Rattle.group_rules.specs.Step.{Apply, Ask, Comes, Crash, Does, Flush, Input, ListTree, Power, Suspect, Tick}
-use Rattle.harp_store.specs.Disk.{AtEachMoment, Moments, cells_told}
+use Rattle.harp_store.specs.Disk.{Moments, cells_told}
 use Rattle.harp_store.specs.Mark.{MarkFields}
-use Rattle.harp_store.proofs.Moments.{stays}
 use Rattle.node.specs.Cached.{IsCachedAs}
 use Rattle.node.specs.Disk.{MayLeave, disk_after, marked_by}
 use Rattle.node.specs.Node.{NodeValue}
-use Rattle.node.specs.Stored.{FlushesAtOnce, LeavesBy, changes_made, disk_by, mark_by}
+use Rattle.node.specs.Stored.{LeavesBy, changes_made, disk_by, mark_by}
 use Rattle.node.specs.Taking.{ruled, stepped}
-use Rattle.applier.specs.Applied.{IsOldOrSynced}
 use Rattle.node.proofs.Cached.{disk_cells, stays_cached}
 use Rattle.node.proofs.Marks.{disk_as, mark_as, part_as}
 use Rattle.node.proofs.Stepped.{step_alike}
@@ -141,21 +139,13 @@ both_ok (Err e) f p q = tt
 
 -- ---- a step that isn't taken
 
-stays_flushed : (told : Option Moments) (h : Moments) → told ≡ Some h
-    → AtEachMoment (IsOldOrSynced h.now.mark) told told
-stays_flushed told h is = subst (λ (t : Option Moments). AtEachMoment (IsOldOrSynced h.now.mark)
-    t t) (sym is) (stays (IsOldOrSynced h.now.mark) h (inl refl))
-
-none_flushed : (told : Option Moments) → FlushesAtOnce told told
-none_flushed told = record { cells = refl; moments = stays_flushed told }
-
 -- it leaves a part, which is nothing
 pub none_left : (n : NodeValue) (ms : List (Move Entry)) (o : Option Input)
     (told : Option Moments) → LeavesBy n ms o told told
 none_left n ms None told = refl
 none_left n ms (Some (Does (Ask client number cred call))) told = refl
 none_left n ms (Some (Does (Apply most))) told = none_part (changes_made most n) told
-none_left n ms (Some (Does Flush)) told = none_flushed told
+none_left n ms (Some (Does Flush)) told = inl refl
 none_left n ms (Some (Does ListTree)) told = refl
 none_left n ms (Some (Does Tick)) told = inl refl
 none_left n ms (Some (Does Suspect)) told = inl refl

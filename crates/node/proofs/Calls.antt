@@ -38,7 +38,8 @@ abbrev pub AreSilent : List (Move Entry) → Type 0
 AreSilent [] = Unit {0}
 AreSilent (m ∷ ms) = IsSilent m × AreSilent ms
 
-mute_then : (m : Move Entry) (ms : List (Move Entry)) → answered_by m ≡ [] → refused_by m ≡ [] → IsMute ms
+mute_then : (m : Move Entry) (ms : List (Move Entry)) → answered_by m ≡ [] → refused_by m ≡ []
+    → IsMute ms
     → IsMute (m ∷ ms)
 mute_then m ms answers refusals rest = record {
   answers = ap (λ xs. xs ++ answers_said ms) answers ∙ rest.answers;
@@ -78,19 +79,23 @@ mute_suspect q s = mute (suspect q s)
     (silent_if (nat_lt (s.promised / 3) limit) _ [] (tt, silent_each _ (others q)) tt)
 
 -- no answers, whoever waits
-pub any_peers : (q : Place) (clock : ℕ) (ms : List (Move Entry)) (peers : List Peer) (old new : Server Entry)
+pub any_peers : (q : Place) (clock : ℕ) (ms : List (Move Entry)) (peers : List Peer)
+    (old new : Server Entry)
     (before after : Outputs) → IsMute ms → Makes q clock ms [] old new before after
     → Makes q clock ms peers old new before after
 any_peers q clock ms peers old new before after mute made =
     let answers : in_turn answered (answers_said ms) [] ≡ in_turn answered (answers_said ms) peers =
     rw mute.answers refl in
-    let refusals : in_turn refused (refusals_said ms) [] ≡ in_turn refused (refusals_said ms) peers =
+    let refusals : in_turn refused (refusals_said ms) []
+    ≡ in_turn refused (refusals_said ms) peers =
     rw mute.refusals refl in
     record {
       state = made.state;
       said = made.said
-          ∙ same_said (with_moves q clock old ms [] (said before)) (with_moves q clock old ms peers (said before))
-          refl (ap (λ zs. (said before).answers ++ zs) answers) (ap (λ zs. (said before).refusals ++ zs) refusals)
+          ∙ same_said (with_moves q clock old ms [] (said before))
+          (with_moves q clock old ms peers (said before))
+          refl (ap (λ zs. (said before).answers ++ zs) answers)
+          (ap (λ zs. (said before).refusals ++ zs) refusals)
           refl refl refl refl;
     }
 
@@ -99,23 +104,29 @@ any_peers q clock ms peers old new before after mute made =
 based : (q : Place) (clock : ℕ) (s : Server Entry) (b : Bool) (n : ℕ) (before : Said)
     → before ≡ with_moves q clock s (if b then Basing n ∷ [] else []) [] before
 based q clock s true n before = same_said before (with_moves q clock s (Basing n ∷ []) [] before)
-    (sym (append-nil before.committed)) (sym (append-nil before.answers)) (sym (append-nil before.refusals))
+    (sym (append-nil before.committed)) (sym (append-nil before.answers))
+    (sym (append-nil before.refusals))
     (sym (append-nil before.sends)) refl refl refl
 based q clock s false n before = same_said before (with_moves q clock s [] [] before)
-    (sym (append-nil before.committed)) (sym (append-nil before.answers)) (sym (append-nil before.refusals))
+    (sym (append-nil before.committed)) (sym (append-nil before.answers))
+    (sym (append-nil before.refusals))
     (sym (append-nil before.sends)) refl refl refl
 
 -- a call, and then the base
-pub stepped : (q : Place) (clock : ℕ) (ms : List (Move Entry)) (peers : List Peer) (old mid new : Server Entry)
+pub stepped : (q : Place) (clock : ℕ) (ms : List (Move Entry)) (peers : List Peer)
+    (old mid new : Server Entry)
     (before after : Outputs) → said before ≡ nothing → Makes q clock ms peers old mid before after
-    → new ≡ acts q clock mid (rebase mid) → Steps q clock (and_then q clock old ms rebase) peers old new after
+    → new ≡ acts q clock mid (rebase mid)
+    → Steps q clock (and_then q clock old ms rebase) peers old new after
 stepped q clock ms peers old mid new before after fresh made moved =
     let second : Makes q clock (rebase mid) [] mid new after after = record {
       state = moved;
       said = based q clock mid (all_of (base_tests mid)) _ (said after);
     } in
-    let both = makes_then q clock ms (rebase mid) peers [] old mid new before after after made second (mute_rebase mid) in
-    let all = subst (λ (s : Server Entry). Makes q clock (ms ++ rebase s) peers old new before after) made.state both in
+    let both = makes_then q clock ms (rebase mid) peers [] old mid new before after after made
+    second (mute_rebase mid) in
+    let all = subst (λ (s : Server Entry).
+    Makes q clock (ms ++ rebase s) peers old new before after) made.state both in
     record {
       state = all.state;
       said = all.said ∙ ap (with_moves q clock old (and_then q clock old ms rebase) peers) fresh;

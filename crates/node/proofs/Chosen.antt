@@ -22,7 +22,7 @@ use Rattle.outputs.specs.Makes.{Makes}
 use Rattle.outputs.specs.Said.{said}
 use Rattle.outputs.specs.declared.outputs.Outputs.{Outputs}
 use Rattle.promise.specs.Promise.{HorizonValue}
-use Rattle.view_form.specs.Choice.{Collected, choice, chosen_at, collected, report, reports}
+use Rattle.view_form.specs.Choice.{Collected, chosen_at, collected, report, reports}
 use Rattle.view_form.specs.declared.join.JoinInfo.{JoinInfo}
 use Rattle.view_form.specs.declared.plan.Plan.{Plan as Told}
 

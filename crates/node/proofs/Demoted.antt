@@ -1,6 +1,6 @@
 -- A server after its demotion.
 use Rattle.std.proofs.Common.{◌≡◌, ◌≤◌, ℕ, ◌+◌, Bool, true, false, List, [], ◌∷◌, refl, sym, ap, ◌∙◌, subst, arith, nat_lt, if◌then◌else◌}
-use Rattle.std.specs.Prelude.{Option, None, ◌⊎◌}
+use Rattle.std.specs.Prelude.{Option, None}
 use Rattle.std.proofs.Common.{inl, inr}
 use Rattle.std.proofs.lemmas.List.{append-nil}
 use Rattle.file_tree.specs.Book.{Entry}
@@ -288,7 +288,8 @@ pulls_bare q old kept plan staged witness drops placed is = record {
     covered = subst (λ k. k ≤ plan.start) (sym (ap (λ (x : Server Entry). x.cp) (drops any)))
         (omega arith);
     disk = λ lb stores. absurd (let clash : true ≡ false = sym witness ∙ stores in cc);
-    goes_on = λ keeps. absurd (let clash : true ≡ false = sym keeps ∙ bare_keeps q kept plan drops in cc);
+    goes_on = λ keeps. absurd (let clash : true ≡ false = sym keeps
+        ∙ bare_keeps q kept plan drops in cc);
     held = λ source. absurd (let clash : true ≡ false = sym source ∙ is.other in cc);
     source = λ source. absurd (let clash : true ≡ false = sym source ∙ is.other in cc);
   };

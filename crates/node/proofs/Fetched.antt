@@ -1,11 +1,11 @@
 -- What a fetch is given.
-use Rattle.std.proofs.Common.{◌≡◌, ℕ, ◌≤◌, ◌+◌, ◌-◌, ◌==◌, Bool, true, false, List, [], ◌∷◌, ◌++◌, length, take, refl, sym, ap, ◌∙◌, subst, arith, if◌then◌else◌}
-use Rattle.std.specs.Prelude.{Option, None, Some, map, drop}
+use Rattle.std.proofs.Common.{◌≡◌, ℕ, ◌≤◌, Bool, true, false, List, [], ◌∷◌, ◌++◌, refl, sym, ap, ◌∙◌, subst, arith, if◌then◌else◌}
+use Rattle.std.specs.Prelude.{Option, None, Some, map}
 use Rattle.std.proofs.lemmas.List.{length-map}
 use Rattle.event_record.specs.Record.{entry_of}
 use Rattle.event_record.specs.declared.record.RecordFields.{RecordFields}
 use Rattle.file_tree.specs.Book.{Entry}
-use Rattle.group_rules.specs.Moves.{Move, Sending}
+use Rattle.group_rules.specs.Moves.{Move}
 use Rattle.group_rules.specs.Places.{Place, all_of}
 use Rattle.group_rules.specs.Serving.{gives, on_fetch, serving_accepted, serving_joined}
 use Rattle.group_rules.specs.State.{Give, Server, top}

@@ -4,20 +4,23 @@ use Rattle.std.specs.Prelude.{None, Some, IfSome, option_map}
 use Rattle.event_record.specs.declared.record.RecordFields.{RecordFields}
 use Rattle.file_tree.specs.Book.{Entry}
 use Rattle.group_rules.specs.Moves.{Move}
-use Rattle.group_rules.specs.Names.{place_of}
+use Rattle.group_rules.specs.Names.{number_of_view, place_of}
 use Rattle.group_rules.specs.Places.{Place}
-use Rattle.group_rules.specs.State.{Fetch, Message, Server, top}
+use Rattle.group_rules.specs.State.{Fetch, Form, Join, Message, Server, top}
 use Rattle.group_rules.specs.Step.{Comes, rule}
+use Rattle.harp_base.specs.View.{View}
 use Rattle.harp_base.specs.declared.peer.Peer.{Peer}
 use Rattle.harp_base.specs.declared.server.ServerId.{ServerId}
+use Rattle.harp_base.specs.declared.state.Held.{Held as Had}
 use Rattle.harp_store.specs.Disk.{Moments}
 use Rattle.harp_store.specs.Mark.{MarkFields}
+use Rattle.kept_log.specs.Kept.{plan_of}
 use Rattle.node.specs.Disk.{MayLeave, marked_by}
 use Rattle.node.specs.Node.{NodeValue}
 use Rattle.node.specs.Serving.{IsSized}
 use Rattle.node.specs.Taking.{Fills, FillsFor, input_in, ruled}
 use Rattle.node.proofs.Calls.{any_peers}
-use Rattle.node.proofs.Marks.{IsAlike, alike_none, alike_on, alike_same, part_as}
+use Rattle.node.proofs.Marks.{IsAlike, alike_none, alike_on, alike_same}
 use Rattle.node.proofs.Mute.{IsNoAck, KeepsMark, mute_rule, rule_unmarked}
 use Rattle.node.proofs.Sent.{none_made}
 use Rattle.node.specs.Stock.{Stock, Stocks}
@@ -25,7 +28,32 @@ use Rattle.outputs.specs.Makes.{Makes}
 use Rattle.outputs.specs.Messages.{heard}
 use Rattle.outputs.specs.Records.{carried}
 use Rattle.outputs.specs.declared.outputs.Outputs.{Outputs}
+use Rattle.view_form.specs.Choice.{report}
 use Rattle.wire.specs.declared.message.Message.{Message as Wire}
+use Rattle.wire.specs.declared.storers.Storers.{Storers}
+
+-- ---- the machine's messages of a Join and of a Form
+
+abbrev pub joins : View → Had → View → (base lb cp top horizon : ℕ) → Message Entry
+joins view held accepted base lb cp top horizon = Join (number_of_view view) (report (record {
+  held = held;
+  accepted = accepted;
+  base = base;
+  lb = lb;
+  cp = cp;
+  top = top;
+  horizon = horizon;
+}))
+
+abbrev pub forms : View → Storers → ServerId → (base cp start horizon : ℕ) → Message Entry
+forms view storers source base cp start horizon = Form (number_of_view view) (plan_of (record {
+  storers = storers;
+  source = source;
+  base = base;
+  cp = cp;
+  start = start;
+  horizon = horizon;
+}))
 
 -- ---- a message of a server
 

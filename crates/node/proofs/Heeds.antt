@@ -1,10 +1,9 @@
 -- What an active server heeds, and what others leave alone.
-use Rattle.std.proofs.Common.{◌≡◌, ℕ, ◌+◌, ◌-◌, ◌<◌, ◌≤◌, ◌==◌, Bool, true, false, List, [], ◌∷◌, length, refl, sym, ap, ◌∙◌, subst, arith, if◌then◌else◌}
-use Rattle.std.proofs.lemmas.Bool.{eqb-true}
+use Rattle.std.proofs.Common.{◌≡◌, ℕ, ◌+◌, ◌-◌, ◌<◌, ◌≤◌, ◌==◌, Bool, true, false, List, [], ◌∷◌, length, refl, sym, ap, ◌∙◌, subst}
 use Rattle.file_tree.specs.Book.{Entry}
 use Rattle.group_rules.proofs.Tests.{if_not}
-use Rattle.group_rules.specs.Limits.{is_active, is_open, is_waits}
-use Rattle.group_rules.specs.Moves.{Heeding, Move, Noting, Sending}
+use Rattle.group_rules.specs.Limits.{is_active, is_open}
+use Rattle.group_rules.specs.Moves.{Heeding, Move, Sending}
 use Rattle.group_rules.specs.Names.{number_of_view, place_of}
 use Rattle.group_rules.specs.Open.{open_tests, try_open}
 use Rattle.group_rules.specs.Places.{Zero, One, Two, Pair, Place, S01, S02, S12, all_of, leader, partner, same}

@@ -7,7 +7,7 @@ use Rattle.group_rules.specs.Limits.{is_open}
 use Rattle.group_rules.specs.Moves.{Committing, Move, Noting, Sending, acts}
 use Rattle.group_rules.specs.Names.{place_of}
 use Rattle.group_rules.specs.Open.{open_heard, open_moves, open_tests, try_open}
-use Rattle.group_rules.specs.Places.{Two, Place, all_of, get, is_p2, is_s01, partner}
+use Rattle.group_rules.specs.Places.{Two, Place, all_of, get, is_s01, partner}
 use Rattle.group_rules.specs.Replicate.{ack_tests, answers, on_ack}
 use Rattle.group_rules.specs.State.{Beat, Demote, Plan, Server, top}
 use Rattle.group_rules.specs.Tick.{beats, events, unacknowledged}
@@ -19,7 +19,7 @@ use Rattle.kept_log.specs.Kept.{AtBase, plan_of}
 use Rattle.kept_log.specs.declared.form.Form.{Form}
 use Rattle.node.proofs.Led.{AreQuiet, as_led, leads_on}
 use Rattle.node.specs.Node.{NodeValue, server, value}
-use Rattle.node.specs.State.{Fits, IsActive, IsFollowing, IsLeading, outer}
+use Rattle.node.specs.State.{Fits, IsFollowing, IsLeading, outer}
 use Rattle.node.specs.declared.state.State.{State}
 use Rattle.node.specs.declared.state.State.TheVariants as state
 use Rattle.node.specs.declared.state.Task.{Task}
@@ -27,7 +27,7 @@ use Rattle.outputs.specs.Makes.{Makes}
 use Rattle.outputs.specs.declared.outputs.Outputs.{Outputs}
 use Rattle.promise.specs.Promise.{HorizonValue}
 use Rattle.view_replica.specs.Following.{Following, followed, place_followed, settled, with_next}
-use Rattle.view_replica.specs.Leading.{Leading, at_horizon, led, place_led}
+use Rattle.view_replica.specs.Leading.{Leading, led, place_led}
 use Rattle.volatile_log.specs.Log.{LogValue, dropped_to, with_record}
 
 -- ---- the rules of a leader are of quiet moves

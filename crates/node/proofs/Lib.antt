@@ -38,3 +38,4 @@ pub mod Bare
 pub mod Wholes
 pub mod Stocked
 pub mod Sizing
+pub mod Servers

@@ -8,7 +8,7 @@ use Rattle.group_rules.specs.Form.{accept_moves, adopted, pull_tests}
 use Rattle.group_rules.specs.Joining.{chosen_moves, joined_tests, on_join}
 use Rattle.group_rules.specs.Misfits.{misfits}
 use Rattle.group_rules.specs.Moves.{Move, acts}
-use Rattle.group_rules.specs.Open.{and_then, formed_tests, try_open}
+use Rattle.group_rules.specs.Open.{formed_tests}
 use Rattle.group_rules.specs.Places.{Place, Trio, all_of, other_storers, partner, same, with_at}
 use Rattle.group_rules.specs.Replicate.{ack_tests, answers, is_in_view}
 use Rattle.group_rules.specs.Serving.{gives, held_tests, serving_accepted, serving_joined}
@@ -65,7 +65,7 @@ abbrev pub IsNoAck : Message Entry → Type 0
 IsNoAck (Ack v t lb until) = ⊥
 IsNoAck m = Unit {0}
 
-silent_message : (size : List Entry → Entry → ℕ) (q : Place) (clock : ℕ) (list : List Entry)
+pub silent_message : (size : List Entry → Entry → ℕ) (q : Place) (clock : ℕ) (list : List Entry)
     (s : Server Entry) (from : Place) (m : Message Entry) → IsNoAck m
     → AreSilent (on_message size q clock list s from m)
 silent_message size q clock list s from (Invite v) none =

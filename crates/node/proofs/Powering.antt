@@ -1,5 +1,7 @@
 -- The mark that a power failure leaves.
-use Rattle.std.proofs.Common.{◌≡◌, ℕ, Bool, true, false, List, [], Option, None, Some, refl, ap, sym, ◌∙◌, if◌then◌else◌}
+use Rattle.std.proofs.Common.{◌≡◌, ℕ, ◌+◌, Bool, true, false, List, [], length, Option, None, Some, refl, ap, sym, ◌∙◌, if◌then◌else◌}
+use Rattle.std.proofs.lemmas.List.{length-map}
+use Rattle.event_record.specs.Record.{entry_of}
 use Rattle.file_tree.specs.Book.{Entry}
 use Rattle.group_rules.proofs.Tests.{if_not}
 use Rattle.group_rules.specs.Effects.{down}
@@ -11,15 +13,17 @@ use Rattle.group_rules.specs.State.{Empty, Held, Log, Lost, Mark, Saved, Server,
 use Rattle.group_rules.specs.Step.{saves}
 use Rattle.harp_base.specs.declared.server.ServerId.{ServerId}
 use Rattle.harp_store.specs.Mark.{MarkFields, SavedNumbers}
-use Rattle.kept_log.specs.Kept.{ap_in as kept_ap, held_in as kept_held}
+use Rattle.kept_log.specs.Kept.{ap_in as kept_ap, base_in as kept_base, cp_in as kept_cp, held_in as kept_held, items_in as kept_items}
 use Rattle.kept_log.specs.declared.kept.Kept.{Kept}
 use Rattle.kept_log.specs.declared.kept.Kept.TheVariants as kept
-use Rattle.node.specs.Node.{mark_with, saved_with, server, value}
+use Rattle.node.specs.Node.{NodeValue, mark_with, saved_with, server, value}
 use Rattle.node.specs.Power.{mark_left, saved_log, saves_log, saving_mark}
-use Rattle.node.specs.State.{IsKept, ap_in, held_in}
+use Rattle.node.specs.State.{IsKept, ap_in, base_in, cp_in, held_in, items_in}
 use Rattle.node.specs.declared.state.State.{State}
 use Rattle.node.specs.declared.state.Task.{Task}
+use Rattle.power_save.specs.Saved.{saved_mark}
 use Rattle.promise.specs.Promise.{HorizonValue}
+use Rattle.volatile_log.specs.Log.{LogValue, room}
 
 -- ---- at server 2 the LB of a mark is the AP of its log
 
@@ -83,3 +87,29 @@ pub left_is : (me : ServerId) (mark : MarkFields) (horizon : HorizonValue) (serv
 left_is me mark horizon served duty s k items clock keeps same applied =
     left_from me mark mark.saved horizon served duty s items clock
     (λ held two. sym applied ∙ kept_low (place_of me) mark k keeps (ap is_log same ∙ held) two)
+
+-- ---- the mark that is written
+
+abbrev mark_at : MarkFields → (base low cp high : ℕ) → MarkFields
+mark_at mark base low cp high = record mark {
+  lb = low;
+  saved = Some (record { base = base; cp = cp; top = high; ring = room });
+}
+
+-- a save of the log that a server keeps writes its mark
+pub saving_is : (me : ServerId) (mark : MarkFields) (horizon : HorizonValue) (served : ℕ)
+    (duty : Task) (s : State) (k : Kept) (log : LogValue) (n : NodeValue)
+    → value me mark horizon served duty s ≡ n → k ≡ kept.Held log → kept_base k ≡ base_in s
+    → kept_ap k ≡ ap_in s → kept_cp k ≡ cp_in s → kept_items k ≡ items_in s
+    → saved_mark room log mark ≡ saving_mark n
+saving_is me mark horizon served duty s k log n at is base low cp items =
+    let bases : log.base ≡ base_in s = sym (ap kept_base is) ∙ base in
+    let lows : log.ap ≡ ap_in s = sym (ap kept_ap is) ∙ low in
+    let cps : log.cp ≡ cp_in s = sym (ap kept_cp is) ∙ cp in
+    let count : length log.records ≡ length (items_in s) =
+    sym (length-map log.records entry_of) ∙ ap length (sym (ap kept_items is) ∙ items) in
+    ap (λ (b : ℕ). mark_at mark b log.ap log.cp (b + length log.records)) bases
+    ∙ ap (λ (a : ℕ). mark_at mark (base_in s) a log.cp (base_in s + length log.records)) lows
+    ∙ ap (λ (c : ℕ). mark_at mark (base_in s) (ap_in s) c (base_in s + length log.records)) cps
+    ∙ ap (λ (l : ℕ). mark_at mark (base_in s) (ap_in s) (cp_in s) (base_in s + l)) count
+    ∙ ap saving_mark at

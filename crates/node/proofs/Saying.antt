@@ -11,7 +11,7 @@ use Rattle.harp_store.specs.Mark.{MarkFields}
 use Rattle.node.specs.Disk.{MayLeave, disk_after, marked_by}
 use Rattle.outputs.proofs.Makes.{same_said}
 use Rattle.outputs.specs.Makes.{Makes}
-use Rattle.outputs.specs.Said.{Said, said}
+use Rattle.outputs.specs.Said.{Said}
 use Rattle.outputs.specs.declared.outputs.Outputs.{Outputs}
 
 -- what was said, and then nothing

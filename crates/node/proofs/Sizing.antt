@@ -1,5 +1,5 @@
 -- The records of a list's log take the bytes that the list says.
-use Rattle.std.proofs.Common.{◌≡◌, ℕ, zero, suc, ◌+◌, ◌-◌, ◌<◌, List, [], ◌∷◌, ◌++◌, length, take, refl, ap, sym, ◌∙◌, subst, arith}
+use Rattle.std.proofs.Common.{◌≡◌, ℕ, zero, suc, ◌+◌, ◌-◌, List, [], ◌∷◌, ◌++◌, length, take, refl, ap, sym, ◌∙◌, subst, arith}
 use Rattle.std.specs.Prelude.{drop, map}
 use Rattle.std.proofs.lemmas.List.{drop-map, length-append}
 use Rattle.event_record.specs.Bytes.{head_bytes, head_of, tail_bytes, tail_of}
@@ -14,7 +14,7 @@ use Rattle.harp_cells.specs.declared.change.Change.{Change}
 use Rattle.log_laws.specs.Laws.{Sized}
 use Rattle.new_record.specs.Records.{record_of}
 use Rattle.node.specs.Node.{NodeValue}
-use Rattle.node.specs.Serving.{AreSized, asked_of, entry_size}
+use Rattle.node.specs.Serving.{AreSized, entry_size}
 use Rattle.node.specs.Stored.{log_of}
 use Rattle.record_changes.proofs.Histories.{fronts, grow}
 use Rattle.record_changes.specs.Records.{history_of}
@@ -33,7 +33,8 @@ same_size r v =
     let cred = cred_bytes r.cred in
     let tail = tail_bytes (tail_of r) in
     length-append (head_bytes (head_of (record r { stamped = v })) ++ cred) tail
-    ∙ ap (λ n. n + length tail) (length-append (head_bytes (head_of (record r { stamped = v }))) cred
+    ∙ ap (λ n. n + length tail) (length-append (head_bytes (head_of (record r { stamped = v })))
+    cred
     ∙ ap (λ n. n + length cred) (len_head (record r { stamped = v }) ∙ sym (len_head r))
     ∙ sym (length-append (head_bytes (head_of r)) cred))
     ∙ sym (length-append (head_bytes (head_of r) ++ cred) tail)

@@ -1,28 +1,22 @@
 -- Steps of a server, from what it is given.
-use Rattle.std.proofs.Common.{◌≡◌, ◌⊎◌, ℕ, ◌+◌, Bool, true, false, List, [], ◌∷◌, ◌++◌, Option, refl, ap, sym, ◌∙◌, inl, inr, subst, if◌then◌else◌}
-use Rattle.std.specs.Prelude.{◌-◌, ◌/◌, None, Some, drop, is_some, nat_lt, take}
+use Rattle.std.proofs.Common.{◌≡◌, ℕ, ◌+◌, true, false, List, [], ◌∷◌, ◌++◌, Option, refl, ap, sym, subst, if◌then◌else◌}
+use Rattle.std.specs.Prelude.{◌-◌, None, Some, drop, is_some, take}
 use Rattle.file_tree.specs.Book.{Entry}
-use Rattle.group_rules.proofs.Tests.{if_is}
-use Rattle.group_rules.specs.Joining.{suspect, to_each}
-use Rattle.group_rules.specs.Limits.{is_open, limit}
-use Rattle.group_rules.specs.Moves.{Joining, Move, Sending, acts}
+use Rattle.group_rules.specs.Limits.{is_open}
+use Rattle.group_rules.specs.Moves.{Move, Sending, acts}
 use Rattle.group_rules.specs.Open.{rebase, try_open}
-use Rattle.group_rules.specs.Places.{Place, next_view, nobody, others, partner, with_at}
-use Rattle.group_rules.specs.Effects.{report_of}
-use Rattle.group_rules.specs.Names.{view_of}
-use Rattle.group_rules.specs.State.{Collects, Invite, Message, Server}
+use Rattle.group_rules.specs.Places.{Place, partner}
+use Rattle.group_rules.specs.State.{Server}
 use Rattle.group_rules.specs.Step.{Input, rule}
 use Rattle.group_rules.specs.Tick.{again, beats, duties, events, tick, unacknowledged}
 use Rattle.harp_base.specs.declared.peer.Peer.{Peer}
-use Rattle.harp_store.specs.Disk.{Moments, after_step, with_mark}
-use Rattle.harp_store.specs.Mark.{MarkFields}
-use Rattle.node.specs.Disk.{MayLeave, disk_after, marked_by, promising, write_mark}
+use Rattle.node.specs.Disk.{write_mark}
 use Rattle.node.specs.Step.{Steps}
 use Rattle.node.specs.Taking.{ruled, stepped}
 use Rattle.node.proofs.Calls.{AreSilent, mute, stepped as rule_stepped}
-use Rattle.node.proofs.Marks.{IsAlike, alike_same, alike_then, bases_unmarked, marks_none, none_then, opens_unmarked}
+use Rattle.node.proofs.Marks.{IsAlike, alike_same, alike_then, bases_unmarked, none_then, opens_unmarked}
 use Rattle.node.proofs.Mute.{none_either, silent_either}
-use Rattle.node.proofs.Sent.{AreSent, sent_again, sent_duties, sent_each, sent_silent, sent_then}
+use Rattle.node.proofs.Sent.{AreSent, sent_again, sent_duties, sent_silent, sent_then}
 use Rattle.node.proofs.Takes.{silent_open, silent_then}
 use Rattle.outputs.specs.Makes.{IsMute, Makes}
 use Rattle.outputs.specs.Said.{nothing, said}
@@ -53,13 +47,16 @@ sent_later q s = duties q s s.duty ++ again q s
 are_later : (q : Place) (s : Server Entry) → AreSent (sent_later q s)
 are_later q s = sent_then (duties q s s.duty) (again q s) (sent_duties q s s.duty) (sent_again q s)
 
-pub mute_tick : (q : Place) (clock : ℕ) (s : Server Entry) → IsMute (tick q clock s)
-mute_tick q clock s =
+pub silent_tick : (q : Place) (clock : ℕ) (s : Server Entry) → AreSilent (tick q clock s)
+silent_tick q clock s =
     let leads = if is_open s.mode then beats s else try_open q clock s in
-    mute (tick q clock s) (silent_then leads (sent_later q (acts q clock s leads))
+    silent_then leads (sent_later q (acts q clock s leads))
     (silent_either (is_open s.mode) (beats s) (try_open q clock s)
     (sent_silent (beats s) (sent_beats s)) (silent_open q clock s))
-    (sent_silent (sent_later q (acts q clock s leads)) (are_later q (acts q clock s leads))))
+    (sent_silent (sent_later q (acts q clock s leads)) (are_later q (acts q clock s leads)))
+
+pub mute_tick : (q : Place) (clock : ℕ) (s : Server Entry) → IsMute (tick q clock s)
+mute_tick q clock s = mute (tick q clock s) (silent_tick q clock s)
 
 pub tick_unmarked : (q : Place) (clock : ℕ) (s : Server Entry) → write_mark (tick q clock s) ≡ false
 tick_unmarked q clock s =

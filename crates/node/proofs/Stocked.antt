@@ -1,12 +1,11 @@
 -- What the moves of a leader, a partner and a storer make of its records and of those who wait.
-use Rattle.std.proofs.Common.{◌≡◌, ℕ, ◌+◌, ◌-◌, ◌<◌, ◌≤◌, Bool, true, false, List, [], ◌∷◌, ◌++◌, length, refl, ap, sym, ◌∙◌, subst, arith, if◌then◌else◌}
+use Rattle.std.proofs.Common.{◌≡◌, ℕ, ◌+◌, ◌-◌, Bool, true, false, List, [], ◌∷◌, ◌++◌, length, refl, ap, sym, ◌∙◌, subst, arith, if◌then◌else◌}
 use Rattle.std.specs.Prelude.{◌==◌, drop, map, max, min, nat_lt, take}
-use Rattle.std.proofs.lemmas.Bool.{eqb-true}
-use Rattle.std.proofs.lemmas.List.{append-nil, length-append, length-drop, length-map}
+use Rattle.std.proofs.lemmas.List.{append-nil, length-append, length-map}
 use Rattle.event_record.specs.Record.{entry_of}
 use Rattle.event_record.specs.declared.record.RecordFields.{RecordFields}
 use Rattle.file_tree.specs.Book.{Entry}
-use Rattle.group_rules.proofs.Tests.{all_true, if_is, if_not, not_lt}
+use Rattle.group_rules.proofs.Tests.{all_true, if_is, not_lt}
 use Rattle.group_rules.specs.Limits.{is_open}
 use Rattle.cell_cache.specs.Entries.{Entries}
 use Rattle.group_rules.specs.Effects.{NewLog, taken}
@@ -28,7 +27,7 @@ use Rattle.kept_log.specs.declared.kept.Kept.{Kept}
 use Rattle.node.proofs.Heeds.{heeds_none}
 use Rattle.node.proofs.Led.{rebased}
 use Rattle.node.proofs.Sent.{sent_each}
-use Rattle.node.proofs.Stocks.{AreIdle, as_stock, idle_answers, idle_if, idle_sent, idle_stock, stock_then, stocks_so}
+use Rattle.node.proofs.Stocks.{AreIdle, as_stock, idle_answers, idle_sent, idle_stock, stock_then, stocks_so}
 use Rattle.node.specs.Collecting.{choosing}
 use Rattle.node.specs.Node.{NodeValue, server, value}
 use Rattle.node.specs.State.{Fits, IsFollowing, IsLeading, pulled_in}
@@ -83,7 +82,8 @@ choosing_stock q s reports plan from old new h clock list askers =
 
 -- ---- a leader
 
-pub same_led : (log log' : List RecordFields) (waits waits' : List Peer) → log ≡ log' → waits ≡ waits'
+pub same_led : (log log' : List RecordFields) (waits waits' : List Peer) → log ≡ log'
+    → waits ≡ waits'
     → as_stock log [] waits
     ≡ as_stock log' [] waits'
 same_led log log' waits waits' l w =
@@ -180,7 +180,8 @@ opened_mode : (b : Bool) → is_open (mode_led b) ≡ b
 opened_mode true = refl
 opened_mode false = refl
 
-ack_if : (me : ServerId) (mark : MarkFields) (horizon : HorizonValue) (served : ℕ) (duty : Task) (saved : List Entry)
+ack_if : (me : ServerId) (mark : MarkFields) (horizon : HorizonValue) (served : ℕ) (duty : Task)
+    (saved : List Entry)
     (l m : Leading) (plan : Form') (v t lb until : ℕ) (b : Bool) → l.opened ≡ b
     → let n = value me mark horizon served duty (state.Leads l plan) in
     (v == n.plain.accepted) ≡ true → m.log.records ≡ l.log.records
@@ -195,7 +196,8 @@ ack_if me mark horizon served duty saved l m plan v t lb until true is view reco
 ack_if me mark horizon served duty saved l m plan v t lb until false is view records peers still =
     let n = value me mark horizon served duty (state.Leads l plan) in
     stocks_so [] n.me (server n saved) (on_ack (server n saved) v t lb until) [] (stock n)
-    (stock_in (state.Leads m plan)) (heeds_none (server n saved) v t lb until (opened_mode l.opened ∙ is))
+    (stock_in (state.Leads m plan)) (heeds_none (server n saved) v t lb until
+    (opened_mode l.opened ∙ is))
     (λ clock list askers. ap (λ (x : Leading). stock_in (state.Leads x plan)) (still is))
 
 pub ack_stock : (me : ServerId) (mark : MarkFields) (horizon : HorizonValue) (served : ℕ)
@@ -205,11 +207,13 @@ pub ack_stock : (me : ServerId) (mark : MarkFields) (horizon : HorizonValue) (se
     → (l.opened ≡ true → m.peers ≡ drop (t - l.log.cp) l.peers) → (l.opened ≡ false → m ≡ l)
     → Stocks [] n.me (server n saved) (on_ack (server n saved) v t lb until) (stock n)
     (stock_in (state.Leads m plan))
-ack_stock me mark horizon served duty saved s l m plan n v t lb until at of view records peers still =
+ack_stock me mark horizon served duty saved s l m plan n v t lb until at of view records peers
+    still =
     subst (λ (x : NodeValue). (v == x.plain.accepted) ≡ true
     → Stocks [] x.me (server x saved) (on_ack (server x saved) v t lb until) (stock x)
     (stock_in (state.Leads m plan))) (ap (value me mark horizon served duty) (sym at) ∙ of)
-    (λ same. ack_if me mark horizon served duty saved l m plan v t lb until l.opened refl same records
+    (λ same. ack_if me mark horizon served duty saved l m plan v t lb until l.opened refl same
+    records
     peers still) view
 
 -- ---- a partner
@@ -233,10 +237,12 @@ follows_test : (me : ServerId) (mark : MarkFields) (horizon : HorizonValue) (ser
     → IsFollowing (place_of me) mark f (plan_of plan)
     → let n = value me mark horizon served duty (state.Follows f plan) in
     is_in_view (server n saved) v ≡ true
-    → all_of (is_in_view (server n saved) v ∷ same n.me (partner (server n saved).plan.storers) ∷ []) ≡ true
+    → all_of (is_in_view (server n saved) v ∷ same n.me (partner (server n saved).plan.storers)
+    ∷ []) ≡ true
 follows_test me mark horizon served duty saved f plan v is here =
     let n = value me mark horizon served duty (state.Follows f plan) in
-    all_true (is_in_view (server n saved) v ∷ same n.me (partner (server n saved).plan.storers) ∷ []) (
+    all_true (is_in_view (server n saved) v ∷ same n.me (partner (server n saved).plan.storers)
+    ∷ []) (
       here,
       (
         ap (same (place_of me)) (ap partner is.storers ∙ is.place)
@@ -257,13 +263,15 @@ one_more false items e r =
 
 -- of an Event it takes the record where that is the next one
 event_at : (me : ServerId) (mark : MarkFields) (horizon : HorizonValue) (served : ℕ)
-    (duty : Task) (saved : List Entry) (f g : Following) (plan : Form') (v now : ℕ) (from : Place) (cp base : ℕ)
+    (duty : Task) (saved : List Entry) (f g : Following) (plan : Form') (v now : ℕ) (from : Place)
+    (cp base : ℕ)
     (r : RecordFields) → IsFollowing (place_of me) mark f (plan_of plan)
     → g.log.records ≡ drop (base - f.log.base) (f.log.records ++ next_of f.log r)
     → let n = value me mark horizon served duty (state.Follows f plan) in
     is_in_view (server n saved) v ≡ true
     → Stocks (r ∷ []) n.me (server n saved)
-    (on_event n.me now (server n saved) from v cp base (taken (server n saved) r.index (entry_of r))) (stock n)
+    (on_event n.me now (server n saved) from v cp base
+    (taken (server n saved) r.index (entry_of r))) (stock n)
     (stock_in (state.Follows g plan))
 event_at me mark horizon served duty saved f g plan v now from cp base r is records here =
     let n = value me mark horizon served duty (state.Follows f plan) in
@@ -271,10 +279,12 @@ event_at me mark horizon served duty saved f g plan v now from cp base r is reco
     let b = r.index == top (server n saved) + 1 in
     let tops : top_of f.log ≡ top (server n saved) =
     (let m = length-map f.log.records entry_of in omega (arith, m)) in
-    let next : next_of f.log r ≡ take (length (taken (server n saved) r.index (entry_of r)) - length items)
+    let next : next_of f.log r
+    ≡ take (length (taken (server n saved) r.index (entry_of r)) - length items)
     (r ∷ []) =
     ap (λ k. if r.index == k + 1 then r ∷ [] else []) tops ∙ one_more b items (entry_of r) r in
-    heeded_stock (r ∷ []) n.me now (server n saved) from v cp base (taken (server n saved) r.index (entry_of r))
+    heeded_stock (r ∷ []) n.me now (server n saved) from v cp base
+    (taken (server n saved) r.index (entry_of r))
     (stock n) (stock_in (state.Follows g plan))
     (follows_test me mark horizon served duty saved f plan v is here)
     (ap (λ (xs : List RecordFields). as_stock xs [] [])
@@ -282,28 +292,35 @@ event_at me mark horizon served duty saved f g plan v now from cp base r is reco
     next))
 
 pub event_stock : (me : ServerId) (mark : MarkFields) (horizon : HorizonValue) (served : ℕ)
-    (duty : Task) (saved : List Entry) (s : State) (f g : Following) (plan : Form') (n : NodeValue) (v now : ℕ)
+    (duty : Task) (saved : List Entry) (s : State) (f g : Following) (plan : Form') (n : NodeValue)
+    (v now : ℕ)
     (from : Place) (cp base : ℕ) (r : RecordFields) → s ≡ state.Follows f plan
     → value me mark horizon served duty s ≡ n → IsFollowing (place_of me) mark f (plan_of plan)
     → g.log.records ≡ drop (base - f.log.base) (f.log.records ++ next_of f.log r)
     → is_in_view (server n saved) v ≡ true
     → Stocks (r ∷ []) n.me (server n saved)
-    (on_event n.me now (server n saved) from v cp base (taken (server n saved) r.index (entry_of r))) (stock n)
+    (on_event n.me now (server n saved) from v cp base
+    (taken (server n saved) r.index (entry_of r))) (stock n)
     (stock_in (state.Follows g plan))
-event_stock me mark horizon served duty saved s f g plan n v now from cp base r at of is records here =
-    subst (λ (x : NodeValue). is_in_view (server x saved) v ≡ true → Stocks (r ∷ []) x.me (server x saved)
-    (on_event x.me now (server x saved) from v cp base (taken (server x saved) r.index (entry_of r))) (stock x)
+event_stock me mark horizon served duty saved s f g plan n v now from cp base r at of is records
+    here =
+    subst (λ (x : NodeValue). is_in_view (server x saved) v ≡ true
+    → Stocks (r ∷ []) x.me (server x saved)
+    (on_event x.me now (server x saved) from v cp base
+    (taken (server x saved) r.index (entry_of r))) (stock x)
     (stock_in (state.Follows g plan))) (ap (value me mark horizon served duty) (sym at) ∙ of)
     (event_at me mark horizon served duty saved f g plan v now from cp base r is records) here
 
 -- of a Beat none
 beat_at : (me : ServerId) (mark : MarkFields) (horizon : HorizonValue) (served : ℕ)
-    (duty : Task) (saved : List Entry) (f g : Following) (plan : Form') (v now : ℕ) (from : Place) (cp base : ℕ)
+    (duty : Task) (saved : List Entry) (f g : Following) (plan : Form') (v now : ℕ) (from : Place)
+    (cp base : ℕ)
     → IsFollowing (place_of me) mark f (plan_of plan)
     → g ≡ settled (record f { log = dropped_to f.log (max f.log.base base) }) cp
     → let n = value me mark horizon served duty (state.Follows f plan) in
     is_in_view (server n saved) v ≡ true
-    → Stocks [] n.me (server n saved) (on_event n.me now (server n saved) from v cp base (server n saved).items) (stock n)
+    → Stocks [] n.me (server n saved) (on_event n.me now (server n saved) from v cp base
+    (server n saved).items) (stock n)
     (stock_in (state.Follows g plan))
 beat_at me mark horizon served duty saved f g plan v now from cp base is log here =
     let n = value me mark horizon served duty (state.Follows f plan) in
@@ -319,12 +336,14 @@ beat_at me mark horizon served duty saved f g plan v now from cp base is log her
     ∙ ap (λ k. f.log.records ++ take k []) none)))
 
 pub beat_stock : (me : ServerId) (mark : MarkFields) (horizon : HorizonValue) (served : ℕ)
-    (duty : Task) (saved : List Entry) (s : State) (f g : Following) (plan : Form') (n : NodeValue) (v now : ℕ)
+    (duty : Task) (saved : List Entry) (s : State) (f g : Following) (plan : Form') (n : NodeValue)
+    (v now : ℕ)
     (from : Place) (cp base : ℕ) → s ≡ state.Follows f plan
     → value me mark horizon served duty s ≡ n → IsFollowing (place_of me) mark f (plan_of plan)
     → g ≡ settled (record f { log = dropped_to f.log (max f.log.base base) }) cp
     → is_in_view (server n saved) v ≡ true
-    → Stocks [] n.me (server n saved) (on_event n.me now (server n saved) from v cp base (server n saved).items) (stock n)
+    → Stocks [] n.me (server n saved) (on_event n.me now (server n saved) from v cp base
+    (server n saved).items) (stock n)
     (stock_in (state.Follows g plan))
 beat_stock me mark horizon served duty saved s f g plan n v now from cp base at of is log here =
     subst (λ (x : NodeValue). is_in_view (server x saved) v ≡ true → Stocks [] x.me (server x saved)
@@ -354,7 +373,8 @@ pub demoted_stock : (me : ServerId) (mark : MarkFields) (horizon : HorizonValue)
     → Stocks [] n.me (server n items) (Demoting v ∷ []) (stock n) new
 demoted_stock me mark horizon served duty s n v b items new of below is =
     subst (λ (x : NodeValue). Stocks [] x.me (server x items) (Demoting v ∷ []) (stock x) new) of
-    (λ clock list askers. is ∙ ap (λ (c : Bool). as_stock [] (if c then pulled_in s else []) []) (sym below))
+    (λ clock list askers. is ∙ ap (λ (c : Bool). as_stock [] (if c then pulled_in s else []) [])
+    (sym below))
 
 pub stock_from : (me : ServerId) (mark : MarkFields) (horizon : HorizonValue) (served : ℕ)
     (d : Task) (st : State) (n : NodeValue) (reports : Trio (Option Report)) (from : ℕ)

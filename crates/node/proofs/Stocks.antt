@@ -1,24 +1,21 @@
 -- What moves make of a server's records and of those who wait.
-use Rattle.std.proofs.Common.{◌≡◌, ℕ, ◌+◌, ◌-◌, Bool, true, false, List, [], ◌∷◌, ◌++◌, refl, ap, sym, ◌∙◌, subst, if◌then◌else◌}
-use Rattle.std.specs.Prelude.{◌==◌, nat_lt, drop, take, Option, None, Some, OnOk, Result, Ok, Err}
+use Rattle.std.proofs.Common.{◌≡◌, ℕ, ◌+◌, Bool, true, false, List, [], ◌∷◌, ◌++◌, refl, sym, ◌∙◌, subst, if◌then◌else◌}
+use Rattle.std.specs.Prelude.{Option, None, Some}
 use Rattle.event_record.specs.declared.record.RecordFields.{RecordFields}
 use Rattle.file_tree.specs.Book.{Entry}
 use Rattle.group_rules.proofs.Tests.{if_is, if_not}
 use Rattle.group_rules.specs.Misfits.{misfits}
-use Rattle.group_rules.specs.Moves.{Accepting, Applying, Basing, Choosing, Collecting, Flushing, Hearing, Move, Noting, Opening, Reading, Saying, Sending, act, acts}
-use Rattle.group_rules.specs.Names.{place_of}
+use Rattle.group_rules.specs.Moves.{Applying, Choosing, Collecting, Flushing, Hearing, Move, Noting, Opening, Reading, Saying, Sending, act, acts}
 use Rattle.group_rules.specs.Open.{and_then, formed_tests, on_formed, open_heard, open_moves, open_tests, try_open}
 use Rattle.group_rules.specs.Places.{Place, all_of, get, is_s01, partner}
 use Rattle.group_rules.specs.Replicate.{answers}
 use Rattle.group_rules.specs.Serving.{gives, held_tests, on_fetch, serving_accepted, serving_joined}
-use Rattle.group_rules.specs.State.{Fetch, Formed, Message, Server, top}
+use Rattle.group_rules.specs.State.{Message, Server, top}
 use Rattle.group_rules.specs.Step.{Comes, on_message, rule}
-use Rattle.group_rules.specs.Tick.{again, beats, duties, tick}
-use Rattle.group_rules.specs.Limits.{is_open}
 use Rattle.harp_base.specs.Limits.{clock_skew}
 use Rattle.harp_base.specs.declared.peer.Peer.{Peer}
 use Rattle.node.specs.Stock.{Stock, Stocks, stock_after, stock_by}
-use Rattle.node.proofs.Sent.{AreSent, sent_again, sent_duties, sent_then}
+use Rattle.node.proofs.Sent.{AreSent}
 use Rattle.std.specs.Prelude.{nat_le}
 
 abbrev pub as_stock : (log pulled : List RecordFields) (waits : List Peer) → Stock

@@ -3,14 +3,13 @@ use Rattle.std.proofs.Common.{◌≡◌, ℕ, Bool, true, false, not, List, [], 
 use Rattle.std.proofs.lemmas.List.{append-nil}
 use Rattle.applier.specs.Applied.{lower}
 use Rattle.cell_cache.specs.Entries.{Entries}
-use Rattle.event_record.specs.Record.{entry_of}
 use Rattle.file_tree.specs.Book.{Entry}
 use Rattle.group_rules.proofs.Tests.{all_true, each_of, if_is, if_not}
 use Rattle.group_rules.specs.Disk.{apply, flush, flush_tests, list_tree, settled_tests}
 use Rattle.group_rules.specs.Limits.{is_settled}
-use Rattle.group_rules.specs.Moves.{Applying, Flushing, Move, Saying, act}
+use Rattle.group_rules.specs.Moves.{Applying, Flushing, Saying}
 use Rattle.group_rules.specs.Names.{place_of}
-use Rattle.group_rules.specs.Places.{Zero, Place, all_of, is_p2}
+use Rattle.group_rules.specs.Places.{Zero, Place, is_p2}
 use Rattle.group_rules.specs.State.{Lists, NoDuty, Server, no_plan}
 use Rattle.harp_base.specs.declared.server.ServerId.{ServerId}
 use Rattle.harp_cells.specs.declared.change.Change.{Change}
@@ -169,7 +168,8 @@ log_at me mark horizon served duty s n of h fits =
     ap log_of (sym of) ∙ log_is me mark horizon served duty s
     (stores_active me mark horizon served duty s n of h) fits
 
-active_with : (s : State) (log : LogValue) (k : Entries) → is_active (with_log s log k) ≡ is_active s
+active_with : (s : State) (log : LogValue) (k : Entries) → is_active (with_log s log k)
+    ≡ is_active s
 active_with state.Gone log k = refl
 active_with (state.Rests kept) log k = refl
 active_with (state.Joined kept joining) log k = refl

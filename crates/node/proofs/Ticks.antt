@@ -1,5 +1,5 @@
 -- A tick of a server, from its three parts.
-use Rattle.std.proofs.Common.{◌≡◌, ℕ, List, [], ◌++◌, subst}
+use Rattle.std.proofs.Common.{◌≡◌, ℕ, [], ◌++◌, subst}
 use Rattle.file_tree.specs.Book.{Entry}
 use Rattle.group_rules.specs.Places.{Place}
 use Rattle.group_rules.specs.State.{Server}

@@ -1,7 +1,6 @@
 -- A step's moves, by what it is given, as moves of whole records.
 use Rattle.std.proofs.Common.{◌≡◌, ◌≤◌, ℕ, ◌+◌, ◌-◌, Bool, true, false, List, [], ◌∷◌, ◌++◌, refl, ap, sym, ◌∙◌, subst, inl, inr, arith, append_assoc, if◌then◌else◌}
-use Rattle.std.specs.Prelude.{◌==◌, Contains, drop, max, nat_le, nat_lt, Option, None, Some, option_map, is_some}
-use Rattle.std.specs.List.{flat_map}
+use Rattle.std.specs.Prelude.{◌==◌, Contains, max, nat_le, nat_lt, Option, None, Some, option_map, is_some}
 use Rattle.std.proofs.lemmas.Grind.{flat_map-append}
 use Rattle.std.proofs.lemmas.List.{append-nil}
 use Rattle.std.proofs.lemmas.List.Elements.{Contains-append_cases, Contains-append_left, Contains-append_right}
@@ -9,13 +8,13 @@ use Rattle.event_record.specs.declared.record.RecordFields.{RecordFields}
 use Rattle.file_tree.specs.Book.{Entry, last_of}
 use Rattle.group_rules.specs.Ask.{append, hint_of, new_entry, on_ask, read_entry, read_moves, refuse, update_moves}
 use Rattle.group_rules.specs.Disk.{apply, flush, flush_tests, list_tree, settled_tests}
-use Rattle.group_rules.specs.Limits.{is_active, is_open, limit, room}
-use Rattle.group_rules.specs.Moves.{Appending, Basing, Move, Reading, Saying, Sending, act, acts}
+use Rattle.group_rules.specs.Limits.{is_active, is_open}
+use Rattle.group_rules.specs.Moves.{Appending, Move, Reading, Saying, Sending, act, acts}
 use Rattle.group_rules.specs.Names.{number_of_view, place_of, view_of}
-use Rattle.group_rules.specs.Open.{base_tests, rebase, try_open}
+use Rattle.group_rules.specs.Open.{rebase, try_open}
 use Rattle.group_rules.specs.Places.{Place, all_of, leader, partner, same}
 use Rattle.group_rules.specs.State.{Answers, BadClient, Demote, Event, LogFull, Message, NoPromise, NotLeader, NotYetOpen, Old, Server, top}
-use Rattle.group_rules.specs.Step.{Comes, Input as Begins, rule}
+use Rattle.group_rules.specs.Step.{Input as Begins, rule}
 use Rattle.group_rules.specs.Tick.{beats, tick}
 use Rattle.harp_base.specs.Limits.{last_client}
 use Rattle.harp_base.specs.Update.{is_update}
@@ -54,7 +53,7 @@ use Rattle.node.proofs.Stepped.{sent_beats}
 use Rattle.node.proofs.Stocks.{AreIdle, as_stock, idle_if, idle_open, idle_sent, idle_then, stock_then}
 use Rattle.outputs.specs.Makes.{Makes}
 use Rattle.outputs.specs.Messages.{heard}
-use Rattle.outputs.specs.Records.{carried, records_sent}
+use Rattle.outputs.specs.Records.{records_sent}
 use Rattle.outputs.specs.Said.{nothing, said, waits_of}
 use Rattle.outputs.specs.declared.outputs.Outputs.{Outputs}
 use Rattle.view_replica.specs.Asking.{recorded, recorded_by}
@@ -75,7 +74,8 @@ AreAsked (m ∷ ms) = IsAsked m × AreAsked ms
 
 -- what is appended is recorded, and its peer waits
 abbrev pub with_asked : ℕ → List Entry → Peer → List (Move Entry) → Stock → Stock
-with_asked view list peer ms k = as_stock (k.log ++ recorded view list ms) k.pulled (k.waits ++ waits_of peer ms)
+with_asked view list peer ms k = as_stock (k.log ++ recorded view list ms) k.pulled
+    (k.waits ++ waits_of peer ms)
 
 same_stock : (log log' : List RecordFields) (pulled : List RecordFields) (waits waits' : List Peer)
     → log ≡ log' → waits ≡ waits'
@@ -155,7 +155,8 @@ asks_stock now list items client number cred call peer old new waits records pul
     let ms = on_ask old.me now list (server old items) client number cred call in
     same_stock new.records (old.records ++ recorded old.plain.accepted list ms) new.pulled
     new.peers (old.peers ++ waits_of peer ms) records waits
-    ∙ ap (λ (x : List RecordFields). as_stock (old.records ++ recorded old.plain.accepted list ms) x (old.peers ++ waits_of peer ms)) pulled
+    ∙ ap (λ (x : List RecordFields). as_stock (old.records ++ recorded old.plain.accepted list ms) x
+    (old.peers ++ waits_of peer ms)) pulled
     ∙ asked_stock old.me now list [] peer (server old items) ms (stock old)
     (asked_moves old.me now list (server old items) client number cred call)
 
@@ -310,38 +311,50 @@ pub message_sent : (size : List Entry → Entry → ℕ) (q : Place) (clock : �
 message_sent size q clock list s new from (wire.Invite view) peers before after own more
     made sent fresh none = bare_message q clock s new _ peers before after own more made
     (bare_rule size q clock list s (place_of from) (heard_as (heard (wire.Invite view))) tt) fresh
-message_sent size q clock list s new from (wire.Join view has accepted base lb cp top horizon) peers before after own more
+message_sent size q clock list s new from (wire.Join view has accepted base lb cp top horizon) peers
+    before after own more
     made sent fresh none = bare_message q clock s new _ peers before after own more made
-    (bare_rule size q clock list s (place_of from) (heard_as (heard (wire.Join view has accepted base lb cp top horizon))) tt) fresh
-message_sent size q clock list s new from (wire.Form view storers source base cp start horizon) peers before after own more
+    (bare_rule size q clock list s (place_of from)
+    (heard_as (heard (wire.Join view has accepted base lb cp top horizon))) tt) fresh
+message_sent size q clock list s new from (wire.Form view storers source base cp start horizon)
+    peers before after own more
     made sent fresh none = bare_message q clock s new _ peers before after own more made
-    (bare_rule size q clock list s (place_of from) (heard_as (heard (wire.Form view storers source base cp start horizon))) tt) fresh
+    (bare_rule size q clock list s (place_of from)
+    (heard_as (heard (wire.Form view storers source base cp start horizon))) tt) fresh
 message_sent size q clock list s new from (wire.Give view first records) peers before after own more
     made sent fresh none = bare_message q clock s new _ peers before after own more made
-    (bare_rule size q clock list s (place_of from) (heard_as (heard (wire.Give view first records))) tt) fresh
+    (bare_rule size q clock list s (place_of from) (heard_as (heard (wire.Give view first records)))
+    tt) fresh
 message_sent size q clock list s new from (wire.Formed view lb) peers before after own more
     made sent fresh none = bare_message q clock s new _ peers before after own more made
-    (bare_rule size q clock list s (place_of from) (heard_as (heard (wire.Formed view lb))) tt) fresh
+    (bare_rule size q clock list s (place_of from) (heard_as (heard (wire.Formed view lb))) tt)
+    fresh
 message_sent size q clock list s new from (wire.Event view cp base r) peers before after own more
     made sent fresh none = bare_message q clock s new _ peers before after own more made
-    (bare_rule size q clock list s (place_of from) (heard_as (heard (wire.Event view cp base r))) tt) fresh
+    (bare_rule size q clock list s (place_of from) (heard_as (heard (wire.Event view cp base r)))
+    tt) fresh
 message_sent size q clock list s new from (wire.Beat view cp base) peers before after own more
     made sent fresh none = bare_message q clock s new _ peers before after own more made
-    (bare_rule size q clock list s (place_of from) (heard_as (heard (wire.Beat view cp base))) tt) fresh
+    (bare_rule size q clock list s (place_of from) (heard_as (heard (wire.Beat view cp base))) tt)
+    fresh
 message_sent size q clock list s new from (wire.Ack view top lb until) peers before after own more
     made sent fresh none = bare_message q clock s new _ peers before after own more made
-    (bare_rule size q clock list s (place_of from) (heard_as (heard (wire.Ack view top lb until))) tt) fresh
+    (bare_rule size q clock list s (place_of from) (heard_as (heard (wire.Ack view top lb until)))
+    tt) fresh
 message_sent size q clock list s new from (wire.Demote view) peers before after own more
     made sent fresh none = bare_message q clock s new _ peers before after own more made
     (bare_rule size q clock list s (place_of from) (heard_as (heard (wire.Demote view))) tt) fresh
 message_sent size q clock list s new from (wire.Fetch view first) peers before after own more
     made sent fresh none = stand_first own more (records_sent after)
     (stand_fresh own (records_sent before) (records_sent after) none (sent tt))
-message_sent size q clock list s new from (wire.Ask client number cred call) peers before after own more
+message_sent size q clock list s new from (wire.Ask client number cred call) peers before after own
+    more
     made sent fresh none = bare_message q clock s new [] peers before after own more made tt fresh
-message_sent size q clock list s new from (wire.Answer client number index reply) peers before after own more
+message_sent size q clock list s new from (wire.Answer client number index reply) peers before after
+    own more
     made sent fresh none = bare_message q clock s new [] peers before after own more made tt fresh
-message_sent size q clock list s new from (wire.CannotServe client number cause) peers before after own more
+message_sent size q clock list s new from (wire.CannotServe client number cause) peers before after
+    own more
     made sent fresh none = bare_message q clock s new [] peers before after own more made tt fresh
 
 -- ---- listings

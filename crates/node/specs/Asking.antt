@@ -25,7 +25,8 @@ use Rattle.volatile_log.specs.Log.{top}
 -- each update, and for a read while its partner's promise runs
 abbrev pub reads_tree : NodeValue → ℕ → Call → ℕ → Bool
 reads_tree n client call now =
-    nat_le client last_client && is_open n.plain.mode && (is_update call || nat_lt now n.plain.grant)
+    nat_le client last_client && is_open n.plain.mode
+    && (is_update call || nat_lt now n.plain.grant)
 
 -- why a server that doesn't lead its view refuses an ask of a client
 abbrev pub cause_away : Place → Role → ℕ → Cause

@@ -1,7 +1,9 @@
 -- What a boot makes of a disk, and what the server is then.
-use Rattle.std.specs.Prelude.{◌≡◌, ◌⊎◌, ℕ, Bool, true, false, List, Option, None, Some, IfSome, max, nat_le, if◌then◌else◌}
+use Rattle.std.specs.Prelude.{◌≡◌, ◌⊎◌, ℕ, ◌+◌, Bool, true, false, List, [], length, Option, None, Some, IfSome, max, nat_le, if◌then◌else◌}
+use Rattle.event_record.specs.declared.record.RecordFields.{RecordFields}
 use Rattle.file_tree.specs.Book.{Entry}
 use Rattle.group_rules.specs.Effects.{booted, first_mark as first_mark_of}
+use Rattle.group_rules.specs.Limits.{is_log}
 use Rattle.group_rules.specs.Names.{place_of}
 use Rattle.group_rules.specs.Places.{Place, is_p2}
 use Rattle.group_rules.specs.State.{Mark, Server, longest_of}
@@ -10,7 +12,9 @@ use Rattle.harp_cells.specs.Effect.{Cells}
 use Rattle.harp_store.specs.Disk.{Disk, Moments, after_step, with_mark}
 use Rattle.harp_store.specs.Mark.{MarkFields, first_mark}
 use Rattle.node.specs.Node.{mark_with, saved_with}
+use Rattle.node.specs.Stock.{Stock}
 use Rattle.power_save.specs.Entries.{HoldEntries}
+use Rattle.power_save.specs.Saved.{HoldRecords}
 
 -- the mark that a boot goes on from, by the mark that the disk has: the first one where it has
 -- none, else the same with the longest promise that its disk ever saw
@@ -51,6 +55,19 @@ mark_before me delta items (Some mark) = mark_with items mark
 -- cells hold the saved log of a mark, where it has one, as records of these entries
 abbrev pub HoldSaved : Cells → MarkFields → List Entry → Type 0
 HoldSaved cells mark items = IfSome mark.saved (λ v. HoldEntries cells mark (saved_with items v))
+
+-- and they hold just these records of it, whole
+abbrev pub HoldWhole : Cells → MarkFields → List RecordFields → Type 0
+HoldWhole cells mark saved = IfSome mark.saved (λ v.
+    (v.top ≡ v.base + length saved) × HoldRecords v.ring cells v.base saved)
+
+-- what a server has whole that has just booted: these records of the saved log, where it holds that
+abbrev pub booted_stock : Server Entry → List RecordFields → Stock
+booted_stock s saved = record {
+  log = if is_log s.held then saved else [];
+  pulled = [];
+  waits = [];
+}
 
 -- what the machine boots from a mark whose saved log isn't on the disk whole: a mark without one
 abbrev pub booted_without : Place → (clock delta : ℕ) → Mark Entry → Server Entry

@@ -79,5 +79,6 @@ pub record Accepted (me : ServerId) (v : ℕ) (form : Form) (log : LogValue) (jo
       → let plan = plan_of form in
       let role = role_in plan.storers (place_of me) in
       server (value me (accepted_mark mark role log.lb) horizon form.start duty state) items
-      ≡ accepting (joined_with (server (value me mark horizon served duty before) items) kept joining)
+      ≡ accepting
+      (joined_with (server (value me mark horizon served duty before) items) kept joining)
       plan role (new_log log)

@@ -1,20 +1,20 @@
 -- What a node is given, as what a step of the group's machine begins with.
 use Rattle.std.specs.Prelude.{◌≡◌, ◌≤◌, ℕ, true, List, [], ◌∷◌, Option, Some, ⊤}
-use Rattle.file_tree.specs.Book.{Entry}
-use Rattle.group_rules.specs.Step.{Apply, Ask, Does, Flush, Input as Begins, ListTree, Suspect, Tick}
 use Rattle.event_record.specs.declared.record.RecordFields.{RecordFields}
+use Rattle.file_tree.specs.Book.{Entry}
+use Rattle.group_rules.specs.State.{top}
+use Rattle.group_rules.specs.Step.{Apply, Ask, Does, Flush, Input as Begins, ListTree, Suspect, Tick}
 use Rattle.harp_base.specs.declared.peer.Peer.{Peer}
 use Rattle.harp_store.specs.Disk.{Moments}
 use Rattle.node.specs.Asking.{reads_tree}
 use Rattle.node.specs.Node.{NodeValue}
+use Rattle.node.specs.Stock.{IsFetch}
 use Rattle.node.specs.Stored.{log_of}
 use Rattle.node.specs.Taking.{Fills, input_in}
 use Rattle.node.specs.declared.input.Input.{Input}
 use Rattle.node.specs.declared.input.Input.TheVariants as input
 use Rattle.outputs.specs.Records.{carried}
-use Rattle.node.specs.Stock.{IsFetch}
 use Rattle.tree_log.specs.Reading.{HoldsTree, IsOfList}
-use Rattle.group_rules.specs.State.{top}
 
 -- a client's message in place of a server's is nothing
 abbrev pub input_of : Input → Option Begins
@@ -27,8 +27,8 @@ input_of input.Flush = Some (Does Flush)
 input_of input.List = Some (Does ListTree)
 
 -- what the moves of a node rest on beside its server: of a Fetch, that its log is of the list, and
--- that no more is served than it has; of an ask, where the tree is read to answer it, that it can be
--- read
+-- that no more is served than it has; of an ask, where the tree is read to answer it, that it can
+-- be read
 abbrev pub FillsInput : List Entry → NodeValue → (clock : ℕ) → Option Moments → Input → Type 0
 FillsInput list n clock told input.Tick = ⊤
 FillsInput list n clock told input.Suspect = ⊤

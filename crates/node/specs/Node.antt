@@ -1,17 +1,17 @@
 -- A node as a server of the group's machine.
-use Rattle.std.specs.Prelude.{ℕ, Bool, true, List, None, option_map}
+use Rattle.std.specs.Prelude.{◌≡◌, ℕ, Bool, true, List, None, option_map}
 use Rattle.cell_cache.specs.Entries.{Entries}
 use Rattle.event_record.specs.declared.record.RecordFields.{RecordFields}
 use Rattle.file_tree.specs.Book.{Entry}
 use Rattle.group_rules.specs.Effects.{down}
 use Rattle.group_rules.specs.Names.{number_of_view, place_of}
 use Rattle.group_rules.specs.Places.{Place}
-use Rattle.kept_log.specs.Kept.{with_kept}
-use Rattle.kept_log.specs.declared.kept.Kept.{Kept}
-use Rattle.group_rules.specs.State.{Mark, Saved, Server}
+use Rattle.group_rules.specs.State.{Mark, Saved, Server, mark_of}
 use Rattle.harp_base.specs.declared.peer.Peer.{Peer}
 use Rattle.harp_base.specs.declared.server.ServerId.{ServerId}
 use Rattle.harp_store.specs.Mark.{MarkFields, SavedNumbers}
+use Rattle.kept_log.specs.Kept.{with_kept}
+use Rattle.kept_log.specs.declared.kept.Kept.{Kept}
 use Rattle.node.specs.State.{ap_in, base_in, cached_in, cp_in, duty_of, heard_in, held_in, is_gone, items_in, mode_in, peers_in, plan_in, pulled_in, records_in, report_in, role_of, staged_in, told_in, wanted_in}
 use Rattle.node.specs.declared.state.State.{State}
 use Rattle.node.specs.declared.state.Task.{Task}
@@ -90,6 +90,11 @@ mark_with items mark = record {
   saved = option_map (saved_with items) mark.saved;
   longest = mark.longest;
 }
+
+-- A NODE IS A SERVER of the machine that is up, whose mark is the node's
+pub record IsServer (n : NodeValue) : Type 0 where
+  pub up : n.plain.up ≡ true
+  pub mark : (items : List Entry) → mark_of (server n items) ≡ mark_with items n.mark
 
 -- a server that rests with what it kept, as after a boot or a demotion
 abbrev pub rested_with : List Entry → MarkFields → HorizonValue → Kept → Server Entry

@@ -8,8 +8,8 @@ use Rattle.harp_store.specs.Disk.{AtEachMoment, Moments, Now, after_changes, aft
 use Rattle.harp_store.specs.Mark.{MarkFields}
 use Rattle.node.specs.Node.{NodeValue, mark_with, saved_with}
 use Rattle.power_save.specs.Entries.{HasSaved, saved_entries}
-use Rattle.power_save.specs.Saved.{IsUnsaved, IsUnsavedOrSaved, puts_of}
-use Rattle.volatile_log.specs.Log.{LogValue}
+use Rattle.power_save.specs.Saved.{IsUnsaved, IsUnsavedOrSaved, SavesInPart, puts_of}
+use Rattle.volatile_log.specs.Log.{AreNumberedAfter, LogValue}
 
 -- a held server whose mark has no saved log saves its log
 abbrev pub saves_log : NodeValue → Bool
@@ -36,17 +36,24 @@ abbrev pub mark_left : NodeValue → List Entry → Mark Entry
 mark_left n items =
     if saves_log n then mark_with n.plain.items (saving_mark n) else mark_with items n.mark
 
--- A log of these entries and numbers was put in its cells, synced, and then the mark was written
+-- A log of these records, entries and numbers was put in its cells, synced, and then the mark was
+-- written
 pub record IsSavedBy (n : NodeValue) (old new : Option Moments) : Type 0 where
   pub log : LogValue
+  pub records : log.records ≡ n.records
+  pub numbered : AreNumberedAfter log.base log.records
   pub entries : saved_entries log ≡ saved_log n
   pub disk : new ≡ after_step (with_mark (saving_mark n))
       (after_step synced_whole (after_changes (puts_of log.records) old))
   pub has : Now (HasSaved (saved_log n)) new
 
--- At each moment the mark has no saved log, or the whole log is synced
+-- A first part of that was made, and at each moment the mark has no saved log, or the whole log is
+-- synced
 pub record SavesAtOnce (n : NodeValue) (old new : Option Moments) : Type 0 where
   pub log : LogValue
+  pub records : log.records ≡ n.records
+  pub numbered : AreNumberedAfter log.base log.records
   pub entries : saved_entries log ≡ saved_log n
+  pub part : SavesInPart log (saving_mark n) old new
   pub moments : (h : Moments) → old ≡ Some h → IsUnsaved h.now.mark
       → AtEachMoment (IsUnsavedOrSaved log) old new

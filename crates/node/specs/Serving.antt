@@ -2,12 +2,12 @@
 use Rattle.std.specs.Prelude.{◌≡◌, ◌<◌, ◌≤◌, ℕ, ◌-◌, List, Option, None, Some, take, drop, if◌then◌else◌, ⊤}
 use Rattle.event_record.specs.declared.record.RecordFields.{RecordFields}
 use Rattle.file_tree.specs.Book.{Entry}
+use Rattle.group_rules.specs.Names.{view_of}
 use Rattle.group_rules.specs.Places.{Place, all_of}
 use Rattle.group_rules.specs.Serving.{gives, serving_accepted, serving_joined}
 use Rattle.group_rules.specs.State.{Server, top}
 use Rattle.kept_log.specs.Gives.{given_moves}
 use Rattle.log_laws.specs.Laws.{Sized}
-use Rattle.group_rules.specs.Names.{view_of}
 use Rattle.new_record.specs.Records.{record_of}
 use Rattle.node.specs.Node.{NodeValue, server}
 use Rattle.witness.specs.Serving.{record_size}
@@ -41,7 +41,7 @@ FindsGiven n items index last found =
     → last ≤ top n.plain → AreSized size list n index last
     → given_moves to v index found ≡ gives size list (server n items) to v index last
 
--- the bytes that the record of an entry takes which follows these entries, whatever the view that it
--- is stamped with
+-- the bytes that the record of an entry takes which follows these entries, whatever the view that
+-- it is stamped with
 abbrev pub entry_size : List Entry → Entry → ℕ
 entry_size before e = record_size (record_of (view_of 0) before e)

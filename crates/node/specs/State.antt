@@ -25,8 +25,8 @@ use Rattle.node.specs.declared.state.Task.TheVariants as task
 use Rattle.promise.specs.Promise.{HorizonValue}
 use Rattle.view_form.specs.Choice.{choice, report, reports}
 use Rattle.view_replica.specs.Following.{Following, leader_of, mode_followed, storers_followed}
-use Rattle.volatile_log.specs.Log.{StagedValue}
 use Rattle.view_replica.specs.Leading.{Leading, Outer, heard_from, mode_led, partner_of, storers_led}
+use Rattle.volatile_log.specs.Log.{StagedValue}
 
 -- ---- roles, plans, duties
 

@@ -1,10 +1,10 @@
 -- A step of a server.
-use Rattle.std.specs.Prelude.{◌≡◌, ℕ, ◌++◌, true, false, List, Option, None, Some, ⊤}
-use Rattle.harp_base.specs.declared.peer.Peer.{Peer}
+use Rattle.std.specs.Prelude.{◌≡◌, ℕ, ◌++◌, true, false, List, Option, Some, ⊤}
 use Rattle.file_tree.specs.Book.{Entry}
 use Rattle.group_rules.specs.Moves.{Move, acts}
 use Rattle.group_rules.specs.Places.{Place}
 use Rattle.group_rules.specs.State.{Server}
+use Rattle.harp_base.specs.declared.peer.Peer.{Peer}
 use Rattle.harp_store.specs.Disk.{Moments}
 use Rattle.kept_log.specs.Gives.{StandIn}
 use Rattle.node.specs.Input.{came, peers_of}
@@ -28,8 +28,8 @@ pub record Steps (q : Place) (clock : ℕ) (ms : List (Move Entry)) (peers : Lis
   pub state : new ≡ acts q clock old ms
   pub said : said outs ≡ with_moves q clock old ms peers nothing
 
--- A STEP OF A NODE on this input made these moves, of whole records. `list` is its list of entries up
--- to its top, and `items` are the records of its saved log
+-- A STEP OF A NODE on this input made these moves, of whole records. `list` is its list of entries
+-- up to its top, and `items` are the records of its saved log
 pub record StepsWhole (clock : ℕ) (list items : List Entry) (given : Input) (ms : List (Move Entry))
     (old new : NodeValue) (outs : Outputs) : Type 0 where
   pub machine : Steps old.me clock ms (peers_of old given) (server old items) (server new items)

@@ -38,9 +38,9 @@ abbrev pub StartsWith : List RecordFields → State → Type 0
 StartsWith log s = stock_in s ≡ record { log = log; pulled = []; waits = [] }
 
 -- THE STOCK AFTER A MOVE of this server: what it pulls and heeds are the records that came, what it
--- appends is the record of the entry in its list, whose askers wait then, and when it accepts a view
--- it goes on with its own and the pulled ones. A record is committed to the first who waits, and
--- nobody waits beyond a view
+-- appends is the record of the entry in its list, whose askers wait then, and when it accepts a
+-- view it goes on with its own and the pulled ones. A record is committed to the first who waits,
+-- and nobody waits beyond a view
 abbrev pub stock_by : Place → List Entry → (came : List RecordFields) → (askers : List Peer)
     → Server Entry → Move Entry → Stock → Stock
 stock_by q list came askers s (Joining v duty) k = record k { pulled = []; waits = [] }

@@ -1,6 +1,6 @@
 -- What a step brings to a server's disk, by its input.
-use Rattle.std.specs.Prelude.{◌≡◌, ℕ, Bool, List, [], Option, None, Some, if◌then◌else◌}
-use Rattle.applier.specs.Applied.{IsOldOrSynced, flushed, lower}
+use Rattle.std.specs.Prelude.{◌≡◌, ◌⊎◌, ℕ, Bool, true, List, [], Option, None, Some, if◌then◌else◌}
+use Rattle.applier.specs.Applied.{FlushesInPart, flushed, lower}
 use Rattle.cell_cache.specs.Entries.{Entries}
 use Rattle.file_tree.specs.Book.{Entry}
 use Rattle.group_rules.specs.Disk.{flush_tests, settled_tests}
@@ -8,7 +8,7 @@ use Rattle.group_rules.specs.Moves.{Move}
 use Rattle.group_rules.specs.Places.{all_of}
 use Rattle.group_rules.specs.Step.{Apply, Ask, Does, Flush, Input, ListTree}
 use Rattle.harp_cells.specs.declared.change.Change.{Change}
-use Rattle.harp_store.specs.Disk.{AfterPart, AtEachMoment, Moments, after_changes, cells_told}
+use Rattle.harp_store.specs.Disk.{AfterPart, Moments, after_changes}
 use Rattle.harp_store.specs.Mark.{MarkFields}
 use Rattle.kept_log.specs.Kept.{log_in as kept_log}
 use Rattle.node.specs.Disk.{MayLeave, disk_after, marked_by}
@@ -72,14 +72,16 @@ mark_flushed n = if flushes n then lower n.plain.ap n.mark else n.mark
 abbrev pub disk_flushed : NodeValue → Option Moments → Option Moments
 disk_flushed n told = if flushes n then flushed (lower n.plain.ap n.mark) told else told
 
--- at each moment of a flush the mark is the old one, or all cells are synced; no cell changes
-pub record FlushesAtOnce (old new : Option Moments) : Type 0 where
-  pub cells : cells_told new ≡ cells_told old
-  pub moments : (h : Moments) → old ≡ Some h → AtEachMoment (IsOldOrSynced h.now.mark) old new
+-- a flush that failed leaves the disk as it was, or after a first part of its calls, where it makes
+-- any
+abbrev pub LeavesFlush : NodeValue → (old new : Option Moments) → Type 0
+LeavesFlush n old new = (new ≡ old) ⊎ ((flushes n ≡ true)
+    × FlushesInPart (lower n.plain.ap n.mark) old new)
 
 -- ---- what is given, if anything, which makes these moves at this server
 
--- THE MARK afterwards, in memory and on the disk: neither an ask nor an apply nor a listing writes it
+-- THE MARK afterwards, in memory and on the disk: neither an ask nor an apply nor a listing writes
+-- it
 abbrev pub mark_by : NodeValue → List (Move Entry) → Option Input → MarkFields
 mark_by n ms None = n.mark
 mark_by n ms (Some (Does (Ask client number cred call))) = n.mark
@@ -98,11 +100,12 @@ disk_by n ms (Some (Does Flush)) told = disk_flushed n told
 disk_by n ms (Some (Does ListTree)) told = told
 disk_by n ms (Some i) told = disk_after ms (marked_by n.mark ms) told
 
--- THE DISK after an error: a part of that
-abbrev pub LeavesBy : NodeValue → List (Move Entry) → Option Input → (old new : Option Moments) → Type 0
+-- THE DISK after an error: a first part of that, as it is after some first calls of the store
+abbrev pub LeavesBy : NodeValue → List (Move Entry) → Option Input → (old new : Option Moments)
+    → Type 0
 LeavesBy n ms None old new = new ≡ old
 LeavesBy n ms (Some (Does (Ask client number cred call))) old new = new ≡ old
 LeavesBy n ms (Some (Does (Apply most))) old new = AfterPart (changes_made most n) old new
-LeavesBy n ms (Some (Does Flush)) old new = FlushesAtOnce old new
+LeavesBy n ms (Some (Does Flush)) old new = LeavesFlush n old new
 LeavesBy n ms (Some (Does ListTree)) old new = new ≡ old
 LeavesBy n ms (Some i) old new = MayLeave ms (marked_by n.mark ms) old new

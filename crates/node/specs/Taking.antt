@@ -2,11 +2,11 @@
 use Rattle.std.specs.Prelude.{ℕ, ◌≤◌, List, [], Option, None, Some, IfSome, option_map, ⊤}
 use Rattle.file_tree.specs.Book.{Entry}
 use Rattle.group_rules.specs.Moves.{Move}
+use Rattle.group_rules.specs.Names.{place_of}
 use Rattle.group_rules.specs.Places.{Place}
-use Rattle.group_rules.specs.State.{Ack, Beat, Demote, Event, Fetch, Form, Formed, Give, Invite, Join, Message, Server, top}
+use Rattle.group_rules.specs.State.{Fetch, Message, Server, top}
 use Rattle.group_rules.specs.Step.{Comes, Input, rule, step}
 use Rattle.harp_base.specs.declared.server.ServerId.{ServerId}
-use Rattle.group_rules.specs.Names.{place_of}
 use Rattle.node.specs.Node.{NodeValue}
 use Rattle.node.specs.Serving.{IsSized}
 use Rattle.outputs.specs.Messages.{heard}

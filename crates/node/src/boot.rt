@@ -1,17 +1,20 @@
 //! Booting a server from its disk.
 
-ghost use Rattle.std.specs.Prelude.{◌≡◌, ◌⊎◌, ◌<◌, ◌≤◌, ◌^◌, [], List, ℕ, Err, IfOk, None, OnErr, OnOk, Option, Some, false};
+ghost use Rattle.std.specs.Prelude.{◌≡◌, ◌⊎◌, ◌<◌, ◌≤◌, ◌^◌, [], List, ℕ, Err, IfOk, None, OnErr, OnOk, Option, Some, false, if◌then◌else◌};
+ghost use Rattle.event_record.specs.declared.record.RecordFields.{RecordFields};
 ghost use Rattle.file_tree.specs.Book.{Entry};
 ghost use Rattle.group_rules.specs.Effects.{booted, rested};
+ghost use Rattle.group_rules.specs.Limits.{is_log};
 ghost use Rattle.group_rules.specs.Names.{place_of};
 ghost use Rattle.group_rules.specs.State.{longest_of};
 ghost use Rattle.harp_base.specs.Streams.{Rose};
 ghost use Rattle.harp_cells.specs.Effect.{Cells};
 ghost use Rattle.harp_store.specs.Disk.{AtEachMoment, Moments, cells_told, reads};
 ghost use Rattle.kept_log.specs.Boots.{rests};
-ghost use Rattle.kept_log.specs.Kept.{IsPlaced, lb_in};
-ghost use Rattle.node.specs.Boot.{HasBase, HoldSaved, IsOldOrBooted, after_boot, boot_mark, booted_without, has_boot_mark, is_within, mark_before};
-ghost use Rattle.node.specs.Node.{mark_with, server};
+ghost use Rattle.kept_log.specs.Kept.{IsPlaced, held_in, lb_in, log_in};
+ghost use Rattle.node.specs.Boot.{HasBase, HoldSaved, HoldWhole, IsOldOrBooted, after_boot, boot_mark, booted_stock, booted_without, has_boot_mark, is_within, mark_before};
+ghost use Rattle.node.specs.Node.{IsServer, mark_with, server};
+ghost use Rattle.node.specs.Stock.{stock};
 ghost use Rattle.power_save.specs.Saved.{IsNotSaved};
 
 use crate::fault::NodeFault;
@@ -47,7 +50,11 @@ impl Node {
             → IsNotSaved (reads h.now) (boot_mark me delta h.now.mark)
             → IfOk result (λ n. server n items ≡ booted_without (place_of me) now delta
             (mark_before me delta items h.now.mark)) }
+        ensures records { (h : Moments) (saved : List RecordFields) → D.told store.old ≡ Some h
+            → HoldWhole (reads h.now) (boot_mark me delta h.now.mark) saved
+            → IfOk result (λ n. stock n ≡ booted_stock n.plain saved) }
         ensures me { IfOk result (λ n. n.me ≡ place_of me) }
+        ensures is_server { IfOk result (λ n. IsServer n) }
         ensures up { IfOk result (λ n. n.halted ≡ false) }
         ensures peers { IfOk result (λ n. n.peers ≡ []) }
         ensures cached { IfOk result (λ n. n.cached ≡ []) }
@@ -158,6 +165,9 @@ fn found<D: Store>(
         → IfOk result (λ k. rested (place_of me) clock delta
         (mark_with items (record mark.now { saved = None }))
         ≡ rests clock delta (mark_with items (record mark.now { saved = None })) k) }
+    ensures records { (cells : Cells) (saved : List RecordFields)
+        → cells_told (D.told store.old) ≡ Some cells → HoldWhole cells mark.now saved
+        → IfOk result (λ k. (log_in k).records ≡ (if is_log (held_in k) then saved else [])) }
     ensures placed { IfOk result (λ k. IsPlaced (place_of me) k) }
     ensures bound { IfOk result (λ k. lb_in mark.now.lb k < 2 ^ 62) }
     ensures lb { HasBase (place_of me) mark.now

@@ -2,7 +2,7 @@
 
 ghost use Rattle.node.specs.Stock.{stock};
 ghost use Rattle.std.specs.Prelude.{◌≡◌, ◌≤◌, [], List, ℕ, Err, OnErr, OnOk, Some, false, true};
-ghost use Rattle.applier.specs.Applied.{IsOldOrSynced, flushed, lower};
+ghost use Rattle.applier.specs.Applied.{FlushesInPart, IsOldOrSynced, flushed, lower};
 ghost use Rattle.cell_cache.specs.Entries.{AreOf};
 ghost use Rattle.file_tree.specs.Book.{Entry};
 ghost use Rattle.fuzzy_cells.specs.History.{History};
@@ -14,7 +14,7 @@ ghost use Rattle.harp_store.specs.declared.store.StoreFault.TheVariants.{Failed}
 ghost use Rattle.node.specs.Active.{is_active};
 ghost use Rattle.node.specs.Node.{server};
 ghost use Rattle.node.specs.State.{cached_in};
-ghost use Rattle.node.specs.Stored.{FlushesAtOnce, disk_flushed, flushes, log_in, log_of, mark_flushed, with_log};
+ghost use Rattle.node.specs.Stored.{LeavesFlush, disk_flushed, flushes, log_in, log_of, mark_flushed, with_log};
 ghost use Rattle.outputs.specs.Makes.{Makes};
 ghost use Rattle.outputs.specs.declared.outputs.Outputs.{Outputs};
 ghost use Rattle.tree_log.specs.Reading.{HoldsTree};
@@ -29,7 +29,7 @@ use std::alloc::Global;
 impl Node {
     /// A settled data server whose AP is above its LB syncs its store, and then writes the mark
     /// with LB = AP, in memory too. Each other server does nothing. At each moment the mark on the
-    /// disk is the old one, or all cells are synced.
+    /// disk is the old one, or all cells are synced. An error leaves a first part of the two calls.
     pub(crate) fn flush<D: Store>(&mut self, alloc: Global, store: &mut D) -> Result<(), NodeFault>
         requires up { self.old.halted ≡ false }
         requires cached { AreOf (cells_told (D.told store.old)) self.old.cached }
@@ -42,7 +42,7 @@ impl Node {
         ensures mark { OnOk result (self.new.mark ≡ mark_flushed self.old) }
         ensures up { OnOk result (self.new.halted ≡ false) }
         ensures done { OnOk result (D.told store.new ≡ disk_flushed self.old (D.told store.old)) }
-        ensures part { FlushesAtOnce (D.told store.old) (D.told store.new) }
+        ensures part { LeavesFlush self.old (D.told store.old) (D.told store.new) }
         ensures fuzzy { (history : History) (m : ℕ) (h : Moments) → flushes self.old ≡ true
             → D.told store.old ≡ Some h → h.now.mark ≡ Some self.old.mark
             → IsFuzzyDisk history self.old.mark.lb self.old.plain.ap m h.now
@@ -101,6 +101,8 @@ fn flush_log<D: Store>(
         ≡ flushed (lower (log_in state.old).ap mark.old) (D.told store.old)) }
     ensures mark { OnOk result (mark.new ≡ lower (log_in state.old).ap mark.old) }
     ensures kept { OnErr result (mark.new ≡ mark.old) }
+    ensures part { FlushesInPart (lower (log_in state.old).ap mark.old) (D.told store.old)
+        (D.told store.new) }
     ensures moments { (h : Moments) → D.told store.old ≡ Some h
         → AtEachMoment (IsOldOrSynced h.now.mark) (D.told store.old) (D.told store.new) }
     ensures fuzzy { (history : History) (m : ℕ) (h : Moments) → D.told store.old ≡ Some h

@@ -52,7 +52,8 @@ impl Node {
         ensures me { self.new.me ≡ self.old.me }
         ensures stock { OnOk result ((items : List Entry) (from : Place)
             → let s = server self.old items in Stocks (item ∷ []) self.old.me s
-            (on_event self.old.me now s from (number_of_view view) cp base (taken s item.index (entry_of item))) (stock self.old) (stock self.new)) }
+            (on_event self.old.me now s from (number_of_view view) cp base
+            (taken s item.index (entry_of item))) (stock self.old) (stock self.new)) }
         ensures cached { OnOk result (self.new.cached ≡ self.old.cached) }
         ensures mark { self.new.mark ≡ self.old.mark }
         ensures up { OnOk result (self.new.halted ≡ false) }
@@ -91,7 +92,8 @@ impl Node {
         ensures me { self.new.me ≡ self.old.me }
         ensures stock { OnOk result ((items : List Entry) (from : Place)
             → let s = server self.old items in Stocks [] self.old.me s
-            (on_event self.old.me now s from (number_of_view view) cp base s.items) (stock self.old) (stock self.new)) }
+            (on_event self.old.me now s from (number_of_view view) cp base s.items)
+            (stock self.old) (stock self.new)) }
         ensures cached { OnOk result (self.new.cached ≡ self.old.cached) }
         ensures mark { self.new.mark ≡ self.old.mark }
         ensures up { OnOk result (self.new.halted ≡ false) }

@@ -148,7 +148,8 @@ impl Node {
             Makes self.old.me clock (form_moves self.old.me s (plan_of form)) []
             s (server self.new items) outs.old outs.new) }
         ensures me { self.new.me ≡ self.old.me }
-        ensures stock { OnOk result ((items : List Entry) → let s = joined_with (server self.old items) kept joining in
+        ensures stock { OnOk result ((items : List Entry)
+            → let s = joined_with (server self.old items) kept joining in
             Stocks [] self.old.me s
             (form_moves self.old.me s (plan_of form))
             (stock_kept kept []) (stock self.new)) }

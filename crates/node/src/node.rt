@@ -3,8 +3,9 @@
 ghost use Rattle.std.specs.Prelude.{◌≡◌, [], List, false, true};
 ghost use Rattle.file_tree.specs.Book.{Entry};
 ghost use Rattle.group_rules.specs.Names.{place_of};
-ghost use Rattle.node.specs.Node.{rested_with, server};
+ghost use Rattle.node.specs.Node.{IsServer, rested_with, server};
 ghost use Rattle.node.specs.State.{IsKept};
+ghost use Rattle.node.specs.Stock.{stock, stock_kept};
 
 use crate::state::{State, Task};
 use harp_base::ServerId;
@@ -50,6 +51,8 @@ impl Node {
         ensures cached { result.cached ≡ [] }
         ensures server { (items : List Entry) → server result items
             ≡ rested_with items mark horizon kept }
+        ensures is_server { IsServer result }
+        ensures stock { stock result ≡ stock_kept kept [] }
     {
         Node {
             me,
@@ -63,7 +66,8 @@ impl Node {
 
     /// Whether an earlier step failed. Then no step gives anything any more.
     pub fn is_halted(&self) -> bool
-        ensures { result ≡ self.now.halted }
+        ensures value { result ≡ self.now.halted }
+        ensures is_server { IsServer self.now }
     {
         match &self.state {
             State::Gone => true,

@@ -9,8 +9,8 @@ ghost use Rattle.harp_store.specs.Disk.{AtEachMoment, Moments, Now, after_change
 ghost use Rattle.node.specs.Node.{server};
 ghost use Rattle.node.specs.Power.{IsSavedBy, SavesAtOnce, mark_left, saves_log};
 ghost use Rattle.power_save.specs.Entries.{HasSaved, saved_entries};
-ghost use Rattle.power_save.specs.Saved.{IsUnsaved, IsUnsavedOrSaved, puts_of, saved_mark};
-ghost use Rattle.volatile_log.specs.Log.{room};
+ghost use Rattle.power_save.specs.Saved.{IsUnsaved, IsUnsavedOrSaved, SavesInPart, puts_of, saved_mark};
+ghost use Rattle.volatile_log.specs.Log.{AreNumberedAfter, room};
 
 use crate::fault::NodeFault;
 use crate::joining::kept_of;
@@ -23,8 +23,9 @@ use volatile_log::FrozenLog;
 impl Node {
     /// A power failure, after which the server is down. Where it holds a log that its mark hasn't
     /// saved, it saves it: it puts the records in their cells, syncs, and then writes the mark with
-    /// LB = AP and the log's numbers. Else the disk stays as it is. After an error the log stands
-    /// there whole or not at all. Halted comes just where an earlier step failed.
+    /// LB = AP and the log's numbers. Else the disk stays as it is. After an error a first part of
+    /// these calls is made, and the log stands there whole or not at all. Halted comes just where
+    /// an earlier step failed.
     pub fn power<D: Store>(self, alloc: Global, store: &mut D) -> Result<(), NodeFault>
         ensures machine { (items : List Entry) (clock : ℕ) → mark_left self items
             ≡ mark_of (act self.me clock (server self items) Saving) }
@@ -66,13 +67,17 @@ fn save_log<D: Store>(
         ≡ after_step (with_mark (saved_mark room log.now mark))
         (after_step synced_whole (after_changes (puts_of log.now.records) (D.told store.old)))) }
     ensures entries { OnOk result (Now (HasSaved (saved_entries log.now)) (D.told store.new)) }
+    ensures part { SavesInPart log.now (saved_mark room log.now mark) (D.told store.old)
+        (D.told store.new) }
     ensures moments { (h : Moments) → D.told store.old ≡ Some h → IsUnsaved h.now.mark
         → AtEachMoment (IsUnsavedOrSaved log.now) (D.told store.old) (D.told store.new) }
+    ensures numbered { AreNumberedAfter log.now.base log.now.records }
     ensures running { result ≡ Err NodeFault.Halted → ⊥ }
     ensures rose { result ≡ Err NodeFault.StoreFailed → Rose (D.faults store.old)
         (D.faults store.new) }
     ensures count { D.faults store.old ≤ D.faults store.new }
 {
+    let _ = log.base();
     let mut marked = mark;
     match save::<D>(alloc, log, &mut marked, store) {
         Ok(()) => Ok(()),

@@ -129,7 +129,8 @@ impl Node {
             Makes self.old.me clock (on_give self.old.me s s.promised first
             (map entry_of records)) [] s (server self.new items) outs.old outs.new) }
         ensures me { self.new.me ≡ self.old.me }
-        ensures stock { OnOk result ((items : List Entry) → let s = pulling_with (server self.old items) pull in
+        ensures stock { OnOk result ((items : List Entry)
+            → let s = pulling_with (server self.old items) pull in
             Stocks records self.old.me s
             (on_give self.old.me s s.promised first (map entry_of records))
             (stock_kept pull.kept pull.staged.records) (stock self.new)) }

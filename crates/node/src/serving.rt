@@ -35,8 +35,9 @@ impl Node {
         outs: &mut Outputs,
     ) -> Result<(), AllocError>
         requires { self.now.halted ≡ false }
-        ensures makes { OnOk result ((items : List Entry) (clock : ℕ) (size : List Entry → Entry → ℕ)
-            (list : List Entry) → self.now.plain.served ≤ top self.now.plain
+        ensures makes { OnOk result ((items : List Entry) (clock : ℕ)
+            (size : List Entry → Entry → ℕ) (list : List Entry)
+            → self.now.plain.served ≤ top self.now.plain
             → IsSized size list self.now (number_of_view view) first
             → let s = server self.now items in Makes self.now.me clock
             (on_fetch size list s (place_of from) (number_of_view view) first) [] s s
@@ -81,8 +82,8 @@ impl Node {
     /// The records of the server's log from this index on that a Give has space for, up to `last`.
     fn found(&self, alloc: Global, first: u64, last: u64) -> Result<Option<Records>, AllocError>
         requires { self.now.halted ≡ false }
-        ensures given { IfOk result (λ found. (items : List Entry) → FindsGiven self.now items first last
-            found) }
+        ensures given { IfOk result (λ found. (items : List Entry)
+            → FindsGiven self.now items first last found) }
         ensures own { IfOk result (λ found. IfSome found (StandIn self.now.records)) }
     {
         match &self.state {

@@ -10,7 +10,7 @@ ghost use Rattle.harp_base.specs.Streams.{Rose};
 ghost use Rattle.harp_store.specs.Disk.{cells_told};
 ghost use Rattle.kept_log.specs.Gives.{StandIn};
 ghost use Rattle.node.specs.Input.{FillsInput, FillsSized, came, input_of, peers_of};
-ghost use Rattle.node.specs.Node.{server};
+ghost use Rattle.node.specs.Node.{IsServer, server};
 ghost use Rattle.node.specs.Serving.{entry_size};
 ghost use Rattle.node.specs.Step.{ListsFor, StepsWhole};
 ghost use Rattle.node.specs.Stock.{Stocks, stock, stock_after};
@@ -52,6 +52,7 @@ impl Node {
         ensures listing { IfOk result (λ outs. ListsFor input self.old (D.told store.old) None
             outs.listing) }
         ensures me { self.new.me ≡ self.old.me }
+        ensures is_server { OnOk result (IsServer self.new) }
         ensures cached { AreOf (cells_told (D.told store.new)) self.new.cached }
         ensures mark { OnOk result ((size : List Entry → Entry → ℕ) (list : List Entry)
             → self.new.mark ≡ mark_by self.old
@@ -181,6 +182,7 @@ impl Node {
             → let s = server self.old items in
             Stocks came self.old.me s (rebase s) (stock self.old) (stock self.new) }
         ensures me { self.new.me ≡ self.old.me }
+        ensures is_server { IsServer self.new }
         ensures cached { self.new.cached ≡ self.old.cached }
         ensures mark { self.new.mark ≡ self.old.mark }
         ensures up { self.new.halted ≡ false }

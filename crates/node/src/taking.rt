@@ -78,7 +78,8 @@ impl Node {
         ensures stock { OnOk result ((items : List Entry) (size : List Entry → Entry → ℕ)
             (list : List Entry) → let s = server self.old items in Stocks (item ∷ []) self.old.me s
             (rule size self.old.me now list s (Comes (place_of from)
-            (Event (number_of_view view) item.index cp base (entry_of item)))) (stock self.old) (stock self.new)) }
+            (Event (number_of_view view) item.index cp base (entry_of item))))
+            (stock self.old) (stock self.new)) }
         ensures cached { OnOk result (self.new.cached ≡ self.old.cached) }
         ensures mark { self.new.mark ≡ self.old.mark }
         ensures up { OnOk result (self.new.halted ≡ false) }

@@ -194,7 +194,8 @@ impl Node {
         ensures stock { OnOk result ((items : List Entry) (size : List Entry → Entry → ℕ)
             (list : List Entry) → let s = server self.old items in Stocks records self.old.me s
             (rule size self.old.me now list s (Comes (place_of from)
-            (Give (number_of_view view) first (map entry_of records)))) (stock self.old) (stock self.new)) }
+            (Give (number_of_view view) first (map entry_of records))))
+            (stock self.old) (stock self.new)) }
         ensures cached { OnOk result (IsCachedAs self.old.cached self.new.cached) }
         ensures mark { OnOk result ((size : List Entry → Entry → ℕ) (list : List Entry)
             → self.new.mark ≡ marked_by self.old.mark (coming size now list self.old

@@ -84,7 +84,8 @@ impl Node {
     /// sends its Forms again until the view is settled.
     fn do_duty(&self, outs: &mut Outputs) -> Result<(), AllocError>
         requires { self.now.halted ≡ false }
-        ensures makes { OnOk result ((items : List Entry) (clock : ℕ) → let s = server self.now items in
+        ensures makes { OnOk result ((items : List Entry) (clock : ℕ)
+            → let s = server self.now items in
             Makes self.now.me clock (duties self.now.me s s.duty) [] s s outs.old outs.new) }
         ensures records { OnOk result (records_sent outs.new ≡ records_sent outs.old) }
     {
@@ -154,7 +155,8 @@ impl Node {
     /// A server that pulls sends its Fetch again, and a partner that isn't settled its Formed.
     fn send_again(&self, outs: &mut Outputs) -> Result<(), AllocError>
         requires { self.now.halted ≡ false }
-        ensures makes { OnOk result ((items : List Entry) (clock : ℕ) → let s = server self.now items in
+        ensures makes { OnOk result ((items : List Entry) (clock : ℕ)
+            → let s = server self.now items in
             Makes self.now.me clock (again self.now.me s) [] s s outs.old outs.new) }
         ensures records { OnOk result (records_sent outs.new ≡ records_sent outs.old) }
     {

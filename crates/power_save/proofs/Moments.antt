@@ -7,7 +7,7 @@ use Rattle.harp_store.specs.Disk.{AfterPart, AtEachMoment, Disk, Moments, IsAfte
 use Rattle.harp_store.proofs.Changes.{reads_changed_all}
 use Rattle.harp_store.proofs.Moments.{follows, may_step, runs_join}
 use Rattle.harp_store.proofs.Runs.{after_none, after_some, all_is_part, mark_stays, moments_of_part}
-use Rattle.power_save.specs.Saved.{AllFit, HasRecord, IsUnsaved, IsUnsavedOrSaved, SavedOn, cell_in, puts_of}
+use Rattle.power_save.specs.Saved.{AllFit, HasRecord, IsUnsaved, IsUnsavedOrSaved, SavedOn, SavesInPart, cell_in, puts_of}
 use Rattle.power_save.proofs.Saves.{puts_hold}
 use Rattle.std.specs.Prelude.{slice_index_or}
 use Rattle.volatile_log.specs.Log.{IsLog, LogValue, room}
@@ -108,3 +108,18 @@ module _ (log : LogValue) (mark : MarkFields) where
       (may_step (IsUnsavedOrSaved log) (with_mark mark) (then_disk
       (synced_whole k.0.now) k.0) new (inl unsaved) (inr (saved_at h k.0 k.2 order fit))
       (subst (λ (o : Option Moments). MayHaveMade (with_mark mark) o new) behind made)))
+
+  -- ---- the parts of a save
+
+  pub sync_part : (old mid new : Option Moments) → mid ≡ after_changes (puts_of log.records) old
+      → MayHaveMade synced_whole mid new → SavesInPart log mark old new
+  sync_part old mid new e (inl h) = inl (all_is_part (puts_of log.records) old new (h ∙ e))
+  sync_part old mid new e (inr h) = inr (inl (h ∙ ap (after_step synced_whole) e))
+
+  pub mark_part : (old mid last new : Option Moments)
+      → mid ≡ after_changes (puts_of log.records) old → last ≡ after_step synced_whole mid
+      → MayHaveMade (with_mark mark) last new → SavesInPart log mark old new
+  mark_part old mid last new e f (inl h) =
+      inr (inl (h ∙ f ∙ ap (after_step synced_whole) e))
+  mark_part old mid last new e f (inr h) =
+      inr (inr (h ∙ ap (after_step (with_mark mark)) (f ∙ ap (after_step synced_whole) e)))

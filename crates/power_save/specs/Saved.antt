@@ -10,7 +10,7 @@ use Rattle.harp_cells.specs.declared.change.Change.{Change}
 use Rattle.harp_cells.specs.declared.change.Change.TheVariants as change
 use Rattle.harp_cells.specs.Effect.{Cells}
 use Rattle.harp_store.specs.Mark.{MarkFields, SavedNumbers}
-use Rattle.harp_store.specs.Disk.{Disk, Image, IsSynced, MayLeave, reads}
+use Rattle.harp_store.specs.Disk.{AfterPart, Disk, Image, IsSynced, MayLeave, Moments, after_changes, after_step, reads, synced_whole, with_mark}
 use Rattle.harp_store.specs.declared.store.StoreFault.{StoreFault}
 use Rattle.harp_store.specs.declared.store.StoreFault.TheVariants as store
 use Rattle.power_save.specs.declared.fault.SaveFault.{SaveFault}
@@ -86,6 +86,14 @@ pub record SavedOn (log : LogValue) (d : Disk) : Type 0 where
 -- the mark has no saved log, or the whole log is synced
 abbrev pub IsUnsavedOrSaved : LogValue → Disk → Type 0
 IsUnsavedOrSaved log d = IsUnsaved d.mark ⊎ SavedOn log d
+
+-- THE DISK AFTER A SAVE, which may have failed, is that after a first part of its calls: some of
+-- the puts, all of them and the sync, or these and this mark
+abbrev pub SavesInPart : LogValue → MarkFields → Option Moments → Option Moments → Type 0
+SavesInPart log mark old new = AfterPart (puts_of log.records) old new
+    ⊎ ((new ≡ after_step synced_whole (after_changes (puts_of log.records) old))
+    ⊎ (new ≡ after_step (with_mark mark)
+    (after_step synced_whole (after_changes (puts_of log.records) old))))
 
 -- ---- loading
 

@@ -6,7 +6,7 @@ ghost use Rattle.harp_base.specs.Streams.{Rose};
 ghost use Rattle.harp_store.specs.Disk.{AfterPart, AtEachMoment, Moments, MayHaveMade, Now, after_changes, after_step, changed_by, synced_whole, with_mark};
 ghost use Rattle.power_save.specs.declared.fault.SaveFault.TheVariants.{StoreFailed, NotSaved};
 ghost use Rattle.power_save.specs.Entries.{HasSaved, saved_entries};
-ghost use Rattle.power_save.specs.Saved.{AllFit, IsUnsaved, IsUnsavedOrSaved, SavedOn, put_of, puts_of, saved_mark};
+ghost use Rattle.power_save.specs.Saved.{AllFit, IsUnsaved, IsUnsavedOrSaved, SavedOn, SavesInPart, put_of, puts_of, saved_mark};
 ghost use Rattle.volatile_log.specs.Log.{room, top};
 
 use crate::fault::SaveFault;
@@ -67,7 +67,8 @@ fn put_records<D: Store>(alloc: Global, log: &FrozenLog, store: &mut D) -> Resul
 
 /// Saves a log: puts its records in their cells, syncs, and then writes the mark with LB = AP and
 /// the numbers of the log. At each moment the store's mark has no saved log, or the whole log is
-/// synced. The log that is saved is the one that the group's machine saves. NotSaved never comes.
+/// synced. The log that is saved is the one that the group's machine saves. Where it fails, a first
+/// part of these calls is made. NotSaved never comes.
 pub fn save<D: Store>(
     alloc: Global,
     log: &FrozenLog,
@@ -82,6 +83,8 @@ pub fn save<D: Store>(
     ensures entries { OnOk result (Now (HasSaved (saved_entries log.now)) (D.told store.new)) }
     ensures mark { OnOk result (mark.new ≡ saved_mark room log.now mark.old) }
     ensures kept { OnErr result (mark.new ≡ mark.old) }
+    ensures part { SavesInPart log.now (saved_mark room log.now mark.old) (D.told store.old)
+        (D.told store.new) }
     ensures moments { (h : Moments) → D.told store.old ≡ Some h → IsUnsaved h.now.mark
         → AtEachMoment (IsUnsavedOrSaved log.now) (D.told store.old) (D.told store.new) }
     ensures rose { result ≡ Err StoreFailed → Rose (D.faults store.old) (D.faults store.new) }

@@ -89,14 +89,14 @@ each_stands all some h = each_by (In all) some (λ k r e.
 
 -- ---- places in histories
 
-take_next : (xs : List Entry) (n : ℕ) (e : Entry) → slice_get xs n ≡ Some e
+pub take_next : (xs : List Entry) (n : ℕ) (e : Entry) → slice_get xs n ≡ Some e
     → take (suc n) xs ≡ take n xs ++ e ∷ []
 take_next [] n e is = cc
 take_next (x ∷ xs) zero e is = let same : x ≡ e = cc in ap (λ z. z ∷ []) same
 take_next (x ∷ xs) (suc n) e is = ap (λ z. x ∷ z) (take_next xs n e is)
 
 -- the changes at a place are those that the entries before it give
-history_at : (xs : List Entry) (n : ℕ) (e : Entry) → slice_get xs n ≡ Some e
+pub history_at : (xs : List Entry) (n : ℕ) (e : Entry) → slice_get xs n ≡ Some e
     → slice_get (history_of xs) n
     ≡ Some (record_changes (cells_of (take n xs)) (take n xs) e)
 history_at xs n e is =
@@ -342,7 +342,7 @@ sent_in (x ∷ ms) g q s to m i = ⊎_elim
     (inl refl)))
     (λ j. sent_in ms (moved g q s x) q (act q (g.clock q) s x) to m j) i
 
-all_tell : (ms : List (Move Entry)) (g : Group Entry) (q : Place) (s : Server Entry)
+pub all_tell : (ms : List (Move Entry)) (g : Group Entry) (q : Place) (s : Server Entry)
     (list : List Entry) → TellsAll g q s list ms → (m : Move Entry) → In ms m
     → Tells g q s list m
 all_tell [] g q s list t m i = absurd i
@@ -350,7 +350,7 @@ all_tell (x ∷ ms) g q s list t m i = ⊎_elim
     (λ (e : x ≡ m). subst (λ x. Tells g q s list x) e t.0)
     (λ j. all_tell ms g q s list t.1 m j) i
 
-some_is : {A : Type 0} (a b : A) → Some a ≡ Some b → a ≡ b
+pub some_is : {A : Type 0} (a b : A) → Some a ≡ Some b → a ≡ b
 some_is a b e = cc
 
 one_part : (n : ℕ) (e : Entry) (xs : List Entry) → slice_get xs n ≡ Some e → Part n (e ∷ []) xs

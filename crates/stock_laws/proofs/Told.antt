@@ -7,8 +7,8 @@ use Rattle.group_rules.specs.Ask.{append, new_entry, on_ask, update_moves}
 use Rattle.group_rules.specs.Choose.{choose}
 use Rattle.group_rules.specs.Disk.{demote_tests, flush_tests, settled_tests}
 use Rattle.group_rules.specs.Effects.{taken}
-use Rattle.group_rules.specs.Form.{accept_moves, fits, form_moves, on_form, on_give, pull_tests, wanted}
-use Rattle.group_rules.specs.Joining.{chosen_moves, joined_tests, on_invite, on_join, to_each}
+use Rattle.group_rules.specs.Form.{accept_moves, fits, form_moves, on_give, pull_tests, wanted}
+use Rattle.group_rules.specs.Joining.{chosen_moves, joined_tests, on_join, to_each}
 use Rattle.group_rules.specs.Limits.{is_active, is_joins, is_open, is_pulls, limit, room}
 use Rattle.group_rules.specs.Misfits.{misfits}
 use Rattle.group_rules.specs.Moves.{Appending, Move, Sending, acts}
@@ -101,7 +101,7 @@ quiet_if : (b : Bool) (x y : List (Move Entry)) → QuietAll x → QuietAll y
     → QuietAll (if b then x else y)
 quiet_if b x y h k = by_if (λ ms. QuietAll ms) b x y (λ _. h) (λ _. k)
 
-quiet_both : (a b : List (Move Entry)) → QuietAll a → QuietAll b → QuietAll (a ++ b)
+pub quiet_both : (a b : List (Move Entry)) → QuietAll a → QuietAll b → QuietAll (a ++ b)
 quiet_both [] b h k = k
 quiet_both (m ∷ a) b h k = (h.0, quiet_both a b h.1 k)
 
@@ -113,7 +113,7 @@ quiet_answers : (n : ℕ) (es : List Entry) → QuietAll (answers n es)
 quiet_answers n [] = tt
 quiet_answers n (e ∷ es) = (tt, quiet_answers (n + 1) es)
 
-quiet_open : (q : Place) (clock : ℕ) (s : Server Entry) → QuietAll (try_open q clock s)
+pub quiet_open : (q : Place) (clock : ℕ) (s : Server Entry) → QuietAll (try_open q clock s)
 quiet_open q clock s = quiet_if (all_of (open_tests q s)) _ []
     (heard (get s.heard (partner s.plan.storers))) tt
   where
@@ -122,7 +122,7 @@ quiet_open q clock s = quiet_if (all_of (open_tests q s)) _ []
     heard (Some lb) = quiet_if (nat_le (s.plan.horizon + 50) clock) _ []
         (tt, quiet_both _ _ (quiet_if (is_s01 s.plan.storers) _ [] (tt, tt) tt) (tt, tt)) tt
 
-quiet_base : (s : Server Entry) → QuietAll (rebase s)
+pub quiet_base : (s : Server Entry) → QuietAll (rebase s)
 quiet_base s = quiet_if (all_of (base_tests s)) _ [] (tt, tt) tt
 
 quiet_invite : (v : ℕ) (p : Place) (o : Option Report) → QuietAll (invite_again v p o)
@@ -142,7 +142,7 @@ quiet_again : (q : Place) (s : Server Entry) → QuietAll (again q s)
 quiet_again q s = quiet_both _ _ (quiet_if (is_pulls s.mode) _ [] (tt, tt) tt)
     (quiet_if (all_of (again_tests q s)) _ [] (tt, tt) tt)
 
-quiet_last : (q : Place) (s : Server Entry) → QuietAll (duties q s s.duty ++ again q s)
+pub quiet_last : (q : Place) (s : Server Entry) → QuietAll (duties q s s.duty ++ again q s)
 quiet_last q s = quiet_both _ _ (quiet_duties q s s.duty) (quiet_again q s)
 
 quiet_accept : (q : Place) (s : Server Entry) (plan : Plan) (staged : List Entry)
@@ -184,6 +184,51 @@ quiet_event : (q : Place) (clock : ℕ) (s : Server Entry) (from : Place) (v cp 
 quiet_event q clock s from v cp base items =
     quiet_if (all_of (is_in_view s v ∷ same q (partner s.plan.storers) ∷ [])) _ []
     (tt, (tt, tt)) tt
+
+-- a message that asks for no records
+abbrev pub IsNoFetch : Message Entry → Type 0
+IsNoFetch (Fetch v index) = ⊥
+IsNoFetch m = ⊤
+
+pub quiet_message : (size : List Entry → Entry → ℕ) (q : Place) (clock : ℕ) (list : List Entry)
+    (s : Server Entry) (from : Place) (m : Message Entry) → IsNoFetch m
+    → QuietAll (on_message size q clock list s from m)
+quiet_message size q clock list s from (Invite v) n = quiet_if (nat_lt s.promised v) _ _
+    (tt, (tt, tt)) (quiet_if (all_of (joined_tests s v)) _ [] (tt, tt) tt)
+quiet_message size q clock list s from (Join v t) n = quiet_join q s from v t s.duty
+quiet_message size q clock list s from (Form v plan) n =
+    quiet_if (v == s.promised) _ [] (quiet_form q s plan) tt
+quiet_message size q clock list s from (Fetch v index) n = absurd n
+quiet_message size q clock list s from (Give v index items) n = quiet_give q s v index items
+quiet_message size q clock list s from (Formed v lb) n =
+    quiet_if (all_of (formed_tests s v)) _ [] (tt, tt) tt
+quiet_message size q clock list s from (Event v index cp base e) n =
+    quiet_event q clock s from v cp base (taken s index e)
+quiet_message size q clock list s from (Beat v cp base) n =
+    quiet_event q clock s from v cp base s.items
+quiet_message size q clock list s from (Ack v t lb until) n =
+    quiet_if (all_of (ack_tests s v)) _ []
+    (tt, quiet_if (nat_lt s.cp t) _ [] (tt, quiet_answers s.cp _) tt) tt
+quiet_message size q clock list s from (Demote v) n =
+    quiet_if (all_of (demote_tests q s v)) _ [] (tt, tt) tt
+
+-- a deed that neither sends records nor appends
+abbrev pub IsQuietDeed : Deed → Type 0
+IsQuietDeed Tick = ⊥
+IsQuietDeed (Ask client number cred c) = ⊥
+IsQuietDeed d = ⊤
+
+pub quiet_deed : (q : Place) (clock : ℕ) (s : Server Entry) (list : List Entry) (d : Deed)
+    → IsQuietDeed d → QuietAll (does q clock list s d)
+quiet_deed q clock s list Tick n = absurd n
+quiet_deed q clock s list (Ask client number cred c) n = absurd n
+quiet_deed q clock s list Suspect n =
+    quiet_if (nat_lt (s.promised / 3) limit) _ [] (tt, quiet_each _ tt _) tt
+quiet_deed q clock s list (Apply k) n = quiet_if (all_of (settled_tests q s)) _ [] (tt, tt) tt
+quiet_deed q clock s list Flush n = quiet_if (all_of (flush_tests q s)) _ [] (tt, tt) tt
+quiet_deed q clock s list ListTree n = quiet_if (all_of (settled_tests q s)) _ [] (tt, tt) tt
+quiet_deed q clock s list Power n = (tt, tt)
+quiet_deed q clock s list Crash n = (tt, tt)
 
 -- ---- moves that do
 
@@ -265,50 +310,19 @@ message_tells : (size : List Entry → Entry → ℕ) (g : Group Entry) (q : Pla
     (list : List Entry) (from : Place) (m : Message Entry)
     → BodyOk g.page g.joins g.committed from q m
     → TellsAll g q s list (on_message size q (g.clock q) list s from m)
-message_tells size g q s list from (Invite v) b = quiet_all (on_invite s from v) g q s list
-    (quiet_if (nat_lt s.promised v) _ _ (tt, (tt, tt))
-    (quiet_if (all_of (joined_tests s v)) _ [] (tt, tt) tt))
-message_tells size g q s list from (Join v t) b = quiet_all _ g q s list
-    (quiet_join q s from v t s.duty)
-message_tells size g q s list from (Form v plan) b = quiet_all (on_form q s v plan) g q s list
-    (quiet_if (v == s.promised) _ [] (quiet_form q s plan) tt)
 message_tells size g q s list from (Fetch v index) b =
     fetch_tells size g q s list from v index b.0 b.1
-message_tells size g q s list from (Give v index items) b = quiet_all _ g q s list
-    (quiet_give q s v index items)
-message_tells size g q s list from (Formed v lb) b = tells_if g q s list (all_of (formed_tests s v))
-    _ [] (λ _. (tt, tt)) (λ _. tt)
-message_tells size g q s list from (Event v index cp base e) b = quiet_all _ g q s list
-    (quiet_event q (g.clock q) s from v cp base (taken s index e))
-message_tells size g q s list from (Beat v cp base) b = quiet_all _ g q s list
-    (quiet_event q (g.clock q) s from v cp base s.items)
-message_tells size g q s list from (Ack v t lb until) b = tells_if g q s list (all_of (ack_tests
-    s v))
-    _ []
-    (λ _. (
-      tt,
-      tells_if g q s list (nat_lt s.cp t) _ []
-          (λ _. (tt, quiet_all _ g q s list (quiet_answers s.cp _))) (λ _. tt),
-    ))
-    (λ _. tt)
-message_tells size g q s list from (Demote v) b = tells_if g q s list (all_of (demote_tests q s v))
-    _ [] (λ _. (tt, tt)) (λ _. tt)
+message_tells size g q s list from m b =
+    quiet_all (on_message size q (g.clock q) list s from m) g q s list
+    (quiet_message size q (g.clock q) list s from m tt)
 
 deed_tells : (g : Group Entry) (q : Place) (s : Server Entry) (list : List Entry) (d : Deed)
     → TellsAll g q s list (does q (g.clock q) list s d)
 deed_tells g q s list Tick = tick_tells g q (g.clock q) s list
-deed_tells g q s list Suspect = tells_if g q s list (nat_lt (s.promised / 3) limit) _ []
-    (λ _. (tt, quiet_all _ g q s list (quiet_each _ tt _))) (λ _. tt)
 deed_tells g q s list (Ask client number cred c) =
     ask_tells g q (g.clock q) s list client number cred c
-deed_tells g q s list (Apply n) = tells_if g q s list (all_of (settled_tests q s)) _ []
-    (λ _. (tt, tt)) (λ _. tt)
-deed_tells g q s list Flush = tells_if g q s list (all_of (flush_tests q s)) _ []
-    (λ _. (tt, tt)) (λ _. tt)
-deed_tells g q s list ListTree = tells_if g q s list (all_of (settled_tests q s)) _ []
-    (λ _. (tt, tt)) (λ _. tt)
-deed_tells g q s list Power = (tt, tt)
-deed_tells g q s list Crash = (tt, tt)
+deed_tells g q s list d = quiet_all (does q (g.clock q) list s d) g q s list
+    (quiet_deed q (g.clock q) s list d tt)
 
 pub deed_step_tells : (size : List Entry → Entry → ℕ) (g : Group Entry) (q : Place)
     (s : Server Entry) (list : List Entry) (d : Deed)

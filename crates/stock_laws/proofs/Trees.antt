@@ -2,7 +2,8 @@
 use Rattle.std.proofs.Common.{◌≡◌, ℕ, ◌≤◌, length, take, sym, ap, ◌∙◌, arith}
 use Rattle.std.proofs.lemmas.List.{length-take-le}
 use Rattle.fuzzy_cells.proofs.Disks.{prolonged}
-use Rattle.fuzzy_cells.specs.Disk.{IsBetween, reads}
+use Rattle.fuzzy_cells.specs.Disk.{IsBetween}
+use Rattle.fuzzy_cells.specs.Fuzzy.{IsFuzzy}
 use Rattle.group_rules.specs.State.{top}
 use Rattle.group_rules.specs.Step.{list_of}
 use Rattle.group_safety.proofs.Lawful.{sure_held}
@@ -19,7 +20,7 @@ use Rattle.stock_laws.specs.Trees.{TreesAreHeld}
 use Rattle.tree_log.specs.Reading.{HoldsTree}
 
 pub trees_held : TreesAreHeld
-trees_held g w disks d q p held k has disk between told is =
+trees_held g w disks d q p held k has disk between told cells is alike =
     let s = g.server q in
     let at = d.each q p in
     let m = disks q in
@@ -36,16 +37,24 @@ trees_held g w disks d q p held k has disk between told is =
     ∙ sym (fronts list m) in
     let over : IsBetween (history_of list) s.lb s.ap m disk =
     prolonged (history_of g.committed) (history_of list) s.lb s.ap m disk between front in
+    let fuzzy : IsFuzzy (history_of list) s.ap m cells = λ c other.
+    let moment = over.now c other in
+    record {
+      count = moment.count;
+      from = moment.from;
+      to = moment.to;
+      is = alike c other ∙ moment.is;
+    } in
     let holds : (upto : ℕ) → m ≤ upto → HoldsTree list upto (log_with s k.log) told =
     λ upto le. record {
       of_list = (logs_right g w q k has).of_list;
       behind = record {
-        cells = reads disk;
+        cells = cells;
         told_is = is;
         ahead = m;
         from = over.ap_m;
         within = le;
-        fuzzy = over.now;
+        fuzzy = fuzzy;
       };
     } in
     record { upto = λ upto le _. holds upto le; at_cp = λ mode. holds s.cp (at.settled mode) }

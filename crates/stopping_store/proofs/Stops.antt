@@ -8,7 +8,7 @@ use Rattle.stopping_store.specs.Sound.{IsSound}
 use Rattle.stopping_store.specs.Stopping.{IsStopping, stop_moment}
 
 -- so many calls pass from the first moment on
-pub starts : (calls : ℕ) (now old : Moments) → calls < 2 ^ 32 → now ≡ without_past old
+pub starts : (calls : ℕ) (now old : Moments) → calls < 2 ^ 64 → now ≡ without_past old
     → IsStopping calls None 0 (length now.past)
 unfolding stop_moment
 starts calls now old less e =

@@ -15,7 +15,7 @@ made (attempt.WriteMark mark) d = with_mark mark d
 
 -- the number of the moment at which each stop comes
 unfoldable pub stop_moment : ℕ
-stop_moment = 2 ^ 32
+stop_moment = 2 ^ 64
 
 -- what stands, its moments numbered so that the stop comes at that one
 abbrev pub numbered : ℕ → Moments → Moments

@@ -36,7 +36,7 @@ impl SoundStore {
     }
 
     /// The store with a stop: so many calls that change it pass.
-    pub fn stop_after(self, calls: u32) -> StoppingStore
+    pub fn stop_after(self, calls: u64) -> StoppingStore
         ensures left { result.left ≡ calls }
         ensures stopped { result.stopped ≡ None }
         ensures stands { stands result ≡ without_past (stored self) }

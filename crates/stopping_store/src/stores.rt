@@ -21,7 +21,7 @@ pub struct SoundStore {
 pub struct StoppingStore {
     pub(crate) store: MemStore,
     /// How many calls that change it pass still.
-    pub(crate) left: u32,
+    pub(crate) left: u64,
     /// The call that the stop came before.
     pub(crate) stopped: Option<Attempt>,
     /// How many calls failed.

@@ -1,21 +1,19 @@
--- The readers of fields fail with a place alone: never as unbuilt, and never for want of memory.
+-- The readers of fields fail with a place alone, never for want of memory.
 use Rattle.std.proofs.Common.{ℕ, ◌+◌, Bool, true, false, cond, eqb, List, get_or, drop, Option, Some, None, Result, Ok, Err}
 use Rattle.text_fields.specs.declared.fault.TextFault.{TextFault}
-use Rattle.text_fields.specs.declared.fault.TextFault.TheVariants.{Grammar, Unbuilt, NoMemory}
+use Rattle.text_fields.specs.declared.fault.TextFault.TheVariants.{Grammar, NoMemory}
 use Rattle.spelling.specs.Text.{is_left_time}
 use Rattle.text_fields.specs.Fields.{Reader, ◌>>=◌, space_at, spaced_at, longer, number_from, number_at, u32_at, server_of, server_at, pairs_from, is_odd_at, hex_at, left_time, time_at, dash_or, number_field_at, mode_field_at, time_field_at, comma_at, later_at, later_number_at, set_attr_at}
 
 abbrev pub Placed : {A : Type 0} → Result A TextFault → Type 0
 Placed (Ok x) = Unit {0}
 Placed (Err (Grammar n)) = Unit {0}
-Placed (Err Unbuilt) = ⊥
 Placed (Err NoMemory) = ⊥
 
 pub bind : {A B : Type 0} (r : Result A TextFault) (f : A → Result B TextFault) → Placed r
     → ((x : A) → Placed (f x)) → Placed (r >>= f)
 bind (Ok x) f p q = q x
 bind (Err (Grammar n)) f p q = tt
-bind (Err Unbuilt) f p q = absurd p
 bind (Err NoMemory) f p q = absurd p
 
 pub choice : {A : Type 0} (b : Bool) (x y : Result A TextFault) → Placed x → Placed y

@@ -8,11 +8,8 @@ use std::alloc::{AllocError, AllocFailed};
 /// Why a line of a schedule gives no step.
 #[derive(Debug, Drop)]
 pub enum TextFault {
-    /// No step is spelled so. The place is 0 until the reader tells the first byte at which no step
-    /// goes on.
+    /// No step is spelled so: at this byte, counted from 0, none goes on.
     Grammar(usize),
-    /// The step or the call is one of a later stage.
-    Unbuilt,
     /// Memory ran out.
     NoMemory,
 }

@@ -5,3 +5,4 @@ pub mod Calls
 pub mod FewBlocks
 pub mod StepCalls
 pub mod Steps
+pub mod Parts

@@ -52,6 +52,10 @@ passing (Some most) calls = take most calls
 abbrev pub save_calls : LogValue → MarkFields → List StoreCall
 save_calls log mark = map Makes (puts_of log.records) ++ Syncs ∷ Writes mark ∷ []
 
+-- the calls of a flush: a sync, and the mark
+abbrev pub flush_calls : MarkFields → List StoreCall
+flush_calls mark = Syncs ∷ Writes mark ∷ []
+
 -- after any first calls of these a run's disk has few blocks
 abbrev pub HaveFewBlocks : List DiskCall → Disk → Type 0
 HaveFewBlocks calls r = (k : ℕ) → HasFewBlocks (after_calls (take k calls) r)

@@ -1,5 +1,6 @@
 -- What holds of the disk that a store tells, beside that of a run.
-use Rattle.std.specs.Prelude.{◌≡◌, ℕ, suc, true, false, not, ◌&&◌, ◌+◌, ◌<◌, List, ◌++◌, length, map, take, Option, Some}
+use Rattle.std.specs.Prelude.{◌≡◌, ℕ, suc, true, false, not, ◌&&◌, ◌+◌, ◌<◌, ◌≤◌, List, [], ◌∷◌, ◌++◌, length, map, take, Option, Some}
+use Rattle.applier.specs.Applied.{FlushesInPart}
 use Rattle.disk_laws.specs.Laws.{HasFewBlocks}
 use Rattle.event_record.specs.Record.{entry_of}
 use Rattle.event_record.specs.declared.record.RecordFields.{RecordFields}
@@ -16,13 +17,13 @@ use Rattle.group_rules.specs.Step.{Input, saves}
 use Rattle.group_trace.specs.Run.{AreTaken}
 use Rattle.group_trace.specs.Scene.{first_scene}
 use Rattle.harp_cells.specs.declared.change.Change.{Change}
-use Rattle.harp_store.specs.Disk.{Disk as ToldDisk, Moments, Now, after_changes, after_step, changed_by_all, moment, reads as told_reads, synced_whole, then_disk, with_mark}
+use Rattle.harp_store.specs.Disk.{AfterPart, Disk as ToldDisk, MayHaveMade, Moments, Now, after_changes, after_step, changed_by_all, moment, reads as told_reads, synced_whole, then_disk, with_mark}
 use Rattle.harp_store.specs.Laws.{IsNumbered}
 use Rattle.harp_store.specs.Mark.{MarkFields}
 use Rattle.harp_store.specs.Memory.{crashed_by as told_crashed_by, nothing_stored}
 use Rattle.power_save.specs.Entries.{saved_entries}
-use Rattle.power_save.specs.Saved.{puts_of}
-use Rattle.told_disks.specs.Calls.{HaveFewBlocks, IsCallOf, IsChangeOf, Makes, StoreCall, passing, save_calls, told_after}
+use Rattle.power_save.specs.Saved.{SavesInPart, puts_of}
+use Rattle.told_disks.specs.Calls.{HaveFewBlocks, IsCallOf, IsChangeOf, Makes, StoreCall, Writes, flush_calls, passing, save_calls, told_after}
 use Rattle.told_disks.specs.Told.{IsDiskOf, IsToldOf, OneForOne, pick_of}
 use Rattle.trace_types.specs.declared.pick.Pick.{Pick}
 use Rattle.trace_types.specs.declared.step.Step.{Step}
@@ -148,3 +149,28 @@ abbrev pub SavesAreTold : Type 0
 SavesAreTold = (log : LogValue) (mark : MarkFields) (told : Option Moments)
     → told_after (save_calls log mark) told ≡
     after_step (with_mark mark) (after_step synced_whole (after_changes (puts_of log.records) told))
+
+-- ---- a part of calls, as an error leaves it, is some first ones of them
+
+-- of an apply
+abbrev pub PartsAreFirstChanges : Type 0
+PartsAreFirstChanges = (changes : List Change) (old new : Option Moments)
+    → AfterPart changes old new
+    → (n : ℕ) × (new ≡ told_after (take n (map Makes changes)) old)
+
+-- of a flush
+abbrev pub PartsAreFirstFlushes : Type 0
+PartsAreFirstFlushes = (mark : MarkFields) (old new : Option Moments) → FlushesInPart mark old new
+    → (n : ℕ) × (new ≡ told_after (take n (flush_calls mark)) old)
+
+-- of a save
+abbrev pub PartsAreFirstSaves : Type 0
+PartsAreFirstSaves = (log : LogValue) (mark : MarkFields) (old new : Option Moments)
+    → SavesInPart log mark old new
+    → (n : ℕ) × (new ≡ told_after (take n (save_calls log mark)) old)
+
+-- of a mark alone
+abbrev pub PartsAreFirstMarks : Type 0
+PartsAreFirstMarks = (mark : MarkFields) (old new : Option Moments)
+    → MayHaveMade (with_mark mark) old new
+    → (n : ℕ) × (n ≤ 1) × (new ≡ told_after (take n (Writes mark ∷ [])) old)

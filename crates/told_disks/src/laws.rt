@@ -1,6 +1,6 @@
 //! What holds of the disk that a store tells, beside that of a run.
 
-ghost use Rattle.told_disks.specs.Laws.{AreNumbered, CallsAreMoments, CallsFollow, ChangesAreCalls, ChangesAreOfCalls, ChangesFollow, CrashesFollow, EqualChangesAre, FirstChangesAreCalls, MarksFollow, MomentsBeforeStand, NewDisksAre, PutsAreSaved, ReadsAreAlike, RunsHaveFewBlocks, SavesAreCalls, SavesAreTold, StepsFollow, SyncsFollow};
+ghost use Rattle.told_disks.specs.Laws.{AreNumbered, CallsAreMoments, CallsFollow, ChangesAreCalls, ChangesAreOfCalls, ChangesFollow, CrashesFollow, EqualChangesAre, FirstChangesAreCalls, MarksFollow, MomentsBeforeStand, NewDisksAre, PartsAreFirstChanges, PartsAreFirstFlushes, PartsAreFirstMarks, PartsAreFirstSaves, PutsAreSaved, ReadsAreAlike, RunsHaveFewBlocks, SavesAreCalls, SavesAreTold, StepsFollow, SyncsFollow};
 ghost use Rattle.told_disks.specs.Steps.{StepsLeave, StepsMakeCalls};
 
 /// The disk of a store is that of a run: a new one, and after changes of cells, a sync, a mark and
@@ -30,6 +30,15 @@ pub fn call_laws()
     ensures puts { PutsAreSaved }
     ensures saves { SavesAreCalls }
     ensures told { SavesAreTold }
+{}
+
+/// What a store tells after an error is what it tells after some first calls: of the changes of an
+/// apply, of a flush, of a save, and of the writing of a mark.
+pub fn part_laws()
+    ensures applies { PartsAreFirstChanges }
+    ensures flushes { PartsAreFirstFlushes }
+    ensures saves { PartsAreFirstSaves }
+    ensures marks { PartsAreFirstMarks }
 {}
 
 /// Which calls a step of a run makes, by what it begins with, and what is told after them. In every

@@ -4,4 +4,4 @@
 
 mod laws;
 
-pub use laws::{call_laws, run_laws, told_laws};
+pub use laws::{call_laws, part_laws, run_laws, told_laws};

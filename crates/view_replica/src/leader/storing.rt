@@ -1,7 +1,7 @@
 //! What a leader brings to its store.
 
 ghost use Rattle.std.specs.Prelude.{◌≡◌, ℕ, ◌≤◌, List, Some, OnOk, OnErr, Err};
-ghost use Rattle.applier.specs.Applied.{AfterPart, IsOldOrSynced, after_changes, flushed, lower};
+ghost use Rattle.applier.specs.Applied.{AfterPart, FlushesInPart, IsOldOrSynced, after_changes, flushed, lower};
 ghost use Rattle.applier.specs.Fuzzy.{IsFuzzyTo, StaysFuzzy};
 ghost use Rattle.cell_cache.specs.Entries.{AreOf};
 ghost use Rattle.file_tree.specs.Book.{Entry};
@@ -67,8 +67,8 @@ impl Leader {
     }
 
     /// Syncs the store, and then writes the mark with LB = AP. At each moment the mark on the disk
-    /// is the old one, or all cells are synced. Where it fails, the leader and the mark in memory
-    /// are as before.
+    /// is the old one, or all cells are synced. Where it fails, a first part of the two calls is
+    /// made, and the leader and the mark in memory are as before.
     pub fn flush<D: Store>(
         &mut self,
         alloc: Global,
@@ -87,6 +87,8 @@ impl Leader {
             ≡ flushed (lower self.old.log.ap mark.old) (D.told store.old)) }
         ensures mark { OnOk result (mark.new ≡ lower self.old.log.ap mark.old) }
         ensures kept { OnErr result (mark.new ≡ mark.old) }
+        ensures part { FlushesInPart (lower self.old.log.ap mark.old) (D.told store.old)
+            (D.told store.new) }
         ensures moments { (h : Moments) → D.told store.old ≡ Some h
             → AtEachMoment (IsOldOrSynced h.now.mark) (D.told store.old) (D.told store.new) }
         ensures fuzzy { (history : History) (m : ℕ) (h : Moments) → D.told store.old ≡ Some h

@@ -1,10 +1,9 @@
-use Rattle.disk_laws.proofs.StoreRuns.{are_fuzzy, first_stores, fixed_stores, stores_stay}
+use Rattle.disk_laws.proofs.StoreRuns.{are_fuzzy, first_stores, stores_stay}
 use Rattle.disk_laws.proofs.laws.stores_stay_between.Goals as goal
 
 pub returns : goal.returns
 returns c = record {
   first = first_stores;
-  fixed = fixed_stores;
   kept = stores_stay;
   fuzzy = are_fuzzy;
 }

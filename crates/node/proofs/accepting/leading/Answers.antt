@@ -8,7 +8,8 @@ use Rattle.volatile_log.specs.Log.{LogValue}
 use Rattle.node.proofs.accepting.leading.Goals as goal
 
 pub returns-in-Some-clause-accepted : goal.returns-in-Some-clause-accepted
-returns-in-Some-clause-accepted c = accepted_formed c.args.me (number_of_view c.args.view) c.args.form c.args.log
+returns-in-Some-clause-accepted c = accepted_formed c.args.me (number_of_view c.args.view)
+    c.args.form c.args.log
     c.args.joining.now c.in-Ok.leader.beside c.formed.new.self c.in-Some.lb c.requires.leads
     (c.in-Ok.ensures.partner ∙ ap place_of c.partner-partner.ensures
     ∙ partner_place c.args.form.storers) c.in-Some.ensures

@@ -8,8 +8,8 @@ use Rattle.group_rules.specs.Limits.{can_have}
 use Rattle.group_rules.specs.Names.{place_of}
 use Rattle.group_rules.specs.Places.{all_of}
 use Rattle.group_rules.specs.State.{Saved}
-use Rattle.kept_log.specs.Kept.{lb_in}
-use Rattle.node.proofs.Booting.{lb_without, loaded_at, loaded_below, no_log, no_role, of_saved, same_role_of, was_saved}
+use Rattle.kept_log.specs.Kept.{held_in, lb_in, log_in}
+use Rattle.node.proofs.Booting.{lb_without, loaded_at, loaded_below, loaded_whole, no_log, no_role, of_saved, same_role_of, unloaded_whole, was_saved}
 use Rattle.node.specs.Node.{mark_with}
 use Rattle.node.specs.State.{role_of}
 use Rattle.node.proofs.boot.found.Given as given
@@ -35,6 +35,11 @@ returns-then-not-can_have-clause-lost g c = λ cells items clock delta told lack
     c.unloaded.ensures.boots clock delta (mark_with items (record mark { saved = None }))
     (same_role_of mark.role c.role-then-not-can_have.result c.role-then-not-can_have.ensures)
     (sym c.lb.ensures.value) refl
+
+pub returns-then-not-can_have-clause-records : goal.returns-then-not-can_have-clause-records
+returns-then-not-can_have-clause-records g c = λ cells saved told held.
+    unloaded_whole saved (log_in c.unloaded.result).records (held_in c.unloaded.result)
+    c.unloaded.ensures.records c.unloaded.ensures.without
 
 same_lb : (g : given.Over) (c : goal.After-unloaded g)
     → lb_in c.args.mark.now.lb c.unloaded.result ≡ c.args.mark.now.lb
@@ -74,6 +79,12 @@ returns-in-Err-NotSaved-clause-lost g c = λ cells items clock delta told lacks.
     (mark_with items (record mark { saved = None }))
     (same_role_of mark.role c.role-in-Err-NotSaved.result c.role-in-Err-NotSaved.ensures)
     (sym c.lb-in-Err-NotSaved.ensures.value) refl
+
+pub returns-in-Err-NotSaved-clause-records : goal.returns-in-Err-NotSaved-clause-records
+returns-in-Err-NotSaved-clause-records g c = λ cells saved told held.
+    let kept = c.unloaded-in-Err-NotSaved.result in
+    unloaded_whole saved (log_in kept).records (held_in kept)
+    c.unloaded-in-Err-NotSaved.ensures.records c.unloaded-in-Err-NotSaved.ensures.without
 
 still_lb : (g : given.Over) (c : goal.After-unloaded-in-Err-NotSaved g)
     → lb_in c.args.mark.now.lb c.unloaded-in-Err-NotSaved.result ≡ c.args.mark.now.lb
@@ -117,3 +128,8 @@ pub returns-in-Ok-clause-lb : goal.returns-in-Ok-clause-lb
 returns-in-Ok-clause-lb g c = λ at.
     loaded_at (place_of c.args.me) c.args.mark.now c.in-Ok.log c.loaded.result c.in-Ok.ensures.order
     (can g c) c.in-Ok.ensures.numbers at (rests_so g c)
+
+pub returns-in-Ok-clause-records : goal.returns-in-Ok-clause-records
+returns-in-Ok-clause-records g c = λ cells saved told held.
+    loaded_whole cells c.args.mark.now c.in-Ok.log saved c.loaded.result c.in-Ok.ensures.numbers
+    (c.in-Ok.ensures.records cells told) held c.loaded.ensures.held c.loaded.ensures.records

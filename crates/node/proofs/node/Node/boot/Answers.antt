@@ -1,6 +1,8 @@
-use Rattle.std.proofs.Common.{◌≡◌, Some, ◌∙◌}
+use Rattle.std.proofs.Common.{◌≡◌, [], Some, subst, sym, ◌∙◌}
 use Rattle.harp_store.specs.Disk.{cells_told, reads}
-use Rattle.node.proofs.Booting.{boots_as, cells_stay, lost_as, rests_from}
+use Rattle.node.proofs.Booting.{booted_whole, boots_as, cells_stay, lost_as, rests_from}
+use Rattle.node.specs.Boot.{HoldWhole}
+use Rattle.harp_store.specs.Mark.{MarkFields}
 use Rattle.node.proofs.node.Node.boot.Goals as goal
 
 pub returns-clause-boots : goal.returns-clause-boots
@@ -32,3 +34,15 @@ returns-clause-lost g c = λ h items told lacks.
     ∙ lost_as c.args.me c.args.now c.args.delta cells items h.now.mark mark c.in_ok-kept.kept
     (c.in_ok-mark.ensures.mark h told) lacks
     (λ not. c.in_ok-kept.ensures.lost cells items c.args.now c.args.delta there not)
+
+pub returns-clause-records : goal.returns-clause-records
+returns-clause-records g c = λ h saved told whole.
+    let cells = reads h.now in
+    let there : cells_told (g.D.Store.told c.first_write.new.store) ≡ Some cells =
+    cells_stay c.args.me c.args.delta (g.D.Store.told c.args.store.now)
+    (g.D.Store.told c.first_write.new.store) h c.in_ok-mark.ensures.written told in
+    booted_whole c.resting.result c.lowered.result c.boot-horizon.result c.in_ok-kept.kept saved
+    c.resting.ensures.stock (c.resting.ensures.server [])
+    (c.in_ok-kept.ensures.records cells saved there
+    (subst (λ (m : MarkFields). HoldWhole cells m saved) (sym (c.in_ok-mark.ensures.mark h told))
+    whole))

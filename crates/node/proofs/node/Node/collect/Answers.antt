@@ -1,12 +1,11 @@
-use Rattle.std.proofs.Common.{ap, refl, sym, ◌∙◌, [], ◌∷◌}
+use Rattle.std.proofs.Common.{ap, refl, sym, ◌∙◌, []}
 use Rattle.group_rules.specs.Choose.{greatest}
 use Rattle.node.proofs.Chosen.{chooses_from, disk_from, marks_from, node_collects, none_moves, part_from, some_moves}
 use Rattle.node.proofs.Saying.{disk_so, makes_so, mark_so, on_err, on_ok, part_so}
 use Rattle.node.specs.Node.{NodeValue, server}
 use Rattle.node.proofs.Stocked.{stock_from}
 use Rattle.node.proofs.Stocks.{stocks_so}
-use Rattle.node.specs.Stock.{stock, stock_in}
-use Rattle.group_rules.specs.Joining.{chosen_moves}
+use Rattle.node.specs.Stock.{stock}
 use Rattle.node.proofs.node.Node.collect.Goals as goal
 
 pub returns-in-None-clause-makes : goal.returns-in-None-clause-makes
@@ -129,7 +128,8 @@ returns-in-Some-clause-stock g c = on_ok c.choose.result _ _ c.choose.ensures.st
     (λ h items. let ch = some_moves c.self.inside.me c.self.inside.mark c.self.inside.horizon
     c.self.inside.served
     c.self.inside.duty c.self.inside.state c.args.self.now
-    (λ (n : NodeValue). server n items) c.in-Collects.collector c.args.from _ c.args.info c.in-Some.choice
+    (λ (n : NodeValue). server n items) c.in-Collects.collector c.args.from _ c.args.info
+    c.in-Some.choice
     (record { promised = λ n. refl; duty = λ n. refl }) (sym c.replace.ensures.value ∙
     c.in-Collects.is) c.self.view_is (sym c.has_promised.ensures.test ∙
     c.if-not-has_promised.false) c.self.invariant.0

@@ -172,7 +172,8 @@ returns-clause-written g c = writes_it c.demoted_mark-mark.result c.rest.new.sel
     c.rest.ensures.mark c.in_ok-write_mark.ensures.written
 
 pub returns-then-not-is_witness-clause-stock : goal.returns-then-not-is_witness-clause-stock
-returns-then-not-is_witness-clause-stock g c items = stocks_so [] c.args.self.now.me (server c.args.self.now items)
+returns-then-not-is_witness-clause-stock g c items = stocks_so [] c.args.self.now.me
+    (server c.args.self.now items)
     (on_demote c.args.self.now.me (server c.args.self.now items) (number_of_view c.args.view)) []
     (stock c.args.self.now) (stock c.args.self.now)
     (no_witness c.args.self.now.me c.args.self.now.plain (number_of_view c.args.view)
@@ -180,7 +181,8 @@ returns-then-not-is_witness-clause-stock g c items = stocks_so [] c.args.self.no
     ∙ c.if-not-is_witness.true)) (λ clock list askers. refl)
 
 pub returns-then-not-is_above-clause-stock : goal.returns-then-not-is_above-clause-stock
-returns-then-not-is_above-clause-stock g c items = stocks_so [] c.args.self.now.me (server c.args.self.now items)
+returns-then-not-is_above-clause-stock g c items = stocks_so [] c.args.self.now.me
+    (server c.args.self.now items)
     (on_demote c.args.self.now.me (server c.args.self.now items) (number_of_view c.args.view)) []
     (stock c.args.self.now) (stock c.args.self.now)
     (not_above c.args.self.now.me c.args.self.now.plain (number_of_view c.args.view)
@@ -190,7 +192,8 @@ returns-then-not-is_above-clause-stock g c items = stocks_so [] c.args.self.now.
     c.if-not-is_above.true)) (λ clock list askers. refl)
 
 pub returns-then-is_above-clause-stock : goal.returns-then-is_above-clause-stock
-returns-then-is_above-clause-stock g c items = stocks_so [] c.args.self.now.me (server c.args.self.now items)
+returns-then-is_above-clause-stock g c items = stocks_so [] c.args.self.now.me
+    (server c.args.self.now items)
     (on_demote c.args.self.now.me (server c.args.self.now items) (number_of_view c.args.view))
     (Demoting (number_of_view c.args.view) ∷ []) (stock c.args.self.now)
     (stock c.go_on.new.self)

@@ -1,6 +1,6 @@
 use Rattle.std.proofs.Common.{◌≡◌, ℕ, Some, refl, subst, sym, ◌∙◌, ap}
 use Rattle.fuzzy_disks.specs.FuzzyDisk.{IsFuzzyByMark, IsFuzzyDisk}
-use Rattle.harp_store.specs.Disk.{AtEachMoment, Moments, cells_told}
+use Rattle.harp_store.specs.Disk.{AtEachMoment, cells_told}
 use Rattle.node.proofs.Asks.{cached_at}
 use Rattle.node.proofs.Stores.{ap_is, flushes_stores, lowered_fits, stores_active}
 use Rattle.node.specs.Node.{NodeValue}

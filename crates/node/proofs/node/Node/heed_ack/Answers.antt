@@ -93,7 +93,8 @@ returns-then-not-is_view-clause-stock c items =
     let n = c.self.inside in
     let now = c.args.self.now in
     stocks_so [] now.me (server now items) _ [] (stock now) (stock now)
-    (other_view_ack (server now items) (number_of_view c.args.view) c.args.top c.args.lb c.args.until
+    (other_view_ack (server now items) (number_of_view c.args.view) c.args.top c.args.lb
+    c.args.until
     (accepted_test n.me n.mark n.horizon n.served n.duty n.state now c.args.view
     c.accepted.result c.is_view.result false c.self.view_is c.accepted.ensures c.is_view.ensures
     c.if-not-is_view.true)) (λ clock list askers. refl)

@@ -1,4 +1,4 @@
-use Rattle.std.proofs.Common.{◌≡◌, ◌≤◌, ◌==◌, [], true, false, ℕ, sym, subst, ◌∷◌, refl}
+use Rattle.std.proofs.Common.{◌≡◌, ◌≤◌, ◌==◌, [], true, false, ℕ, sym, subst, refl}
 use Rattle.std.proofs.lemmas.Bool.{eqb-true}
 use Rattle.group_rules.specs.Names.{number_of_view, place_of}
 use Rattle.group_rules.specs.Places.{Place, leader}
@@ -134,7 +134,8 @@ returns-in_default-clause-stock c items from =
     let other = sym c.in_default.ensures.found in
     stocks_so [] now.me (server now items) _ [] (stock now) (stock_in c.take_partner.new.from)
     (not_followed n.me n.mark n.horizon n.served n.duty n.state now items c.args.now from
-    (number_of_view c.args.view) c.args.cp c.args.base (server now items).items c.self.view_is c.self.invariant.1 other)
+    (number_of_view c.args.view) c.args.cp c.args.base (server now items).items c.self.view_is
+    c.self.invariant.1 other)
     (λ clock list askers. stayed_stock n.me n.mark n.horizon n.served n.duty n.state
     c.take_partner.new.from now c.self.view_is (c.take_partner.ensures.stays other))
 

@@ -134,7 +134,8 @@ returns-then-not-is_view-clause-stock c items from =
     let now = c.args.self.now in
     stocks_so (c.args.item ∷ []) now.me (server now items) _ [] (stock now) (stock now)
     (not_in_view now.me c.args.now (server now items) from (number_of_view c.args.view) c.args.cp
-    c.args.base (taken (server now items) c.args.item.index (entry_of c.args.item)) (other_view (server now items) (number_of_view c.args.view)
+    c.args.base (taken (server now items) c.args.item.index (entry_of c.args.item))
+    (other_view (server now items) (number_of_view c.args.view)
     (accepted_test n.me n.mark n.horizon n.served n.duty n.state now c.args.view
     c.accepted.result c.is_view.result false c.self.view_is c.accepted.ensures c.is_view.ensures
     c.if-not-is_view.true))) (λ clock list askers. refl)
@@ -144,11 +145,15 @@ returns-in_default-clause-stock c items from =
     let n = c.self.inside in
     let now = c.args.self.now in
     let other = sym c.in_default.ensures.found in
-    stocks_so (c.args.item ∷ []) now.me (server now items) _ [] (stock now) (stock_in c.take_partner-followed.new.from)
+    stocks_so (c.args.item ∷ []) now.me (server now items) _ [] (stock now)
+    (stock_in c.take_partner-followed.new.from)
     (not_followed n.me n.mark n.horizon n.served n.duty n.state now items c.args.now from
-    (number_of_view c.args.view) c.args.cp c.args.base (taken (server now items) c.args.item.index (entry_of c.args.item)) c.self.view_is c.self.invariant.1 other)
+    (number_of_view c.args.view) c.args.cp c.args.base
+    (taken (server now items) c.args.item.index (entry_of c.args.item)) c.self.view_is
+    c.self.invariant.1 other)
     (λ clock list askers. stayed_stock n.me n.mark n.horizon n.served n.duty n.state
-    c.take_partner-followed.new.from now c.self.view_is (c.take_partner-followed.ensures.stays other))
+    c.take_partner-followed.new.from now c.self.view_is
+    (c.take_partner-followed.ensures.stays other))
 
 pub returns-clause-stock : goal.returns-clause-stock
 returns-clause-stock c items from =

@@ -13,7 +13,8 @@ pub invariant_of-self-2 : goal.invariant_of-self-2
 invariant_of-self-2 c =
     let n = c.self.inside in (
       c.self.invariant.0,
-      leads_rebased n.me n.mark n.horizon n.served n.duty c.in-Leads.leader c.rebase.new.self c.in-Leads.field-1
+      leads_rebased n.me n.mark n.horizon n.served n.duty c.in-Leads.leader c.rebase.new.self
+          c.in-Leads.field-1
           (subst (λ (s : State). Fits (place_of n.me) n.mark s) c.in-Leads.is c.self.invariant.1)
           c.rebase.ensures.state,
     )
@@ -21,11 +22,13 @@ invariant_of-self-2 c =
 pub returns-clause-state : goal.returns-clause-state
 returns-clause-state c items clock =
     let n = c.self.inside in
-    rebased n.me n.mark n.horizon n.served n.duty c.in-Leads.leader c.rebase.new.self c.in-Leads.field-1 items clock
+    rebased n.me n.mark n.horizon n.served n.duty c.in-Leads.leader c.rebase.new.self
+    c.in-Leads.field-1 items clock
     (subst (λ (s : State). Fits (place_of n.me) n.mark s) c.in-Leads.is c.self.invariant.1)
     c.rebase.ensures.state
     ∙ ap (λ (v : NodeValue). acts v.me clock (server v items) (rebase (server v items)))
-    (ap (λ (s : State). value n.me n.mark n.horizon n.served n.duty s) (sym c.in-Leads.is) ∙ c.self.view_is)
+    (ap (λ (s : State). value n.me n.mark n.horizon n.served n.duty s) (sym c.in-Leads.is)
+    ∙ c.self.view_is)
 
 pub returns-clause-stock : goal.returns-clause-stock
 returns-clause-stock c came items =

@@ -1,4 +1,4 @@
-use Rattle.std.proofs.Common.{◌≡◌, [], inl, refl, subst, sym, List, ap, ◌++◌, ◌∙◌}
+use Rattle.std.proofs.Common.{◌≡◌, [], inl, refl, subst, sym, ap, ◌++◌, ◌∙◌}
 use Rattle.std.proofs.lemmas.Result.{on_err_weaker, on_ok_weaker}
 use Rattle.group_rules.specs.Joining.{suspect}
 use Rattle.group_rules.specs.Names.{place_of}
@@ -16,9 +16,7 @@ use Rattle.node.specs.Taking.{input_in, ruled}
 use Rattle.node.specs.declared.input.Input.{Input}
 use Rattle.outputs.specs.Makes.{Makes}
 use Rattle.outputs.specs.Messages.{heard}
-use Rattle.event_record.specs.declared.record.RecordFields.{RecordFields}
 use Rattle.group_rules.specs.Disk.{apply, flush, list_tree}
-use Rattle.harp_base.specs.declared.peer.Peer.{Peer}
 use Rattle.kept_log.specs.Gives.{StandIn}
 use Rattle.node.proofs.Bare.{bare_said, bare_suspect}
 use Rattle.node.proofs.Stocks.{idle_stock}
@@ -71,7 +69,8 @@ pub returns-in-Suspect-clause-cached : goal.returns-in-Suspect-clause-cached
 returns-in-Suspect-clause-cached g c =
     let n = c.args.self.now in
     both_ok c.suspicion.result
-    (λ kept written. marks_cached (suspect n.me n.plain) c.suspicion.new.self.mark c.args.self.now.cached
+    (λ kept written. marks_cached (suspect n.me n.plain) c.suspicion.new.self.mark
+    c.args.self.now.cached
     c.suspicion.new.self.cached (g.D.Store.told c.args.store.now)
     (g.D.Store.told c.suspicion.new.store) c.requires.cached kept written)
     c.suspicion.ensures.cached c.suspicion.ensures.written
@@ -156,7 +155,8 @@ returns-in_ok-tick-in-Tick-clause-stock g c items size list fills =
     let n = c.args.self.now in
     let s = server n items in
     subst (λ (x : Input). stock c.tick.new.self ≡ stock_after n.me c.args.now list
-    (came x) (peers_of n x) s (ruled size n.me c.args.now list s (input_of x)) (stock n)) (sym c.in-Tick.is)
+    (came x) (peers_of n x) s (ruled size n.me c.args.now list s (input_of x)) (stock n))
+    (sym c.in-Tick.is)
     (c.in_ok-tick-in-Tick.ensures.stock
     ∙ sym (idle_stock n.me c.args.now list [] n.peers s (tick n.me c.args.now s) (stock n)
     (idle_tick n.me c.args.now s)))
@@ -167,7 +167,8 @@ returns-in-Suspect-clause-stock g c =
     on_ok_weaker c.suspicion.result
     (λ h items size list fills. let s = server n items in
     subst (λ (x : Input). stock c.suspicion.new.self ≡ stock_after n.me c.args.now list
-    (came x) (peers_of n x) s (ruled size n.me c.args.now list s (input_of x)) (stock n)) (sym c.in-Suspect.is)
+    (came x) (peers_of n x) s (ruled size n.me c.args.now list s (input_of x)) (stock n))
+    (sym c.in-Suspect.is)
     (h items c.args.now list n.peers)) c.suspicion.ensures.stock
 
 pub returns-in-Message-clause-stock : goal.returns-in-Message-clause-stock
@@ -176,7 +177,8 @@ returns-in-Message-clause-stock g c =
     on_ok_weaker c.take_message.result
     (λ h items size list fills. let s = server n items in
     subst (λ (x : Input). stock c.take_message.new.self ≡ stock_after n.me c.args.now list
-    (came x) (peers_of n x) s (ruled size n.me c.args.now list s (input_of x)) (stock n)) (sym c.in-Message.is)
+    (came x) (peers_of n x) s (ruled size n.me c.args.now list s (input_of x)) (stock n))
+    (sym c.in-Message.is)
     (h items size list c.args.now list n.peers)) c.take_message.ensures.stock
 
 pub returns-in-Ask-clause-stock : goal.returns-in-Ask-clause-stock
@@ -188,7 +190,8 @@ returns-in-Ask-clause-stock g c =
     let a = asked items list (subst (λ (x : Input). FillsSized size list n c.args.now
     told x) c.in-Ask.is fills) in
     subst (λ (x : Input). stock c.ask.new.self ≡ stock_after n.me c.args.now list
-    (came x) (peers_of n x) s (ruled size n.me c.args.now list s (input_of x)) (stock n)) (sym c.in-Ask.is)
+    (came x) (peers_of n x) s (ruled size n.me c.args.now list s (input_of x)) (stock n))
+    (sym c.in-Ask.is)
     (asks_stock c.args.now list items c.in-Ask.client c.in-Ask.number c.in-Ask.cred c.in-Ask.call
     c.in-Ask.peer n c.ask.new.self a.waits a.records pulled))
     c.ask.ensures.asked c.ask.ensures.pulled
@@ -199,7 +202,8 @@ returns-in-Apply-clause-stock g c =
     on_ok_weaker c.apply.result
     (λ same items size list fills. let s = server n items in
     subst (λ (x : Input). stock c.apply.new.self ≡ stock_after n.me c.args.now list
-    (came x) (peers_of n x) s (ruled size n.me c.args.now list s (input_of x)) (stock n)) (sym c.in-Apply.is)
+    (came x) (peers_of n x) s (ruled size n.me c.args.now list s (input_of x)) (stock n))
+    (sym c.in-Apply.is)
     (same ∙ sym (idle_stock n.me c.args.now list [] [] s (apply n.me s c.in-Apply.most) (stock n)
     (idle_apply n.me s c.in-Apply.most))))
     c.apply.ensures.stock
@@ -210,7 +214,8 @@ returns-in-Flush-clause-stock g c =
     on_ok_weaker c.flush.result
     (λ same items size list fills. let s = server n items in
     subst (λ (x : Input). stock c.flush.new.self ≡ stock_after n.me c.args.now list
-    (came x) (peers_of n x) s (ruled size n.me c.args.now list s (input_of x)) (stock n)) (sym c.in-Flush.is)
+    (came x) (peers_of n x) s (ruled size n.me c.args.now list s (input_of x)) (stock n))
+    (sym c.in-Flush.is)
     (same ∙ sym (idle_stock n.me c.args.now list [] [] s (flush n.me s) (stock n)
     (idle_flush n.me s))))
     c.flush.ensures.stock
@@ -221,7 +226,8 @@ returns-in-List-clause-stock g c =
     on_ok_weaker c.list.result
     (λ same items size list fills. let s = server n items in
     subst (λ (x : Input). stock c.list.new.self ≡ stock_after n.me c.args.now list
-    (came x) (peers_of n x) s (ruled size n.me c.args.now list s (input_of x)) (stock n)) (sym c.in-List.is)
+    (came x) (peers_of n x) s (ruled size n.me c.args.now list s (input_of x)) (stock n))
+    (sym c.in-List.is)
     (same ∙ sym (idle_stock n.me c.args.now list [] [] s (list_tree n.me s) (stock n)
     (idle_list n.me s))))
     c.list.ensures.stock

@@ -30,7 +30,8 @@ returns-then-not-is_heeded-clause-steps g c items list fills =
     let n = c.args.self.now in
     let i = c.args.input in
     let none = sym c.is_heeded.ensures ∙ c.if-not-is_heeded.true in record {
-      machine = step_none entry_size n.me c.args.now list (input_of i) (peers_of n i) (server n items)
+      machine = step_none entry_size n.me c.args.now list (input_of i) (peers_of n i)
+          (server n items)
           c.new-outs.result none c.new-outs.ensures.said;
       whole = stock_none entry_size n.me c.args.now list (came i) (peers_of n i) (server n items)
           (input_of i) (stock n) none;
@@ -63,13 +64,15 @@ returns-clause-steps g c items list fills =
           some c.new-outs.ensures.said made
           (c.rebase.ensures.state items c.args.now
           ∙ ap (λ (p : Place). acts p c.args.now mid (rebase mid)) c.rule.ensures.me);
-      whole = stock_stepped entry_size n.me c.args.now list (came i) (peers_of n i) s mid (input_of i)
+      whole = stock_stepped entry_size n.me c.args.now list (came i) (peers_of n i) s mid
+          (input_of i)
           (stock n) (stock c.rule.new.self) (stock c.rebase.new.self) some made.state
           (c.in-Ok.ensures.stock items entry_size list sized)
           (c.rebase.ensures.stock (came i) items c.args.now list (peers_of n i)
           ∙ ap (λ (p : Place). stock_after p c.args.now list (came i) (peers_of n i) mid
           (rebase mid) (stock c.rule.new.self)) c.rule.ensures.me);
-      sent = stands_stepped entry_size n.me c.args.now list s (input_of i) n.records n.plain.accepted
+      sent = stands_stepped entry_size n.me c.args.now list s (input_of i) n.records
+          n.plain.accepted
           (records_sent c.rule.new.outs)
           (c.in-Ok.ensures.sent items entry_size list sized c.new-outs.ensures.said
           c.new-outs.ensures.records);

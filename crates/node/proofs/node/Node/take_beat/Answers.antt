@@ -1,4 +1,4 @@
-use Rattle.std.proofs.Common.{[], refl, sym, ◌∙◌}
+use Rattle.std.proofs.Common.{[], sym, ◌∙◌}
 use Rattle.std.proofs.lemmas.Result.{on_ok_weaker}
 use Rattle.group_rules.specs.Misfits.{misfits}
 use Rattle.group_rules.specs.Names.{number_of_view, place_of}
@@ -58,5 +58,6 @@ returns-clause-stock c =
     (stock c.try_open.new.self) (sym c.misfits_beat.ensures.test ∙ c.if-misfits_beat.false)
     (stocks_on [] n.me (server n items)
     (on_message size n.me c.args.now list (server n items) from m) (stock n)
-    (stock c.heed_beat.new.self) (stock c.try_open.new.self) (c.in_ok-heed_beat.ensures.stock items from) opens))
+    (stock c.heed_beat.new.self) (stock c.try_open.new.self)
+    (c.in_ok-heed_beat.ensures.stock items from) opens))
     c.try_open.ensures.stock

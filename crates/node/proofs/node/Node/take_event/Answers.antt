@@ -1,4 +1,4 @@
-use Rattle.std.proofs.Common.{[], ◌∷◌, refl, sym, ◌∙◌}
+use Rattle.std.proofs.Common.{[], ◌∷◌, sym, ◌∙◌}
 use Rattle.std.proofs.lemmas.Result.{on_ok_weaker}
 use Rattle.event_record.specs.Record.{entry_of}
 use Rattle.group_rules.specs.Misfits.{misfits}
@@ -63,5 +63,6 @@ returns-clause-stock c =
     (stock c.try_open.new.self) (sym c.misfits_event.ensures.test ∙ c.if-misfits_event.false)
     (stocks_on (c.args.item ∷ []) n.me (server n items)
     (on_message size n.me c.args.now list (server n items) from m) (stock n)
-    (stock c.heed_event.new.self) (stock c.try_open.new.self) (c.in_ok-heed_event.ensures.stock items from) opens))
+    (stock c.heed_event.new.self) (stock c.try_open.new.self)
+    (c.in_ok-heed_event.ensures.stock items from) opens))
     c.try_open.ensures.stock

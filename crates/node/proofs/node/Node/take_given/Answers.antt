@@ -1,4 +1,4 @@
-use Rattle.std.proofs.Common.{◌+◌, ◌++◌, ◌<◌, ◌≤◌, ap, arith, length, map, refl, subst, sym, true≢false, ℕ, ◌∙◌, List, []}
+use Rattle.std.proofs.Common.{◌+◌, ◌++◌, ◌<◌, ◌≤◌, ap, arith, length, map, refl, subst, sym, true≢false, ℕ, ◌∙◌, []}
 use Rattle.std.proofs.lemmas.Bool.{eqb-true}
 use Rattle.event_record.specs.Record.{entry_of}
 use Rattle.group_rules.specs.Form.{accept_moves}
@@ -9,7 +9,6 @@ use Rattle.node.specs.Forming.{joined_with, pulling_with}
 use Rattle.node.specs.Node.{NodeValue, server}
 use Rattle.outputs.specs.Said.{said}
 use Rattle.volatile_log.specs.Log.{StagedValue, next}
-use Rattle.event_record.specs.declared.record.RecordFields.{RecordFields}
 use Rattle.group_rules.specs.Places.{partner, same}
 use Rattle.node.proofs.Stocked.{accepting_stock}
 use Rattle.node.proofs.Stocks.{as_stock, idle_if, stocks_so}
@@ -224,7 +223,9 @@ returns-then-is_full-clause-stock g c = on_ok c.accept.result _ _ c.accept.ensur
     (c.is_full.ensures.0 c.if-is_full.true)))
     (accepting_stock c.args.records me s plan _ _ _ c.args.pull.kept c.args.pull.staged.records
     (stock c.accept.new.self) (idle_if (same me (partner plan.storers)) _ [] (tt, tt) tt)
-    (h ∙ ap (λ (t : StagedValue). as_stock (adopted_records me j plan (log_in c.args.pull.kept).records t.records) [] []) (staged_so c.in_ok-give.field-0 c.args.pull.staged c.args.records c.give.new.staged
+    (h ∙ ap (λ (t : StagedValue). as_stock (adopted_records me j plan
+    (log_in c.args.pull.kept).records t.records) [] [])
+    (staged_so c.in_ok-give.field-0 c.args.pull.staged c.args.records c.give.new.staged
     c.in_ok-give.ensures.staged c.if-not-branch.false))))
 
 pub returns-clause-stock : goal.returns-clause-stock

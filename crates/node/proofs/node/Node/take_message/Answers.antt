@@ -2,14 +2,12 @@ use Rattle.std.proofs.Common.{[], ◌∷◌, ap, map, refl}
 use Rattle.std.proofs.lemmas.Result.{on_err_weaker, on_ok_weaker}
 use Rattle.event_record.specs.Record.{entry_of}
 use Rattle.group_rules.specs.Names.{number_of_view, place_of}
-use Rattle.group_rules.specs.State.{Ack, Beat, Demote, Event, Fetch, Form, Formed, Give, Invite, Join, Message}
+use Rattle.group_rules.specs.State.{Ack, Beat, Demote, Event, Fetch, Formed, Give, Invite, Message}
 use Rattle.file_tree.specs.Book.{Entry}
-use Rattle.kept_log.specs.Kept.{plan_of}
-use Rattle.node.proofs.Heard.{fills_fetch, heard_ack, heard_alike, heard_keeps, heard_makes, heard_stocks}
+use Rattle.node.proofs.Heard.{fills_fetch, forms, heard_ack, heard_alike, heard_keeps, heard_makes, heard_stocks, joins}
 use Rattle.node.proofs.Marks.{disk_as, mark_as, part_as}
 use Rattle.node.specs.Node.{server}
 use Rattle.outputs.specs.Messages.{heard}
-use Rattle.view_form.specs.Choice.{report}
 use Rattle.node.proofs.Stocks.{idle_fetch, idle_formed, idle_rule, stocks_idle}
 use Rattle.node.specs.Stock.{stock}
 use Rattle.group_rules.specs.Step.{Comes, rule}
@@ -62,15 +60,8 @@ returns-in-Invite-clause-part g c =
 pub returns-in-Join-clause-makes : goal.returns-in-Join-clause-makes
 returns-in-Join-clause-makes g c =
     let n = c.args.self.now in
-    let m : Message Entry = Join (number_of_view c.in-Join.view) (report (record {
-      held = c.in-Join.held;
-      accepted = c.in-Join.accepted;
-      base = c.in-Join.base;
-      lb = c.in-Join.lb;
-      cp = c.in-Join.cp;
-      top = c.in-Join.top;
-      horizon = c.in-Join.horizon;
-    })) in
+    let m : Message Entry = joins c.in-Join.view c.in-Join.held c.in-Join.accepted c.in-Join.base
+    c.in-Join.lb c.in-Join.cp c.in-Join.top c.in-Join.horizon in
     on_ok_weaker c.take_join.result
     (λ made items size list fills. heard_makes size n.me c.args.now list (server n items)
     (server c.take_join.new.self items) c.args.from c.args.message m n.peers c.args.outs.now
@@ -80,15 +71,8 @@ returns-in-Join-clause-makes g c =
 pub returns-in-Join-clause-mark : goal.returns-in-Join-clause-mark
 returns-in-Join-clause-mark g c =
     let n = c.args.self.now in
-    let m : Message Entry = Join (number_of_view c.in-Join.view) (report (record {
-      held = c.in-Join.held;
-      accepted = c.in-Join.accepted;
-      base = c.in-Join.base;
-      lb = c.in-Join.lb;
-      cp = c.in-Join.cp;
-      top = c.in-Join.top;
-      horizon = c.in-Join.horizon;
-    })) in
+    let m : Message Entry = joins c.in-Join.view c.in-Join.held c.in-Join.accepted c.in-Join.base
+    c.in-Join.lb c.in-Join.cp c.in-Join.top c.in-Join.horizon in
     on_ok_weaker c.take_join.result
     (λ marks size list. mark_as _ _ n.mark c.take_join.new.self.mark
     (heard_alike size n.me c.args.now list n.plain c.args.from c.args.message m
@@ -98,15 +82,8 @@ returns-in-Join-clause-mark g c =
 pub returns-in-Join-clause-written : goal.returns-in-Join-clause-written
 returns-in-Join-clause-written g c =
     let n = c.args.self.now in
-    let m : Message Entry = Join (number_of_view c.in-Join.view) (report (record {
-      held = c.in-Join.held;
-      accepted = c.in-Join.accepted;
-      base = c.in-Join.base;
-      lb = c.in-Join.lb;
-      cp = c.in-Join.cp;
-      top = c.in-Join.top;
-      horizon = c.in-Join.horizon;
-    })) in
+    let m : Message Entry = joins c.in-Join.view c.in-Join.held c.in-Join.accepted c.in-Join.base
+    c.in-Join.lb c.in-Join.cp c.in-Join.top c.in-Join.horizon in
     on_ok_weaker c.take_join.result
     (λ writes size list. disk_as _ _ c.take_join.new.self.mark c.take_join.new.self.mark
     (g.D.Store.told c.args.store.now)
@@ -118,15 +95,8 @@ returns-in-Join-clause-written g c =
 pub returns-in-Join-clause-part : goal.returns-in-Join-clause-part
 returns-in-Join-clause-part g c =
     let n = c.args.self.now in
-    let m : Message Entry = Join (number_of_view c.in-Join.view) (report (record {
-      held = c.in-Join.held;
-      accepted = c.in-Join.accepted;
-      base = c.in-Join.base;
-      lb = c.in-Join.lb;
-      cp = c.in-Join.cp;
-      top = c.in-Join.top;
-      horizon = c.in-Join.horizon;
-    })) in
+    let m : Message Entry = joins c.in-Join.view c.in-Join.held c.in-Join.accepted c.in-Join.base
+    c.in-Join.lb c.in-Join.cp c.in-Join.top c.in-Join.horizon in
     on_err_weaker c.take_join.result
     (λ leaves size list. part_as _ _ n.mark (g.D.Store.told c.args.store.now)
     (g.D.Store.told c.take_join.new.store) (heard_alike size n.me c.args.now list n.plain
@@ -137,14 +107,8 @@ returns-in-Join-clause-part g c =
 pub returns-in-Form-clause-makes : goal.returns-in-Form-clause-makes
 returns-in-Form-clause-makes g c =
     let n = c.args.self.now in
-    let m : Message Entry = Form (number_of_view c.in-Form.view) (plan_of (record {
-      storers = c.in-Form.storers;
-      source = c.in-Form.source;
-      base = c.in-Form.base;
-      cp = c.in-Form.cp;
-      start = c.in-Form.start;
-      horizon = c.in-Form.horizon;
-    })) in
+    let m : Message Entry = forms c.in-Form.view c.in-Form.storers c.in-Form.source c.in-Form.base
+    c.in-Form.cp c.in-Form.start c.in-Form.horizon in
     on_ok_weaker c.take_form.result
     (λ made items size list fills. heard_makes size n.me c.args.now list (server n items)
     (server c.take_form.new.self items) c.args.from c.args.message m n.peers c.args.outs.now
@@ -154,14 +118,8 @@ returns-in-Form-clause-makes g c =
 pub returns-in-Form-clause-mark : goal.returns-in-Form-clause-mark
 returns-in-Form-clause-mark g c =
     let n = c.args.self.now in
-    let m : Message Entry = Form (number_of_view c.in-Form.view) (plan_of (record {
-      storers = c.in-Form.storers;
-      source = c.in-Form.source;
-      base = c.in-Form.base;
-      cp = c.in-Form.cp;
-      start = c.in-Form.start;
-      horizon = c.in-Form.horizon;
-    })) in
+    let m : Message Entry = forms c.in-Form.view c.in-Form.storers c.in-Form.source c.in-Form.base
+    c.in-Form.cp c.in-Form.start c.in-Form.horizon in
     on_ok_weaker c.take_form.result
     (λ marks size list. mark_as _ _ n.mark c.take_form.new.self.mark
     (heard_alike size n.me c.args.now list n.plain c.args.from c.args.message m
@@ -171,14 +129,8 @@ returns-in-Form-clause-mark g c =
 pub returns-in-Form-clause-written : goal.returns-in-Form-clause-written
 returns-in-Form-clause-written g c =
     let n = c.args.self.now in
-    let m : Message Entry = Form (number_of_view c.in-Form.view) (plan_of (record {
-      storers = c.in-Form.storers;
-      source = c.in-Form.source;
-      base = c.in-Form.base;
-      cp = c.in-Form.cp;
-      start = c.in-Form.start;
-      horizon = c.in-Form.horizon;
-    })) in
+    let m : Message Entry = forms c.in-Form.view c.in-Form.storers c.in-Form.source c.in-Form.base
+    c.in-Form.cp c.in-Form.start c.in-Form.horizon in
     on_ok_weaker c.take_form.result
     (λ writes size list. disk_as _ _ c.take_form.new.self.mark c.take_form.new.self.mark
     (g.D.Store.told c.args.store.now)
@@ -190,14 +142,8 @@ returns-in-Form-clause-written g c =
 pub returns-in-Form-clause-part : goal.returns-in-Form-clause-part
 returns-in-Form-clause-part g c =
     let n = c.args.self.now in
-    let m : Message Entry = Form (number_of_view c.in-Form.view) (plan_of (record {
-      storers = c.in-Form.storers;
-      source = c.in-Form.source;
-      base = c.in-Form.base;
-      cp = c.in-Form.cp;
-      start = c.in-Form.start;
-      horizon = c.in-Form.horizon;
-    })) in
+    let m : Message Entry = forms c.in-Form.view c.in-Form.storers c.in-Form.source c.in-Form.base
+    c.in-Form.cp c.in-Form.start c.in-Form.horizon in
     on_err_weaker c.take_form.result
     (λ leaves size list. part_as _ _ n.mark (g.D.Store.told c.args.store.now)
     (g.D.Store.told c.take_form.new.store) (heard_alike size n.me c.args.now list n.plain
@@ -431,40 +377,31 @@ returns-in-Invite-clause-stock g c =
     let n = c.args.self.now in
     let m : Message Entry = Invite (number_of_view c.in-Invite.view) in
     on_ok_weaker c.take_invite.result
-    (λ h items size list. heard_stocks size n.me c.args.now list (server n items) c.args.from c.args.message m
-    [] (stock n) (stock c.take_invite.new.self) (ap heard c.in-Invite.is) (ap carried c.in-Invite.is)
+    (λ h items size list. heard_stocks size n.me c.args.now list (server n items) c.args.from
+    c.args.message m
+    [] (stock n) (stock c.take_invite.new.self) (ap heard c.in-Invite.is)
+    (ap carried c.in-Invite.is)
     (h items size list)) c.take_invite.ensures.stock
 
 pub returns-in-Join-clause-stock : goal.returns-in-Join-clause-stock
 returns-in-Join-clause-stock g c =
     let n = c.args.self.now in
-    let m : Message Entry = Join (number_of_view c.in-Join.view) (report (record {
-      held = c.in-Join.held;
-      accepted = c.in-Join.accepted;
-      base = c.in-Join.base;
-      lb = c.in-Join.lb;
-      cp = c.in-Join.cp;
-      top = c.in-Join.top;
-      horizon = c.in-Join.horizon;
-    })) in
+    let m : Message Entry = joins c.in-Join.view c.in-Join.held c.in-Join.accepted c.in-Join.base
+    c.in-Join.lb c.in-Join.cp c.in-Join.top c.in-Join.horizon in
     on_ok_weaker c.take_join.result
-    (λ h items size list. heard_stocks size n.me c.args.now list (server n items) c.args.from c.args.message m
+    (λ h items size list. heard_stocks size n.me c.args.now list (server n items) c.args.from
+    c.args.message m
     [] (stock n) (stock c.take_join.new.self) (ap heard c.in-Join.is) (ap carried c.in-Join.is)
     (h items size list)) c.take_join.ensures.stock
 
 pub returns-in-Form-clause-stock : goal.returns-in-Form-clause-stock
 returns-in-Form-clause-stock g c =
     let n = c.args.self.now in
-    let m : Message Entry = Form (number_of_view c.in-Form.view) (plan_of (record {
-      storers = c.in-Form.storers;
-      source = c.in-Form.source;
-      base = c.in-Form.base;
-      cp = c.in-Form.cp;
-      start = c.in-Form.start;
-      horizon = c.in-Form.horizon;
-    })) in
+    let m : Message Entry = forms c.in-Form.view c.in-Form.storers c.in-Form.source c.in-Form.base
+    c.in-Form.cp c.in-Form.start c.in-Form.horizon in
     on_ok_weaker c.take_form.result
-    (λ h items size list. heard_stocks size n.me c.args.now list (server n items) c.args.from c.args.message m
+    (λ h items size list. heard_stocks size n.me c.args.now list (server n items) c.args.from
+    c.args.message m
     [] (stock n) (stock c.take_form.new.self) (ap heard c.in-Form.is) (ap carried c.in-Form.is)
     (h items size list)) c.take_form.ensures.stock
 
@@ -474,8 +411,10 @@ returns-in-Give-clause-stock g c =
     let m : Message Entry = Give (number_of_view c.in-Give.view) c.in-Give.first (map entry_of
     c.in-Give.records) in
     on_ok_weaker c.take_give.result
-    (λ h items size list. heard_stocks size n.me c.args.now list (server n items) c.args.from c.args.message m
-    c.in-Give.records (stock n) (stock c.take_give.new.self) (ap heard c.in-Give.is) (ap carried c.in-Give.is)
+    (λ h items size list. heard_stocks size n.me c.args.now list (server n items) c.args.from
+    c.args.message m
+    c.in-Give.records (stock n) (stock c.take_give.new.self) (ap heard c.in-Give.is)
+    (ap carried c.in-Give.is)
     (h items size list)) c.take_give.ensures.stock
 
 pub returns-in-Demote-clause-stock : goal.returns-in-Demote-clause-stock
@@ -483,8 +422,10 @@ returns-in-Demote-clause-stock g c =
     let n = c.args.self.now in
     let m : Message Entry = Demote (number_of_view c.in-Demote.view) in
     on_ok_weaker c.take_demote.result
-    (λ h items size list. heard_stocks size n.me c.args.now list (server n items) c.args.from c.args.message m
-    [] (stock n) (stock c.take_demote.new.self) (ap heard c.in-Demote.is) (ap carried c.in-Demote.is)
+    (λ h items size list. heard_stocks size n.me c.args.now list (server n items) c.args.from
+    c.args.message m
+    [] (stock n) (stock c.take_demote.new.self) (ap heard c.in-Demote.is)
+    (ap carried c.in-Demote.is)
     (h items size list)) c.take_demote.ensures.stock
 
 pub returns-in-Event-clause-stock : goal.returns-in-Event-clause-stock
@@ -492,7 +433,8 @@ returns-in-Event-clause-stock g c items size list =
     let n = c.args.self.now in
     let m : Message Entry = Event (number_of_view c.in-Event.view) c.in-Event.item.index
     c.in-Event.cp c.in-Event.base (entry_of c.in-Event.item) in
-    heard_stocks size n.me c.args.now list (server n items) c.args.from c.args.message m (c.in-Event.item ∷ []) (stock n)
+    heard_stocks size n.me c.args.now list (server n items) c.args.from c.args.message m
+    (c.in-Event.item ∷ []) (stock n)
     (stock c.take_event.new.self) (ap heard c.in-Event.is) (ap carried c.in-Event.is)
     (c.in_ok-take_event-in-Event.ensures.stock items size list)
 
@@ -500,7 +442,8 @@ pub returns-in-Beat-clause-stock : goal.returns-in-Beat-clause-stock
 returns-in-Beat-clause-stock g c items size list =
     let n = c.args.self.now in
     let m : Message Entry = Beat (number_of_view c.in-Beat.view) c.in-Beat.cp c.in-Beat.base in
-    heard_stocks size n.me c.args.now list (server n items) c.args.from c.args.message m [] (stock n)
+    heard_stocks size n.me c.args.now list (server n items) c.args.from c.args.message m []
+    (stock n)
     (stock c.take_beat.new.self) (ap heard c.in-Beat.is) (ap carried c.in-Beat.is)
     (c.in_ok-take_beat-in-Beat.ensures.stock items size list)
 
@@ -509,7 +452,8 @@ returns-in-Ack-clause-stock g c items size list =
     let n = c.args.self.now in
     let m : Message Entry = Ack (number_of_view c.in-Ack.view) c.in-Ack.top c.in-Ack.lb
     c.in-Ack.until in
-    heard_stocks size n.me c.args.now list (server n items) c.args.from c.args.message m [] (stock n)
+    heard_stocks size n.me c.args.now list (server n items) c.args.from c.args.message m []
+    (stock n)
     (stock c.take_ack.new.self) (ap heard c.in-Ack.is) (ap carried c.in-Ack.is)
     (c.in_ok-take_ack-in-Ack.ensures.stock items size list)
 
@@ -518,9 +462,11 @@ returns-in-Fetch-clause-stock g c items size list =
     let n = c.args.self.now in
     let from = place_of c.args.from in
     let m : Message Entry = Fetch (number_of_view c.in-Fetch.view) c.in-Fetch.first in
-    heard_stocks size n.me c.args.now list (server n items) c.args.from c.args.message m [] (stock n)
+    heard_stocks size n.me c.args.now list (server n items) c.args.from c.args.message m []
+    (stock n)
     (stock c.take_fetch.new.self) (ap heard c.in-Fetch.is) (ap carried c.in-Fetch.is)
-    (stocks_idle [] n.me (server n items) (rule size n.me c.args.now list (server n items) (Comes from m)) (stock n)
+    (stocks_idle [] n.me (server n items) (rule size n.me c.args.now list (server n items)
+    (Comes from m)) (stock n)
     (stock c.take_fetch.new.self) (idle_rule size n.me c.args.now list (server n items) from m
     (idle_fetch size list (server n items) (place_of c.args.from) (number_of_view c.in-Fetch.view)
     c.in-Fetch.first)) c.in_ok-take_fetch-in-Fetch.ensures.stock)
@@ -530,9 +476,11 @@ returns-in-Formed-clause-stock g c items size list =
     let n = c.args.self.now in
     let from = place_of c.args.from in
     let m : Message Entry = Formed (number_of_view c.in-Formed.view) c.in-Formed.lb in
-    heard_stocks size n.me c.args.now list (server n items) c.args.from c.args.message m [] (stock n)
+    heard_stocks size n.me c.args.now list (server n items) c.args.from c.args.message m []
+    (stock n)
     (stock c.take_formed.new.self) (ap heard c.in-Formed.is) (ap carried c.in-Formed.is)
-    (stocks_idle [] n.me (server n items) (rule size n.me c.args.now list (server n items) (Comes from m)) (stock n)
+    (stocks_idle [] n.me (server n items) (rule size n.me c.args.now list (server n items)
+    (Comes from m)) (stock n)
     (stock c.take_formed.new.self) (idle_rule size n.me c.args.now list (server n items) from m
     (idle_formed (server n items) (place_of c.args.from) (number_of_view c.in-Formed.view)
     c.in-Formed.lb)) c.in_ok-take_formed-in-Formed.ensures.stock)

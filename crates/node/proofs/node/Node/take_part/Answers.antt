@@ -11,7 +11,6 @@ use Rattle.node.specs.Forming.{joined_with}
 use Rattle.node.specs.Node.{NodeValue, server}
 use Rattle.node.specs.State.{IsPulling}
 use Rattle.outputs.specs.Said.{said}
-use Rattle.group_rules.proofs.Tests.{if_is}
 use Rattle.node.proofs.Stocked.{accepting_stock}
 use Rattle.node.proofs.Stocks.{as_stock, idle_if, stocks_so}
 use Rattle.node.specs.Stock.{stock, stock_kept}
@@ -185,7 +184,8 @@ pub returns-then-not-fits-clause-stock : goal.returns-then-not-fits-clause-stock
 returns-then-not-fits-clause-stock g c items = stocks_so [] _ _ _ [] (stock_kept c.args.kept []) _
     (none_at c.self.inside.me c.self.inside.mark c.self.inside.horizon c.self.inside.served
     c.self.inside.duty c.self.inside.state c.args.self.now
-    (λ (n : NodeValue). server n items) c.args.kept c.args.joining (plan_of c.args.form) c.fits.result
+    (λ (n : NodeValue). server n items) c.args.kept c.args.joining (plan_of c.args.form)
+    c.fits.result
     c.lb.result
     (sym c.lb.ensures.value) c.self.view_is c.fits.ensures.test c.if-not-fits.true)
     (λ clock list askers. refl)
@@ -198,13 +198,16 @@ returns-then-full-clause-stock g c = on_ok c.accept.result _ _ c.accept.ensures.
     (stock_kept c.args.kept []) (stock c.accept.new.self)
     (whole_at c.self.inside.me c.self.inside.mark c.self.inside.horizon c.self.inside.served
     c.self.inside.duty c.self.inside.state c.args.self.now
-    (λ (n : NodeValue). server n items) c.args.kept c.args.joining (plan_of c.args.form) c.fits.result
+    (λ (n : NodeValue). server n items) c.args.kept c.args.joining (plan_of c.args.form)
+    c.fits.result
     c.lb.result
     (sym c.lb.ensures.value) c.self.view_is c.fits.ensures.test c.if-not-fits.false
     (λ s. (c.in_ok-staged.ensures.none s).1 (c.is_full-full.ensures.0 c.if-full.true)))
     (accepting_stock [] c.args.self.now.me s plan _ _ _ c.args.kept [] (stock c.accept.new.self)
     (idle_if (same c.args.self.now.me (partner plan.storers)) _ [] (tt, tt) tt)
-    (h ∙ ap (λ (rs : List RecordFields). as_stock (adopted_records c.args.self.now.me s plan (log_in c.args.kept).records rs) [] []) c.in_ok-staged.ensures.list.1)))
+    (h ∙ ap (λ (rs : List RecordFields). as_stock
+    (adopted_records c.args.self.now.me s plan (log_in c.args.kept).records rs) [] [])
+    c.in_ok-staged.ensures.list.1)))
 
 pub returns-clause-stock : goal.returns-clause-stock
 returns-clause-stock g c items =
@@ -213,7 +216,8 @@ returns-clause-stock g c items =
     (stock_kept c.args.kept []) (stock c.fetch.new.self)
     (part_at c.self.inside.me c.self.inside.mark c.self.inside.horizon c.self.inside.served
     c.self.inside.duty c.self.inside.state c.args.self.now
-    (λ (n : NodeValue). server n items) c.args.kept c.args.joining (plan_of c.args.form) c.fits.result
+    (λ (n : NodeValue). server n items) c.args.kept c.args.joining (plan_of c.args.form)
+    c.fits.result
     c.lb.result
     (sym c.lb.ensures.value) c.self.view_is c.fits.ensures.test c.if-not-fits.false
     (λ s. no_test _ (λ whole. true≢false (sym (c.is_full-full.ensures.1
