@@ -1,0 +1,28 @@
+-- The lines of the text of a trace.
+use Rattle.std.proofs.Common.{◌≡◌, ℕ, ◌==◌, false, List, [], ◌∷◌, ◌++◌, append_assoc, map, refl, ap, ◌∙◌}
+use Rattle.std.specs.List.{flat_map}
+use Rattle.std.proofs.lemmas.Bool.{ne_eqb}
+use Rattle.line_reader.specs.Lines.{begun_with, lines_of}
+use Rattle.put_lines.proofs.OneLine.{trace_line}
+use Rattle.spelling.specs.Lines.{IsOneLine}
+use Rattle.step_spelling.specs.Lines.{line_text}
+use Rattle.trace_claims.specs.Trace.{Trace}
+use Rattle.trace_types.specs.declared.line.Line.{Line}
+use Rattle.group_play.specs.Trace.{trace_text}
+use Rattle.play_bounds.specs.Laws.{TextsHaveTheirLines}
+
+-- a line with its line feed
+line_first : (xs rest : List ℕ) → IsOneLine xs → lines_of (xs ++ 10 ∷ rest) ≡ xs ∷ lines_of rest
+unfolding lines_of
+line_first [] rest h = refl
+line_first (b ∷ xs) rest h =
+    let other : (b == 10) ≡ false = ne_eqb b 10 h.0 in
+    rw other (ap (begun_with b) (line_first xs rest h.1))
+
+pub text_lines : TextsHaveTheirLines
+unfolding lines_of trace_text
+text_lines [] = refl
+text_lines (l ∷ ls) =
+    ap lines_of (append_assoc (line_text l) (10 ∷ []) (trace_text ls))
+    ∙ line_first (line_text l) (trace_text ls) (trace_line l)
+    ∙ ap (λ (texts : List (List ℕ)). line_text l ∷ texts) (text_lines ls)

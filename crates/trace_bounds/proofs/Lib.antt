@@ -1,0 +1,11 @@
+pub mod Lists
+pub mod Moved
+pub mod Steps
+pub mod Trees
+pub mod Messages
+pub mod Texts
+pub mod ShortLines
+pub mod Said
+pub mod Listing
+pub mod Counts
+pub mod Runs
