@@ -1,40 +1,52 @@
-//! Reads each line of standard input, the bytes of a line of a trace in hexadecimal or a dash for
-//! none, and writes what came of it: `ok`, or the place of the fault. A line that was read is
-//! spelled again, and `other` is written where these aren't the same bytes.
+//! Reads each line of standard input: `line` or `step`, and the bytes of a line of a trace or of a
+//! schedule in hexadecimal, a dash for none. It writes what came of it: `ok`, `none` for no step,
+//! or the place of the fault. What was read is spelled again, and `other` is written where these
+//! aren't the same bytes.
 #![tactic(auto)]
 
 use harp_base::Bytes;
 use line_text::{TextFault, read_line};
-use put_lines::write_line;
+use put_lines::{write_line, write_step};
 use std::alloc::{AllocError, Global};
 use std::io::{self, BufRead, BufReader};
+use step_text::read_step;
 
 /// What reading came to.
 enum Outcome {
     Same,
     Other,
+    Nothing,
     Fault(TextFault),
 }
 
-/// The bytes of a line. None where it isn't hexadecimal, or memory runs out.
-fn bytes_of(alloc: Global, line: &str) -> Option<Vec<u8>> {
-    if line == "-" {
-        return Some(Vec::new(alloc));
+/// What was read, spelled again, beside the bytes that it was read from.
+fn compared(spelled: &Bytes, bytes: &[u8]) -> Outcome {
+    if spelled.as_slice() == bytes {
+        Outcome::Same
+    } else {
+        Outcome::Other
     }
-    hex::decode(alloc, line).ok()
 }
 
-fn tried(alloc: Global, bytes: &[u8]) -> Result<Outcome, AllocError> {
+fn tried_line(alloc: Global, bytes: &[u8]) -> Result<Outcome, AllocError> {
     match read_line(alloc, bytes) {
         Ok(line) => {
             let mut spelled = Bytes::new(alloc);
             write_line(alloc, &line, &mut spelled)?;
-            if spelled.as_slice() == bytes {
-                Ok(Outcome::Same)
-            } else {
-                Ok(Outcome::Other)
-            }
+            Ok(compared(&spelled, bytes))
         }
+        Err(fault) => Ok(Outcome::Fault(fault)),
+    }
+}
+
+fn tried_step(alloc: Global, bytes: &[u8]) -> Result<Outcome, AllocError> {
+    match read_step(alloc, bytes) {
+        Ok(Some(step)) => {
+            let mut spelled = Bytes::new(alloc);
+            write_step(alloc, &step, &mut spelled)?;
+            Ok(compared(&spelled, bytes))
+        }
+        Ok(None) => Ok(Outcome::Nothing),
         Err(fault) => Ok(Outcome::Fault(fault)),
     }
 }
@@ -43,17 +55,33 @@ fn text_of(alloc: Global, outcome: Outcome) -> Result<String, AllocError> {
     match outcome {
         Outcome::Same => format!(in alloc; "ok"),
         Outcome::Other => format!(in alloc; "other"),
+        Outcome::Nothing => format!(in alloc; "none"),
         Outcome::Fault(TextFault::Grammar(at)) => format!(in alloc; "{at}"),
-        Outcome::Fault(TextFault::Unbuilt) => format!(in alloc; "Unbuilt"),
-        Outcome::Fault(TextFault::NoMemory) => format!(in alloc; "NoMemory"),
+        Outcome::Fault(_) => format!(in alloc; "fault"),
     }
 }
 
-fn described(alloc: Global, line: &str) -> Result<String, AllocError> {
-    match bytes_of(alloc, line) {
-        Some(bytes) => text_of(alloc, tried(alloc, bytes.as_slice())?),
-        None => format!(in alloc; "not hexadecimal"),
+/// The bytes of a line. None where it isn't hexadecimal, or memory runs out.
+fn bytes_of(alloc: Global, digits: &str) -> Option<Vec<u8>> {
+    if digits == "-" {
+        return Some(Vec::new(alloc));
     }
+    hex::decode(alloc, digits).ok()
+}
+
+fn described(alloc: Global, line: &str) -> Result<String, AllocError> {
+    let Some((kind, digits)) = line.split_once(' ') else {
+        return format!(in alloc; "no kind");
+    };
+    let Some(bytes) = bytes_of(alloc, digits) else {
+        return format!(in alloc; "not hexadecimal");
+    };
+    let outcome = if kind == "step" {
+        tried_step(alloc, bytes.as_slice())?
+    } else {
+        tried_line(alloc, bytes.as_slice())?
+    };
+    text_of(alloc, outcome)
 }
 
 fn main(rt: HostRuntime) -> io::Result<()> {

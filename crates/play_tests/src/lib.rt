@@ -1,25 +1,18 @@
-//! Whole runs of the top call, and ends that fail.
+//! What the rows of `harp_rows` don't show of the top call: words that are refused, ends that fail,
+//! running servers, and schedules that are too large for a row.
 #![tactic(auto)]
 
 #[cfg(test)]
-mod callers;
-#[cfg(test)]
-mod calls;
-#[cfg(test)]
-mod checks;
-#[cfg(test)]
-mod ends;
+mod adapters;
 #[cfg(test)]
 mod failing;
 #[cfg(test)]
-mod full_log;
+mod limits;
 #[cfg(test)]
-mod plays;
+mod nodes;
 #[cfg(test)]
 mod row;
 #[cfg(test)]
-mod schedules;
-#[cfg(test)]
-mod side_by_side;
+mod swept;
 #[cfg(test)]
 mod words;
