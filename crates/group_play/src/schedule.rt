@@ -77,7 +77,6 @@ fn take_line<W: Stage, K: Sink>(
         Ok(None) => Ok(Turn::GoesOn),
         Ok(Some(step)) => take_step(alloc, number, step, world, sink),
         Err(TextFault::Grammar(_)) => refuse(alloc, number, LineFault::Grammar, sink),
-        Err(TextFault::Unbuilt) => unreachable!(),
         Err(TextFault::NoMemory) => Err(Stop::NoMemory),
     }
 }

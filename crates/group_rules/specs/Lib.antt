@@ -14,8 +14,6 @@ pub mod Disk
 pub mod Ask
 pub mod Misfits
 pub mod Step
-pub mod FixedStart
-pub mod FreeReads
 pub mod Names
 pub mod Shown
 pub mod Said

@@ -14,7 +14,6 @@ use Rattle.group_safety.proofs.Modes.{open_is}
 use Rattle.group_safety.proofs.Quiet.{read_kept}
 use Rattle.file_tree.proofs.BookLaws.{tree_of_updates}
 use Rattle.group_rules.specs.Ask.{append, hint_of, new_entry, on_ask, read_entry, read_moves, update_moves}
-use Rattle.group_rules.specs.FreeReads.{on_free_ask}
 use Rattle.group_safety.specs.Entered.{AnswerOk, UpdatesFrom}
 use Rattle.group_rules.specs.Limits.{is_active, is_open, limit, room}
 use Rattle.group_rules.specs.Moves.{Appending, Reading}
@@ -134,17 +133,3 @@ asked g q s h list e client number cred c = goes_if g q s (nat_lt 4095 client) _
     (λ u. read_goes g q s h o client number cred c u list e'))
     (λ _. says g q s h (Refuses client number NotYetOpen) tt))
     (λ _. says g q s h (Refuses client number (NotLeader (hint_of q s.role))) tt))
-
--- the answer to an ask where reads need no promise, and no later view was opened
-pub asked_freely : (g : Group Entry) (q : Place) (s : Server Entry) → Good g q s → (list : List Entry) → list ≡ take (top s) (g.page s.accepted).list
-    → ((W : ℕ) → s.accepted < W → (g.page W).formed ≡ true → (g.page W).opened ≡ false)
-    → (client number : ℕ) (cred : Cred) (c : Call) → Goes g q s (on_free_ask q (g.clock q) list s client number cred c)
-asked_freely g q s h list e later client number cred c = goes_if g q s (is_update c) _ _
-    (λ _. asked g q s h list e client number cred c)
-    (λ u. goes_if g q s (nat_lt 4095 client) _ _ (λ _. says g q s h (Refuses client number BadClient) tt) (λ _.
-    goes_if g q s (all_of (is_active s.mode ∷ same q (leader s.plan.storers) ∷ [])) _ _ (λ _.
-    goes_if g q s (is_open s.mode) _ _ (λ t.
-    let o = open_is s.mode t in
-    read_at g q s h o client number cred c u list (e ∙ whole_list g q s h o) later)
-    (λ _. says g q s h (Refuses client number NotYetOpen) tt))
-    (λ _. says g q s h (Refuses client number (NotLeader (hint_of q s.role))) tt)))

@@ -4,7 +4,6 @@ use Rattle.file_tree.specs.Book.{Entry}
 use Rattle.group_rules.specs.Disk.{settled_tests}
 use Rattle.group_safety.specs.Disks.{DiskAt, DiskIsCommitted, Disks, DisksAreCommitted, DisksOk, disks_after, disks_begun, disks_by, disks_cut, disks_cut_delivered, disks_delivered, disks_moved, disks_run, disks_stepped, empty_disks}
 use Rattle.group_safety.specs.Facts.{Ok}
-use Rattle.group_rules.specs.FixedStart.{fixed_start}
 use Rattle.group_safety.specs.Laws.{Whole}
 use Rattle.group_rules.specs.Limits.{delta_tests, room}
 use Rattle.group_rules.specs.Moves.{Accepting, Appending, Applying, Basing, Booting, Choosing, Collecting, Committing, Demoting, Falling, Flushing, Hearing, Heeding, Joining, Move, Noting, Opening, Pulling, Reading, Saving, Saying, Sending, Staging, act, moved, moved_by}
@@ -20,7 +19,6 @@ use Rattle.group_safety.proofs.Lawful.{sure_held}
 use Rattle.group_safety.proofs.Modes.{settles_is}
 use Rattle.group_safety.proofs.Moving.{Good, Goes, May, its}
 use Rattle.group_safety.proofs.Safe.{boot_goes, first_whole, good_of, happens_whole, input_goes, run_whole, sent_known}
-use Rattle.group_safety.proofs.Starting.{start_whole}
 use Rattle.group_safety.proofs.Steps.{Known, falls}
 use Rattle.group_rules.proofs.Tests.{by_if, each_of}
 
@@ -305,13 +303,4 @@ first_disks = record { each = all }
         (first_group.server q) 0
     all Zero p = new_disk first_group first_whole Zero refl (λ _. refl)
     all One p = new_disk first_group first_whole One refl (λ _. refl)
-    all Two p = absurd (true≢false p)
-
-pub fixed_disks : DisksOk fixed_start empty_disks
-fixed_disks = record { each = all }
-  where
-    all : (q : Place) → is_p2 q ≡ false → DiskAt fixed_start.page fixed_start.committed
-        (fixed_start.server q) 0
-    all Zero p = new_disk fixed_start start_whole Zero refl (λ _. refl)
-    all One p = new_disk fixed_start start_whole One refl (λ _. refl)
     all Two p = absurd (true≢false p)

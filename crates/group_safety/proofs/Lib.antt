@@ -32,7 +32,6 @@ pub mod TickRule
 pub mod AskRule
 pub mod Steps
 pub mod Safe
-pub mod Starting
 pub mod NamedFacts
 pub mod Lawful
 pub mod DiskMoves

@@ -7,7 +7,6 @@ ghost use Rattle.file_tree.specs.Book.{Entry};
 ghost use Rattle.group_rules.specs.Places.{Place};
 ghost use Rattle.group_rules.specs.State.{Group, Packet, Server, mark_of};
 ghost use Rattle.group_rules.specs.Effects.{down, booted};
-ghost use Rattle.group_rules.specs.FixedStart.{fixed_start};
 ghost use Rattle.group_safety.specs.NamedFacts.{NamedFacts};
 ghost use Rattle.group_safety.specs.Disks.{DisksOk, DisksStay, empty_disks};
 ghost use Rattle.group_safety.specs.Entered.{Tidy};
@@ -20,13 +19,12 @@ ghost use Rattle.group_rules.specs.Step.{Deed, Crash, Does, Comes, Happening, At
 ghost use Rattle.group_rules.specs.Step.{CutDeliver, Boot, happens, run, first_group, numbered};
 ghost use Rattle.group_rules.specs.Step.{step_of};
 
-/// The first group meets the facts, so does the fixed start, and each group that meets them keeps
-/// them over every list of happenings: whatever is lost, repeated, reordered, cut off, crashed
-/// and booted, and whatever length of promises is set. All laws below hold from each such group
-/// on. Marks that know of 2000 may be old ones.
+/// The first group meets the facts, and each group that meets them keeps them over every list of
+/// happenings: whatever is lost, repeated, reordered, cut off, crashed and booted, and whatever
+/// length of promises is set. All laws below hold from each such group on. Marks that know of 2000
+/// may be old ones.
 pub fn facts_hold()
     ensures first { Whole first_group }
-    ensures fixed { Whole fixed_start }
     ensures kept { Always Whole }
     ensures old_marks { (g : Group Entry) → Whole g
         → ((q : Place) → (g.server q).longest ≡ Some 2000) → Whole (with_old_marks g) }
@@ -84,7 +82,6 @@ pub fn bases_on_both_disks()
 /// crashed and booted.
 pub fn disks_are_committed()
     ensures first { DisksOk first_group empty_disks }
-    ensures fixed { DisksOk fixed_start empty_disks }
     ensures committed { DisksStay }
 {}
 

@@ -1,12 +1,15 @@
-//! The program `harp`: its words, standard input and output, and the exit status.
+//! The program `harp`: its words, standard input and output, sockets, folders and the day's clock,
+//! and the exit status.
 #![tactic(auto)]
 
-use harp_base::{ReaderSource, WriterSink};
+use group_world::World;
+use harp_base::{ReaderSource, Trio, WriterSink};
 use harp_cli::{Exit, harp};
+use node_link::{UdpLink, WallClock};
 use std::process::ExitCode;
 use std::rt::Env;
 use std::{env, io};
-use world::World;
+use store_folder::FolderStore;
 
 /// The words behind the program's name.
 fn words<R: Env + AllocGlobal>(rt: &R) -> io::Result<Vec<String>> {
@@ -32,6 +35,13 @@ fn main(rt: HostRuntime) -> ExitCode {
     };
     let mut source = ReaderSource::new(rt.reader());
     let mut sink = WriterSink::new(io::writer(&rt));
+    let mut link = UdpLink::new(&rt);
+    let mut disks = Trio {
+        zero: FolderStore::new(&rt),
+        one: FolderStore::new(&rt),
+        two: FolderStore::new(&rt),
+    };
+    let mut clock = WallClock::new(&rt);
     let status = harp(
         &rt,
         alloc,
@@ -39,6 +49,9 @@ fn main(rt: HostRuntime) -> ExitCode {
         &mut world,
         &mut source,
         &mut sink,
+        &mut link,
+        &mut disks,
+        &mut clock,
     );
     ExitCode::from(status)
 }

@@ -62,3 +62,5 @@ agrees text source before after exit.NoMemory h = (
   λ right. (λ z. absurd (omega (arith, z)), λ z. absurd (omega (arith, z))),
 )
 agrees text source before after exit.RefusedWords h = absurd h
+agrees text source before after exit.DiskFailed h = absurd h
+agrees text source before after exit.LinkFailed h = absurd h

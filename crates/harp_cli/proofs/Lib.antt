@@ -1,9 +1,4 @@
-pub mod TraceTexts
-pub mod TakenLaws
-pub mod Parts
-pub mod NextSteps
-pub mod NextLines
-pub mod PlayLoop
-pub mod TraceLaws
 pub mod WordLaws
 pub mod Checks
+pub mod ServeLaws
+pub mod SweepLaws

@@ -1,93 +1,288 @@
 -- The words of a command.
-use Rattle.std.proofs.Common.{◌≡◌, ◌<◌, ◌≤◌, ℕ, List, [], ◌∷◌, length, get_or, refl, sym, ap, ◌∙◌}
-use Rattle.std.proofs.Common.{arith, Global, Option, Some, None, inl, inr, decimal}
-use Rattle.std.specs.Prelude.{MatchOption, String, codes, map, string_bytes}
+use Rattle.std.proofs.Common.{◌≡◌, ◌<◌, ◌≤◌, ◌^◌, ◌-◌, ℕ, List, [], ◌∷◌, length, get_or, take, drop}
+use Rattle.std.proofs.Common.{refl, sym, ap, ◌∙◌, subst, arith, Global, Option, Some, None, decimal}
+use Rattle.std.specs.Prelude.{MatchOption, IsSome, IfSome, ◌↔◌, String, codes, string_bytes}
 use Rattle.std.proofs.lemmas.Fmt.{decimal_injective}
+use Rattle.std.proofs.lemmas.Grind.{common_steps}
+use Rattle.promise.specs.Promise.{IsDelta}
+use Rattle.harp_base.specs.Server.{number_of}
+use Rattle.harp_base.specs.declared.server.ServerId.{ServerId}
+use Rattle.harp_base.specs.declared.server.ServerId.TheVariants.{Zero, One, Two}
+use Rattle.harp_cli.specs.declared.loop_words.Loop.{Loop}
 use Rattle.harp_cli.specs.declared.words.Command.{Command}
 use Rattle.harp_cli.specs.declared.words.Command.TheVariants as command
-use Rattle.harp_cli.specs.Words.{AreGen, AsksFor, GenSpells, IsCheck, IsForm, IsGen, IsPlay}
+use Rattle.harp_cli.specs.Words.{IsGen, IsGroup, IsNode, IsSweep}
+use Rattle.harp_cli.specs.Words.{AsksFor, IsForm, LoopWords, Named, NodeWords, delta_of}
+use Rattle.harp_cli.specs.Words.{delta_words, texts}
 
-pub one_word : {A : Type 0} (words : List A) (d : A) → 1 ≤ length words → length words < 2
-    → words ≡ get_or words 0 d ∷ []
-one_word [] d some few = absurd (omega arith)
-one_word (w ∷ []) d some few = refl
-one_word (w ∷ v ∷ ws) d some few = absurd (omega arith)
+-- ---- lists of words
 
-pub three_words : {A : Type 0} (words : List A) (w v u : A) → 3 ≤ length words → length words < 4
-    → w ≡ get_or words 0 w → v ≡ get_or words 1 v → u ≡ get_or words 2 u → words ≡ w ∷ v ∷ u ∷ []
-three_words [] w v u some few a b c = absurd (omega arith)
-three_words (x ∷ []) w v u some few a b c = absurd (omega arith)
-three_words (x ∷ y ∷ []) w v u some few a b c = absurd (omega arith)
-three_words (x ∷ y ∷ z ∷ []) w v u some few a b c = rw (a, b, c) refl
-three_words (x ∷ y ∷ z ∷ t ∷ ws) w v u some few a b c = absurd (omega arith)
+-- the bytes of the first word, and those of the others
+pub first_word : (ws : List (String Global)) (w : String Global) → 1 ≤ length ws
+    → w ≡ get_or ws 0 w
+    → texts ws ≡ string_bytes w ∷ texts (take (length ws - 1) (drop 1 ws))
+first_word [] w some is = absurd (omega arith)
+first_word (x ∷ xs) w some is =
+    let rest : take (length (x ∷ xs) - 1) (drop 1 (x ∷ xs)) ≡ xs = grind (arith, common_steps) in
+    rw (is, rest) refl
+
+pub three_words : (ws : List (String Global)) (a b d : String Global) → 3 ≤ length ws
+    → length ws < 4 → a ≡ get_or ws 0 a → b ≡ get_or ws 1 b → d ≡ get_or ws 2 d
+    → texts ws ≡ string_bytes a ∷ string_bytes b ∷ string_bytes d ∷ []
+three_words [] a b d some few p q r = absurd (omega arith)
+three_words (x ∷ []) a b d some few p q r = absurd (omega arith)
+three_words (x ∷ y ∷ []) a b d some few p q r = absurd (omega arith)
+three_words (x ∷ y ∷ z ∷ []) a b d some few p q r = rw (p, q, r) refl
+three_words (x ∷ y ∷ z ∷ t ∷ ws) a b d some few p q r = absurd (omega arith)
+
+pub four_words : (ws : List (String Global)) (a b d e : String Global) → 4 ≤ length ws
+    → length ws < 5 → a ≡ get_or ws 0 a → b ≡ get_or ws 1 b → d ≡ get_or ws 2 d
+    → e ≡ get_or ws 3 e
+    → texts ws ≡ string_bytes a ∷ string_bytes b ∷ string_bytes d ∷ string_bytes e ∷ []
+four_words [] a b d e some few p q r s = absurd (omega arith)
+four_words (x ∷ []) a b d e some few p q r s = absurd (omega arith)
+four_words (x ∷ y ∷ []) a b d e some few p q r s = absurd (omega arith)
+four_words (x ∷ y ∷ z ∷ []) a b d e some few p q r s = absurd (omega arith)
+four_words (x ∷ y ∷ z ∷ t ∷ []) a b d e some few p q r s = rw (p, q, r, s) refl
+four_words (x ∷ y ∷ z ∷ t ∷ u ∷ ws) a b d e some few p q r s = absurd (omega arith)
+
+-- ---- how servers are run
+
+pub delta_found : (r : Option ℕ) (word : List ℕ) (n : ℕ) → word ≡ decimal n → n < 2 ^ 64
+    → (IsSome r ↔ IsDelta n) → IfSome r (λ d. d ≡ n)
+    → MatchOption r ((delta : ℕ) → IsDelta delta → word ≡ decimal delta → ⊥)
+    (λ delta. IsDelta delta × (word ≡ decimal delta))
+delta_found None word n is small found value = λ delta within told.
+    let same : delta ≡ n = decimal_injective delta n (omega (arith, within.1)) small
+    (sym told ∙ is) in
+    let some = found.1 (subst IsDelta same within) in
+    absurd cc
+delta_found (Some d) word n is small found value =
+    (subst IsDelta (sym value) (found.0 refl), is ∙ ap decimal (sym value))
+
+-- what words tell, by another spelling of them
+pub of_list : (words list : List (List ℕ)) → words ≡ list → (r : Option Loop)
+    → MatchOption r ((runs : Loop) → LoopWords runs list → ⊥) (λ runs. LoopWords runs list)
+    → MatchOption r ((runs : Loop) → LoopWords runs words → ⊥) (λ runs. LoopWords runs words)
+of_list words list are None none = λ runs told. none runs (subst (LoopWords runs) are told)
+of_list words list are (Some runs) told = subst (LoopWords runs) (sym are) told
+
+told_length : (o : Option ℕ) (word : List ℕ) → delta_words o ≡ word ∷ [] → IsDelta (delta_of o)
+    → ((delta : ℕ) → IsDelta delta → word ≡ decimal delta → ⊥) → ⊥
+told_length None word is within none = absurd cc
+told_length (Some d) word is within none =
+    none d within (sym (ap (λ (ts : List (List ℕ)). get_or ts 0 []) is))
+
+-- a word that is no length of promises
+pub no_delta : (words : List (List ℕ)) (port folder turns word : List ℕ)
+    → words ≡ port ∷ folder ∷ turns ∷ word ∷ []
+    → ((delta : ℕ) → IsDelta delta → word ≡ decimal delta → ⊥) → (runs : Loop)
+    → LoopWords runs words → ⊥
+no_delta words port folder turns word are none runs told =
+    told_length runs.delta word (ap (drop 3) (sym told.are ∙ are)) told.within.delta none
+
+-- ---- a command by its first word
+
+front : (ws : List (List ℕ)) (name : List ℕ) (rest : List (List ℕ)) (other : List ℕ)
+    (more : List (List ℕ)) → ws ≡ name ∷ rest → ws ≡ other ∷ more → (other ≡ name) × (more ≡ rest)
+front ws name rest other more p q =
+    let same = sym q ∙ p in
+    (ap (λ (ts : List (List ℕ)). get_or ts 0 []) same, ap (drop 1) same)
+
+named : (ws : List (String Global)) (name : List ℕ) (rest : List (List ℕ)) → texts ws ≡ name ∷ rest
+    → (c : Command) → AsksFor ws c → Named name rest c
+named ws name rest are command.Play p =
+    let same = front (texts ws) name rest (codes "play") [] are p in
+    (same.0, sym same.1)
+named ws name rest are command.Check p =
+    let same = front (texts ws) name rest (codes "check") [] are p in
+    (same.0, sym same.1)
+named ws name rest are (command.Gen s n) p =
+    let same =
+    front (texts ws) name rest (codes "gen") (decimal s ∷ decimal n ∷ []) are p.0 in
+    (same.0, (sym same.1, p.1, p.2))
+named ws name rest are (command.Sweep s k n) p =
+    let same =
+    front (texts ws) name rest (codes "sweep") (decimal s ∷ decimal k ∷ decimal n ∷ []) are p.0 in
+    (same.0, (sym same.1, p.1, p.2, p.3, p.4))
+named ws name rest are (command.Node place runs) p =
+    let same = front (texts ws) name rest (codes "node") p.rest are p.are in
+    (same.0, subst (NodeWords place runs) same.1 p.node_words)
+named ws name rest are (command.Group runs) p =
+    let same = front (texts ws) name rest (codes "group") p.rest are p.are in
+    (same.0, subst (LoopWords runs) same.1 p.loop_words)
+
+asks : (ws : List (String Global)) (name : List ℕ) (rest : List (List ℕ)) → texts ws ≡ name ∷ rest
+    → (c : Command) → Named name rest c → AsksFor ws c
+asks ws name rest are command.Play p =
+    are ∙ ap (λ t. t ∷ rest) (sym p.0) ∙ ap (λ ts. codes "play" ∷ ts) p.1
+asks ws name rest are command.Check p =
+    are ∙ ap (λ t. t ∷ rest) (sym p.0) ∙ ap (λ ts. codes "check" ∷ ts) p.1
+asks ws name rest are (command.Gen s n) p = (
+  are ∙ ap (λ t. t ∷ rest) (sym p.0) ∙ ap (λ ts. codes "gen" ∷ ts) p.1.0,
+  p.1.1,
+  p.1.2,
+)
+asks ws name rest are (command.Sweep s k n) p = (
+  are ∙ ap (λ t. t ∷ rest) (sym p.0) ∙ ap (λ ts. codes "sweep" ∷ ts) p.1.0,
+  p.1.1,
+  p.1.2,
+  p.1.3,
+  p.1.4,
+)
+asks ws name rest are (command.Node place runs) p =
+    record { rest = rest; are = are ∙ ap (λ t. t ∷ rest) (sym p.0); node_words = p.1 }
+asks ws name rest are (command.Group runs) p =
+    record { rest = rest; are = are ∙ ap (λ t. t ∷ rest) (sym p.0); loop_words = p.1 }
+
+pub by_name : (ws : List (String Global)) (name : List ℕ) (rest : List (List ℕ))
+    → texts ws ≡ name ∷ rest → (r : Option Command)
+    → MatchOption r ((c : Command) → Named name rest c → ⊥) (Named name rest)
+    → MatchOption r (IsForm ws → ⊥) (AsksFor ws)
+by_name ws name rest are None none = λ form. none form.0 (named ws name rest are form.0 form.1)
+by_name ws name rest are (Some c) is = asks ws name rest are c is
+
+-- the names differ in their second letters
+second : List ℕ → ℕ
+second name = get_or name 1 0
+
+only_play : (rest : List (List ℕ)) (c : Command) → Named (codes "play") rest c → rest ≡ []
+unfolding second
+only_play rest command.Play p = p.1
+only_play rest command.Check p = let e : 104 ≡ 108 = ap second p.0 in absurd (omega (arith, e))
+only_play rest (command.Gen s n) p =
+    let e : 101 ≡ 108 = ap second p.0 in absurd (omega (arith, e))
+only_play rest (command.Sweep s k n) p =
+    let e : 119 ≡ 108 = ap second p.0 in absurd (omega (arith, e))
+only_play rest (command.Node place runs) p =
+    let e : 111 ≡ 108 = ap second p.0 in absurd (omega (arith, e))
+only_play rest (command.Group runs) p =
+    let e : 114 ≡ 108 = ap second p.0 in absurd (omega (arith, e))
+
+only_check : (rest : List (List ℕ)) (c : Command) → Named (codes "check") rest c → rest ≡ []
+unfolding second
+only_check rest command.Play p = let e : 108 ≡ 104 = ap second p.0 in absurd (omega (arith, e))
+only_check rest command.Check p = p.1
+only_check rest (command.Gen s n) p =
+    let e : 101 ≡ 104 = ap second p.0 in absurd (omega (arith, e))
+only_check rest (command.Sweep s k n) p =
+    let e : 119 ≡ 104 = ap second p.0 in absurd (omega (arith, e))
+only_check rest (command.Node place runs) p =
+    let e : 111 ≡ 104 = ap second p.0 in absurd (omega (arith, e))
+only_check rest (command.Group runs) p =
+    let e : 114 ≡ 104 = ap second p.0 in absurd (omega (arith, e))
+
+pub play_alone : (rest : List (List ℕ)) (r : Option Command)
+    → MatchOption r (rest ≡ [] → ⊥) (λ c. (c ≡ command.Play) × (rest ≡ []))
+    → MatchOption r ((c : Command) → Named (codes "play") rest c → ⊥) (Named (codes "play") rest)
+play_alone rest None none = λ c p. none (only_play rest c p)
+play_alone rest (Some c) is = subst (Named (codes "play") rest) (sym is.0) (refl, is.1)
+
+pub check_alone : (rest : List (List ℕ)) (r : Option Command)
+    → MatchOption r (rest ≡ [] → ⊥) (λ c. (c ≡ command.Check) × (rest ≡ []))
+    → MatchOption r ((c : Command) → Named (codes "check") rest c → ⊥) (Named (codes "check") rest)
+check_alone rest None none = λ c p. none (only_check rest c p)
+check_alone rest (Some c) is = subst (Named (codes "check") rest) (sym is.0) (refl, is.1)
+
+-- words behind `node` of which the first isn't followed by how a server is run
+pub no_loop : (words rest : List (List ℕ)) (word : List ℕ) → words ≡ word ∷ rest
+    → ((runs : Loop) → LoopWords runs rest → ⊥) → (c : Command)
+    → Named (codes "node") words c → ⊥
+unfolding second
+no_loop words rest word are none command.Play p =
+    let e : 108 ≡ 111 = ap second p.0 in absurd (omega (arith, e))
+no_loop words rest word are none command.Check p =
+    let e : 104 ≡ 111 = ap second p.0 in absurd (omega (arith, e))
+no_loop words rest word are none (command.Gen s n) p =
+    let e : 101 ≡ 111 = ap second p.0 in absurd (omega (arith, e))
+no_loop words rest word are none (command.Sweep s k n) p =
+    let e : 119 ≡ 111 = ap second p.0 in absurd (omega (arith, e))
+no_loop words rest word are none (command.Node place runs) p =
+    let same = front words word rest (decimal (number_of place)) p.1.rest are p.1.are in
+    none runs (subst (LoopWords runs) same.1 p.1.loop_words)
+no_loop words rest word are none (command.Group runs) p =
+    let e : 114 ≡ 111 = ap second p.0 in absurd (omega (arith, e))
 
 -- ---- words ask for one thing
 
-play_or_check : (ws : List (String Global)) → IsPlay ws → IsCheck ws → ⊥
-play_or_check ws p q =
-    let same : 4 ≡ 5 = ap (λ (ts : List (List ℕ)). length (get_or ts 0 [])) (sym p ∙ q) in
-    omega (arith, same)
+same_place : (p q : ServerId) → number_of p ≡ number_of q → p ≡ q
+same_place Zero Zero e = refl
+same_place Zero One e = absurd (omega (arith, e))
+same_place Zero Two e = absurd (omega (arith, e))
+same_place One Zero e = absurd (omega (arith, e))
+same_place One One e = refl
+same_place One Two e = absurd (omega (arith, e))
+same_place Two Zero e = absurd (omega (arith, e))
+same_place Two One e = absurd (omega (arith, e))
+same_place Two Two e = refl
 
-play_or_gen : (ws : List (String Global)) (seed lines : ℕ) → IsPlay ws → IsGen seed lines ws → ⊥
-play_or_gen ws seed lines p q =
-    let same : 1 ≡ 3 = ap length (sym p ∙ q.0) in
-    omega (arith, same)
+small : (p : ServerId) → number_of p < 3
+small Zero = omega arith
+small One = omega arith
+small Two = omega arith
 
-check_or_gen : (ws : List (String Global)) (seed lines : ℕ) → IsCheck ws → IsGen seed lines ws → ⊥
-check_or_gen ws seed lines p q =
-    let same : 1 ≡ 3 = ap length (sym p ∙ q.0) in
-    omega (arith, same)
+same_delta : (o p : Option ℕ) → delta_words o ≡ delta_words p → IsDelta (delta_of o)
+    → IsDelta (delta_of p) → o ≡ p
+same_delta None None e m n = refl
+same_delta None (Some b) e m n = absurd cc
+same_delta (Some a) None e m n = absurd cc
+same_delta (Some a) (Some b) e m n = ap Some (decimal_injective a b (omega (arith, m.1))
+    (omega (arith, n.1)) (ap (λ (ts : List (List ℕ)). get_or ts 0 []) e))
 
-one_gen : (ws : List (String Global)) (s n t m : ℕ) → IsGen s n ws → IsGen t m ws
-    → command.Gen s n ≡ command.Gen t m
-one_gen ws s n t m p q =
-    let same = sym p.0 ∙ q.0 in
-    let seeds : s ≡ t = decimal_injective s t (omega (arith, p.1)) (omega (arith, q.1))
-    (ap (λ (ts : List (List ℕ)). get_or ts 1 []) same) in
-    let lines : n ≡ m = decimal_injective n m (omega (arith, p.2)) (omega (arith, q.2))
-    (ap (λ (ts : List (List ℕ)). get_or ts 2 []) same) in
-    rw (seeds, lines) refl
+same_loop : (runs again : Loop) (words : List (List ℕ)) → LoopWords runs words
+    → LoopWords again words → runs ≡ again
+same_loop runs again words p q =
+    let e = sym p.are ∙ q.are in
+    let ports : runs.port ≡ again.port = decimal_injective runs.port again.port
+    (omega (arith, p.within.high)) (omega (arith, q.within.high))
+    (ap (λ (ts : List (List ℕ)). get_or ts 0 []) e) in
+    let turns : runs.turns ≡ again.turns = decimal_injective runs.turns again.turns
+    (omega (arith, p.within.most)) (omega (arith, q.within.most))
+    (ap (λ (ts : List (List ℕ)). get_or ts 2 []) e) in
+    let deltas : runs.delta ≡ again.delta = same_delta runs.delta again.delta (ap (drop 3) e)
+    p.within.delta q.within.delta in
+    rw (ports, turns, deltas) refl
 
-pub asks_once : (ws : List (String Global)) (c d : Command) → AsksFor ws c → AsksFor ws d → c ≡ d
-asks_once ws command.Play command.Play p q = refl
-asks_once ws command.Play command.Check p q = absurd (play_or_check ws p q)
-asks_once ws command.Play (command.Gen t m) p q = absurd (play_or_gen ws t m p q)
-asks_once ws command.Check command.Play p q = absurd (play_or_check ws q p)
-asks_once ws command.Check command.Check p q = refl
-asks_once ws command.Check (command.Gen t m) p q = absurd (check_or_gen ws t m p q)
-asks_once ws (command.Gen s n) command.Play p q = absurd (play_or_gen ws s n q p)
-asks_once ws (command.Gen s n) command.Check p q = absurd (check_or_gen ws s n q p)
-asks_once ws (command.Gen s n) (command.Gen t m) p q = one_gen ws s n t m p q
-
--- ---- three words of which the first is `gen`
-
-texts_of : (ws : List (String Global)) (w s n : String Global) → ws ≡ w ∷ s ∷ n ∷ []
-    → map (λ x. string_bytes x) ws ≡ string_bytes w ∷ string_bytes s ∷ string_bytes n ∷ []
-texts_of ws w s n are = ap (map (λ x. string_bytes x)) are
-
-pub gen_asks : (ws : List (String Global)) (w s n : String Global) → ws ≡ w ∷ s ∷ n ∷ []
-    → string_bytes w ≡ codes "gen" → (first second : List ℕ) → first ≡ string_bytes s
-    → second ≡ string_bytes n → (r : Option Command)
-    → MatchOption r ((a b : ℕ) → AreGen a b first second → ⊥) (GenSpells first second)
-    → MatchOption r (IsForm ws → ⊥) (AsksFor ws)
-gen_asks ws w s n are is first second one two None none = λ form. elim form [
-  | inl p ↦ let same : 3 ≡ 1 = ap length (sym (texts_of ws w s n are) ∙ p) in omega (arith, same)
-  | inr more ↦ elim more [
-    | inl p ↦ let same : 3 ≡ 1 = ap length (sym (texts_of ws w s n are) ∙ p) in omega (arith, same)
-    | inr p ↦ let same = sym (texts_of ws w s n are) ∙ p.2.0 in none p.0 p.1 (
-      one ∙ ap (λ (ts : List (List ℕ)). get_or ts 1 []) same,
-      two ∙ ap (λ (ts : List (List ℕ)). get_or ts 2 []) same,
-      p.2.1,
-      p.2.2,
+pub one_node : (ws : List (String Global)) (place other : ServerId) (runs again : Loop)
+    → IsNode place runs ws → IsNode other again ws → (place ≡ other) × (runs ≡ again)
+one_node ws place other runs again p q =
+    let rests = front (texts ws) (codes "node") p.rest (codes "node") q.rest p.are q.are in
+    let node : NodeWords other again p.rest =
+    subst (NodeWords other again) rests.1 q.node_words in
+    let parts = front p.rest (decimal (number_of place)) p.node_words.rest
+    (decimal (number_of other)) node.rest p.node_words.are node.are in
+    let numbers : number_of other ≡ number_of place =
+    decimal_injective (number_of other) (number_of place) (omega (arith, small other))
+    (omega (arith, small place)) parts.0 in (
+      same_place place other (sym numbers),
+      same_loop runs again p.node_words.rest p.node_words.loop_words
+          (subst (LoopWords again) parts.1 node.loop_words),
     )
-  ]
-]
-gen_asks ws w s n are is first second one two (Some command.Play) h = absurd h
-gen_asks ws w s n are is first second one two (Some command.Check) h = absurd h
-gen_asks ws w s n are is first second one two (Some (command.Gen a b)) h = (
-  texts_of ws w s n are ∙ ap (λ t. t ∷ string_bytes s ∷ string_bytes n ∷ []) is
-      ∙ ap (λ t. codes "gen" ∷ t ∷ string_bytes n ∷ []) (sym one ∙ h.0)
-      ∙ ap (λ t. codes "gen" ∷ decimal a ∷ t ∷ []) (sym two ∙ h.1),
-  h.2,
-  h.3,
-)
+
+pub one_group : (ws : List (String Global)) (runs again : Loop) → IsGroup runs ws
+    → IsGroup again ws → runs ≡ again
+one_group ws runs again p q =
+    let rests = front (texts ws) (codes "group") p.rest (codes "group") q.rest p.are q.are in
+    same_loop runs again p.rest p.loop_words (subst (LoopWords again) rests.1 q.loop_words)
+
+pub one_gen : (ws : List (String Global)) (s n t m : ℕ) → IsGen s n ws → IsGen t m ws
+    → (s ≡ t) × (n ≡ m)
+one_gen ws s n t m p q =
+    let e = sym p.0 ∙ q.0 in (
+      decimal_injective s t (omega (arith, p.1)) (omega (arith, q.1))
+          (ap (λ (ts : List (List ℕ)). get_or ts 1 []) e),
+      decimal_injective n m (omega (arith, p.2)) (omega (arith, q.2))
+          (ap (λ (ts : List (List ℕ)). get_or ts 2 []) e),
+    )
+
+pub one_sweep : (ws : List (String Global)) (s k n t j m : ℕ) → IsSweep s k n ws → IsSweep t j m ws
+    → (s ≡ t) × (k ≡ j) × (n ≡ m)
+one_sweep ws s k n t j m p q =
+    let e = sym p.0 ∙ q.0 in (
+      decimal_injective s t (omega (arith, p.1)) (omega (arith, q.1))
+          (ap (λ (ts : List (List ℕ)). get_or ts 1 []) e),
+      decimal_injective k j (omega (arith, p.3)) (omega (arith, q.3))
+          (ap (λ (ts : List (List ℕ)). get_or ts 2 []) e),
+      decimal_injective n m (omega (arith, p.4)) (omega (arith, q.4))
+          (ap (λ (ts : List (List ℕ)). get_or ts 3 []) e),
+    )

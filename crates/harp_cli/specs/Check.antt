@@ -48,6 +48,8 @@ CheckEnds text source before after exit.SinkFailed = TellsPart text source befor
 CheckEnds text source before after exit.NoMemory =
     (after ≡ before) ⊎ TellsPart text source before after
 CheckEnds text source before after exit.RefusedWords = ⊥
+CheckEnds text source before after exit.DiskFailed = ⊥
+CheckEnds text source before after exit.LinkFailed = ⊥
 
 -- of a right text alone the status is 0, and of one it isn't 1 or 5
 abbrev pub StatusAgrees : List ℕ → ℕ → Type 0

@@ -19,3 +19,5 @@ GenEnds seed lines before after exit.SaysNo = ⊥
 GenEnds seed lines before after exit.RefusedWords = ⊥
 GenEnds seed lines before after exit.SourceFailed = ⊥
 GenEnds seed lines before after exit.RefusedLine = ⊥
+GenEnds seed lines before after exit.DiskFailed = ⊥
+GenEnds seed lines before after exit.LinkFailed = ⊥

@@ -1,7 +1,7 @@
 pub mod Exit
 pub mod Play
-pub mod Ends
-pub mod OnTheWay
 pub mod Words
 pub mod Check
 pub mod Gen
+pub mod Sweep
+pub mod Serve

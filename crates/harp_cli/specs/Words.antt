@@ -1,49 +1,138 @@
 -- The words of a command.
-use Rattle.std.specs.Prelude.{◌≡◌, ◌⊎◌, ℕ, ◌<◌, ◌≤◌, ◌^◌, List, [], ◌∷◌, ◌++◌, map, codes, decimal}
-use Rattle.std.specs.Prelude.{String, string_bytes, Option}
+use Rattle.std.specs.Prelude.{◌≡◌, ◌≢◌, ◌⊎◌, ℕ, ◌<◌, ◌≤◌, ◌^◌, List, [], ◌∷◌, ◌++◌, map}
+use Rattle.std.specs.Prelude.{codes, decimal, String, string_bytes, Option, Some, None}
 use Rattle.std.specs.Global.{Global}
 use Rattle.std.specs.Io.KnownBytes.{Appends}
+use Rattle.harp_base.specs.Limits.{first_promise}
+use Rattle.harp_base.specs.Server.{number_of}
 use Rattle.harp_base.specs.Streams.{GrewByPart}
+use Rattle.harp_base.specs.declared.server.ServerId.{ServerId}
+use Rattle.node_link.specs.Traffic.{last_port}
+use Rattle.promise.specs.Promise.{IsDelta}
 use Rattle.harp_cli.specs.declared.exit.Exit.{Exit}
 use Rattle.harp_cli.specs.declared.exit.Exit.TheVariants as exit
+use Rattle.harp_cli.specs.declared.loop_words.Loop.{Loop}
 use Rattle.harp_cli.specs.declared.words.Command.{Command}
 use Rattle.harp_cli.specs.declared.words.Command.TheVariants as command
 
+-- the bytes of each word
+abbrev pub texts : List (String Global) → List (List ℕ)
+texts words = map (λ w. string_bytes w) words
+
 -- the words are `play` alone
 abbrev pub IsPlay : List (String Global) → Type 0
-IsPlay words = map (λ w. string_bytes w) words ≡ codes "play" ∷ []
+IsPlay words = texts words ≡ codes "play" ∷ []
 
 -- the words are `check` alone
 abbrev pub IsCheck : List (String Global) → Type 0
-IsCheck words = map (λ w. string_bytes w) words ≡ codes "check" ∷ []
+IsCheck words = texts words ≡ codes "check" ∷ []
 
 -- the words are `gen`, a seed below 10^18 and a number of lines up to 40,000, both in decimal
 -- without leading zeros
 abbrev pub IsGen : ℕ → ℕ → List (String Global) → Type 0
 IsGen seed lines words =
-    (map (λ w. string_bytes w) words ≡ codes "gen" ∷ decimal seed ∷ decimal lines ∷ [])
+    (texts words ≡ codes "gen" ∷ decimal seed ∷ decimal lines ∷ [])
     × (seed < 10 ^ 18) × (lines ≤ 40000)
 
--- the two words behind `gen`
-abbrev pub AreGen : ℕ → ℕ → List ℕ → List ℕ → Type 0
-AreGen seed lines first second =
-    (first ≡ decimal seed) × (second ≡ decimal lines) × (seed < 10 ^ 18) × (lines ≤ 40000)
+-- the words are `sweep`, a seed below 10^18, a number of runs from 1 to 10,000 and a number of lines
+-- up to 40,000, in decimal without leading zeros
+abbrev pub IsSweep : ℕ → ℕ → ℕ → List (String Global) → Type 0
+IsSweep seed runs lines words =
+    (texts words ≡ codes "sweep" ∷ decimal seed ∷ decimal runs ∷ decimal lines ∷ [])
+    × (seed < 10 ^ 18) × (1 ≤ runs) × (runs ≤ 10000) × (lines ≤ 40000)
 
-abbrev pub GenSpells : List ℕ → List ℕ → Command → Type 0
-GenSpells first second command.Play = ⊥
-GenSpells first second command.Check = ⊥
-GenSpells first second (command.Gen seed lines) = AreGen seed lines first second
+-- ---- how servers are run
 
--- the words are one of these forms
-abbrev pub IsForm : List (String Global) → Type 0
-IsForm words =
-    IsPlay words ⊎ (IsCheck words ⊎ ((seed : ℕ) × (lines : ℕ) × IsGen seed lines words))
+-- how long promises last, 2000 where it isn't told
+abbrev pub delta_of : Option ℕ → ℕ
+delta_of None = first_promise
+delta_of (Some delta) = delta
+
+-- the ports are from 1024 on, the turns from 1 to 10^9, and a length of promises that is told is
+-- from 500 to 100,000
+pub record AreWithin (runs : Loop) : Type 0 where
+  pub low : 1024 ≤ runs.port
+  pub high : runs.port ≤ last_port
+  pub some : 1 ≤ runs.turns
+  pub most : runs.turns ≤ 10 ^ 9
+  pub delta : IsDelta (delta_of runs.delta)
+
+abbrev pub delta_words : Option ℕ → List (List ℕ)
+delta_words None = []
+delta_words (Some delta) = decimal delta ∷ []
+
+-- the words are a port, the name of a folder, a number of turns, and the length of promises where
+-- it is told, the numbers in decimal without leading zeros
+pub record LoopWords (runs : Loop) (words : List (List ℕ)) : Type 0 where
+  pub folder : List ℕ
+  pub are : words
+      ≡ decimal runs.port ∷ folder ∷ decimal runs.turns ∷ delta_words runs.delta
+  pub named : folder ≢ []
+  pub within : AreWithin runs
+
+-- the words are a server's number, and how it is run
+pub record NodeWords (place : ServerId) (runs : Loop) (words : List (List ℕ)) : Type 0 where
+  pub rest : List (List ℕ)
+  pub are : words ≡ decimal (number_of place) ∷ rest
+  pub loop_words : LoopWords runs rest
+
+-- the words are `node`, a server's number, and how it is run
+pub record IsNode (place : ServerId) (runs : Loop) (words : List (String Global)) : Type 0 where
+  pub rest : List (List ℕ)
+  pub are : texts words ≡ codes "node" ∷ rest
+  pub node_words : NodeWords place runs rest
+
+-- the words are `group`, and how its servers are run
+pub record IsGroup (runs : Loop) (words : List (String Global)) : Type 0 where
+  pub rest : List (List ℕ)
+  pub are : texts words ≡ codes "group" ∷ rest
+  pub loop_words : LoopWords runs rest
+
+-- ---- all forms
 
 -- the words ask for this
 abbrev pub AsksFor : List (String Global) → Command → Type 0
 AsksFor words command.Play = IsPlay words
 AsksFor words command.Check = IsCheck words
 AsksFor words (command.Gen seed lines) = IsGen seed lines words
+AsksFor words (command.Sweep seed runs lines) = IsSweep seed runs lines words
+AsksFor words (command.Node place runs) = IsNode place runs words
+AsksFor words (command.Group runs) = IsGroup runs words
+
+-- the words are one of these forms
+abbrev pub IsForm : List (String Global) → Type 0
+IsForm words = (command : Command) × AsksFor words command
+
+-- the words ask that servers run
+abbrev pub Serves : List (String Global) → Type 0
+Serves words =
+    ((place : ServerId) × (runs : Loop) × IsNode place runs words)
+    ⊎ ((runs : Loop) × IsGroup runs words)
+
+-- ---- the first word, and those behind it
+
+abbrev pub name_of : Command → List ℕ
+name_of command.Play = codes "play"
+name_of command.Check = codes "check"
+name_of (command.Gen seed lines) = codes "gen"
+name_of (command.Sweep seed runs lines) = codes "sweep"
+name_of (command.Node place runs) = codes "node"
+name_of (command.Group runs) = codes "group"
+
+abbrev pub Behind : List (List ℕ) → Command → Type 0
+Behind rest command.Play = rest ≡ []
+Behind rest command.Check = rest ≡ []
+Behind rest (command.Gen seed lines) =
+    (rest ≡ decimal seed ∷ decimal lines ∷ []) × (seed < 10 ^ 18) × (lines ≤ 40000)
+Behind rest (command.Sweep seed runs lines) =
+    (rest ≡ decimal seed ∷ decimal runs ∷ decimal lines ∷ [])
+    × (seed < 10 ^ 18) × (1 ≤ runs) × (runs ≤ 10000) × (lines ≤ 40000)
+Behind rest (command.Node place runs) = NodeWords place runs rest
+Behind rest (command.Group runs) = LoopWords runs rest
+
+-- a command with this name asks for the words behind it
+abbrev pub Named : List ℕ → List (List ℕ) → Command → Type 0
+Named name rest c = (name_of c ≡ name) × Behind rest c
 
 -- ---- other words
 
@@ -51,6 +140,9 @@ AsksFor words (command.Gen seed lines) = IsGen seed lines words
 unfoldable pub usage_text : List ℕ
 usage_text =
     codes "usage: harp play\nusage: harp check\nusage: harp gen SEED LINES\n"
+    ++ codes "usage: harp sweep SEED RUNS LINES\n"
+    ++ codes "usage: harp node S PORT DIR TURNS\nusage: harp group PORT DIR TURNS\n"
+    ++ codes "usage: harp node S PORT DIR TURNS DELTA\nusage: harp group PORT DIR TURNS DELTA\n"
 
 -- on other words the usage text is written, or a first part of it
 abbrev pub UsageEnds : Option (List ℕ) → Option (List ℕ) → Exit → Type 0
@@ -61,3 +153,5 @@ UsageEnds before after exit.Done = ⊥
 UsageEnds before after exit.SaysNo = ⊥
 UsageEnds before after exit.RefusedLine = ⊥
 UsageEnds before after exit.SourceFailed = ⊥
+UsageEnds before after exit.DiskFailed = ⊥
+UsageEnds before after exit.LinkFailed = ⊥

@@ -27,6 +27,8 @@ pub fn check<S: Source, K: Sink>(alloc: Global, source: &mut S, sink: &mut K) ->
     ensures ends { (text : List ℕ) → S.left source.old ≡ Some text
         → CheckEnds text (S.left source.new) (K.written sink.old) (K.written sink.new) result }
     ensures words { result ≢ Exit.RefusedWords }
+    ensures disk { result ≢ Exit.DiskFailed }
+    ensures link { result ≢ Exit.LinkFailed }
     ensures source_rose { result ≡ Exit.SourceFailed
         → Rose (S.faults source.old) (S.faults source.new) }
     ensures sink_rose { result ≡ Exit.SinkFailed → Rose (K.faults sink.old) (K.faults sink.new) }

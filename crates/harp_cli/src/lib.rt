@@ -4,11 +4,12 @@
 mod check;
 mod exit;
 mod generate;
+mod loop_words;
+mod number;
 mod play;
-mod step;
-mod text;
+mod serve;
+mod sweeping;
 mod top;
-mod turn;
 mod words;
 
 pub use exit::Exit;

@@ -1,56 +1,96 @@
 //! The top call.
 
-ghost use Rattle.std.specs.Prelude.{◌≡◌, ◌≢◌, ℕ, List, Some};
+ghost use Rattle.std.specs.Prelude.{◌≡◌, ◌≢◌, ◌⊎◌, ◌∷◌, [], ℕ, List, Some};
+ghost use Rattle.disk_laws.specs.Laws.{DiskRunIsRight};
+ghost use Rattle.group_disks.specs.Run.{first_disk_scene};
+ghost use Rattle.group_play.specs.Exit.{whole_exit};
+ghost use Rattle.group_play.specs.Reading.{reading};
+ghost use Rattle.group_play.specs.Trace.{group_left, trace_of};
+ghost use Rattle.group_trace.specs.Run.{AreTaken};
+ghost use Rattle.group_trace.specs.Scene.{first_scene};
+ghost use Rattle.group_world.specs.World.{IsWorld};
 ghost use Rattle.harp_base.specs.Streams.{Rose};
-ghost use Rattle.harp_trace.specs.Acknowledged.{AreAcknowledged, AreAnsweredAtOnce};
-ghost use Rattle.harp_trace.specs.Faithful.{IsFaithful};
-ghost use Rattle.harp_trace.specs.Trace.{steps, IsClosed};
-ghost use Rattle.schedule_text.specs.Grammar.{Explains};
-ghost use Rattle.schedule_text.specs.Reading.{meaning_of};
-ghost use Rattle.world.specs.State.{first_world};
+ghost use Rattle.harp_base.specs.Trio.{value_of, with_value};
+ghost use Rattle.harp_base.specs.declared.server.ServerId.{ServerId as Place};
+ghost use Rattle.host_rules.specs.Spellings.{spellings};
+ghost use Rattle.node_loop.specs.Scene.{OneRose, all_places, each, only};
+ghost use Rattle.step_text.specs.Grammar.{Explains};
+ghost use Rattle.step_text.specs.Reading.{meaning_of};
+ghost use Rattle.sweep_player.specs.Reading.{summary_of_steps};
+ghost use Rattle.trace_claims.specs.Right.{IsRight};
+ghost use Rattle.trace_claims.specs.Trace.{AtEachPlace, entries, steps};
+ghost use Rattle.trace_laws.specs.FirstParts.{FirstPartsAreRight};
+ghost use Rattle.trace_laws.specs.Laws.{StandsInGroup};
 ghost use Rattle.harp_cli.specs.declared.exit.Exit.{Exit};
+ghost use Rattle.harp_cli.specs.declared.loop_words.Loop.{Loop as Runs};
 ghost use Rattle.harp_cli.specs.Exit.{status_of};
 ghost use Rattle.harp_cli.specs.Check.{CheckEnds, StatusAgrees};
-ghost use Rattle.harp_cli.specs.Ends.{PlayEnds};
 ghost use Rattle.harp_cli.specs.Gen.{GenEnds};
-ghost use Rattle.harp_cli.specs.Play.{reading, trace_of};
-ghost use Rattle.harp_cli.specs.Words.{IsCheck, IsForm, IsGen, IsPlay, UsageEnds};
+ghost use Rattle.harp_cli.specs.Play.{HasPlayed, exit_of_play, sizes};
+ghost use Rattle.harp_cli.specs.Serve.{ServeEnds, outside};
+ghost use Rattle.harp_cli.specs.Sweep.{SweepEnds};
+ghost use Rattle.harp_cli.specs.Words.{IsCheck, IsForm, IsGen, IsGroup, IsNode, IsPlay, Serves};
+ghost use Rattle.harp_cli.specs.Words.{IsSweep, UsageEnds};
 
 use crate::check::check;
 use crate::generate::generate;
 use crate::play::play;
+use crate::serve::{serve_group, serve_node};
+use crate::sweeping::sweep;
 use crate::words::{Command, command_of, write_usage};
-use harp_base::{Sink, Source};
+use group_play::every_text;
+use group_world::World;
+use harp_base::{Sink, Source, Trio};
+use harp_store::Store;
+use node_link::{Clock, Link};
 use std::alloc::Global;
 use std::thread::Threads;
-use world::World;
+use sweep_player::GroupPlayer;
 
 /// Does what the words ask for, and gives the exit status: 0 done, 1 a trace breaks something, 2
 /// the words are refused, 3 the source failed, 4 the sink failed, 5 a line is refused, 6 there was
-/// no memory.
+/// no memory, 7 a disk failed, 8 the link failed.
 ///
 /// `play` plays the schedule of the source in the world, which is new, and writes its trace to the
 /// sink. `check` judges the trace of the source, and writes `yes`, or `no L CAUSE` where line L is
 /// the first that breaks something, or `bad L CAUSE` where no trace is read at line L. `gen` writes
-/// the schedule of a seed. On other words the usage text is written. All but `play` leave the world.
+/// the schedule of a seed. `sweep` plays the schedules of many seeds, each in a world of its own,
+/// and writes what their traces come to. On words of no form the usage text is written. All but
+/// `play` leave the world.
+///
+/// `node` runs a server over the disk of its place, which is attached to a folder, and `group` all
+/// three over theirs, in the folders 0, 1 and 2 of one. Place s of the link has the given port plus
+/// s. After the given turns they write `turns T taken N sent M`: the turns, and how many datagrams
+/// were taken and sent. All other words leave disks, link and clock.
+///
 /// Want of memory ends each of them. Nothing is said of the bytes of a source or a sink that
-/// doesn't tell them.
-pub fn harp<R: Threads + Sync, S: Source, K: Sink>(
-    _rt: &R,
+/// doesn't tell them, nor of what a disk, a link or a clock doesn't tell.
+pub fn harp<R: Threads + Sync, S: Source, K: Sink, L: Link, D: Store, C: Clock>(
+    rt: &R,
     alloc: Global,
     words: &[String],
     world: &mut World,
     source: &mut S,
     sink: &mut K,
+    link: &mut L,
+    disks: &mut Trio<D>,
+    clock: &mut C,
 ) -> u8
-    requires { world.old ≡ first_world }
+    requires { IsWorld first_disk_scene world.old }
     // Which status comes; and of a source that tells its bytes, what was written by then, what the
     // source has left, and which world is left.
     ensures play { IsPlay words.now → (exit : Exit) × (result ≡ status_of exit)
         × (exit ≢ Exit.RefusedWords)
         × ((text : List ℕ) → S.left source.old ≡ Some text
-        → PlayEnds text (S.left source.new) (K.written sink.old) (K.written sink.new) world.new
+        → HasPlayed text (S.left source.new) (K.written sink.old) (K.written sink.new) world.new
         exit) }
+    // Where neither the source nor the sink failed, the whole trace was written unless memory ran
+    // out.
+    ensures complete { IsPlay words.now → (text : List ℕ) → S.left source.old ≡ Some text
+        → (Rose (S.faults source.old) (S.faults source.new) → ⊥)
+        → (Rose (K.faults sink.old) (K.faults sink.new) → ⊥)
+        → (result ≡ status_of (exit_of_play (whole_exit (reading sizes text).refused)))
+        ⊎ (result ≡ 6) }
     ensures check { IsCheck words.now → (exit : Exit) × (result ≡ status_of exit)
         × (exit ≢ Exit.RefusedWords) × (world.new ≡ world.old)
         × ((text : List ℕ) → S.left source.old ≡ Some text
@@ -61,6 +101,30 @@ pub fn harp<R: Threads + Sync, S: Source, K: Sink>(
         → (exit : Exit) × (result ≡ status_of exit)
         × GenEnds seed lines (K.written sink.old) (K.written sink.new) exit
         × (world.new ≡ world.old) × (source.new ≡ source.old) }
+    ensures sweep { (seed runs lines : ℕ) → IsSweep seed runs lines words.now
+        → (exit : Exit) × (result ≡ status_of exit)
+        × SweepEnds (summary_of_steps sizes) seed runs lines
+        (K.written sink.old) (K.written sink.new) exit
+        × (world.new ≡ world.old) × (source.new ≡ source.old) }
+    ensures node { (place : Place) (runs : Runs) → IsNode place runs words.now
+        → (exit : Exit) × (result ≡ status_of exit)
+        × ServeEnds (place ∷ []) runs
+        (outside (only place (D.told (value_of disks.old place))) (L.told link.old)
+        (C.told clock.old))
+        (outside (only place (D.told (value_of disks.new place))) (L.told link.new)
+        (C.told clock.new))
+        (K.written sink.old) (K.written sink.new) exit
+        × (disks.new ≡ with_value disks.old place (value_of disks.new place))
+        × (world.new ≡ world.old) × (source.new ≡ source.old) }
+    ensures group { (runs : Runs) → IsGroup runs words.now
+        → (exit : Exit) × (result ≡ status_of exit)
+        × ServeEnds all_places runs
+        (outside (each D.told disks.old) (L.told link.old) (C.told clock.old))
+        (outside (each D.told disks.new) (L.told link.new) (C.told clock.new))
+        (K.written sink.old) (K.written sink.new) exit
+        × (world.new ≡ world.old) × (source.new ≡ source.old) }
+    ensures apart { (Serves words.now → ⊥)
+        → (link.new ≡ link.old) × (disks.new ≡ disks.old) × (clock.new ≡ clock.old) }
     ensures usage { (IsForm words.now → ⊥)
         → (exit : Exit) × (result ≡ status_of exit)
         × UsageEnds (K.written sink.old) (K.written sink.new) exit
@@ -70,19 +134,43 @@ pub fn harp<R: Threads + Sync, S: Source, K: Sink>(
     ensures refused_words { result ≡ 2 → IsForm words.now → ⊥ }
     ensures source_failed { result ≡ 3 → Rose (S.faults source.old) (S.faults source.new) }
     ensures sink_failed { result ≡ 4 → Rose (K.faults sink.old) (K.faults sink.new) }
-    // What each line of a text means, by the grammar of steps.
+    ensures disk_failed { result ≡ 7
+        → OneRose (each D.faults disks.old) (each D.faults disks.new) }
+    ensures link_failed { result ≡ 8 → Rose (L.faults link.old) (L.faults link.new) }
+    // What each line of a text means, by the grammar of steps, and that no step that is read of one
+    // is refused.
     ensures meaning { (line : List ℕ) → Explains line (meaning_of line) }
-    // What the trace of a text is.
-    ensures closed { (text : List ℕ) → IsClosed (trace_of text) }
-    ensures events { (text : List ℕ) → steps (trace_of text) ≡ (reading text).steps }
-    ensures faithful { (text : List ℕ) → IsFaithful (trace_of text) }
-    ensures acknowledged { (text : List ℕ) → AreAcknowledged (trace_of text) }
-    ensures answered_at_once { (text : List ℕ) → AreAnsweredAtOnce (trace_of text) }
+    ensures taken { (text : List ℕ) → AreTaken sizes first_scene (reading sizes text).steps }
+    // What the trace of a text is: closed, faithful, acknowledged, answered at once, and the rest.
+    ensures right { (text : List ℕ) → IsRight (trace_of sizes text) }
+    ensures events { (text : List ℕ) → steps (trace_of sizes text) ≡ (reading sizes text).steps }
+    // What the group is that the steps of a text leave: its book, what stands in its later views,
+    // and its disks.
+    ensures book { (text : List ℕ)
+        → entries (trace_of sizes text) ≡ (group_left sizes text).book }
+    ensures views { (text : List ℕ)
+        → AtEachPlace (StandsInGroup (group_left sizes text)) (trace_of sizes text) }
+    ensures disks { (text : List ℕ) → DiskRunIsRight spellings (reading sizes text).steps }
+    // What each first part of its lines is.
+    ensures parts { (text : List ℕ) → FirstPartsAreRight sizes (reading sizes text).steps }
 {
+    every_text();
     match command_of(words) {
         Some(Command::Play) => play(alloc, world, source, sink).status(),
         Some(Command::Check) => check(alloc, source, sink).status(),
         Some(Command::Gen { seed, lines }) => generate(alloc, seed, lines, sink).status(),
+        Some(Command::Sweep { seed, runs, lines }) => {
+            sweep(rt, alloc, &GroupPlayer, seed, runs, lines, sink).status()
+        }
+        Some(Command::Node { place, runs }) => {
+            let folder = words[3].as_str();
+            let disk = disks.get_mut(place);
+            serve_node(alloc, place, runs, folder, sink, link, disk, clock).status()
+        }
+        Some(Command::Group { runs }) => {
+            let folder = words[2].as_str();
+            serve_group(alloc, runs, folder, sink, link, disks, clock).status()
+        }
         None => write_usage(sink).status(),
     }
 }

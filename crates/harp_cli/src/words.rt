@@ -1,18 +1,23 @@
 //! The words of a command.
 
-ghost use Rattle.std.specs.Prelude.{◌≡◌, ℕ, ◌<◌, ◌^◌, MatchOption, decimal};
+ghost use Rattle.std.specs.Prelude.{◌≡◌, [], MatchOption, codes};
 ghost use Rattle.harp_base.specs.Streams.{Rose};
-ghost use Rattle.harp_cli.specs.Words.{AreGen, AsksFor, GenSpells, IsForm, UsageEnds, usage_text};
+ghost use Rattle.harp_cli.specs.declared.words.Command.{Command as Asked};
+ghost use Rattle.harp_cli.specs.Words.{AsksFor, IsForm, Named, UsageEnds, texts, usage_text};
 
 use crate::exit::Exit;
-use harp_base::{Sink, SinkFault, write_all};
-use itoa::Buffer;
+use crate::loop_words::{Loop, group_of, node_of};
+use crate::number::number_within;
+use harp_base::{ServerId, Sink, SinkFault, write_all};
 
-/// The seeds of schedules are below this.
-const SEEDS: u64 = 1_000_000_000_000_000_000;
+/// The greatest seed of a schedule.
+const LAST_SEED: u64 = 999_999_999_999_999_999;
 
 /// The most lines that are drawn.
-const LINES: u32 = 40_000;
+const MOST_LINES: u64 = 40_000;
+
+/// The most runs of a sweep.
+const MOST_RUNS: u64 = 10_000;
 
 /// What the words of a command ask for.
 #[derive(Clone, Copy, Debug, PartialEq, Eq)]
@@ -21,50 +26,84 @@ pub enum Command {
     Check,
     /// The schedule of a seed, with so many drawn lines.
     Gen { seed: u64, lines: u32 },
+    /// Runs of the schedules of so many seeds from this one on, with so many drawn lines each.
+    Sweep { seed: u64, runs: u32, lines: u32 },
+    /// One server.
+    Node { place: ServerId, runs: Loop },
+    /// All three servers.
+    Group { runs: Loop },
 }
 
-/// The number that a word is the decimal spelling of, without leading zeros.
-fn number_of(word: &str) -> Option<u64>
-    ensures { MatchOption result ((n : ℕ) → n < 2 ^ 64 → word.now ≡ decimal n → ⊥)
-        (λ n. word.now ≡ decimal n) }
+/// The command of this one name, where no words stand behind it.
+fn alone(command: Command, words: &[String]) -> Option<Command>
+    ensures { MatchOption result (texts words.now ≡ [] → ⊥)
+        (λ c. (c ≡ command) × (texts words.now ≡ [])) }
 {
-    let Ok(number) = word.parse::<u64>() else {
+    if words.is_empty() {
+        Some(command)
+    } else {
+        None
+    }
+}
+
+/// The schedule that the words behind `gen` ask for.
+fn gen_of(words: &[String]) -> Option<Command>
+    ensures { MatchOption result
+        ((c : Asked) → Named (codes "gen") (texts words.now) c → ⊥)
+        (Named (codes "gen") (texts words.now)) }
+{
+    let [seed, lines] = words else {
         return None;
     };
-    let mut buffer = Buffer::new();
-    if buffer.format(number) == word {
-        Some(number)
-    } else {
-        None
-    }
+    let seed = number_within(seed.as_str(), 0, LAST_SEED)?;
+    let lines = number_within(lines.as_str(), 0, MOST_LINES)?;
+    Some(Command::Gen {
+        seed,
+        lines: lines as u32,
+    })
 }
 
-/// The command of a seed and a number of lines, where each is within its bounds.
-fn gen_of(seed: &str, lines: &str) -> Option<Command>
-    ensures { MatchOption result ((s n : ℕ) → AreGen s n seed.now lines.now → ⊥)
-        (GenSpells seed.now lines.now) }
+/// The runs that the words behind `sweep` ask for.
+fn sweep_of(words: &[String]) -> Option<Command>
+    ensures { MatchOption result
+        ((c : Asked) → Named (codes "sweep") (texts words.now) c → ⊥)
+        (Named (codes "sweep") (texts words.now)) }
 {
-    let seed = number_of(seed)?;
-    let lines = number_of(lines)?;
-    if seed < SEEDS && lines <= u64::from(LINES) {
-        Some(Command::Gen {
-            seed,
-            lines: lines as u32,
-        })
-    } else {
-        None
-    }
+    let [seed, runs, lines] = words else {
+        return None;
+    };
+    let seed = number_within(seed.as_str(), 0, LAST_SEED)?;
+    let runs = number_within(runs.as_str(), 1, MOST_RUNS)?;
+    let lines = number_within(lines.as_str(), 0, MOST_LINES)?;
+    Some(Command::Sweep {
+        seed,
+        runs: runs as u32,
+        lines: lines as u32,
+    })
 }
 
 /// What the words ask for, if they are one of the forms.
 pub fn command_of(words: &[String]) -> Option<Command>
     ensures { MatchOption result (IsForm words.now → ⊥) (AsksFor words.now) }
 {
-    match words {
-        [word] if word.as_str() == "play" => Some(Command::Play),
-        [word] if word.as_str() == "check" => Some(Command::Check),
-        [word, seed, lines] if word.as_str() == "gen" => gen_of(seed.as_str(), lines.as_str()),
-        _ => None,
+    let [word, rest @ ..] = words else {
+        return None;
+    };
+    let word = word.as_str();
+    if word == "play" {
+        alone(Command::Play, rest)
+    } else if word == "check" {
+        alone(Command::Check, rest)
+    } else if word == "gen" {
+        gen_of(rest)
+    } else if word == "sweep" {
+        sweep_of(rest)
+    } else if word == "node" {
+        node_of(rest)
+    } else if word == "group" {
+        group_of(rest)
+    } else {
+        None
     }
 }
 
@@ -73,7 +112,15 @@ pub fn command_of(words: &[String]) -> Option<Command>
 fn usage() -> &'static [u8]
     ensures { result.now ≡ usage_text }
 {
-    b"usage: harp play\nusage: harp check\nusage: harp gen SEED LINES\n"
+    b"usage: harp play
+usage: harp check
+usage: harp gen SEED LINES
+usage: harp sweep SEED RUNS LINES
+usage: harp node S PORT DIR TURNS
+usage: harp group PORT DIR TURNS
+usage: harp node S PORT DIR TURNS DELTA
+usage: harp group PORT DIR TURNS DELTA
+"
 }
 
 /// Writes how the program is called.

@@ -7,8 +7,6 @@ use Rattle.harp_base.specs.declared.attr.SetAttr.{SetAttr}
 use Rattle.harp_base.specs.declared.call.Call.{Call}
 use Rattle.harp_base.specs.declared.call.Call.TheVariants as call
 use Rattle.harp_base.specs.declared.cred.Cred.{Cred}
-use Rattle.trace_lines.specs.declared.step.Step.{Step}
-use Rattle.trace_lines.specs.declared.step.Step.TheVariants as step
 use Rattle.spelling.specs.Text.{left}
 
 -- bytes, at most so many
@@ -59,12 +57,3 @@ PairFits pair = number_of pair.0 < number_of pair.1
 abbrev pub AmongFits : Option (ServerId × ServerId) → Type 0
 AmongFits None = Unit {0}
 AmongFits (Some pair) = PairFits pair
-
-abbrev pub StepFits : Step → Type 0
-StepFits (step.Ask server client number cred call) =
-    (client < 2 ^ 32) × (number < 10 ^ 18) × CredFits cred × CallFits call
-StepFits (step.Deliver packet) = packet < 10 ^ 18
-StepFits (step.Pump among) = AmongFits among
-StepFits (step.Tick server) = Unit {0}
-StepFits (step.Clock server reading) = reading < 10 ^ 18
-StepFits (step.Advance millis) = millis ≤ 10 ^ 9

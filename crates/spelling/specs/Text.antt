@@ -1,4 +1,4 @@
--- The one spelling of each call, reply and step.
+-- The one spelling of each call and reply, and of what steps tell beside them.
 use Rattle.std.specs.Prelude.{ℕ, ◌==◌, Bool, ◌&&◌, ◌||◌, not, true, false, List, [], ◌∷◌, ◌++◌, codes, decimal, Option, Some, None, if◌then◌else◌}
 use Rattle.std.specs.List.{flat_map}
 use Rattle.std.specs.Fmt.{digits}
@@ -19,8 +19,6 @@ use Rattle.harp_base.specs.declared.reply.Status.{Status}
 use Rattle.harp_base.specs.declared.reply.Status.TheVariants as status
 use Rattle.harp_base.specs.declared.reply.Reply.{Reply}
 use Rattle.harp_base.specs.declared.reply.Reply.TheVariants as reply
-use Rattle.trace_lines.specs.declared.step.Step.{Step}
-use Rattle.trace_lines.specs.declared.step.Step.TheVariants as step
 
 -- a word behind a space
 abbrev pub spaced : List ℕ → List ℕ
@@ -196,7 +194,7 @@ reply_text (reply.Space transfer block blocks free available) =
     codes "fs" ++ spaced (decimal transfer) ++ spaced (decimal block) ++ spaced (decimal blocks)
     ++ spaced (decimal free) ++ spaced (decimal available)
 
--- ---- steps
+-- ---- parts of steps
 
 -- `ask`, the server, the client and its number
 unfoldable pub ask_head : ServerId → ℕ → ℕ → List ℕ
@@ -212,13 +210,3 @@ pair_text pair = decimal (number_of pair.0) ++ decimal (number_of pair.1)
 unfoldable pub among_text : Option (ServerId × ServerId) → List ℕ
 among_text None = []
 among_text (Some pair) = spaced (pair_text pair)
-
-unfoldable pub step_text : Step → List ℕ
-step_text (step.Ask server client number cred call) =
-    ask_head server client number ++ cred_text cred ++ spaced (call_text call)
-step_text (step.Deliver packet) = codes "deliver" ++ spaced (decimal packet)
-step_text (step.Pump among) = codes "pump" ++ among_text among
-step_text (step.Tick server) = codes "tick" ++ spaced (decimal (number_of server))
-step_text (step.Clock server reading) =
-    codes "clock" ++ spaced (decimal (number_of server)) ++ spaced (decimal reading)
-step_text (step.Advance millis) = codes "advance" ++ spaced (decimal millis)

@@ -1,5 +1,4 @@
-//! The one spelling of each step of a schedule and of each line of a trace. There are hardly more
-//! than definitions.
+//! The one spelling of the fields of schedules and traces. There are hardly more than definitions.
 #![tactic(auto)]
 
 mod cred;

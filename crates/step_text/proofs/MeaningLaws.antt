@@ -9,7 +9,7 @@ use Rattle.spelling.specs.Text.{spaced, call_text, cred_text, ask_head, among_te
 use Rattle.step_spelling.specs.Steps.{step_text}
 use Rattle.step_spelling.specs.Fits.{StepFits}
 use Rattle.text_fields.specs.declared.fault.TextFault.{TextFault}
-use Rattle.text_fields.specs.declared.fault.TextFault.TheVariants.{Grammar, Unbuilt, NoMemory}
+use Rattle.text_fields.specs.declared.fault.TextFault.TheVariants.{Grammar, NoMemory}
 use Rattle.text_fields.specs.Fields.{Read, ◌>>=◌, EndsWord, word_at}
 use Rattle.text_fields.specs.Words.{named_at}
 use Rattle.text_fields.proofs.Places.{Spells, Spells-then, drop_past, bind_ok, ok_is, passed}
@@ -207,7 +207,6 @@ explained line = by (is_blank line) refl
     read (Err (Grammar n)) placed is letter =
         no_step line n (ap (meant line) letter
         ∙ ap (λ (r : Result Step TextFault). r >>= λ s. Ok (Some s)) is)
-    read (Err Unbuilt) placed is letter = absurd placed
     read (Err NoMemory) placed is letter = absurd placed
 
     by : (b : Bool) → is_blank line ≡ b → Explains line (meant line b)

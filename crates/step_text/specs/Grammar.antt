@@ -4,7 +4,7 @@ use Rattle.trace_types.specs.declared.step.Step.{Step}
 use Rattle.step_spelling.specs.Steps.{step_text}
 use Rattle.step_spelling.specs.Fits.{StepFits}
 use Rattle.text_fields.specs.declared.fault.TextFault.{TextFault}
-use Rattle.text_fields.specs.declared.fault.TextFault.TheVariants.{Grammar, Unbuilt, NoMemory}
+use Rattle.text_fields.specs.declared.fault.TextFault.TheVariants.{Grammar, NoMemory}
 
 -- the line is the spelling of this step
 pub record IsStepLine (line : List ℕ) (s : Step) : Type 0 where
@@ -26,5 +26,4 @@ abbrev pub Explains : List ℕ → Result (Option Step) TextFault → Type 0
 Explains line (Ok (Some s)) = IsStepLine line s
 Explains line (Ok None) = IsBlank line
 Explains line (Err (Grammar place)) = IsNoStep line
-Explains line (Err Unbuilt) = ⊥
 Explains line (Err NoMemory) = ⊥

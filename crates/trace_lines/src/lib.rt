@@ -1,8 +1,6 @@
-//! The steps of a schedule and the lines of a trace, as values.
+//! What the lines of a trace say of calls, as values.
 #![tactic(auto)]
 
 mod line;
-mod step;
 
-pub use line::{BookEntry, Cause, Line, LineFault, ShownMessage};
-pub use step::Step;
+pub use line::{BookEntry, Cause};

@@ -1,9 +1,8 @@
-//! What a line of a trace says.
+//! What lines of a trace say of a call.
 
 ghost use Rattle.std.specs.Prelude.{◌≡◌, IfOk};
 
-use crate::step::Step;
-use harp_base::{Call, Cred, Reply, ServerId, StateLine, ViewNo};
+use harp_base::{Call, Cred, Reply, ServerId};
 use std::alloc::{AllocError, Global};
 
 /// A call that stands in the book, with its reply. A read has the index 0 and the stamp 0.
@@ -54,100 +53,4 @@ pub enum Cause {
     LogFull,
     /// The client has asked an update with a greater number.
     Old,
-}
-
-/// What a trace shows of a message from one server to another.
-#[derive(Clone, Copy, Debug, PartialEq, Eq)]
-pub enum ShownMessage {
-    /// A record with this index, of this client and number; the leader's CP and base.
-    Event {
-        view: ViewNo,
-        index: u64,
-        cp: u64,
-        base: u64,
-        client: u32,
-        number: u64,
-    },
-    /// The leader's CP and base.
-    Beat {
-        view: ViewNo,
-        cp: u64,
-        base: u64,
-    },
-    /// The partner's top and LB, and the moment until which it promises to help no other view.
-    Ack {
-        view: ViewNo,
-        top: u64,
-        lb: u64,
-        until: u64,
-    },
-}
-
-/// Why a line of a schedule ends the run.
-#[derive(Clone, Copy, Debug, PartialEq, Eq)]
-pub enum LineFault {
-    /// No step is spelled so.
-    Grammar,
-    /// The line has more than 20,000 bytes.
-    TooLong,
-    /// It is a line past the 50,000th.
-    TooMany,
-    /// The step is one of a later stage.
-    Unbuilt,
-    /// No packet has the number.
-    NoPacket,
-    /// The clock would go back.
-    ClockBack,
-    /// Two clocks would be more than 50 milliseconds apart.
-    ClockApart,
-}
-
-/// One line of a trace.
-#[derive(Debug, Drop)]
-pub enum Line {
-    /// A step begins. The lines up to the next event line are what it gave.
-    Event {
-        step: Step,
-    },
-    /// A call is entered in the book, as its entry of this place, from 1.
-    Entered {
-        place: u64,
-        entry: BookEntry,
-    },
-    /// A client is answered: for an update its index, for a read the number of updates committed.
-    Answered {
-        server: ServerId,
-        client: u32,
-        number: u64,
-        index: u64,
-        reply: Reply,
-    },
-    /// A client is refused.
-    Refused {
-        server: ServerId,
-        client: u32,
-        number: u64,
-        cause: Cause,
-    },
-    /// A packet is sent, with the next number from 0.
-    Sent {
-        packet: u64,
-        from: ServerId,
-        to: ServerId,
-        message: ShownMessage,
-    },
-    /// The server that stepped has another state than before.
-    State {
-        server: ServerId,
-        state: StateLine,
-    },
-    /// The last line, where a line of the schedule (from 1) is refused.
-    Bad {
-        line: u64,
-        fault: LineFault,
-    },
-    /// The last line, with the number of entered lines.
-    End {
-        entered: u64,
-    },
 }

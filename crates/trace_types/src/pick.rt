@@ -35,7 +35,8 @@ impl Bits {
 
     /// The bits in order.
     pub fn as_slice(&self) -> &[bool]
-        ensures { result.now ≡ self.now }
+        ensures value { result.now ≡ self.now }
+        ensures bounds { (1 ≤ length result.now) × (length result.now ≤ 64) }
     {
         self.items.as_slice()
     }

@@ -97,7 +97,6 @@ impl Judge {
             Ok(line) => self.judge_line(alloc, &line),
             Err(TextFault::NoMemory) => Err(AllocError),
             Err(TextFault::Grammar(_)) => Ok(Some(self.unread())),
-            Err(TextFault::Unbuilt) => Ok(Some(self.unread())),
         }
     }
 

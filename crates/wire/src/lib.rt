@@ -5,7 +5,6 @@ mod decoding;
 mod encoding;
 mod forms;
 mod message;
-pub mod one_view;
 mod parts;
 mod records;
 mod storers;

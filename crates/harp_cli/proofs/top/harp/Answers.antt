@@ -1,85 +1,24 @@
-use Rattle.std.proofs.Common.{◌≡◌, ◌∙◌, refl, subst, sym}
+use Rattle.std.proofs.Common.{ap, arith, rules, inl, inr, refl, subst, sym, ◌∙◌}
+use Rattle.harp_cli.specs.Play.{sizes}
+use Rattle.sweep_player.specs.Reading.{summary_of_steps}
 use Rattle.harp_cli.specs.declared.words.Command.TheVariants as command
 use Rattle.harp_cli.specs.Check.{StatusAgrees}
+use Rattle.harp_cli.specs.Exit.{status_of}
+use Rattle.node_loop.specs.Scene.{all_places}
 use Rattle.harp_cli.specs.Gen.{GenEnds}
+use Rattle.harp_cli.specs.Words.{AsksFor}
 use Rattle.harp_cli.proofs.Checks.{agrees}
-use Rattle.harp_cli.proofs.WordLaws.{asks_once}
-use Rattle.schedule_text.proofs.MeaningLaws.{explained}
-use Rattle.harp_cli.proofs.TraceLaws.{events, right}
+use Rattle.harp_cli.proofs.ServeLaws.{node_ends, same_ends}
+use Rattle.harp_cli.proofs.SweepLaws.{same_sweep}
+use Rattle.harp_cli.proofs.WordLaws.{one_gen, one_group, one_node, one_sweep}
 use Rattle.harp_cli.proofs.top.harp.Goals as goal
 
-pub returns-in-Some-Play-clause-meaning : goal.returns-in-Some-Play-clause-meaning
-returns-in-Some-Play-clause-meaning g c = explained
-
-pub returns-in-Some-Play-clause-closed : goal.returns-in-Some-Play-clause-closed
-returns-in-Some-Play-clause-closed g c = λ text. (right text).closed
-
-pub returns-in-Some-Play-clause-events : goal.returns-in-Some-Play-clause-events
-returns-in-Some-Play-clause-events g c = events
-
-pub returns-in-Some-Play-clause-faithful : goal.returns-in-Some-Play-clause-faithful
-returns-in-Some-Play-clause-faithful g c = λ text. (right text).faithful
-
-pub returns-in-Some-Play-clause-acknowledged : goal.returns-in-Some-Play-clause-acknowledged
-returns-in-Some-Play-clause-acknowledged g c = λ text. (right text).acknowledged
-
-pub returns-in-Some-Play-clause-answered_at_once : goal.returns-in-Some-Play-clause-answered_at_once
-returns-in-Some-Play-clause-answered_at_once g c = λ text. (right text).answered_at_once
-
-pub returns-in-Some-Check-clause-meaning : goal.returns-in-Some-Check-clause-meaning
-returns-in-Some-Check-clause-meaning g c = explained
-
-pub returns-in-Some-Check-clause-closed : goal.returns-in-Some-Check-clause-closed
-returns-in-Some-Check-clause-closed g c = λ text. (right text).closed
-
-pub returns-in-Some-Check-clause-events : goal.returns-in-Some-Check-clause-events
-returns-in-Some-Check-clause-events g c = events
-
-pub returns-in-Some-Check-clause-faithful : goal.returns-in-Some-Check-clause-faithful
-returns-in-Some-Check-clause-faithful g c = λ text. (right text).faithful
-
-pub returns-in-Some-Check-clause-acknowledged : goal.returns-in-Some-Check-clause-acknowledged
-returns-in-Some-Check-clause-acknowledged g c = λ text. (right text).acknowledged
-
-pub returns-in-Some-Check-clause-answered_at_once :
-    goal.returns-in-Some-Check-clause-answered_at_once
-returns-in-Some-Check-clause-answered_at_once g c = λ text. (right text).answered_at_once
-
-pub returns-in-Some-Gen-clause-meaning : goal.returns-in-Some-Gen-clause-meaning
-returns-in-Some-Gen-clause-meaning g c = explained
-
-pub returns-in-Some-Gen-clause-closed : goal.returns-in-Some-Gen-clause-closed
-returns-in-Some-Gen-clause-closed g c = λ text. (right text).closed
-
-pub returns-in-Some-Gen-clause-events : goal.returns-in-Some-Gen-clause-events
-returns-in-Some-Gen-clause-events g c = events
-
-pub returns-in-Some-Gen-clause-faithful : goal.returns-in-Some-Gen-clause-faithful
-returns-in-Some-Gen-clause-faithful g c = λ text. (right text).faithful
-
-pub returns-in-Some-Gen-clause-acknowledged : goal.returns-in-Some-Gen-clause-acknowledged
-returns-in-Some-Gen-clause-acknowledged g c = λ text. (right text).acknowledged
-
-pub returns-in-Some-Gen-clause-answered_at_once : goal.returns-in-Some-Gen-clause-answered_at_once
-returns-in-Some-Gen-clause-answered_at_once g c = λ text. (right text).answered_at_once
-
-pub returns-in-None-clause-meaning : goal.returns-in-None-clause-meaning
-returns-in-None-clause-meaning g c = explained
-
-pub returns-in-None-clause-closed : goal.returns-in-None-clause-closed
-returns-in-None-clause-closed g c = λ text. (right text).closed
-
-pub returns-in-None-clause-events : goal.returns-in-None-clause-events
-returns-in-None-clause-events g c = events
-
-pub returns-in-None-clause-faithful : goal.returns-in-None-clause-faithful
-returns-in-None-clause-faithful g c = λ text. (right text).faithful
-
-pub returns-in-None-clause-acknowledged : goal.returns-in-None-clause-acknowledged
-returns-in-None-clause-acknowledged g c = λ text. (right text).acknowledged
-
-pub returns-in-None-clause-answered_at_once : goal.returns-in-None-clause-answered_at_once
-returns-in-None-clause-answered_at_once g c = λ text. (right text).answered_at_once
+pub returns-in-Some-Play-clause-complete : goal.returns-in-Some-Play-clause-complete
+returns-in-Some-Play-clause-complete g c = λ is text told source sink.
+    elim (c.play.ensures.complete text told source sink) [
+      | inl e ↦ inl (c.status.ensures ∙ ap status_of e)
+      | inr e ↦ inr (c.status.ensures ∙ ap status_of e)
+    ]
 
 pub returns-in-Some-Check-clause-check_agrees : goal.returns-in-Some-Check-clause-check_agrees
 returns-in-Some-Check-clause-check_agrees g c = λ is text told.
@@ -92,15 +31,210 @@ returns-in-Some-Gen-clause-generate g c = λ seed lines is.
     let after = g.K.Sink.written c.generate.new.sink in
     let s = c.in-Some-Gen.seed in
     let n = c.in-Some-Gen.lines in
-    let once : command.Gen s n ≡ command.Gen seed lines = sym c.in-Some-Gen.field-0-is
-    ∙ asks_once c.args.words.now c.in-Some-Gen.field-0 (command.Gen seed lines)
-    c.in-Some-Gen.ensures is in
-    let seeds : s ≡ seed = cc in
-    let counts : n ≡ lines = cc in (
+    let asked : AsksFor c.args.words.now (command.Gen s n) =
+    subst (AsksFor c.args.words.now) c.in-Some-Gen.field-0-is c.in-Some-Gen.ensures in
+    let once = one_gen c.args.words.now s n seed lines asked is in (
       c.generate.result,
       c.status-in-Some-Gen.ensures,
-      subst (λ x. GenEnds x lines before after c.generate.result) seeds
-          (subst (λ x. GenEnds s x before after c.generate.result) counts c.generate.ensures.ends),
+      subst (λ x. GenEnds x lines before after c.generate.result) once.0
+          (subst (λ x. GenEnds s x before after c.generate.result) once.1 c.generate.ensures.ends),
       refl,
       refl,
     )
+
+pub sweep-requires : goal.sweep-requires
+sweep-requires g c =
+    let asked : AsksFor c.args.words.now
+    (command.Sweep c.in-Some-Sweep.seed c.in-Some-Sweep.runs c.in-Some-Sweep.lines) =
+    subst (AsksFor c.args.words.now) c.in-Some-Sweep.field-0-is c.in-Some-Sweep.ensures in
+    (search rules, omega (arith, asked.1, asked.3))
+
+pub returns-in-Some-Sweep-clause-sweep : goal.returns-in-Some-Sweep-clause-sweep
+returns-in-Some-Sweep-clause-sweep g c = λ seed runs lines is.
+    let before = g.K.Sink.written c.args.sink.now in
+    let after = g.K.Sink.written c.sweep.new.sink in
+    let s = c.in-Some-Sweep.seed in
+    let k = c.in-Some-Sweep.runs in
+    let n = c.in-Some-Sweep.lines in
+    let asked : AsksFor c.args.words.now (command.Sweep s k n) =
+    subst (AsksFor c.args.words.now) c.in-Some-Sweep.field-0-is c.in-Some-Sweep.ensures in
+    let once = one_sweep c.args.words.now s k n seed runs lines asked is in (
+      c.sweep.result,
+      c.status-in-Some-Sweep.ensures,
+      same_sweep (summary_of_steps sizes) s k n seed runs lines before after c.sweep.result once.0
+          once.1 once.2 c.sweep.ensures.ends,
+      refl,
+      refl,
+    )
+
+pub returns-in-None-clause-sweep : goal.returns-in-None-clause-sweep
+returns-in-None-clause-sweep g c = λ seed runs lines is.
+    absurd (c.in-None.ensures (command.Sweep seed runs lines, is))
+
+pub returns-in-Some-Node-clause-node : goal.returns-in-Some-Node-clause-node
+returns-in-Some-Node-clause-node g c = λ place runs is.
+    let words = c.args.words.now in
+    let own = c.in-Some-Node.place in
+    let loops = c.in-Some-Node.runs in
+    let asked : AsksFor words (command.Node own loops) =
+    subst (AsksFor words) c.in-Some-Node.field-0-is c.in-Some-Node.ensures in
+    let once = one_node words own place loops runs asked is in
+    let ends = node_ends g.D.Store.told c.args.disks.now _ _ own place loops runs _ _ _ _ _ _
+    c.serve_node.result c.get_mut-disk.ensures.value once.0 once.1 c.serve_node.ensures.ends in (
+      c.serve_node.result,
+      c.status-in-Some-Node.ensures,
+      ends.0,
+      ends.1,
+      refl,
+      refl,
+    )
+
+pub returns-in-Some-Group-clause-group : goal.returns-in-Some-Group-clause-group
+returns-in-Some-Group-clause-group g c = λ runs is.
+    let words = c.args.words.now in
+    let loops = c.in-Some-Group.runs in
+    let asked : AsksFor words (command.Group loops) =
+    subst (AsksFor words) c.in-Some-Group.field-0-is c.in-Some-Group.ensures in
+    let once = one_group words loops runs asked is in (
+      c.serve_group.result,
+      c.status-in-Some-Group.ensures,
+      same_ends all_places loops runs _ _ _ _ c.serve_group.result once
+          c.serve_group.ensures.ends,
+      refl,
+      refl,
+    )
+
+pub returns-in-None-clause-generate : goal.returns-in-None-clause-generate
+returns-in-None-clause-generate g c = λ seed lines is.
+    absurd (c.in-None.ensures (command.Gen seed lines, is))
+
+pub returns-in-None-clause-node : goal.returns-in-None-clause-node
+returns-in-None-clause-node g c = λ place runs is.
+    absurd (c.in-None.ensures (command.Node place runs, is))
+
+pub returns-in-None-clause-group : goal.returns-in-None-clause-group
+returns-in-None-clause-group g c = λ runs is.
+    absurd (c.in-None.ensures (command.Group runs, is))
+
+pub returns-in-Some-Play-clause-right : goal.returns-in-Some-Play-clause-right
+returns-in-Some-Play-clause-right g c = c.every_text.ensures.right sizes
+
+pub returns-in-Some-Play-clause-events : goal.returns-in-Some-Play-clause-events
+returns-in-Some-Play-clause-events g c = c.every_text.ensures.events sizes
+
+pub returns-in-Some-Play-clause-book : goal.returns-in-Some-Play-clause-book
+returns-in-Some-Play-clause-book g c = c.every_text.ensures.book sizes
+
+pub returns-in-Some-Play-clause-views : goal.returns-in-Some-Play-clause-views
+returns-in-Some-Play-clause-views g c = c.every_text.ensures.views sizes
+
+pub returns-in-Some-Play-clause-parts : goal.returns-in-Some-Play-clause-parts
+returns-in-Some-Play-clause-parts g c = c.every_text.ensures.parts sizes
+
+pub returns-in-Some-Check-clause-taken : goal.returns-in-Some-Check-clause-taken
+returns-in-Some-Check-clause-taken g c = c.every_text.ensures.taken sizes
+
+pub returns-in-Some-Check-clause-right : goal.returns-in-Some-Check-clause-right
+returns-in-Some-Check-clause-right g c = c.every_text.ensures.right sizes
+
+pub returns-in-Some-Check-clause-events : goal.returns-in-Some-Check-clause-events
+returns-in-Some-Check-clause-events g c = c.every_text.ensures.events sizes
+
+pub returns-in-Some-Check-clause-book : goal.returns-in-Some-Check-clause-book
+returns-in-Some-Check-clause-book g c = c.every_text.ensures.book sizes
+
+pub returns-in-Some-Check-clause-views : goal.returns-in-Some-Check-clause-views
+returns-in-Some-Check-clause-views g c = c.every_text.ensures.views sizes
+
+pub returns-in-Some-Check-clause-parts : goal.returns-in-Some-Check-clause-parts
+returns-in-Some-Check-clause-parts g c = c.every_text.ensures.parts sizes
+
+pub returns-in-Some-Gen-clause-taken : goal.returns-in-Some-Gen-clause-taken
+returns-in-Some-Gen-clause-taken g c = c.every_text.ensures.taken sizes
+
+pub returns-in-Some-Gen-clause-right : goal.returns-in-Some-Gen-clause-right
+returns-in-Some-Gen-clause-right g c = c.every_text.ensures.right sizes
+
+pub returns-in-Some-Gen-clause-events : goal.returns-in-Some-Gen-clause-events
+returns-in-Some-Gen-clause-events g c = c.every_text.ensures.events sizes
+
+pub returns-in-Some-Gen-clause-book : goal.returns-in-Some-Gen-clause-book
+returns-in-Some-Gen-clause-book g c = c.every_text.ensures.book sizes
+
+pub returns-in-Some-Gen-clause-views : goal.returns-in-Some-Gen-clause-views
+returns-in-Some-Gen-clause-views g c = c.every_text.ensures.views sizes
+
+pub returns-in-Some-Gen-clause-parts : goal.returns-in-Some-Gen-clause-parts
+returns-in-Some-Gen-clause-parts g c = c.every_text.ensures.parts sizes
+
+pub returns-in-Some-Sweep-clause-taken : goal.returns-in-Some-Sweep-clause-taken
+returns-in-Some-Sweep-clause-taken g c = c.every_text.ensures.taken sizes
+
+pub returns-in-Some-Sweep-clause-right : goal.returns-in-Some-Sweep-clause-right
+returns-in-Some-Sweep-clause-right g c = c.every_text.ensures.right sizes
+
+pub returns-in-Some-Sweep-clause-events : goal.returns-in-Some-Sweep-clause-events
+returns-in-Some-Sweep-clause-events g c = c.every_text.ensures.events sizes
+
+pub returns-in-Some-Sweep-clause-book : goal.returns-in-Some-Sweep-clause-book
+returns-in-Some-Sweep-clause-book g c = c.every_text.ensures.book sizes
+
+pub returns-in-Some-Sweep-clause-views : goal.returns-in-Some-Sweep-clause-views
+returns-in-Some-Sweep-clause-views g c = c.every_text.ensures.views sizes
+
+pub returns-in-Some-Sweep-clause-parts : goal.returns-in-Some-Sweep-clause-parts
+returns-in-Some-Sweep-clause-parts g c = c.every_text.ensures.parts sizes
+
+pub returns-in-Some-Node-clause-taken : goal.returns-in-Some-Node-clause-taken
+returns-in-Some-Node-clause-taken g c = c.every_text.ensures.taken sizes
+
+pub returns-in-Some-Node-clause-right : goal.returns-in-Some-Node-clause-right
+returns-in-Some-Node-clause-right g c = c.every_text.ensures.right sizes
+
+pub returns-in-Some-Node-clause-events : goal.returns-in-Some-Node-clause-events
+returns-in-Some-Node-clause-events g c = c.every_text.ensures.events sizes
+
+pub returns-in-Some-Node-clause-book : goal.returns-in-Some-Node-clause-book
+returns-in-Some-Node-clause-book g c = c.every_text.ensures.book sizes
+
+pub returns-in-Some-Node-clause-views : goal.returns-in-Some-Node-clause-views
+returns-in-Some-Node-clause-views g c = c.every_text.ensures.views sizes
+
+pub returns-in-Some-Node-clause-parts : goal.returns-in-Some-Node-clause-parts
+returns-in-Some-Node-clause-parts g c = c.every_text.ensures.parts sizes
+
+pub returns-in-Some-Group-clause-taken : goal.returns-in-Some-Group-clause-taken
+returns-in-Some-Group-clause-taken g c = c.every_text.ensures.taken sizes
+
+pub returns-in-Some-Group-clause-right : goal.returns-in-Some-Group-clause-right
+returns-in-Some-Group-clause-right g c = c.every_text.ensures.right sizes
+
+pub returns-in-Some-Group-clause-events : goal.returns-in-Some-Group-clause-events
+returns-in-Some-Group-clause-events g c = c.every_text.ensures.events sizes
+
+pub returns-in-Some-Group-clause-book : goal.returns-in-Some-Group-clause-book
+returns-in-Some-Group-clause-book g c = c.every_text.ensures.book sizes
+
+pub returns-in-Some-Group-clause-views : goal.returns-in-Some-Group-clause-views
+returns-in-Some-Group-clause-views g c = c.every_text.ensures.views sizes
+
+pub returns-in-Some-Group-clause-parts : goal.returns-in-Some-Group-clause-parts
+returns-in-Some-Group-clause-parts g c = c.every_text.ensures.parts sizes
+
+pub returns-in-None-clause-taken : goal.returns-in-None-clause-taken
+returns-in-None-clause-taken g c = c.every_text.ensures.taken sizes
+
+pub returns-in-None-clause-right : goal.returns-in-None-clause-right
+returns-in-None-clause-right g c = c.every_text.ensures.right sizes
+
+pub returns-in-None-clause-events : goal.returns-in-None-clause-events
+returns-in-None-clause-events g c = c.every_text.ensures.events sizes
+
+pub returns-in-None-clause-book : goal.returns-in-None-clause-book
+returns-in-None-clause-book g c = c.every_text.ensures.book sizes
+
+pub returns-in-None-clause-views : goal.returns-in-None-clause-views
+returns-in-None-clause-views g c = c.every_text.ensures.views sizes
+
+pub returns-in-None-clause-parts : goal.returns-in-None-clause-parts
+returns-in-None-clause-parts g c = c.every_text.ensures.parts sizes

@@ -1,31 +1,81 @@
-use Rattle.std.proofs.Common.{◌∙◌, ap, sym, ◌∷◌, [], arith}
-use Rattle.std.specs.Prelude.{map, codes, string_bytes}
+use Rattle.std.proofs.Common.{◌≡◌, ◌≤◌, ◌∙◌, ◌-◌, ◌∷◌, ℕ, List, Global, get_or, length, take, drop}
+use Rattle.std.proofs.Common.{ap, sym}
+use Rattle.std.specs.Prelude.{String, codes, string_bytes}
 use Rattle.std.specs.Cmp.Lexicographic.{same_text}
-use Rattle.harp_cli.proofs.WordLaws.{gen_asks, one_word, three_words}
+use Rattle.harp_cli.specs.Words.{texts}
+use Rattle.harp_cli.proofs.WordLaws.{by_name, check_alone, first_word, play_alone}
 use Rattle.harp_cli.proofs.words.command_of.Goals as goal
 
-pub returns-in-len1 : goal.returns-in-len1
-returns-in-len1 c =
-    let only = one_word c.args.words.now c.word-item.result (omega arith) (omega arith) in
-    ap (map (λ w. string_bytes w)) (only ∙ ap (λ w. w ∷ []) (sym c.word-item.is))
-    ∙ ap (λ t. t ∷ []) (sym c.as_str.ensures.value
-    ∙ same_text c.as_str.result.now (codes "play") c.if-eq.ensures)
+-- the words behind the first one
+rest : List (String Global) → List (List ℕ)
+rest words = texts (take (length words - 1) (drop 1 words))
 
-pub returns-in-len1-2 : goal.returns-in-len1-2
-returns-in-len1-2 c =
-    let word = c.word-item-then-words-lt2 in
-    let only = one_word c.args.words.now word.result (omega arith) (omega arith) in
-    ap (map (λ w. string_bytes w)) (only ∙ ap (λ w. w ∷ []) (sym word.is))
-    ∙ ap (λ t. t ∷ []) (sym c.as_str-then-words-lt2.ensures.value
-    ∙ same_text c.as_str-then-words-lt2.result.now (codes "check") c.if-eq-2.ensures)
+begin_with : (words : List (String Global)) (w : String Global) (text name : List ℕ)
+    → 1 ≤ length words → w ≡ get_or words 0 w → text ≡ string_bytes w → text ≡ name
+    → texts words ≡ name ∷ rest words
+unfolding rest
+begin_with words w text name some is told named = first_word words w some is
+    ∙ ap (λ t. t ∷ texts (take (length words - 1) (drop 1 words))) (sym told ∙ named)
 
-pub returns-in-len3 : goal.returns-in-len3
-returns-in-len3 c =
-    let word = c.word-item-then-words-lt4 in
-    let all = three_words c.args.words.now word.result c.seed-item.result c.lines-item.result
-    (omega arith) (omega arith) word.is c.seed-item.is c.lines-item.is in
-    gen_asks c.args.words.now word.result c.seed-item.result c.lines-item.result all
-    (sym c.as_str-then-words-lt4.ensures.value
-    ∙ same_text c.as_str-then-words-lt4.result.now (codes "gen") c.if-eq-3.ensures)
-    c.as_str-in-len3.result.now c.as_str-in-len3-2.result.now c.as_str-in-len3.ensures.value
-    c.as_str-in-len3-2.ensures.value c.gen_of.result c.gen_of.ensures
+pub returns-then-eq : goal.returns-then-eq
+unfolding rest
+returns-then-eq c =
+    let words = c.args.words.now in
+    let text = c.as_str-word.result.now in
+    let named = same_text text (codes "play") c.if-eq.ensures in
+    by_name words (codes "play") (rest words)
+    (begin_with words c.word-item.result text (codes "play") c.in-len1-up.len_at_least
+    c.word-item.is c.as_str-word.ensures.value named)
+    c.alone.result (play_alone (rest words) c.alone.result c.alone.ensures)
+
+pub returns-then-eq-2 : goal.returns-then-eq-2
+unfolding rest
+returns-then-eq-2 c =
+    let words = c.args.words.now in
+    let text = c.as_str-word.result.now in
+    let named = same_text text (codes "check") c.if-eq-2.ensures in
+    by_name words (codes "check") (rest words)
+    (begin_with words c.word-item.result text (codes "check") c.in-len1-up.len_at_least
+    c.word-item.is c.as_str-word.ensures.value named)
+    c.alone-then-eq-2.result
+    (check_alone (rest words) c.alone-then-eq-2.result c.alone-then-eq-2.ensures)
+
+pub returns-then-eq-3 : goal.returns-then-eq-3
+unfolding rest
+returns-then-eq-3 c =
+    let words = c.args.words.now in
+    let text = c.as_str-word.result.now in
+    let named = same_text text (codes "gen") c.if-eq-3.ensures in
+    by_name words (codes "gen") (rest words)
+    (begin_with words c.word-item.result text (codes "gen") c.in-len1-up.len_at_least
+    c.word-item.is c.as_str-word.ensures.value named) c.gen_of.result c.gen_of.ensures
+
+pub returns-then-eq-4 : goal.returns-then-eq-4
+unfolding rest
+returns-then-eq-4 c =
+    let words = c.args.words.now in
+    let text = c.as_str-word.result.now in
+    let named = same_text text (codes "sweep") c.if-eq-4.ensures in
+    by_name words (codes "sweep") (rest words)
+    (begin_with words c.word-item.result text (codes "sweep") c.in-len1-up.len_at_least
+    c.word-item.is c.as_str-word.ensures.value named) c.sweep_of.result c.sweep_of.ensures
+
+pub returns-then-eq-5 : goal.returns-then-eq-5
+unfolding rest
+returns-then-eq-5 c =
+    let words = c.args.words.now in
+    let text = c.as_str-word.result.now in
+    let named = same_text text (codes "node") c.if-eq-5.ensures in
+    by_name words (codes "node") (rest words)
+    (begin_with words c.word-item.result text (codes "node") c.in-len1-up.len_at_least
+    c.word-item.is c.as_str-word.ensures.value named) c.node_of.result c.node_of.ensures
+
+pub returns-then-eq-6 : goal.returns-then-eq-6
+unfolding rest
+returns-then-eq-6 c =
+    let words = c.args.words.now in
+    let text = c.as_str-word.result.now in
+    let named = same_text text (codes "group") c.if-eq-6.ensures in
+    by_name words (codes "group") (rest words)
+    (begin_with words c.word-item.result text (codes "group") c.in-len1-up.len_at_least
+    c.word-item.is c.as_str-word.ensures.value named) c.group_of.result c.group_of.ensures

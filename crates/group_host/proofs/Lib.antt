@@ -1,0 +1,13 @@
+pub mod Rules
+pub mod Stops
+pub mod NodeCalls
+pub mod Marks
+pub mod Givens
+pub mod Wholes
+pub mod Falls
+pub mod Takes
+pub mod Saves
+pub mod Starts
+pub mod Shown
+pub mod StopStores
+pub mod UntilStops

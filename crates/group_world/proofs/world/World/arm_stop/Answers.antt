@@ -1,0 +1,15 @@
+use Rattle.std.proofs.Common.{Some, ap, refl, sym}
+use Rattle.harp_base.specs.Trio.{with_value}
+use Rattle.host_rules.specs.declared.stop.Stop.{Stop}
+use Rattle.group_world.specs.World.{WorldValue}
+use Rattle.group_world.proofs.Quiet.{stop_taken}
+use Rattle.group_world.proofs.world.World.arm_stop.Goals as goal
+
+pub returns-clause-taken : goal.returns-clause-taken
+returns-clause-taken c =
+    let a = c.args in
+    let stop : Stop = record { calls = a.calls; pick = c.in_ok-pick_of.field-0 } in
+    stop_taken a.self.now _ a.server a.calls a.pick stop c.in_ok-lines.lines.items
+    c.in_ok-lines.ensures (ap (λ (x : WorldValue). record x {
+      stops = with_value x.stops a.server (Some stop);
+    }) c.self.view_is) (refl, sym c.in_ok-pick_of.ensures)

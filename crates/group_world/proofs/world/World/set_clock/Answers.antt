@@ -1,0 +1,12 @@
+use Rattle.std.proofs.Common.{ap}
+use Rattle.harp_base.specs.Trio.{with_value}
+use Rattle.group_world.specs.World.{WorldValue}
+use Rattle.group_world.proofs.Quiet.{clock_taken}
+use Rattle.group_world.proofs.world.World.set_clock.Goals as goal
+
+pub returns-clause-taken : goal.returns-clause-taken
+returns-clause-taken c =
+    let a = c.args in
+    clock_taken a.self.now _ a.server a.reading c.in_ok-lines.lines.items c.in_ok-lines.ensures
+    (ap (λ (x : WorldValue). record x { clocks = with_value x.clocks a.server a.reading })
+    c.self.view_is)

@@ -1,6 +1,0 @@
-use Rattle.std.proofs.Common.{◌≡◌, ◌++◌, drop}
-use Rattle.harp_cli.specs.Play.{trace_text}
-use Rattle.harp_cli.proofs.text.text_of.Given as goal
-
-abbrev pub invariant-loop-line : goal.invariant-loop-line
-invariant-loop-line l = l.text ++ trace_text (drop l.line-index l.lines) ≡ trace_text l.lines

@@ -1,4 +1,0 @@
-pub mod Trace
-pub mod Faithful
-pub mod Servers
-pub mod Acknowledged

@@ -1,0 +1,4 @@
+pub mod Begins
+pub mod Waits
+pub mod Laws
+pub mod Sizes

@@ -1,0 +1,6 @@
+pub mod CountLaws
+pub mod TallyLaws
+pub mod Deliveries
+pub mod Counting
+pub mod PlayLaws
+pub mod ClockLaws

@@ -1,0 +1,4 @@
+pub mod Counts
+pub mod Tally
+pub mod Reading
+pub mod OnTheWay

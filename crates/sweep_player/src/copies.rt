@@ -1,0 +1,85 @@
+//! Copies of steps.
+
+ghost use Rattle.std.specs.Prelude.{◌≡◌, IfOk};
+
+use std::alloc::{AllocError, Global};
+use trace_types::{Bits, Pick, Step};
+
+/// An equal pick.
+fn copy_of_pick(alloc: Global, pick: &Pick) -> Result<Pick, AllocError>
+    ensures { IfOk result (λ copy. copy ≡ pick.now) }
+{
+    match pick {
+        Pick::All => Ok(Pick::All),
+        Pick::None => Ok(Pick::None),
+        Pick::Bits { bits } => match Bits::of(Vec::from_slice(alloc, bits.as_slice())?) {
+            Some(bits) => Ok(Pick::Bits { bits }),
+            None => unreachable!(),
+        },
+    }
+}
+
+/// An equal step.
+pub fn copy_of(alloc: Global, step: &Step) -> Result<Step, AllocError>
+    ensures { IfOk result (λ copy. copy ≡ step.now) }
+{
+    Ok(match step {
+        Step::Ask {
+            server,
+            client,
+            number,
+            cred,
+            call,
+        } => Step::Ask {
+            server: *server,
+            client: *client,
+            number: *number,
+            cred: *cred,
+            call: call.copy(alloc)?,
+        },
+        Step::Deliver { packet } => Step::Deliver { packet: *packet },
+        Step::Pump { among } => Step::Pump { among: *among },
+        Step::Tick { server } => Step::Tick { server: *server },
+        Step::Suspect { server } => Step::Suspect { server: *server },
+        Step::Apply { server, most } => Step::Apply {
+            server: *server,
+            most: *most,
+        },
+        Step::Flush { server } => Step::Flush { server: *server },
+        Step::List { server } => Step::List { server: *server },
+        Step::Boot { server } => Step::Boot { server: *server },
+        Step::Power { server } => Step::Power { server: *server },
+        Step::PowerCut {
+            server,
+            calls,
+            pick,
+        } => Step::PowerCut {
+            server: *server,
+            calls: *calls,
+            pick: copy_of_pick(alloc, pick)?,
+        },
+        Step::Crash { server, pick } => Step::Crash {
+            server: *server,
+            pick: copy_of_pick(alloc, pick)?,
+        },
+        Step::Stop {
+            server,
+            calls,
+            pick,
+        } => Step::Stop {
+            server: *server,
+            calls: *calls,
+            pick: copy_of_pick(alloc, pick)?,
+        },
+        Step::Noise { server, bytes } => Step::Noise {
+            server: *server,
+            bytes: bytes.copy(alloc)?,
+        },
+        Step::Clock { server, reading } => Step::Clock {
+            server: *server,
+            reading: *reading,
+        },
+        Step::Advance { millis } => Step::Advance { millis: *millis },
+        Step::Delta { millis } => Step::Delta { millis: *millis },
+    })
+}

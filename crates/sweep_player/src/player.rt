@@ -1,0 +1,24 @@
+//! The player of a sweep.
+
+use crate::playing::summary_over;
+use group_world::World;
+use std::alloc::{AllocError, Global};
+use sweep::{Player, Summary};
+use trace_types::Step;
+
+/// Plays each list of steps in a new world of three servers.
+#[derive(Clone, Copy, Debug, PartialEq, Eq)]
+pub struct GroupPlayer;
+
+impl Player for GroupPlayer {
+    ghost use Rattle.group_disks.specs.Calls.{measures_of};
+    ghost use Rattle.host_rules.specs.Spellings.{spellings};
+    ghost use Rattle.sweep_player.specs.Reading.{summary_of_steps};
+
+    ghost summary_of = { λ player steps. summary_of_steps (measures_of spellings) steps };
+
+    fn play(&self, alloc: Global, steps: &[Step]) -> Result<Summary, AllocError> {
+        let mut world = World::new(alloc)?;
+        summary_over(alloc, &mut world, steps)
+    }
+}

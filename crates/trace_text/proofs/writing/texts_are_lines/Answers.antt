@@ -1,8 +1,0 @@
-use Rattle.trace_text.proofs.OneLine.{step_line, trace_line}
-use Rattle.trace_text.proofs.writing.texts_are_lines.Goals as goal
-
-pub returns-clause-step : goal.returns-clause-step
-returns-clause-step c = step_line
-
-pub returns-clause-line : goal.returns-clause-line
-returns-clause-line c = trace_line

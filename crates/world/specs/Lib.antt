@@ -1,4 +1,0 @@
-pub mod Packets
-pub mod State
-pub mod Given
-pub mod Served
