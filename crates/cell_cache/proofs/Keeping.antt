@@ -1,8 +1,7 @@
 -- Entries that are the cells' stay so.
-use Rattle.std.proofs.Common.{rules, arith, ◌≡◌, ℕ, ◌-◌, Bool, true, false, not, cond, ◌&&◌, ◌<◌, length, take, List, [], ◌∷◌, Option, Some, None, Contains, inl, inr, refl, sym, ap, ◌∙◌, subst}
+use Rattle.std.proofs.Common.{rules, arith, ◌≡◌, ℕ, ◌-◌, Bool, true, false, not, cond, ◌<◌, length, take, [], ◌∷◌, Option, Some, None, Contains, inl, inr, refl, sym, ap, ◌∙◌, subst}
 use Rattle.std.specs.Option.{is_some, option_map, option_map_or}
 use Rattle.std.specs.Bool.{if◌then◌else◌}
-use Rattle.std.specs.List.{filter}
 use Rattle.std.specs.Map.{lookup, lookup_entry, remove_entry}
 use Rattle.std.proofs.lemmas.Bool.{cases_Bool, eq-eqb}
 use Rattle.std.proofs.Math.Path.{fun_ext}
@@ -235,6 +234,27 @@ pub none_left : (x : Change) → left_by x [] ≡ []
 unfolding left_by
 none_left x = refl
 
+-- a put and an erasure of a cell drop the same entries
+pub put_left : (c : Cell) (v : Value) (es : Entries) → left_by (change.Erase c) es ≡ left_by (change.Put c v) es
+unfolding left_by sets
+put_left c v es = refl
+
+pub erased_itself : (c : Cell) → sets (change.Erase c) c ≡ true
+unfolding sets
+erased_itself c = is_cell_itself c c refl
+
+-- where the cell has no entry, an erasure of it drops none
+pub none_erased : (c : Cell) (es : Entries) → has_entry c es ≡ false → left_by (change.Erase c) es ≡ es
+unfolding sets
+none_erased c [] none = none_left (change.Erase c)
+none_erased c (e ∷ es) none = elim (cases_Bool (is_cell c e.0)) [
+  | inl is ↦
+      let bad : true ≡ false = sym (ap (λ (b : Bool). is_some (cond b (Some e.1) (lookup (is_cell c) es))) is) ∙ none in
+      absurd cc
+  | inr other ↦ set_later (change.Erase c) e es other
+      (none_erased c es (sym (ap (λ (b : Bool). is_some (cond b (Some e.1) (lookup (is_cell c) es))) other) ∙ none))
+]
+
 pub has_later : (c : Cell) (e : Cell × Option Value) (es : Entries) → has_entry c es ≡ true → has_entry c (e ∷ es) ≡ true
 has_later c e es has = elim (cases_Bool (is_cell c e.0)) [
   | inl is ↦ rw is refl
@@ -274,3 +294,11 @@ left_are x es cells are others is e h =
     let both = in_left x es e h in
     kept_one x cells e both.1 (are cells refl e both.0)
     ∙ ap (λ (o : Option Cells). elim o [ None ↦ e.1 | Some held ↦ held e.0 ]) is
+
+pub kept_is : (k : Kept) (l : Entries) (n : ℕ) → k.entries ≡ l → k.places ≡ n → k ≡ record_of l n
+kept_is k l n e p = subst (λ (x : Entries). k ≡ record_of x n) e (subst (λ (x : ℕ). k ≡ record_of k.entries x) p refl)
+
+pub left_after : (x : Change) (old new : Kept) → new ≡ record_of (left_by x old.entries) old.places
+    → (cells : Cells) → AreOf (Some cells) old.entries → AreOf (Some (after (x ∷ []) cells)) new.entries
+left_after x old new is cells are =
+    subst (λ (k : Kept). AreOf (Some (after (x ∷ []) cells)) k.entries) (sym is) (left_are x old.entries cells are)

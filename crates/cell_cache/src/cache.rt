@@ -4,6 +4,7 @@ ghost use Rattle.std.specs.Prelude.{◌≡◌, ◌-◌, ◌<◌, [], ◌∷◌, 
 ghost use Rattle.std.specs.Option.{option_copied};
 ghost use Rattle.std.specs.Map.{remove_entry};
 ghost use Rattle.harp_cells.specs.Effect.{Cells, Reads, after, is_cell, sets};
+ghost use Rattle.harp_cells.specs.declared.change.Change.TheVariants as change;
 ghost use Rattle.cell_cache.specs.Entries.{AreOf, IsUsed, has_entry, left_by, newest_of};
 
 use harp_cells::{Cell, Change, Value};
@@ -72,6 +73,13 @@ impl CellCache {
         value.as_ref()
     }
 
+    // Whether the cell has an entry.
+    fn has(&self, cell: Cell) -> bool
+        ensures { result ≡ has_entry cell self.now.entries }
+    {
+        self.entries.contains(&cell)
+    }
+
     // The cell of the first entry that a change sets.
     fn first_set(&self, change: &Change) -> Option<Cell>
         ensures found { IfSome result (λ c. sets change.now c ≡ true) }
@@ -98,6 +106,30 @@ impl CellCache {
         self.entries.pop(&cell);
     }
 
+    // Drops the entry of one cell, without a look at the others.
+    fn forget_cell(&mut self, cell: Cell)
+        ensures { self.new ≡ record {
+          entries = left_by (change.Erase cell) self.old.entries;
+          places = self.old.places;
+        } }
+    {
+        while self.has(cell) {
+            self.drop_entry(cell);
+        }
+    }
+
+    // Drops the entries of all cells that the change sets, which may be many.
+    fn forget_each(&mut self, change: &Change)
+        ensures { self.new ≡ record {
+          entries = left_by change.now self.old.entries;
+          places = self.old.places;
+        } }
+    {
+        while let Some(cell) = self.first_set(change) {
+            self.drop_entry(cell);
+        }
+    }
+
     /// Drops the entries of all cells that the change sets, and keeps the others in their order. It
     /// takes no memory.
     pub fn forget(&mut self, change: &Change)
@@ -108,8 +140,10 @@ impl CellCache {
         ensures after { (cells : Cells) → AreOf (Some cells) self.old.entries
             → AreOf (Some (after (change.now ∷ []) cells)) self.new.entries }
     {
-        while let Some(cell) = self.first_set(change) {
-            self.drop_entry(cell);
+        match change {
+            Change::Put { cell, .. } => self.forget_cell(*cell),
+            Change::Erase { cell } => self.forget_cell(*cell),
+            Change::EraseFrom { .. } => self.forget_each(change),
         }
     }
 }

@@ -1,19 +1,26 @@
-use Rattle.std.proofs.Common.{[], ◌∷◌, Some, sym, ap, ◌∙◌, subst}
-use Rattle.harp_cells.specs.Effect.{after}
-use Rattle.cell_cache.specs.Entries.{AreOf, Entries, Kept, left_by}
-use Rattle.cell_cache.proofs.Keeping.{forgotten, left_are}
+use Rattle.std.proofs.Common.{sym, ap, ◌∙◌}
+use Rattle.harp_cells.specs.declared.change.Change.{Change}
+use Rattle.cell_cache.specs.Entries.{Entries, left_by}
+use Rattle.cell_cache.proofs.Keeping.{left_after, put_left, record_of}
 use Rattle.cell_cache.proofs.cache.CellCache.forget.Goals as goal
 
-pub loop-cell-preserved : goal.loop-cell-preserved
-loop-cell-preserved c = record {
-  left = ap (λ (k : Kept). left_by c.args.change.now k.entries) c.drop_entry.ensures.entries
-      ∙ forgotten c.in-Some.cell c.args.change.now c.loop-cell.self.entries c.in-Some.ensures.found
-      ∙ c.loop-cell.invariant.left;
-  places = ap (λ (k : Kept). k.places) c.drop_entry.ensures.entries ∙ c.loop-cell.invariant.places;
-}
+pub returns-in-Put-clause-left : goal.returns-in-Put-clause-left
+returns-in-Put-clause-left c =
+    let old = c.args.self.now in
+    c.forget_cell.ensures
+    ∙ ap (λ (l : Entries). record_of l old.places)
+    (put_left c.in-Put.cell c.in-Put.value old.entries ∙ ap (λ (x : Change). left_by x old.entries) (sym c.in-Put.is))
 
-pub returns-clause-after : goal.returns-clause-after
-returns-clause-after c cells are =
-    subst (λ (l : Entries). AreOf (Some (after (c.args.change.now ∷ []) cells)) l)
-    (sym c.loop-cell.invariant.left ∙ c.in_default.ensures.none)
-    (left_are c.args.change.now c.args.self.now.entries cells are)
+pub returns-in-Put-clause-after : goal.returns-in-Put-clause-after
+returns-in-Put-clause-after c =
+    left_after c.args.change.now c.args.self.now c.forget_cell.new.self (returns-in-Put-clause-left c)
+
+pub returns-in-Erase-clause-after : goal.returns-in-Erase-clause-after
+returns-in-Erase-clause-after c =
+    let old = c.args.self.now in
+    left_after c.args.change.now old c.forget_cell-in-Erase.new.self
+    (c.forget_cell-in-Erase.ensures ∙ ap (λ (x : Change). record_of (left_by x old.entries) old.places) (sym c.in-Erase.is))
+
+pub returns-in-EraseFrom-clause-after : goal.returns-in-EraseFrom-clause-after
+returns-in-EraseFrom-clause-after c =
+    left_after c.args.change.now c.args.self.now c.forget_each.new.self c.forget_each.ensures

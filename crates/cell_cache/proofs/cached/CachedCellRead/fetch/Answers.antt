@@ -1,7 +1,4 @@
-use Rattle.std.proofs.Common.{rules, ◌≡◌, Option, sym, ap, subst}
-use Rattle.harp_cells.specs.Effect.{Reads}
-use Rattle.harp_store.specs.Disk.{Moments, cells_told}
-use Rattle.cell_cache.specs.Entries.{AreOf}
+use Rattle.harp_store.specs.Disk.{cells_told}
 use Rattle.cell_cache.proofs.cached.CachedCellRead.fetch.Goals as goal
 
 pub invariant_of-self : goal.invariant_of-self

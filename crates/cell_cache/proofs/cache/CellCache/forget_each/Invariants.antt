@@ -1,6 +1,6 @@
 use Rattle.std.proofs.Common.{◌≡◌, length}
 use Rattle.cell_cache.specs.Entries.{left_by}
-use Rattle.cell_cache.proofs.cache.CellCache.forget.Given as goal
+use Rattle.cell_cache.proofs.cache.CellCache.forget_each.Given as goal
 
 abbrev pub invariant-loop-cell : goal.invariant-loop-cell
 invariant-loop-cell l = record {
