@@ -10,8 +10,6 @@ mod boot;
 mod boot_tests;
 mod collecting;
 mod demoting;
-#[cfg(test)]
-mod disk_tests;
 mod fault;
 mod flushing;
 mod following;
@@ -36,8 +34,6 @@ mod power_tests;
 mod pull;
 mod pulling;
 mod role;
-#[cfg(test)]
-mod running_tests;
 mod same;
 mod serving;
 mod showing;

@@ -14,7 +14,6 @@ use outputs::{Answered, Asker, Outputs};
 use promise::Deadline;
 use std::alloc::Global;
 use std::test::Fail;
-use trace_lines::Cause;
 use wire::Message;
 
 const NOW: u64 = 2050;
@@ -51,28 +50,24 @@ fn directory(alloc: Global) -> Result<Call, Fail> {
     })
 }
 
-/// A directory of this number that was made at this time, with these links.
-fn attr(fileid: u32, links: u32, made: Time) -> Attr {
+/// What is told of the directory that was made at the moment 2050.
+fn made() -> Attr {
+    let at = Time {
+        seconds: 2,
+        micros: 50_000,
+    };
     Attr {
         kind: Kind::Directory,
         mode: 0o755,
-        links,
+        links: 2,
         uid: 0,
         gid: 0,
         size: 0,
         blocks: 0,
-        fileid,
-        atime: made,
-        mtime: made,
-        ctime: made,
-    }
-}
-
-/// The moment 2050 as a time.
-fn time() -> Time {
-    Time {
-        seconds: 2,
-        micros: 50_000,
+        fileid: 2,
+        atime: at,
+        mtime: at,
+        ctime: at,
     }
 }
 
@@ -121,17 +116,11 @@ fn is_first_event(message: &Message) -> bool {
 
 /// Whether it answers client 7's call 1 with the new directory, as entry 1.
 fn makes_directory(answer: &Answered) -> bool {
-    let made = attr(2, 2, time());
+    let made = made();
     answer.client == 7
         && answer.number == 1
         && answer.index == 1
         && matches!(&answer.reply, Reply::Node { handle: 2, attr } if *attr == made)
-}
-
-fn is_refusal(outs: &Outputs, cause: Cause) -> bool {
-    matches!(outs.refusals.as_slice(), [refused] if refused.cause == cause)
-        && outs.answers.is_empty()
-        && outs.sends.is_empty()
 }
 
 /// The leader that opened, with the directory committed.
@@ -150,98 +139,21 @@ fn one_update<D: Store>(alloc: Global, store: &mut D) -> Result<Leader, Fail>
 }
 
 #[test]
-fn an_update_goes_to_the_partner(rt: HostRuntime) -> Result<(), Fail> {
-    let alloc = rt.alloc();
-    let mut store = MemStore::new(alloc);
-    let mut leader = open_leader(alloc)?;
-    let call = directory(alloc)?;
-    let outs = ask(alloc, &mut leader, 7, 1, &call, &mut store)?;
-    assert!(rt; outs.answers.is_empty() && outs.refusals.is_empty());
-    assert!(rt;
-        matches!(outs.sends.as_slice(), [event]
-        if event.to == ServerId::One && is_first_event(&event.message))
-    );
-    assert!(rt; leader.log().top() == 1 && leader.log().cp() == 0);
-    Ok(())
-}
-
-#[test]
-fn its_commit_answers_it(rt: HostRuntime) -> Result<(), Fail> {
+fn an_update_is_answered_by_its_commit(rt: HostRuntime) -> Result<(), Fail> {
     let alloc = rt.alloc();
     let mut store = MemStore::new(alloc);
     let mut outs = Outputs::new(alloc);
     let mut leader = open_leader(alloc)?;
     let call = directory(alloc)?;
-    let _sent = ask(alloc, &mut leader, 7, 1, &call, &mut store)?;
-    assert!(rt; leader.log().top() == 1);
+    let sent = ask(alloc, &mut leader, 7, 1, &call, &mut store)?;
+    assert!(rt; sent.answers.is_empty() && leader.log().top() == 1 && leader.log().cp() == 0);
+    assert!(rt;
+        matches!(sent.sends.as_slice(), [event]
+        if event.to == ServerId::One && is_first_event(&event.message))
+    );
     leader.ack(alloc, 1, 0, Deadline::new(4050), &mut outs)?;
     assert!(rt; matches!(outs.answers.as_slice(), [answer] if makes_directory(answer)));
     assert!(rt; outs.committed.len() == 1 && leader.log().cp() == 1);
-    Ok(())
-}
-
-#[test]
-fn a_repeat_is_answered_at_once(rt: HostRuntime) -> Result<(), Fail> {
-    let alloc = rt.alloc();
-    let mut store = MemStore::new(alloc);
-    let mut leader = one_update(alloc, &mut store)?;
-    let call = directory(alloc)?;
-    let outs = ask(alloc, &mut leader, 7, 1, &call, &mut store)?;
-    assert!(rt; matches!(outs.answers.as_slice(), [answer] if makes_directory(answer)));
-    assert!(rt; outs.sends.is_empty() && leader.log().top() == 1);
-    Ok(())
-}
-
-#[test]
-fn an_older_number_is_refused(rt: HostRuntime) -> Result<(), Fail> {
-    let alloc = rt.alloc();
-    let mut store = MemStore::new(alloc);
-    let mut leader = one_update(alloc, &mut store)?;
-    let call = directory(alloc)?;
-    let outs = ask(alloc, &mut leader, 7, 0, &call, &mut store)?;
-    assert!(rt; is_refusal(&outs, Cause::Old));
-    Ok(())
-}
-
-#[test]
-fn a_read_is_answered_while_the_promise_runs(rt: HostRuntime) -> Result<(), Fail> {
-    let alloc = rt.alloc();
-    let mut store = MemStore::new(alloc);
-    let mut leader = open_leader(alloc)?;
-    let call = Call::GetAttr { handle: 1 };
-    let outs = ask(alloc, &mut leader, 9, 1, &call, &mut store)?;
-    let root = attr(
-        1,
-        2,
-        Time {
-            seconds: 0,
-            micros: 0,
-        },
-    );
-    assert!(rt;
-        matches!(outs.answers.as_slice(), [answer]
-        if answer.index == 0 && matches!(&answer.reply, Reply::Attr { attr } if *attr == root))
-    );
-    Ok(())
-}
-
-#[test]
-fn a_client_above_4095_is_refused(rt: HostRuntime) -> Result<(), Fail> {
-    let alloc = rt.alloc();
-    let mut store = MemStore::new(alloc);
-    let mut leader = open_leader(alloc)?;
-    let outs = ask(alloc, &mut leader, 4096, 1, &Call::Null, &mut store)?;
-    assert!(rt; is_refusal(&outs, Cause::BadClient));
-    Ok(())
-}
-
-#[test]
-fn a_leader_that_waits_refuses(rt: HostRuntime) -> Result<(), Fail> {
-    let alloc = rt.alloc();
-    let mut store = MemStore::new(alloc);
-    let mut leader = leader(alloc)?;
-    let outs = ask(alloc, &mut leader, 7, 1, &Call::Null, &mut store)?;
-    assert!(rt; is_refusal(&outs, Cause::NotYetOpen));
     Ok(())
 }
 
