@@ -6,10 +6,14 @@ use group_world::World;
 use harp_base::{ReaderSource, Trio, WriterSink};
 use harp_cli::{Exit, harp};
 use node_link::{UdpLink, WallClock};
+use std::io::{BufWriter, Write};
 use std::process::ExitCode;
 use std::rt::Env;
 use std::{env, io};
 use store_folder::FolderStore;
+
+/// The most bytes of output that stand in memory before they are written.
+const PIECE: usize = 1 << 16;
 
 /// The words behind the program's name.
 fn words<R: Env + AllocGlobal>(rt: &R) -> io::Result<Vec<String>> {
@@ -33,8 +37,11 @@ fn main(rt: HostRuntime) -> ExitCode {
     let Ok(mut world) = World::new(alloc) else {
         return ExitCode::from(Exit::NoMemory.status());
     };
+    let Ok(mut output) = BufWriter::with_capacity(alloc, PIECE, io::writer(&rt)) else {
+        return ExitCode::from(Exit::NoMemory.status());
+    };
     let mut source = ReaderSource::new(rt.reader());
-    let mut sink = WriterSink::new(io::writer(&rt));
+    let mut sink = WriterSink::new(&mut output);
     let mut link = UdpLink::new(&rt);
     let mut disks = Trio {
         zero: FolderStore::new(&rt),
@@ -53,5 +60,9 @@ fn main(rt: HostRuntime) -> ExitCode {
         &mut disks,
         &mut clock,
     );
-    ExitCode::from(status)
+    // What still stands in memory is written however the words ended.
+    match output.flush() {
+        Ok(()) => ExitCode::from(status),
+        Err(_) => ExitCode::from(Exit::SinkFailed.status()),
+    }
 }
