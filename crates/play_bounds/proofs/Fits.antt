@@ -1,6 +1,5 @@
 -- Each line of the trace of a text fits.
-use Rattle.std.proofs.Common.{◌≡◌, ℕ, ◌+◌, ◌<◌, ◌≤◌, ◌^◌, List, [], ◌∷◌, ◌++◌, length, Option, Some, None, refl, ap, arith}
-use Rattle.std.specs.List.{AllByRecursion}
+use Rattle.std.proofs.Common.{◌≡◌, ℕ, ◌<◌, ◌≤◌, ◌^◌, List, [], ◌∷◌, length, Option, Some, None, refl, ap, arith}
 use Rattle.trace_types.specs.declared.line.Line.TheVariants as line
 use Rattle.trace_types.specs.declared.line.LineFault.{LineFault}
 use Rattle.trace_claims.specs.Trace.{entries}
@@ -8,12 +7,12 @@ use Rattle.trace_claims.proofs.Places.{all-append}
 use Rattle.file_tree.specs.Book.{Entry}
 use Rattle.line_reader.specs.Lines.{lines_of}
 use Rattle.group_trace.specs.Run.{run_lines}
-use Rattle.group_trace.specs.Scene.{Measures, first_scene}
+use Rattle.group_trace.specs.Scene.{first_scene}
 use Rattle.trace_laws.proofs.RightRuns.{run_right}
 use Rattle.group_play.specs.Reading.{reading}
 use Rattle.group_play.specs.Trace.{last_line, last_of}
 use Rattle.group_play.proofs.TakenLaws.{reading_taken}
-use Rattle.trace_bounds.specs.Laws.{LineIn, TakeBytes}
+use Rattle.trace_bounds.specs.Laws.{LineIn}
 use Rattle.trace_bounds.proofs.Runs.{books_few, runs_fit}
 use Rattle.trace_bounds.proofs.ShortLines.{lined}
 use Rattle.play_bounds.specs.Laws.{TracesFit}

@@ -1,3 +1,5 @@
 pub mod TextLines
 pub mod Readings
 pub mod Fits
+pub mod StepsRead
+pub mod Few

@@ -1,5 +1,5 @@
 -- The steps that are read of a text fit, and most of them are deliveries.
-use Rattle.std.proofs.Common.{◌≡◌, ℕ, zero, suc, ◌+◌, ◌-◌, ◌<◌, ◌≤◌, Bool, true, false, List, [], ◌∷◌, ◌++◌, length, Option, Some, None, Result, Ok, Err, refl, sym, ap, subst, arith, nat_lt, if◌then◌else◌}
+use Rattle.std.proofs.Common.{◌≡◌, ℕ, zero, suc, ◌+◌, ◌-◌, ◌≤◌, List, [], ◌∷◌, length, Option, Some, None, Result, Ok, Err, ap, subst, arith, nat_lt}
 use Rattle.std.specs.List.{AllByRecursion}
 use Rattle.harp_base.specs.Fields.{AllFit}
 use Rattle.harp_base.specs.declared.server.ServerId.{ServerId}
@@ -7,7 +7,6 @@ use Rattle.trace_types.specs.declared.line.LineFault.{LineFault}
 use Rattle.trace_types.specs.declared.line.LineFault.TheVariants as fault
 use Rattle.trace_types.specs.declared.step.Step.{Step}
 use Rattle.trace_types.specs.declared.step.Step.TheVariants as step
-use Rattle.step_spelling.specs.Steps.{step_text}
 use Rattle.text_fields.specs.declared.fault.TextFault.{TextFault}
 use Rattle.step_text.specs.Grammar.{Explains, IsStepLine}
 use Rattle.step_text.specs.Reading.{meaning_of}

@@ -1,13 +1,10 @@
 -- The lines of the text of a trace.
-use Rattle.std.proofs.Common.{◌≡◌, ℕ, ◌==◌, false, List, [], ◌∷◌, ◌++◌, append_assoc, map, refl, ap, ◌∙◌}
-use Rattle.std.specs.List.{flat_map}
+use Rattle.std.proofs.Common.{◌≡◌, ℕ, ◌==◌, false, List, [], ◌∷◌, ◌++◌, append_assoc, refl, ap, ◌∙◌}
 use Rattle.std.proofs.lemmas.Bool.{ne_eqb}
 use Rattle.line_reader.specs.Lines.{begun_with, lines_of}
 use Rattle.put_lines.proofs.OneLine.{trace_line}
 use Rattle.spelling.specs.Lines.{IsOneLine}
 use Rattle.step_spelling.specs.Lines.{line_text}
-use Rattle.trace_claims.specs.Trace.{Trace}
-use Rattle.trace_types.specs.declared.line.Line.{Line}
 use Rattle.group_play.specs.Trace.{trace_text}
 use Rattle.play_bounds.specs.Laws.{TextsHaveTheirLines}
 

@@ -1,5 +1,5 @@
 -- The lines of the text of a trace, and of the trace of a schedule.
-use Rattle.std.specs.Prelude.{◌≡◌, ℕ, ◌≤◌, List, length, map}
+use Rattle.std.specs.Prelude.{◌≡◌, ℕ, ◌≤◌, ◌^◌, List, length, map}
 use Rattle.std.specs.List.{AllByRecursion}
 use Rattle.line_reader.specs.Lines.{lines_of}
 use Rattle.trace_claims.specs.Trace.{Trace}
@@ -18,3 +18,9 @@ abbrev pub TracesFit : Type 0
 TracesFit = (m : Measures) → TakeBytes m → (text : List ℕ)
     → AllByRecursion (λ line. length line ≤ 19998) (lines_of text)
     → AllByRecursion LineIn (trace_of m text)
+
+-- A TRACE HAS AT MOST 2^40 LINES, where no line of the schedule has more than 19,998 bytes
+abbrev pub TracesAreFew : Type 0
+TracesAreFew = (m : Measures) → TakeBytes m → (text : List ℕ)
+    → AllByRecursion (λ line. length line ≤ 19998) (lines_of text)
+    → length (trace_of m text) ≤ 2 ^ 40

@@ -96,7 +96,7 @@ where_sent m b g (Some x) =
     let bytes = bytes_are m b (list_of (moved_in g x) x.0) x.1 in
     omega (arith, all, bytes)
 
-packets_sent : (m : Measures) → TakeBytes m → (w : Scene) (s : Step)
+pub packets_sent : (m : Measures) → TakeBytes m → (w : Scene) (s : Step)
     → length w.group.packets ≤ w.sent
     → length (group_after m w s).packets ≤ (next m w s).sent
 packets_sent m b w (step.Clock server reading) l = omega (arith, l)
@@ -160,7 +160,7 @@ crash_packets m w server pick =
     let none = base_silent (down (mark_of (g.server q))) in
     omega (arith, all, none)
 
-packets_few : (m : Measures) (w : Scene) → Whole w.group → length w.group.packets ≤ w.sent
+pub packets_few : (m : Measures) (w : Scene) → Whole w.group → length w.group.packets ≤ w.sent
     → length w.group.packets ≤ most_packets → (s : Step) → refusal m w s ≡ None
     → is_elementary s ≡ true → length (group_after m w s).packets ≤ most_packets
 packets_few m w h l few (step.Clock server reading) r e = few
@@ -197,7 +197,7 @@ step_book m w n h l s r e =
 
 -- ---- a step
 
-step_whole : (m : Measures) (w : Scene) → Whole w.group → (s : Step)
+pub step_whole : (m : Measures) (w : Scene) → Whole w.group → (s : Step)
     → own_refusal m w.group s ≡ None → is_elementary s ≡ true → Whole (group_after m w s)
 step_whole m w h s r e =
     take_step (λ g' ls. Whole g') m w h s r e (λ g' k same. k)
@@ -216,6 +216,21 @@ running_step m b w n late h s r e f =
       packets = packets_few m w h.whole_so h.sent h.packets s r e;
     }
 
+-- as a run goes on
+pub runs_on : (m : Measures) → TakeBytes m → (w : Scene) (n : ℕ) → IsRunning n (latest n) w
+    → (s : Step) → refusal m w s ≡ None → is_elementary s ≡ true → StepFits s
+    → IsRunning (n + told s) (latest (n + told s)) (next m w s)
+runs_on m b w n h s r e f =
+    let after = running_step m b w n (latest n) h s r e f in
+    record {
+      whole_so = after.whole_so;
+      within = within_more (n + told s) (n + told s) (latest n + latest (told s))
+          (latest (n + told s)) (omega arith) (omega arith) (next m w s).group after.within;
+      book = after.book;
+      sent = after.sent;
+      packets = after.packets;
+    }
+
 short_event : (s : Step) → length (step_text s) ≤ 19998 → length (line_text (line.Event s)) ≤ 20000
 unfolding line_text
 short_event s l = simp length-append (omega (arith, l))
@@ -232,13 +247,18 @@ told_most : (s : Step) → told s ≤ 1
 told_most (step.Deliver n) = omega arith
 told_most s = omega arith
 
-book_small : (n late : ℕ) (g : Group Entry) → Whole g → IsWithin n late g
-    → length g.book ≤ length (updates g.book) + n → n ≤ 1000000 → length g.book < 10 ^ 18
-book_small n late g h w l few =
+-- a book has as many entries as updates and reads
+pub book_few : (n late : ℕ) (g : Group Entry) → Whole g → IsWithin n late g
+    → length g.book ≤ length (updates g.book) + n → length g.book ≤ n + n
+book_few n late g h w l =
     let same = ap (λ (es : List Entry). length es) h.books.updates in
     let list = h.ok.committed.2.within in
     let most = (w.page h.ok.committed.0).few in
-    omega (arith, same, list, most, l, few)
+    omega (arith, same, list, most, l)
+
+book_small : (n late : ℕ) (g : Group Entry) → Whole g → IsWithin n late g
+    → length g.book ≤ length (updates g.book) + n → n ≤ 1000000 → length g.book < 10 ^ 18
+book_small n late g h w l few = let all = book_few n late g h w l in omega (arith, all, few)
 
 pub step_fits : (m : Measures) → TakeBytes m → (w : Scene) (n late : ℕ) → IsRunning n late w
     → AreSmall (n + 1) (late + latest 1) → (s : Step) → refusal m w s ≡ None
@@ -302,18 +322,11 @@ run_fits m b [] w n h t f l = tt
 run_fits m b (s ∷ ss) w n h t f l =
     let own = own_none (own_refusal m w.group s) (net_refusal w s) t.0 in
     let fits = taken_fits m w s h.packets own f.0 in
-    let after = running_step m b w n (latest n) h s t.0 t.1 fits.0 in
     all-append LineIn (step_lines m w s) (run_lines m (next m w s) ss)
     (step_fits m b w n (latest n) h
     (record { count = omega (arith, l); moment = omega (arith, l) }) s t.0 t.1 fits.0 fits.1)
-    (run_fits m b ss (next m w s) (n + told s) (record {
-      whole_so = after.whole_so;
-      within = within_more (n + told s) (n + told s) (latest n + latest (told s))
-          (latest (n + told s)) (omega arith) (omega arith) (next m w s).group after.within;
-      book = after.book;
-      sent = after.sent;
-      packets = after.packets;
-    }) t.2 f.1 (omega (arith, l)))
+    (run_fits m b ss (next m w s) (n + told s) (runs_on m b w n h s t.0 t.1 fits.0) t.2 f.1
+    (omega (arith, l)))
 
 first_pages : (v : ℕ) → PageIn 0 0 (first_group.page v)
 first_pages zero = record { few = omega arith; entries = tt; horizon = omega arith }
@@ -347,7 +360,7 @@ first_running = record {
 pub runs_fit : RunsFit
 runs_fit m b ss t f l = run_fits m b ss first_scene 0 first_running t f (omega (arith, l))
 
-run_running : (m : Measures) → TakeBytes m → (ss : List Step) (w : Scene) (n : ℕ)
+pub run_running : (m : Measures) → TakeBytes m → (ss : List Step) (w : Scene) (n : ℕ)
     → IsRunning n (latest n) w → AreTaken m w ss → AllFit ToldFits ss
     → IsRunning (n + all_told ss) (latest (n + all_told ss)) (run m w ss)
 unfolding run
@@ -357,17 +370,9 @@ run_running m b [] w n h t f =
 run_running m b (s ∷ ss) w n h t f =
     let own = own_none (own_refusal m w.group s) (net_refusal w s) t.0 in
     let fits = taken_fits m w s h.packets own f.0 in
-    let after = running_step m b w n (latest n) h s t.0 t.1 fits.0 in
     let same : n + told s + all_told ss ≡ n + (told s + all_told ss) = omega arith in
     subst (λ (k : ℕ). IsRunning k (latest k) (run m (next m w s) ss)) same
-    (run_running m b ss (next m w s) (n + told s) (record {
-      whole_so = after.whole_so;
-      within = within_more (n + told s) (n + told s) (latest n + latest (told s))
-          (latest (n + told s)) (omega arith) (omega arith) (next m w s).group after.within;
-      book = after.book;
-      sent = after.sent;
-      packets = after.packets;
-    }) t.2 f.1)
+    (run_running m b ss (next m w s) (n + told s) (runs_on m b w n h s t.0 t.1 fits.0) t.2 f.1)
 
 pub books_few : BooksAreFew
 books_few m b ss t f l =
