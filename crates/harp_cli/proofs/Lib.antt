@@ -2,3 +2,4 @@ pub mod WordLaws
 pub mod Checks
 pub mod ServeLaws
 pub mod SweepLaws
+pub mod PlayLaws

@@ -1,6 +1,7 @@
 //! The top call.
 
 ghost use Rattle.std.specs.Prelude.{◌≡◌, ◌≢◌, ◌⊎◌, ◌∷◌, [], ℕ, List, Some};
+ghost use Rattle.accepted_plays.specs.Laws.{HasShortLines};
 ghost use Rattle.disk_laws.specs.Laws.{DiskRunIsRight};
 ghost use Rattle.group_disks.specs.Run.{first_disk_scene};
 ghost use Rattle.group_play.specs.Exit.{whole_exit};
@@ -26,7 +27,7 @@ ghost use Rattle.harp_cli.specs.declared.loop_words.Loop.{Loop as Runs};
 ghost use Rattle.harp_cli.specs.Exit.{status_of};
 ghost use Rattle.harp_cli.specs.Check.{CheckEnds, StatusAgrees};
 ghost use Rattle.harp_cli.specs.Gen.{GenEnds};
-ghost use Rattle.harp_cli.specs.Play.{HasPlayed, exit_of_play, sizes};
+ghost use Rattle.harp_cli.specs.Play.{HasPlayed, WroteRightText, exit_of_play, sizes};
 ghost use Rattle.harp_cli.specs.Serve.{ServeEnds, outside};
 ghost use Rattle.harp_cli.specs.Sweep.{SweepEnds};
 ghost use Rattle.harp_cli.specs.Words.{IsCheck, IsForm, IsGen, IsGroup, IsNode, IsPlay, Serves};
@@ -38,6 +39,7 @@ use crate::play::play;
 use crate::serve::{serve_group, serve_node};
 use crate::sweeping::sweep;
 use crate::words::{Command, command_of, write_usage};
+use accepted_plays::accepted_texts;
 use group_play::every_text;
 use group_world::World;
 use harp_base::{Sink, Source, Trio};
@@ -91,6 +93,11 @@ pub fn harp<R: Threads + Sync, S: Source, K: Sink, L: Link, D: Store, C: Clock>(
         → (Rose (K.faults sink.old) (K.faults sink.new) → ⊥)
         → (result ≡ status_of (exit_of_play (whole_exit (reading sizes text).refused)))
         ⊎ (result ≡ 6) }
+    // Where the whole trace was written, and no line of the schedule has more than 19,998 bytes, it
+    // is a right text: `check` says yes of it.
+    ensures accepted { IsPlay words.now → (text : List ℕ) → S.left source.old ≡ Some text
+        → HasShortLines text → (result ≡ 0) ⊎ (result ≡ 5)
+        → WroteRightText (K.written sink.old) (K.written sink.new) }
     ensures check { IsCheck words.now → (exit : Exit) × (result ≡ status_of exit)
         × (exit ≢ Exit.RefusedWords) × (world.new ≡ world.old)
         × ((text : List ℕ) → S.left source.old ≡ Some text
@@ -155,6 +162,7 @@ pub fn harp<R: Threads + Sync, S: Source, K: Sink, L: Link, D: Store, C: Clock>(
     ensures parts { (text : List ℕ) → FirstPartsAreRight sizes (reading sizes text).steps }
 {
     every_text();
+    accepted_texts();
     match command_of(words) {
         Some(Command::Play) => play(alloc, world, source, sink).status(),
         Some(Command::Check) => check(alloc, source, sink).status(),

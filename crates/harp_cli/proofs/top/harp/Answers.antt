@@ -8,6 +8,7 @@ use Rattle.node_loop.specs.Scene.{all_places}
 use Rattle.harp_cli.specs.Gen.{GenEnds}
 use Rattle.harp_cli.specs.Words.{AsksFor}
 use Rattle.harp_cli.proofs.Checks.{agrees}
+use Rattle.harp_cli.proofs.PlayLaws.{TellsWhole, wrote_right}
 use Rattle.harp_cli.proofs.ServeLaws.{node_ends, same_ends}
 use Rattle.harp_cli.proofs.SweepLaws.{same_sweep}
 use Rattle.harp_cli.proofs.WordLaws.{one_gen, one_group, one_node, one_sweep}
@@ -19,6 +20,11 @@ returns-in-Some-Play-clause-complete g c = λ is text told source sink.
       | inl e ↦ inl (c.status.ensures ∙ ap status_of e)
       | inr e ↦ inr (c.status.ensures ∙ ap status_of e)
     ]
+
+pub returns-in-Some-Play-clause-accepted : goal.returns-in-Some-Play-clause-accepted
+returns-in-Some-Play-clause-accepted g c = λ is text told short status.
+    wrote_right c.accepted_texts.ensures.accepted text _ _ _ _ c.play.result
+    (c.play.ensures.ends text told) short (subst TellsWhole c.status.ensures status)
 
 pub returns-in-Some-Check-clause-check_agrees : goal.returns-in-Some-Check-clause-check_agrees
 returns-in-Some-Check-clause-check_agrees g c = λ is text told.
