@@ -1,6 +1,6 @@
 //! The top call.
 
-ghost use Rattle.std.specs.Prelude.{◌≡◌, ◌≢◌, ◌⊎◌, ◌∷◌, [], ℕ, List, Some};
+ghost use Rattle.std.specs.Prelude.{◌≡◌, ◌≢◌, ◌⊎◌, ◌∷◌, [], ℕ, ◌<◌, ◌^◌, List, Some};
 ghost use Rattle.accepted_plays.specs.Laws.{HasShortLines};
 ghost use Rattle.disk_laws.specs.Laws.{DiskRunIsRight};
 ghost use Rattle.group_disks.specs.Run.{first_disk_scene};
@@ -17,7 +17,10 @@ ghost use Rattle.host_rules.specs.Spellings.{spellings};
 ghost use Rattle.node_loop.specs.Scene.{OneRose, all_places, each, only};
 ghost use Rattle.step_text.specs.Grammar.{Explains};
 ghost use Rattle.step_text.specs.Reading.{meaning_of};
+ghost use Rattle.sweep.specs.Lines.{generated};
+ghost use Rattle.sweep_player.specs.Counts.{summary_of_trace};
 ghost use Rattle.sweep_player.specs.Reading.{summary_of_steps};
+ghost use Rattle.sweep_text.specs.Texts.{schedule_text};
 ghost use Rattle.trace_claims.specs.Right.{IsRight};
 ghost use Rattle.trace_claims.specs.Trace.{AtEachPlace, entries, steps};
 ghost use Rattle.trace_laws.specs.FirstParts.{FirstPartsAreRight};
@@ -48,6 +51,7 @@ use node_link::{Clock, Link};
 use std::alloc::Global;
 use std::thread::Threads;
 use sweep_player::GroupPlayer;
+use swept_plays::swept_texts;
 
 /// Does what the words ask for, and gives the exit status: 0 done, 1 a trace breaks something, 2
 /// the words are refused, 3 the source failed, 4 the sink failed, 5 a line is refused, 6 there was
@@ -113,6 +117,13 @@ pub fn harp<R: Threads + Sync, S: Source, K: Sink, L: Link, D: Store, C: Clock>(
         × SweepEnds (summary_of_steps sizes) seed runs lines
         (K.written sink.old) (K.written sink.new) exit
         × (world.new ≡ world.old) × (source.new ≡ source.old) }
+    // What a sweep counts of the schedule of a seed is what a play writes of the text that `gen`
+    // writes; and no line of that text is too long for `check` to accept the trace.
+    ensures swept { (seed lines : ℕ) → lines < 2 ^ 32
+        → summary_of_steps sizes (generated seed lines)
+        ≡ summary_of_trace (trace_of sizes (schedule_text (generated seed lines))) }
+    ensures short { (seed lines : ℕ) → lines < 2 ^ 32
+        → HasShortLines (schedule_text (generated seed lines)) }
     ensures node { (place : Place) (runs : Runs) → IsNode place runs words.now
         → (exit : Exit) × (result ≡ status_of exit)
         × ServeEnds (place ∷ []) runs
@@ -163,6 +174,7 @@ pub fn harp<R: Threads + Sync, S: Source, K: Sink, L: Link, D: Store, C: Clock>(
 {
     every_text();
     accepted_texts();
+    swept_texts();
     match command_of(words) {
         Some(Command::Play) => play(alloc, world, source, sink).status(),
         Some(Command::Check) => check(alloc, source, sink).status(),
