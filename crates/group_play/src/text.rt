@@ -11,11 +11,14 @@ use put_lines::write_line;
 use std::alloc::{AllocError, Global};
 use trace_types::Line;
 
+/// The bytes that the lines of most steps take at most.
+const ROOM: usize = 512;
+
 /// The text of these lines, each with its line feed.
 fn text_of(alloc: Global, lines: &[Line]) -> Result<Bytes, AllocError>
     ensures { IfOk result (λ text. text ≡ trace_text lines.now) }
 {
-    let mut text = Bytes::new(alloc);
+    let mut text = Bytes::from_vec(Vec::with_capacity(alloc, ROOM)?);
     for line in lines {
         write_line(alloc, line, &mut text)?;
         text.extend(b"\n")?;
