@@ -6,8 +6,8 @@ ghost use Rattle.harp_base.specs.Streams.{GrewByPart, Rose};
 ghost use Rattle.group_play.specs.Trace.{trace_text};
 
 use crate::exit::Stop;
-use harp_base::{Bytes, Sink, write_all};
-use put_lines::write_line;
+use harp_base::{Sink, write_all};
+use put_lines::append_line;
 use std::alloc::{AllocError, Global};
 use trace_types::Line;
 
@@ -15,13 +15,13 @@ use trace_types::Line;
 const ROOM: usize = 512;
 
 /// The text of these lines, each with its line feed.
-fn text_of(alloc: Global, lines: &[Line]) -> Result<Bytes, AllocError>
-    ensures { IfOk result (λ text. text ≡ trace_text lines.now) }
+fn text_of(alloc: Global, lines: &[Line]) -> Result<Vec<u8>, AllocError>
+    ensures { IfOk result (λ text. text.items ≡ trace_text lines.now) }
 {
-    let mut text = Bytes::from_vec(Vec::with_capacity(alloc, ROOM)?);
+    let mut text = Vec::with_capacity(alloc, ROOM)?;
     for line in lines {
-        write_line(alloc, line, &mut text)?;
-        text.extend(b"\n")?;
+        append_line(alloc, line, &mut text)?;
+        text.push(b'\n')?;
     }
     Ok(text)
 }

@@ -6,4 +6,4 @@ mod put_message;
 mod put_step;
 mod writing;
 
-pub use writing::{texts_are_lines, write_line, write_step};
+pub use writing::{append_line, texts_are_lines, write_line, write_step};

@@ -1,4 +1,4 @@
-//! Steps and lines, appended whole or not at all.
+//! Steps and lines, written at the end of a text.
 
 ghost use Rattle.std.specs.Prelude.{◌≡◌, ◌++◌, OnOk, OnErr};
 ghost use Rattle.spelling.specs.Lines.{IsOneLine};
@@ -13,7 +13,7 @@ use harp_base::Bytes;
 use std::alloc::{AllocError, Global};
 use trace_types::{Line, Step};
 
-/// Appends the one spelling of a step, without a line end.
+/// Appends the one spelling of a step, without a line end, whole or not at all.
 pub fn write_step(alloc: Global, step: &Step, into: &mut Bytes) -> Result<(), AllocError>
     ensures ok { OnOk result (into.new ≡ into.old ++ step_text step.now) }
     ensures err { OnErr result (into.new ≡ into.old) }
@@ -23,7 +23,15 @@ pub fn write_step(alloc: Global, step: &Step, into: &mut Bytes) -> Result<(), Al
     into.extend(&text)
 }
 
-/// Appends the one spelling of a line of a trace, without its line end.
+/// Appends the one spelling of a line of a trace, without its line end. Where memory runs out a first
+/// part of it may stand.
+pub fn append_line(alloc: Global, line: &Line, into: &mut Vec<u8>) -> Result<(), AllocError>
+    ensures { OnOk result (into.new.items ≡ into.old.items ++ line_text line.now) }
+{
+    put_line(alloc, into, line)
+}
+
+/// Appends the one spelling of a line of a trace, without its line end, whole or not at all.
 pub fn write_line(alloc: Global, line: &Line, into: &mut Bytes) -> Result<(), AllocError>
     ensures ok { OnOk result (into.new ≡ into.old ++ line_text line.now) }
     ensures err { OnErr result (into.new ≡ into.old) }

@@ -24,8 +24,8 @@ moved made lines i x all below is h =
 
 pub loop-line-preserved : goal.loop-line-preserved
 loop-line-preserved c =
-    rw (c.in_ok-extend.ensures.ok, c.in_ok-write_line.ensures.ok)
-    (moved c.loop-line.text c.args.lines.now c.loop-line.line-index c.line-item.result _
+    rw (c.in_ok-push.ensures.items, c.in_ok-append_line.ensures)
+    (moved c.loop-line.text.items c.args.lines.now c.loop-line.line-index c.line-item.result _
     c.loop-line-test.true
     c.line-item.is c.loop-line.invariant)
 
@@ -34,5 +34,5 @@ unfolding trace_text
 returns c =
     let none = at_drop_all trace_text c.args.lines.now c.loop-line.line-index c.loop-line-test.false
     in
-    sym (append-nil c.loop-line.text) ∙ ap (λ s. c.loop-line.text ++ s) (sym none)
+    sym (append-nil c.loop-line.text.items) ∙ ap (λ s. c.loop-line.text.items ++ s) (sym none)
     ∙ c.loop-line.invariant
