@@ -6,9 +6,12 @@ use group_world::World;
 use harp_base::{ReaderSource, Trio, WriterSink};
 use harp_cli::{Exit, harp};
 use node_link::{UdpLink, WallClock};
-use std::io::{BufWriter, Write};
+use std::io::{BufWriter, Input, Write};
+use std::net::Net;
 use std::process::ExitCode;
-use std::rt::Env;
+use std::rt::{Env, Files};
+use std::thread::Threads;
+use std::time::Clock;
 use std::{env, io};
 use store_folder::FolderStore;
 
@@ -24,33 +27,35 @@ fn words<R: Env + AllocGlobal>(rt: &R) -> io::Result<Vec<String>> {
     Ok(words)
 }
 
-fn main(rt: HostRuntime) -> ExitCode {
+/// Does what the words say, writes to the output, and returns the exit status.
+fn run<R, W: Write>(rt: &R, output: &mut W) -> u8
+where
+    R: Env + Input + Files + Net + Threads + Clock + AllocGlobal + Sync,
+    R::Reader: Drop,
+{
     let alloc = rt.alloc();
-    let words = match words(&rt) {
+    let words = match words(rt) {
         Ok(words) => words,
         Err(fault) if fault.kind() == io::ErrorKind::OutOfMemory => {
-            return ExitCode::from(Exit::NoMemory.status());
+            return Exit::NoMemory.status();
         }
         // A word that is no text is no command's, and neither are no words.
         Err(_) => Vec::new(alloc),
     };
     let Ok(mut world) = World::new(alloc) else {
-        return ExitCode::from(Exit::NoMemory.status());
-    };
-    let Ok(mut output) = BufWriter::with_capacity(alloc, PIECE, io::writer(&rt)) else {
-        return ExitCode::from(Exit::NoMemory.status());
+        return Exit::NoMemory.status();
     };
     let mut source = ReaderSource::new(rt.reader());
-    let mut sink = WriterSink::new(&mut output);
-    let mut link = UdpLink::new(&rt);
+    let mut sink = WriterSink::new(output);
+    let mut link = UdpLink::new(rt);
     let mut disks = Trio {
-        zero: FolderStore::new(&rt),
-        one: FolderStore::new(&rt),
-        two: FolderStore::new(&rt),
+        zero: FolderStore::new(rt),
+        one: FolderStore::new(rt),
+        two: FolderStore::new(rt),
     };
-    let mut clock = WallClock::new(&rt);
-    let status = harp(
-        &rt,
+    let mut clock = WallClock::new(rt);
+    harp(
+        rt,
         alloc,
         words.as_slice(),
         &mut world,
@@ -59,7 +64,14 @@ fn main(rt: HostRuntime) -> ExitCode {
         &mut link,
         &mut disks,
         &mut clock,
-    );
+    )
+}
+
+fn main(rt: HostRuntime) -> ExitCode {
+    let Ok(mut output) = BufWriter::with_capacity(rt.alloc(), PIECE, io::writer(&rt)) else {
+        return ExitCode::from(Exit::NoMemory.status());
+    };
+    let status = run(&rt, &mut output);
     // What still stands in memory is written however the words ended.
     match output.flush() {
         Ok(()) => ExitCode::from(status),
