@@ -106,7 +106,19 @@ fn ends_where_a_call_of_the_link_fails(rt: HostRuntime) -> Result<(), Fail> {
 // times, and server 0 takes the two datagrams and answers the first.
 #[test]
 fn ends_where_a_call_of_the_group_fails(rt: HostRuntime) -> Result<(), Fail> {
-    for (call, sent) in [(1, 0), (2, 0), (3, 0), (4, 0), (5, 0), (6, 1), (16, 1)] {
+    let ends = [
+        (1, 0),
+        (2, 0),
+        (3, 0),
+        (4, 0),
+        (5, 0),
+        (6, 1),
+        (7, 1),
+        (8, 1),
+        (9, 1),
+        (16, 1),
+    ];
+    for (call, sent) in ends {
         let mut link = busy_link(rt.alloc(), &[call])?;
         let mut disks = new_disks(rt.alloc());
         let (status, sink) = end_over(&rt, &GROUP, &mut link, &mut disks)?;
