@@ -2,3 +2,4 @@ pub mod CellFile
 pub mod MarkFile
 pub mod Unsynced
 pub mod Store
+pub mod Names

@@ -1,6 +1,6 @@
 //! Files and folders: read whole, replaced whole, removed, synced.
 
-ghost use Rattle.std.specs.Prelude.{◌≡◌, ◌≢◌, IfErr, IfOk, Err, Ok};
+ghost use Rattle.std.specs.Prelude.{◌≡◌, ◌≢◌, ◌≤◌, IfErr, IfOk, IfSome, Err, Ok, length};
 ghost use Rattle.std.specs.IoError.{error_kind};
 
 use harp_store::StoreFault;
@@ -88,7 +88,9 @@ pub fn read_file<R: Files>(
     alloc: Global,
     path: &str,
     most: usize,
-) -> Result<Option<Vec<u8>>, StoreFault> {
+) -> Result<Option<Vec<u8>>, StoreFault>
+    ensures { IfOk result (λ found. IfSome found (λ bytes. length bytes.items ≤ most)) }
+{
     let Some(mut file) = opened(rt, path)? else {
         return Ok(None);
     };

@@ -1,11 +1,16 @@
 //! The names of files.
 
+ghost use Rattle.std.specs.Prelude.{◌≡◌, IfOk, codes, string_bytes};
+ghost use Rattle.store_folder.specs.Names.{cell_name, in_folder};
+
 use harp_cells::Key;
 use std::alloc::{AllocError, Global};
 
 /// The path of a cell's file: in the folder `meta`, `object-N`, `block-N-I`, `slot-N-I`, `client-C`
 /// or `saved-P`, with the cell's numbers in decimal.
-pub fn cell_path(alloc: Global, folder: &str, key: Key) -> Result<String, AllocError> {
+pub fn cell_path(alloc: Global, folder: &str, key: Key) -> Result<String, AllocError>
+    ensures { IfOk result (λ path. string_bytes path ≡ in_folder folder.now (cell_name key)) }
+{
     let (kind, first, second) = key;
     match kind {
         1 => format!(in alloc; "{folder}/meta"),
@@ -18,12 +23,16 @@ pub fn cell_path(alloc: Global, folder: &str, key: Key) -> Result<String, AllocE
 }
 
 /// The path of the mark's file.
-pub fn mark_path(alloc: Global, folder: &str) -> Result<String, AllocError> {
+pub fn mark_path(alloc: Global, folder: &str) -> Result<String, AllocError>
+    ensures { IfOk result (λ path. string_bytes path ≡ in_folder folder.now (codes "mark")) }
+{
     format!(in alloc; "{folder}/mark")
 }
 
 /// The path at which a new file is written, before it takes the place of the old one.
-pub fn new_path(alloc: Global, folder: &str) -> Result<String, AllocError> {
+pub fn new_path(alloc: Global, folder: &str) -> Result<String, AllocError>
+    ensures { IfOk result (λ path. string_bytes path ≡ in_folder folder.now (codes "new")) }
+{
     format!(in alloc; "{folder}/new")
 }
 
