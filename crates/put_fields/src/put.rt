@@ -5,15 +5,32 @@ ghost use Rattle.harp_base.specs.Server.{number_of};
 ghost use Rattle.spelling.specs.Text.{spaced, cred_text, hex_text, octal};
 
 use harp_base::{Cred, ServerId};
-use itoa::Buffer;
+use itoa::write_digits;
 use spelling::is_implied;
 use std::alloc::{AllocError, Global};
 
+/// The most digits of a number.
+const DIGITS: usize = 20;
+
+/// A number in decimal digits. Most are of one digit, which needs no buffer.
+#[tactic(auto, using(std::proofs::lemmas::Fmt::decimal_digit))]
 pub fn put_decimal(out: &mut Vec<u8>, n: u64) -> Result<(), AllocError>
     ensures { OnOk result (out.new.items ≡ out.old.items ++ decimal n) }
 {
-    let mut buffer = Buffer::new();
-    out.extend_from_slice(buffer.format(n).as_bytes())
+    if n < 10 {
+        Ok(out.push(b'0' + n as u8)?)
+    } else {
+        put_digits(out, n)
+    }
+}
+
+/// A number in its decimal digits.
+fn put_digits(out: &mut Vec<u8>, n: u64) -> Result<(), AllocError>
+    ensures { OnOk result (out.new.items ≡ out.old.items ++ decimal n) }
+{
+    let mut digits = [0; DIGITS];
+    let start = write_digits(n, &mut digits, DIGITS);
+    out.extend_from_slice(&digits[start..])
 }
 
 /// A number behind a space.
@@ -76,12 +93,16 @@ pub fn put_client(
     put_three(out, u64::from(server.number()), u64::from(client), number)
 }
 
-#[tactic(auto, unfolding(spelling::specs::Text::octal))]
-pub fn put_octal(alloc: Global, out: &mut Vec<u8>, n: u32) -> Result<(), AllocError>
+/// A number in octal digits, the last one behind those of an eighth of it.
+#[tactic(auto, using(crate::proofs::Octal::octal_digit, crate::proofs::Octal::octal_step))]
+pub fn put_octal(out: &mut Vec<u8>, n: u32) -> Result<(), AllocError>
     ensures { OnOk result (out.new.items ≡ out.old.items ++ octal n) }
 {
-    let text = format!(in alloc; "{n:o}")?;
-    out.extend_from_slice(text.as_bytes())
+    if n < 8 {
+        return Ok(out.push(b'0' + n as u8)?);
+    }
+    put_octal(out, n / 8)?;
+    Ok(out.push(b'0' + (n % 8) as u8)?)
 }
 
 #[tactic(auto, unfolding(spelling::specs::Text::hex_text))]

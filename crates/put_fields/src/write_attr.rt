@@ -6,7 +6,7 @@ ghost use Rattle.spelling.specs.Text.{comma, octal, time_text, left, is_left_tim
 use crate::put::{put_decimal, put_octal};
 use harp_base::{Attr, Kind, SetAttr, Time};
 use spelling::{LEFT, is_left_time};
-use std::alloc::{AllocError, Global};
+use std::alloc::AllocError;
 
 #[tactic(auto, unfolding(spelling::specs::Text::time_text))]
 fn put_time(out: &mut Vec<u8>, t: &Time) -> Result<(), AllocError>
@@ -30,13 +30,13 @@ fn put_number_field(out: &mut Vec<u8>, n: u32) -> Result<(), AllocError>
 }
 
 #[tactic(auto, unfolding(spelling::specs::Text::mode_field))]
-fn put_mode_field(alloc: Global, out: &mut Vec<u8>, n: u32) -> Result<(), AllocError>
+fn put_mode_field(out: &mut Vec<u8>, n: u32) -> Result<(), AllocError>
     ensures { OnOk result (out.new.items ≡ out.old.items ++ mode_field n) }
 {
     if n == LEFT {
         Ok(out.push(b'-')?)
     } else {
-        put_octal(alloc, out, n)
+        put_octal(out, n)
     }
 }
 
@@ -78,7 +78,7 @@ fn put_later_time(out: &mut Vec<u8>, given: bool, t: &Time) -> Result<(), AllocE
 
 /// Six fields, up to the last one that isn't left.
 #[tactic(auto, unfolding(spelling::specs::Text::set_attr_text))]
-fn put_set_attr_text(alloc: Global, out: &mut Vec<u8>, a: &SetAttr) -> Result<(), AllocError>
+fn put_set_attr_text(out: &mut Vec<u8>, a: &SetAttr) -> Result<(), AllocError>
     ensures { OnOk result (out.new.items ≡ out.old.items ++ set_attr_text a.now) }
 {
     let mtime = !is_left_time(&a.mtime);
@@ -86,7 +86,7 @@ fn put_set_attr_text(alloc: Global, out: &mut Vec<u8>, a: &SetAttr) -> Result<()
     let size = (a.size != LEFT) | atime;
     let gid = (a.gid != LEFT) | size;
     let uid = (a.uid != LEFT) | gid;
-    put_mode_field(alloc, out, a.mode)?;
+    put_mode_field(out, a.mode)?;
     put_later_number(out, uid, a.uid)?;
     put_later_number(out, gid, a.gid)?;
     put_later_number(out, size, a.size)?;
@@ -96,11 +96,11 @@ fn put_set_attr_text(alloc: Global, out: &mut Vec<u8>, a: &SetAttr) -> Result<()
 }
 
 /// The fields of SETATTR behind a space.
-pub fn put_set_attr(alloc: Global, out: &mut Vec<u8>, a: &SetAttr) -> Result<(), AllocError>
+pub fn put_set_attr(out: &mut Vec<u8>, a: &SetAttr) -> Result<(), AllocError>
     ensures { OnOk result (out.new.items ≡ out.old.items ++ spaced (set_attr_text a.now)) }
 {
     out.push(b' ')?;
-    put_set_attr_text(alloc, out, a)?;
+    put_set_attr_text(out, a)?;
     Ok(())
 }
 
@@ -134,12 +134,12 @@ fn put_comma_time(out: &mut Vec<u8>, t: &Time) -> Result<(), AllocError>
 
 /// Kind, mode, links and owners.
 #[tactic(auto, unfolding(spelling::specs::Text::attr_owner))]
-fn put_owner(alloc: Global, out: &mut Vec<u8>, a: &Attr) -> Result<(), AllocError>
+fn put_owner(out: &mut Vec<u8>, a: &Attr) -> Result<(), AllocError>
     ensures { OnOk result (out.new.items ≡ out.old.items ++ attr_owner a.now) }
 {
     put_decimal(out, kind_number(a.kind))?;
     out.push(b',')?;
-    put_octal(alloc, out, u32::from(a.mode))?;
+    put_octal(out, u32::from(a.mode))?;
     put_comma(out, a.links)?;
     put_comma(out, a.uid)?;
     put_comma(out, a.gid)?;
@@ -168,20 +168,20 @@ fn put_times(out: &mut Vec<u8>, a: &Attr) -> Result<(), AllocError>
 }
 
 #[tactic(auto, unfolding(spelling::specs::Text::attr_text))]
-fn put_attr_text(alloc: Global, out: &mut Vec<u8>, a: &Attr) -> Result<(), AllocError>
+fn put_attr_text(out: &mut Vec<u8>, a: &Attr) -> Result<(), AllocError>
     ensures { OnOk result (out.new.items ≡ out.old.items ++ attr_text a.now) }
 {
-    put_owner(alloc, out, a)?;
+    put_owner(out, a)?;
     put_extent(out, a)?;
     put_times(out, a)?;
     Ok(())
 }
 
 /// Attributes behind a space.
-pub fn put_attr(alloc: Global, out: &mut Vec<u8>, a: &Attr) -> Result<(), AllocError>
+pub fn put_attr(out: &mut Vec<u8>, a: &Attr) -> Result<(), AllocError>
     ensures { OnOk result (out.new.items ≡ out.old.items ++ spaced (attr_text a.now)) }
 {
     out.push(b' ')?;
-    put_attr_text(alloc, out, a)?;
+    put_attr_text(out, a)?;
     Ok(())
 }

@@ -35,7 +35,7 @@ fn put_change(
         ++ spaced (decimal handle) ++ spaced (set_attr_text attr.now)) }
 {
     put_field(out, handle)?;
-    put_set_attr(alloc, out, attr)
+    put_set_attr(out, attr)
 }
 
 /// A handle, an offset and the bytes of a write.
@@ -81,7 +81,7 @@ fn put_made(
         ++ spaced (set_attr_text attr.now)) }
 {
     put_entry(alloc, out, dir, name)?;
-    put_set_attr(alloc, out, attr)
+    put_set_attr(out, attr)
 }
 
 /// A directory and a name in it, and where it goes.
@@ -131,7 +131,7 @@ fn put_symlink(
 {
     put_entry(alloc, out, dir, name)?;
     put_name(alloc, out, text.as_slice())?;
-    put_set_attr(alloc, out, attr)
+    put_set_attr(out, attr)
 }
 
 /// The fields of a call.

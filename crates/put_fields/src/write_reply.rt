@@ -96,11 +96,11 @@ fn put_reply_text(alloc: Global, out: &mut Vec<u8>, reply: &Reply) -> Result<(),
         Reply::Done => out.extend_from_slice(b"done"),
         Reply::Attr { attr } => {
             out.extend_from_slice(b"attr")?;
-            put_attr(alloc, out, attr)
+            put_attr(out, attr)
         }
         Reply::Node { handle, attr } => {
             put_named(out, b"node".as_slice(), u64::from(*handle))?;
-            put_attr(alloc, out, attr)
+            put_attr(out, attr)
         }
         Reply::Path { text } => {
             out.extend_from_slice(b"path")?;
@@ -108,7 +108,7 @@ fn put_reply_text(alloc: Global, out: &mut Vec<u8>, reply: &Reply) -> Result<(),
         }
         Reply::Bytes { attr, bytes } => {
             out.extend_from_slice(b"data")?;
-            put_attr(alloc, out, attr)?;
+            put_attr(out, attr)?;
             put_name(alloc, out, bytes.as_slice())
         }
         Reply::Page { entries, eof } => {

@@ -162,7 +162,7 @@ fn put_object(alloc: Global, out: &mut Vec<u8>, attr: &Attr) -> Result<(), Alloc
     ensures { OnOk result (out.new.items ≡ out.old.items ++ line_text (lines.Object attr.now)) }
 {
     out.extend_from_slice(b"object")?;
-    put_attr(alloc, out, attr)
+    put_attr(out, attr)
 }
 
 #[tactic(auto, unfolding(step_spelling::specs::Lines::line_text))]
