@@ -1,11 +1,12 @@
 //! Bytes that were read from a source and not yet taken.
 
-ghost use Rattle.std.specs.Prelude.{◌≡◌, ◌≤◌, ◌<◌, [], ◌∷◌, length, drop, IfOk, OnErr};
+ghost use Rattle.std.specs.Prelude.{◌≡◌, ◌≤◌, [], ◌∷◌, ◌++◌, length, drop, IfOk, OnErr};
 ghost use Rattle.std.specs.Io.KnownBytes.{Keeps, prepend_known};
 ghost use Rattle.harp_base.specs.Streams.{Rose};
-ghost use Rattle.line_reader.specs.Lines.{Peeked};
+ghost use Rattle.line_reader.specs.Lines.{Feedless, Peeked};
 
 use harp_base::{Failed, Source};
+use memchr::memchr;
 use std::alloc::{AllocError, Global};
 use std::marker::Model;
 
@@ -62,11 +63,22 @@ impl Chunk {
         Ok(Some(self.bytes[0]))
     }
 
-    /// Takes the next byte.
-    pub fn advance(&mut self)
-        requires { 0 < length self.old }
-        ensures { self.new ≡ drop 1 self.old }
+    /// The bytes at hand before the next line feed, at most so many.
+    pub fn plain(&self, most: usize) -> &[u8]
+        ensures feedless { Feedless result.now }
+        ensures front { result.now ++ drop (length result.now) self.now ≡ self.now }
+        ensures few { length result.now ≤ most }
     {
-        self.at += 1;
+        let held = &self.bytes[self.at..self.end];
+        let count = memchr(b'\n', held).unwrap_or(held.len());
+        &held[..count.min(most)]
+    }
+
+    /// Takes so many of the bytes at hand.
+    pub fn take(&mut self, count: usize)
+        requires { count ≤ length self.old }
+        ensures { self.new ≡ drop count self.old }
+    {
+        self.at += count;
     }
 }

@@ -1,6 +1,6 @@
 //! The lines of a source, one after the other.
 
-ghost use Rattle.std.specs.Prelude.{◌≡◌, ◌≤◌, [], length, IfOk, OnErr, Err};
+ghost use Rattle.std.specs.Prelude.{◌≡◌, ◌≤◌, [], ◌++◌, length, IfOk, OnErr, Err};
 ghost use Rattle.std.specs.Io.KnownBytes.{Keeps};
 ghost use Rattle.harp_base.specs.Streams.{Rose};
 ghost use Rattle.line_reader.specs.Lines.{Feedless};
@@ -81,6 +81,21 @@ impl Model for LineReader {
     ghost invariant = { λ r. (length r.line.items ≤ 20001) × AllByRecursion (λ b. (b == 10) ≡ false) r.line.items };
 }
 
+/// Takes the bytes at hand before the next line feed to a line, as far as it has room.
+fn take_plain(line: &mut Vec<u8>, chunk: &mut Chunk) -> Result<(), AllocError>
+    requires { length line.old.items ≤ 20001 }
+    ensures whole { line.new.items ++ chunk.new ≡ line.old.items ++ chunk.old }
+    ensures feedless { Feedless line.old.items → Feedless line.new.items }
+    ensures few { length line.new.items ≤ 20001 }
+    ensures more { length line.old.items ≤ length line.new.items }
+{
+    let piece = chunk.plain(MOST + 1 - line.len());
+    let count = piece.len();
+    line.extend_from_slice(piece)?;
+    chunk.take(count);
+    Ok(())
+}
+
 impl LineReader {
     pub fn new(alloc: Global) -> Result<LineReader, AllocError>
         ensures { IfOk result (λ reader. reader ≡ []) }
@@ -106,12 +121,13 @@ impl LineReader {
                 None if self.line.is_empty() => return Ok(Next::End),
                 None => return Ok(Next::Line(mem::replace(&mut self.line, Vec::new(alloc)))),
                 Some(b'\n') => {
-                    self.chunk.advance();
+                    self.chunk.take(1);
                     return Ok(Next::Line(mem::replace(&mut self.line, Vec::new(alloc))));
                 }
                 Some(byte) => {
                     self.line.push(byte)?;
-                    self.chunk.advance();
+                    self.chunk.take(1);
+                    take_plain(&mut self.line, &mut self.chunk)?;
                 }
             }
         }

@@ -1,6 +1,6 @@
 use Rattle.std.proofs.Common.{sym, arith, ◌∙◌, ap}
 use Rattle.std.specs.Prelude.{Result, Ok, Err, OnErr, Some}
-use Rattle.line_reader.proofs.ReaderLemmas.{looked, gives-ended, gives-last, gives-long}
+use Rattle.line_reader.proofs.ReaderLemmas.{looked, moved-seen, gives-ended, gives-last, gives-long}
 use Rattle.line_reader.proofs.reader.LineReader.next.Goals as goal
 
 -- a fact that holds anyway holds after an error
@@ -18,6 +18,18 @@ returns-in_err-push-in-Some-clause-err g c =
     always c.from_residual-in_err-push-in-Some.result (rw c.in_err-push-in-Some.ensures.items
     (looked _ c.loop-alloc.self-inside.line.items c.loop-alloc.self-inside.chunk _ (g.S.Source.left c.loop-alloc.source) _ c.loop-alloc.invariant.reads_on.kept c.peek.ensures.left))
 
+pub returns-in_err-take_plain-in-Some-clause-err : goal.returns-in_err-take_plain-in-Some-clause-err
+returns-in_err-take_plain-in-Some-clause-err g c =
+    let line = c.loop-alloc.self-inside.line.items in
+    let left = g.S.Source.left c.peek.new.source in
+    let kept = looked _ line c.loop-alloc.self-inside.chunk c.peek.new.self
+    (g.S.Source.left c.loop-alloc.source) left c.loop-alloc.invariant.reads_on.kept c.peek.ensures.left in
+    let seen = moved-seen _ line c.peek.new.self c.take-in-Some.new.self left c.loop-alloc.self-inside.chunk
+    (g.S.Source.left c.loop-alloc.source) c.in_ok-peek.field-0 c.in-Some.byte c.in-Some.is c.in_ok-peek.ensures.ok
+    c.take-in-Some.ensures kept in
+    always c.from_residual-in_err-take_plain-in-Some.result
+    (rw (c.take_plain.ensures.whole, c.in_ok-push-in-Some.ensures.items) seen)
+
 pub returns-in-None-2-clause-ok : goal.returns-in-None-2-clause-ok
 returns-in-None-2-clause-ok g c =
     rw (c.replace.ensures.after, c.new.ensures.items, c.replace.ensures.value)
@@ -28,11 +40,11 @@ returns-in-None-2-clause-ok g c =
 pub returns-in-Some-eq10-clause-ok : goal.returns-in-Some-eq10-clause-ok
 returns-in-Some-eq10-clause-ok g c =
     rw (c.replace-in-Some-eq10.ensures.after, c.new-in-Some-eq10.ensures.items, c.replace-in-Some-eq10.ensures.value)
-    (gives-ended _ c.loop-alloc.self-inside.line c.peek.new.self c.advance.new.self (g.S.Source.left c.peek.new.source) c.loop-alloc.self-inside.chunk
+    (gives-ended _ c.loop-alloc.self-inside.line c.peek.new.self c.take.new.self (g.S.Source.left c.peek.new.source) c.loop-alloc.self-inside.chunk
     (g.S.Source.left c.loop-alloc.source) c.in_ok-peek.field-0 c.loop-alloc.invariant.reads_on.feedless (omega arith)
     (looked _ c.loop-alloc.self-inside.line.items c.loop-alloc.self-inside.chunk c.peek.new.self (g.S.Source.left c.loop-alloc.source) (g.S.Source.left c.peek.new.source)
     c.loop-alloc.invariant.reads_on.kept c.peek.ensures.left)
-    (c.in-Some-eq10.is ∙ ap Some c.in-Some-eq10.field-0-test) c.in_ok-peek.ensures.ok c.advance.ensures)
+    (c.in-Some-eq10.is ∙ ap Some c.in-Some-eq10.field-0-test) c.in_ok-peek.ensures.ok c.take.ensures)
 
 pub returns-clause-ok : goal.returns-clause-ok
 returns-clause-ok g c =
