@@ -6,7 +6,7 @@ ghost use Rattle.harp_cells.specs.ValueBytes.{longest_record};
 
 use crate::changes::Changes;
 use crate::numbers::Index;
-use crate::writing::put_fields;
+use crate::writing::{USUAL_RECORD, put_fields};
 use harp_base::{Call, Cred, Reply, ViewNo};
 use harp_cells::{LONGEST_RECORD, Moment};
 use std::alloc::{AllocError, Global};
@@ -81,7 +81,7 @@ impl Record {
         ensures value { IfOk result (λ found. IfSome found (λ r. r ≡ fields)) }
         ensures fits { OnOk result (FieldsFit fields) }
     {
-        let mut bytes = Vec::new(alloc);
+        let mut bytes = Vec::with_capacity(alloc, USUAL_RECORD)?;
         put_fields(&mut bytes, &fields)?;
         if bytes.len() <= LONGEST_RECORD {
             Ok(Some(Record { fields }))

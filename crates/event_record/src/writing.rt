@@ -13,6 +13,10 @@ use harp_cells::Change;
 use harp_cells::fields::put_change;
 use std::alloc::{AllocError, Global};
 
+/// Room for the bytes of most records, taken at once. A longer record's bytes take more as they
+/// come.
+pub(crate) const USUAL_RECORD: usize = 512;
+
 #[tactic(auto, unfolding(harp_base::specs::Fields::many_bytes))]
 fn put_each(out: &mut Vec<u8>, changes: &[Change]) -> Result<(), AllocError>
     ensures value { OnOk result (out.new.items
@@ -89,7 +93,7 @@ pub fn write_item(alloc: Global, item: &Record, into: &mut Bytes) -> Result<(), 
     ensures fits { OnOk result (RecordFits item.now) }
     ensures kept { OnErr result (into.new ≡ into.old) }
 {
-    let mut spelled = Vec::new(alloc);
+    let mut spelled = Vec::with_capacity(alloc, USUAL_RECORD)?;
     put_item(&mut spelled, item)?;
     into.extend(&spelled)
 }
