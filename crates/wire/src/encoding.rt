@@ -14,6 +14,10 @@ use harp_base::{Bytes, Held, ServerId, ViewNo};
 use promise::Deadline;
 use std::alloc::{AllocError, Global};
 
+/// Room for the bytes of most messages, taken at once. A longer message's bytes take more as they
+/// come.
+const USUAL_MESSAGE: usize = 512;
+
 /// What a server that joins a view tells.
 fn put_join(
     out: &mut Vec<u8>,
@@ -176,13 +180,14 @@ fn put_fields(out: &mut Vec<u8>, message: &Message) -> Result<(), AllocError>
     }
 }
 
-/// The one spelling of a message.
+/// The one spelling of a message. Room beyond its bytes is given back, since what is sent is kept.
 pub fn encode(alloc: Global, message: &Message) -> Result<Bytes, AllocError>
     ensures spelled { IfOk result (λ bytes. bytes ≡ message_bytes message.now) }
     ensures fits { OnOk result (MessageFits message.now) }
 {
-    let mut out = Vec::new(alloc);
+    let mut out = Vec::with_capacity(alloc, USUAL_MESSAGE)?;
     out.push(form_number(message))?;
     put_fields(&mut out, message)?;
+    out.shrink_to_fit();
     Ok(Bytes::from_vec(out))
 }
