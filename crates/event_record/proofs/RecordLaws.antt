@@ -5,7 +5,7 @@ use Rattle.std.proofs.lemmas.Bool.{leb-true, le-leb, ltb-true, lt-ltb}
 use Rattle.harp_base.specs.declared.cred.Cred.{Cred}
 use Rattle.harp_base.specs.declared.field.Misread.{Misread}
 use Rattle.harp_base.specs.declared.field.Misread.TheVariants.{Ends, BadTag, TooLong, NoMemory}
-use Rattle.harp_base.specs.Fields.{AllFit, Fails, Read, Reader, Spells, ◌⊗◌, field_as, fields_by_tag, limited, many_at, many_bytes, misread_within, passing, read_within, below_at, u16_at, u16_bytes, u32_bytes, u64_bytes}
+use Rattle.harp_base.specs.Fields.{Fails, Read, Reader, Spells, ◌⊗◌, limited, many_at, many_bytes, misread_within, passing, read_within, below_at, u16_at, u16_bytes, u32_bytes, u64_bytes}
 use Rattle.harp_base.specs.Names.{cred_bytes}
 use Rattle.harp_base.proofs.Codec.{IsBytes, IsCodec, Spells-then, below_codec, bind_ok, drop_past, field_as_again, field_as_codec, field_as_takes, fitting, passing_codec, u16_codec, u32_codec, u64_codec}
 use Rattle.harp_base.proofs.ReadLaws.{limited_codec}
@@ -15,7 +15,7 @@ use Rattle.harp_base.proofs.ListLaws.{many_again, many_takes}
 use Rattle.harp_base.proofs.NameLaws.{cred_codec, view_codec}
 use Rattle.harp_base.proofs.ReplyLaws.{reply_codec}
 use Rattle.harp_cells.specs.declared.change.Change.{Change}
-use Rattle.harp_cells.specs.CellBytes.{ChangeFits, change_at, change_bytes}
+use Rattle.harp_cells.specs.CellBytes.{change_at, change_bytes}
 use Rattle.harp_cells.specs.ValueBytes.{longest_old_record, longest_record}
 use Rattle.harp_cells.proofs.ChangeLaws.{change_codec}
 use Rattle.event_record.specs.declared.reading.Head.{Head}
