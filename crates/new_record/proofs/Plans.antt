@@ -1,5 +1,5 @@
 -- A record that is planned over the cells after entries is the record of its entry.
-use Rattle.std.proofs.Common.{◌≡◌, ℕ, true, List, [], ◌∷◌, ◌++◌, length, refl, sym, ap, ◌∙◌, subst, le_refl}
+use Rattle.std.proofs.Common.{◌≡◌, ℕ, List, [], ◌∷◌, ◌++◌, length, refl, ap, ◌∙◌, subst, le_refl}
 use Rattle.std.proofs.lemmas.List.{take_all}
 use Rattle.harp_base.specs.declared.call.Call.{Call}
 use Rattle.harp_base.specs.declared.cred.Cred.{Cred}
@@ -17,7 +17,7 @@ use Rattle.fuzzy_cells.specs.Fuzzy.{AreAlike}
 use Rattle.fuzzy_cells.proofs.Alike.{alike_stand}
 use Rattle.cell_changes.specs.Table.{update_changes}
 use Rattle.cell_changes.specs.TreeCells.{TreeCells}
-use Rattle.record_changes.specs.Records.{AreUpdates, client_put, history_of, record_changes}
+use Rattle.record_changes.specs.Records.{AreUpdates, client_put}
 use Rattle.record_changes.proofs.Histories.{same_blocks, stand}
 use Rattle.new_record.specs.Laws.{HistoriesGrowByRecords}
 use Rattle.new_record.specs.Records.{cells_of, entry_after, record_of}

@@ -2,6 +2,7 @@
 #![tactic(auto)]
 
 mod laws;
+mod parts;
 mod record;
 
 pub use laws::record_laws;

@@ -8,12 +8,13 @@ ghost use Rattle.harp_cells.specs.declared.cell.Cell.TheVariants as cell;
 ghost use Rattle.harp_cells.specs.declared.change.Change.TheVariants as change;
 ghost use Rattle.harp_cells.specs.declared.value.Value.TheVariants as value;
 ghost use Rattle.harp_cells.specs.Effect.{Cells};
-ghost use Rattle.event_record.specs.Bytes.{FieldsFit, record_bytes};
+ghost use Rattle.event_record.specs.Bytes.{record_bytes};
 ghost use Rattle.fuzzy_cells.specs.Fuzzy.{AreAlike};
 ghost use Rattle.record_changes.specs.Records.{AreUpdates};
 ghost use Rattle.new_record.specs.Records.{cells_of, entry_after, record_of};
-ghost use Rattle.new_record.specs.Sizes.{longest_made};
+ghost use Rattle.new_record.specs.Sizes.{HasShortParts, longest_made};
 
+use crate::parts::parts_are_short;
 use dedup::keep;
 use event_record::{Changes, Index, Moment, Record, RecordFields};
 use harp_base::{Call, Cred, ViewNo};
@@ -62,16 +63,14 @@ fn with_plan(
     })
 }
 
-/// The record of fields that are known to be short.
-fn short_record(alloc: Global, fields: RecordFields) -> Result<Record, AllocError>
-    requires { FieldsFit fields → length (record_bytes fields) ≤ longest_made }
-    ensures value { IfOk result (λ r. r ≡ fields) }
-    ensures bytes { IfOk result (λ r. length (record_bytes r) ≤ longest_made) }
+/// The record of fields that are short as their parts are.
+fn short_record(fields: RecordFields) -> Record
+    requires { HasShortParts fields → length (record_bytes fields) ≤ longest_made }
+    ensures value { result ≡ fields }
+    ensures bytes { length (record_bytes result) ≤ longest_made }
 {
-    match Record::of(alloc, fields)? {
-        Some(record) => Ok(record),
-        None => unreachable!(),
-    }
+    parts_are_short(&fields);
+    Record::new(fields)
 }
 
 /// The record of a caller's new update, appended in the view `stamped`: it is planned on the cells
@@ -115,5 +114,5 @@ pub fn new_record<R: CellRead>(
     let fields = with_plan(
         alloc, stamped, index, client, number, cred, call, stamp, plan,
     )?;
-    Ok(short_record(alloc, fields)?)
+    Ok(short_record(fields))
 }

@@ -1,10 +1,10 @@
-use Rattle.std.proofs.Common.{◌∙◌, ◌∷◌, ◌++◌, [], refl, ap, sym}
+use Rattle.std.proofs.Common.{◌∙◌, refl}
 use Rattle.new_record.proofs.Plans.{book_cells, record_is}
 use Rattle.new_record.proofs.Sizes.{planned_short}
 use Rattle.new_record.proofs.record.new_record.Goals as goal
 
 pub short_record-requires : goal.short_record-requires
-short_record-requires g c fits =
+short_record-requires g c short =
     let a = c.args in
     let p = c.in_ok-plan in
     planned_short c.in_ok-fields.fields
@@ -15,7 +15,7 @@ short_record-requires g c fits =
       short = p.ensures.short;
       totals = p.ensures.totals;
       changes = refl;
-    })) fits
+    })) short
 
 pub returns-clause-record : goal.returns-clause-record
 returns-clause-record g c entries held updates cells alike =
@@ -24,5 +24,5 @@ returns-clause-record g c entries held updates cells alike =
     let t = book_cells entries held updates alike in
     record_is a.stamped a.index a.client a.number a.cred a.call.now a.stamp entries held
     p.plan.reply p.plan.changes.items alike (p.ensures.reply t cells)
-    (p.ensures.changes t cells) c.in_ok-short_record.field-0
-    (c.in_ok-short_record.ensures.value ∙ c.in_ok-fields.ensures)
+    (p.ensures.changes t cells) c.short_record.result
+    (c.short_record.ensures.value ∙ c.in_ok-fields.ensures)
