@@ -13,7 +13,7 @@ use Rattle.harp_cells.specs.declared.change.Change.{Change}
 use Rattle.harp_cells.specs.declared.change.Change.TheVariants as change
 use Rattle.harp_cells.specs.Effect.{changed, is_block_from, is_cell, is_key, key}
 use Rattle.fuzzy_cells.specs.History.{History, in_a_row}
-use Rattle.overlay.specs.Index.{AreMirrored, Entries, IsIndexOf, IsLast, IsPartAddedTo, Mirror, Place, blocks_of, changes_at, may_set, names, place_of, record_at}
+use Rattle.overlay.specs.Index.{Entries, IsIndexOf, IsLast, IsPartAddedTo, Place, blocks_of, changes_at, may_set, names, place_of, record_at}
 use Rattle.overlay.specs.Overlay.{IsToldBy, Leaves, changes_upto}
 use Rattle.overlay.proofs.Walks.{skipped, told_at, told_same}
 
@@ -81,7 +81,7 @@ leaves (cell.Saved place) changes may = leaves_own (cell.Saved place) changes (�
 
 -- ---- records by index
 
-at_above : (base : ℕ) (records : History) (i : ℕ) → base < i → record_at base records i ≡ get_or records (i - (base + 1)) []
+pub at_above : (base : ℕ) (records : History) (i : ℕ) → base < i → record_at base records i ≡ get_or records (i - (base + 1)) []
 at_above base records i lt = ap (λ (b : Bool). if b then get_or records (i - (base + 1)) [] else []) (lt-ltb base i lt)
 
 at_below : (base : ℕ) (records : History) (i : ℕ) → i ≤ base → record_at base records i ≡ []
@@ -96,7 +96,7 @@ unfolding changes_at
 nothing_at changes p e = ap (λ (l : List Change). list_any (λ c. is_key (place_of c) p) l) e
 
 -- what the index names is a record
-indexed : (entries : Entries) (base : ℕ) (records : History) (p : Place) (i : ℕ) → IsIndexOf entries base records
+pub indexed : (entries : Entries) (base : ℕ) (records : History) (p : Place) (i : ℕ) → IsIndexOf entries base records
     → names entries p i ≡ true → (base < i) × (i ≤ base + length records)
 indexed entries base records p i is named = elim (cases_lt base i) [
   | inr le ↦ absurd (cc (named, is p i ∙ nothing_at (record_at base records i) p (at_below base records i le)))
@@ -383,7 +383,3 @@ kept_back old mid new base index records changes (n, part) back is at p i =
     (λ here. let same : index ≡ i = eqb-true index i here in
     is p i ∙ nothing_at (record_at base records i) p (at_past base records i (omega (arith, at, same))))
     ∙ is p i
-
-pub empty_mirrored : (entries : Entries) (mirror : Mirror) → entries ≡ [] → AreMirrored entries mirror
-empty_mirrored entries mirror e p i there =
-    absurd (cc (there, ap (λ (es : Entries). names es p i) e ∙ nothing_named p i))

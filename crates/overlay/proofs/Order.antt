@@ -1,4 +1,4 @@
--- The orders of entries and of their mirror.
+-- The order of entries.
 use Rattle.std.proofs.Common.{◌≡◌, ℕ, ◌<◌, ◌≤◌, Bool, true, false, ◌&&◌, ◌||◌, ◌==◌, cond, List, [], ◌∷◌, ◌++◌, length, Option, Some, None, refl, sym, ap, ◌∙◌, subst, inl, inr, arith}
 use Rattle.std.specs.Prelude.{IfSome, OnErr, Result, Ok, Err, nat_lt, not}
 use Rattle.std.specs.List.{list_any}
@@ -14,15 +14,11 @@ use Rattle.std.proofs.lemmas.Cmp.{nat_cmp_total, on_total, then_total, tied_itse
 use Rattle.harp_cells.specs.Effect.{is_key}
 use Rattle.harp_cells.proofs.CellLemmas.{same_key}
 use Rattle.harp_cells.proofs.KeyOrder.{key_cmp, tied}
-use Rattle.overlay.specs.Index.{AreMirrored, Entries, IsLast, Mirror, Place, is_entry, mirrors, names}
+use Rattle.overlay.specs.Index.{Entries, IsLast, Place, is_entry, names}
 
 -- what a set of entries compares by
 abbrev pub entry_cmp : Place × ℕ → Place × ℕ → Ordering
 entry_cmp x y = ordering_then (key_cmp x.0 y.0) (nat_cmp x.1 y.1)
-
--- and its mirror
-abbrev pub mirror_cmp : ℕ × Place → ℕ × Place → Ordering
-mirror_cmp x y = ordering_then (nat_cmp x.0 y.0) (key_cmp x.1 y.1)
 
 places_total : IsTotalOrder key_cmp
 places_total = then_total
@@ -39,11 +35,6 @@ at_entry p i e = tied_then (key_cmp p e.0) (nat_cmp i e.1)
     ∙ ap (λ (b : Bool). b && is_eq (nat_cmp i e.1)) (tied p e.0)
     ∙ ap (λ (b : Bool). is_key p e.0 && b) (unsigned_tied i e.1)
 
-at_mirror : (p : Place) (i : ℕ) (e : ℕ × Place) → is_at (mirror_cmp (i, p)) e ≡ ((i == e.0) && is_key p e.1)
-at_mirror p i e = tied_then (nat_cmp i e.0) (key_cmp p e.1)
-    ∙ ap (λ (b : Bool). b && is_eq (key_cmp p e.1)) (unsigned_tied i e.0)
-    ∙ ap (λ (b : Bool). (i == e.0) && b) (tied p e.1)
-
 any_same : {X : Type 0} (p q : X → Bool) → ((x : X) → p x ≡ q x) → (xs : List X) → list_any p xs ≡ list_any q xs
 any_same p q h [] = refl
 any_same p q h (x ∷ xs) =
@@ -53,10 +44,6 @@ any_same p q h (x ∷ xs) =
 pub contains_names : (s : BTreeSet (Place × ℕ)) (p : Place) (i : ℕ) → contains entry_cmp s (p, i) ≡ names s.keys p i
 unfolding names
 contains_names s p i = any_same (is_at (entry_cmp (p, i))) (is_entry p i) (at_entry p i) s.keys
-
-pub contains_mirrors : (s : BTreeSet (ℕ × Place)) (p : Place) (i : ℕ) → contains mirror_cmp s (i, p) ≡ mirrors s.keys p i
-unfolding mirrors
-contains_mirrors s p i = any_same (is_at (mirror_cmp (i, p))) (λ e. (i == e.0) && is_key p e.1) (at_mirror p i) s.keys
 
 -- ---- the entries of a place
 
@@ -149,56 +136,7 @@ last_named p u s r q i t low high from to is e =
           absurd (cc (top, is_lt_same q p i j same.0 lt))),
     )
 
--- ---- the first of the mirror
-
-none_mirrors : (m : Mirror) (p : Place) (i : ℕ) → (0 < length m → ⊥) → mirrors m p i ≡ false
-unfolding mirrors
-none_mirrors [] p i h = refl
-none_mirrors (e ∷ m) p i h = absurd (h (omega arith))
-
-pub nothing_mirrors : (s : BTreeSet (ℕ × Place)) (n : ℕ) → (0 < length s.keys → ⊥) → (p : Place) (i : ℕ) → i ≤ n
-    → mirrors s.keys p i ≡ false
-nothing_mirrors s n h p i le = none_mirrors s.keys p i h
-
-pub later_mirrors : (s : BTreeSet (ℕ × Place)) (n index : ℕ) (place : Place) → IsLowerBound mirror_cmp s (index, place)
-    → n < index → (p : Place) (i : ℕ) → i ≤ n → mirrors s.keys p i ≡ false
-later_mirrors s n index place low above p i le = absent (mirrors s.keys p i) (λ there.
-    let first = low (i, p) (contains_mirrors s p i ∙ there) in
-    let wrong : is_gt (mirror_cmp (index, place) (i, p)) ≡ true =
-    ap (λ (o : Ordering). is_gt (ordering_then o (key_cmp place p)))
-    (rank_above index i (nat_cmp index i) (ranks index i) (omega (arith, above, le))) in
-    absurd (cc (first, wrong)))
-
-turned : (a b : Bool) → (a && b) ≡ (b && a)
-turned true true = refl
-turned true false = refl
-turned false true = refl
-turned false false = refl
-
 -- ---- an entry that comes or goes
-
--- what its mirror says then
-pub pairs_mirrored : (old new : BTreeSet (ℕ × Place)) (e : ℕ × Place) (put : Bool)
-    → ((q : ℕ × Place) → contains mirror_cmp new q ≡ cond (is_at (mirror_cmp e) q) put (contains mirror_cmp old q))
-    → (p : Place) (i : ℕ) → mirrors new.keys p i ≡ cond (is_entry e.1 e.0 (p, i)) put (mirrors old.keys p i)
-pairs_mirrored old new e put h p i =
-    sym (contains_mirrors new p i) ∙ h (i, p)
-    ∙ ap (λ (b : Bool). cond b put (contains mirror_cmp old (i, p)))
-    (at_mirror e.1 e.0 (i, p) ∙ turned (e.0 == i) (is_key e.1 p))
-    ∙ ap (λ (b : Bool). cond (is_entry e.1 e.0 (p, i)) put b) (contains_mirrors old p i)
-
--- where it goes, the others stay
-pub others_mirrored : (old new : BTreeSet (ℕ × Place)) (e : ℕ × Place)
-    → ((q : ℕ × Place) → contains mirror_cmp new q ≡ cond (is_at (mirror_cmp e) q) false (contains mirror_cmp old q))
-    → (p : Place) (i : ℕ) → is_entry e.1 e.0 (p, i) ≡ false → mirrors new.keys p i ≡ mirrors old.keys p i
-others_mirrored old new e h p i other = pairs_mirrored old new e false h p i
-    ∙ ap (λ (b : Bool). cond b false (mirrors old.keys p i)) other
-
-pub some_others : (o : Option (ℕ × Place)) (old new : BTreeSet (ℕ × Place))
-    → IfSome o (λ e. Updates mirror_cmp old new e false)
-    → IfSome o (λ e. (p : Place) (i : ℕ) → is_entry e.1 e.0 (p, i) ≡ false → mirrors new.keys p i ≡ mirrors old.keys p i)
-some_others None old new h = tt
-some_others (Some e) old new h = others_mirrored old new e h.0
 
 -- what the index says
 pub pairs_named : (old new : BTreeSet (Place × ℕ)) (e : Place × ℕ) (put : Bool)
@@ -208,34 +146,6 @@ pairs_named old new e put h p i =
     sym (contains_names new p i) ∙ h (p, i)
     ∙ ap (λ (b : Bool). cond b put (contains entry_cmp old (p, i))) (at_entry e.0 e.1 (p, i))
     ∙ ap (λ (b : Bool). cond (is_entry e.0 e.1 (p, i)) put b) (contains_names old p i)
-
-added_by : (a m n : Bool) → (n ≡ true → m ≡ true) → cond a true n ≡ true → cond a true m ≡ true
-added_by true m n h e = refl
-added_by false m n h e = h e
-
--- each entry is in the mirror, where both get one more
-pub both_added : (old new : BTreeSet (Place × ℕ)) (mirror more : BTreeSet (ℕ × Place)) (place : Place) (index : ℕ)
-    → AreMirrored old.keys mirror.keys
-    → ((q : ℕ × Place) → contains mirror_cmp more q ≡ cond (is_at (mirror_cmp (index, place)) q) true (contains mirror_cmp mirror q))
-    → ((q : Place × ℕ) → contains entry_cmp new q ≡ cond (is_at (entry_cmp (place, index)) q) true (contains entry_cmp old q))
-    → AreMirrored new.keys more.keys
-both_added old new mirror more place index are mirrored named p i there =
-    pairs_mirrored mirror more (index, place) true mirrored p i
-    ∙ added_by (is_entry place index (p, i)) (mirrors mirror.keys p i) (names old.keys p i) (are p i)
-    (sym (pairs_named old new (place, index) true named p i) ∙ there)
-
-added_still : (a m : Bool) → m ≡ true → cond a true m ≡ true
-added_still true m h = refl
-added_still false m h = h
-
--- or the mirror alone
-pub one_mirrored : (entries : Entries) (mirror more : BTreeSet (ℕ × Place)) (place : Place) (index : ℕ)
-    → AreMirrored entries mirror.keys
-    → ((q : ℕ × Place) → contains mirror_cmp more q ≡ cond (is_at (mirror_cmp (index, place)) q) true (contains mirror_cmp mirror q))
-    → AreMirrored entries more.keys
-one_mirrored entries mirror more place index are mirrored p i there =
-    pairs_mirrored mirror more (index, place) true mirrored p i
-    ∙ added_still (is_entry place index (p, i)) (mirrors mirror.keys p i) (are p i there)
 
 or_is : (a b : Bool) → cond a true b ≡ (a || b)
 or_is true b = refl
@@ -248,44 +158,11 @@ one_named old new entries place index is h p i = pairs_named old new (place, ind
     ∙ or_is (is_entry place index (p, i)) (names old.keys p i)
     ∙ ap (λ (es : Entries). is_entry place index (p, i) || names es p i) is
 
--- an entry up to n goes: those above n stay
-pub gone_stay : (old new : BTreeSet (Place × ℕ)) (place : Place) (index n : ℕ) → index ≤ n
-    → ((q : Place × ℕ) → contains entry_cmp new q ≡ cond (is_at (entry_cmp (place, index)) q) false (contains entry_cmp old q))
-    → (p : Place) (i : ℕ) → n < i → names new.keys p i ≡ names old.keys p i
-gone_stay old new place index n le h p i lt = pairs_named old new (place, index) false h p i
-    ∙ ap (λ (b : Bool). cond b false (names old.keys p i))
-    (and_right (is_key place p) (index == i) (ne_eqb index i (λ e. omega (arith, le, lt, e))))
-
-left_true : (a b : Bool) → cond a false b ≡ true → (a ≡ false) × (b ≡ true)
-left_true true b e = absurd cc
-left_true false b e = (refl, e)
-
--- and each is still in the mirror
-pub gone_mirrored : (old new : BTreeSet (Place × ℕ)) (mirror less : Mirror) (place : Place) (index : ℕ)
-    → AreMirrored old.keys mirror
-    → ((q : Place × ℕ) → contains entry_cmp new q ≡ cond (is_at (entry_cmp (place, index)) q) false (contains entry_cmp old q))
-    → ((p : Place) (i : ℕ) → is_entry place index (p, i) ≡ false → mirrors less p i ≡ mirrors mirror p i)
-    → AreMirrored new.keys less
-gone_mirrored old new mirror less place index are h others p i there =
-    let both = left_true (is_entry place index (p, i)) (names old.keys p i)
-    (sym (pairs_named old new (place, index) false h p i) ∙ there) in
-    others p i both.0 ∙ are p i both.1
-
--- once the mirror has none up to n, the index has none
-pub all_dropped : (old entries : Entries) (mirror : Mirror) (n : ℕ) → ((p : Place) (i : ℕ) → n < i → names entries p i ≡ names old p i)
-    → AreMirrored entries mirror → ((p : Place) (i : ℕ) → i ≤ n → mirrors mirror p i ≡ false)
-    → (p : Place) (i : ℕ) → names entries p i ≡ (nat_lt n i && names old p i)
-all_dropped old entries mirror n stay are none p i = elim (cases_lt n i) [
-  | inl lt ↦ stay p i lt ∙ ap (λ (b : Bool). b && names old p i) (sym (lt-ltb n i lt))
-  | inr le ↦ absent (names entries p i) (λ there. absurd (cc (are p i there, none p i le)))
-      ∙ ap (λ (b : Bool). b && names old p i) (sym (le-ltb n i le))
-]
-
 gone_is : (a b : Bool) → cond a false b ≡ (not a && b)
 gone_is true b = refl
 gone_is false b = refl
 
--- an entry goes from both
+-- an entry goes
 pub one_gone : (old new : BTreeSet (Place × ℕ)) (entries : Entries) (place : Place) (index : ℕ)
     → old.keys ≡ entries
     → ((q : Place × ℕ) → contains entry_cmp new q ≡ cond (is_at (entry_cmp (place, index)) q) false (contains entry_cmp old q))
@@ -293,15 +170,6 @@ pub one_gone : (old new : BTreeSet (Place × ℕ)) (entries : Entries) (place : 
 one_gone old new entries place index is h p i = pairs_named old new (place, index) false h p i
     ∙ gone_is (is_entry place index (p, i)) (names old.keys p i)
     ∙ ap (λ (es : Entries). not (is_entry place index (p, i)) && names es p i) is
-
-pub both_gone : (old new : BTreeSet (Place × ℕ)) (mirror less : BTreeSet (ℕ × Place)) (place : Place) (index : ℕ)
-    → AreMirrored old.keys mirror.keys
-    → ((q : Place × ℕ) → contains entry_cmp new q ≡ cond (is_at (entry_cmp (place, index)) q) false (contains entry_cmp old q))
-    → ((q : ℕ × Place) → contains mirror_cmp less q ≡ cond (is_at (mirror_cmp (index, place)) q) false (contains mirror_cmp mirror q))
-    → AreMirrored new.keys less.keys
-both_gone old new mirror less place index are named mirrored =
-    gone_mirrored old new mirror.keys less.keys place index are named
-    (others_mirrored mirror less (index, place) mirrored)
 
 pub on_err : {A E : Type 0} (r : Result A E) (P : Type 0) → P → OnErr r P
 on_err (Ok x) P p = tt

@@ -67,15 +67,3 @@ abbrev pub IsLast : (ℕ → Bool) → ℕ → Option ℕ → Type 0
 IsLast test upto None = (j : ℕ) → j ≤ upto → test j ≡ false
 IsLast test upto (Some i) = (i ≤ upto) × (test i ≡ true)
     × ((j : ℕ) → i < j → j ≤ upto → test j ≡ false)
-
--- the same pairs, by the indices first
-abbrev pub Mirror : Type 0
-Mirror = List (ℕ × Place)
-
-unfoldable pub mirrors : Mirror → Place → ℕ → Bool
-mirrors mirror p i = list_any (λ e. (i == e.0) && is_key p e.1) mirror
-
--- each entry is in the mirror
-abbrev pub AreMirrored : Entries → Mirror → Type 0
-AreMirrored entries mirror = (p : Place) (i : ℕ) → names entries p i ≡ true
-    → mirrors mirror p i ≡ true

@@ -1,10 +1,10 @@
 //! An index over the records of a log.
 
-ghost use Rattle.std.specs.Prelude.{◌≡◌, ℕ, Bool, not, ◌+◌, ◌-◌, ◌<◌, ◌≤◌, ◌==◌, ◌&&◌, ◌||◌, ◌∷◌, ◌++◌, [], false, length, drop, nat_lt, OnOk, OnErr, IfSome, IfNone};
+ghost use Rattle.std.specs.Prelude.{◌≡◌, ℕ, Bool, not, ◌+◌, ◌-◌, ◌<◌, ◌≤◌, ◌==◌, ◌&&◌, ◌||◌, ◌∷◌, ◌++◌, [], length, drop, nat_lt, OnOk, OnErr};
 ghost use Rattle.fuzzy_cells.specs.History.{History};
-ghost use Rattle.overlay.specs.Index.{Place, blocks_of, place_of, names, is_entry, mirrors, changes_at, IsAddedTo, IsIndexOf, IsLast, IsPartAddedTo, may_set};
+ghost use Rattle.overlay.specs.Index.{Place, blocks_of, place_of, names, is_entry, changes_at, IsAddedTo, IsIndexOf, IsLast, IsPartAddedTo, may_set};
 
-use harp_cells::{Cell, Change, Key};
+use harp_cells::{Cell, Change, ChangeLog, Key};
 use std::alloc::{AllocError, Global};
 use std::collections::BTreeSet;
 use std::marker::Model;
@@ -15,18 +15,14 @@ use std::marker::Model;
 #[derive(Drop)]
 pub struct CellIndex {
     places: BTreeSet<(Key, u64)>,
-    // Each of these pairs the other way round, so that the records that go are found.
-    mirror: BTreeSet<(u64, Key)>,
 }
 
 impl Model for CellIndex {
-    ghost use Rattle.overlay.specs.Index.{Entries, AreMirrored};
+    ghost use Rattle.overlay.specs.Index.{Entries};
 
     ghost Value = { Entries };
 
     ghost view = { λ x. x.places.keys };
-
-    ghost invariant = { λ x. AreMirrored x.places.keys x.mirror.keys };
 }
 
 // The place of the blocks of an object.
@@ -66,23 +62,6 @@ fn last_at(places: &BTreeSet<(Key, u64)>, place: Key, upto: u64) -> Option<u64>
     Some(*index)
 }
 
-// Takes the first entry out that is of an index up to n.
-fn take_up_to(mirror: &mut BTreeSet<(u64, Key)>, n: u64) -> Option<(u64, Key)>
-    ensures few { IfSome result (λ e. e.0 ≤ n) }
-    ensures fewer { IfSome result (λ _. length mirror.new.keys < length mirror.old.keys) }
-    ensures others { IfSome result (λ e. (p : Place) (i : ℕ) → is_entry e.1 e.0 (p, i) ≡ false
-        → mirrors mirror.new.keys p i ≡ mirrors mirror.old.keys p i) }
-    ensures same { IfNone result (mirror.new.keys ≡ mirror.old.keys) }
-    ensures none { IfNone result ((p : Place) (i : ℕ) → i ≤ n
-        → mirrors mirror.new.keys p i ≡ false) }
-{
-    let (index, place) = *mirror.first()?;
-    if index > n {
-        return None;
-    }
-    mirror.pop_first()
-}
-
 impl CellIndex {
     /// An index over no records.
     pub fn new(alloc: Global) -> CellIndex
@@ -90,7 +69,6 @@ impl CellIndex {
     {
         CellIndex {
             places: BTreeSet::new(alloc),
-            mirror: BTreeSet::new(alloc),
         }
     }
 
@@ -100,7 +78,6 @@ impl CellIndex {
         ensures same { OnErr result ((p : Place) (i : ℕ) → names self.new p i
             ≡ names self.old p i) }
     {
-        self.mirror.insert((index, place))?;
         self.places.insert((place, index))?;
         Ok(())
     }
@@ -110,7 +87,6 @@ impl CellIndex {
             ≡ (not (is_entry place index (p, i)) && names self.old p i) }
     {
         self.places.remove(&(place, index));
-        self.mirror.remove(&(index, place));
     }
 
     // The record with this index has these changes; where memory runs out, some first ones.
@@ -153,15 +129,21 @@ impl CellIndex {
         }
     }
 
-    /// The records up to n go, as where a log drops them.
-    pub fn drop_to(&mut self, n: u64)
-        ensures dropped { (p : Place) (i : ℕ) → names self.new p i
+    /// The records up to n go, of this log over which the index is: what each of them changes is
+    /// read of the log, which drops them after that.
+    pub fn drop_to<L: ChangeLog>(&mut self, log: &L, n: u64)
+        ensures dropped { IsIndexOf self.old (L.base log.now) (L.records log.now)
+            → (p : Place) (i : ℕ) → names self.new p i
             ≡ (nat_lt n i && names self.old p i) }
-        ensures follows { (base : ℕ) (records : History) → IsIndexOf self.old base records
-            → base ≤ n → IsIndexOf self.new n (drop (n - base) records) }
+        ensures follows { IsIndexOf self.old (L.base log.now) (L.records log.now)
+            → L.base log.now ≤ n
+            → IsIndexOf self.new n (drop (n - L.base log.now) (L.records log.now)) }
     {
-        while let Some((index, place)) = take_up_to(&mut self.mirror, n) {
-            self.places.remove(&(place, index));
+        let to = n.min(log.last());
+        let mut at = log.first() - 1;
+        while at < to {
+            at += 1;
+            self.take_back(at, log.changes(at));
         }
     }
 

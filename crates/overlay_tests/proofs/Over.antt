@@ -9,10 +9,11 @@ use Rattle.overlay_tests.specs.Indexed.{IsOver}
 use Rattle.volatile_log.specs.Log.{LogValue, dropped_to}
 
 pub over_fewer : (old new : Entries) (log fewer : LogValue) (n : ℕ) → fewer ≡ dropped_to log n
-    → log.base ≤ n → ((base : ℕ) (records : History) → IsIndexOf old base records → base ≤ n
-    → IsIndexOf new n (drop (n - base) records)) → IsOver old log → IsOver new fewer
+    → log.base ≤ n → (IsOver old log → log.base ≤ n
+    → IsIndexOf new n (drop (n - log.base) (map (λ r. r.changes) log.records)))
+    → IsOver old log → IsOver new fewer
 over_fewer old new log fewer n is from follows over =
     let changes : RecordFields → List Change = λ r. r.changes in
     subst (λ (l : LogValue). IsOver new l) (sym is)
     (subst (λ (h : History). IsIndexOf new n h) (drop-map changes (n - log.base) log.records)
-    (follows log.base (map changes log.records) over from))
+    (follows over from))

@@ -75,8 +75,8 @@ fn drop_both(log: &mut ActiveLog, index: &mut CellIndex, n: u64)
     requires lb { n ≤ log.old.lb }
     ensures over { IsOver index.new log.new }
 {
+    index.drop_to(log, n);
     log.drop_to(n);
-    index.drop_to(n);
 }
 
 impl Indexed {

@@ -131,8 +131,9 @@ impl TreeLog {
             → HoldsTree list upto self.old.log told → HoldsTree list upto self.new.log told }
     {
         let _ = self.log.top();
+        // The index reads of the log what the records change that go.
+        self.index.drop_to(&self.log, n);
         self.log.drop_to(n);
-        self.index.drop_to(n);
     }
 
     /// The same log, to which nothing is added and in which nothing is committed any more.

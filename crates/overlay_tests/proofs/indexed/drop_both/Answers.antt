@@ -3,6 +3,6 @@ use Rattle.overlay_tests.proofs.indexed.drop_both.Goals as goal
 
 pub returns : goal.returns
 returns c = record {
-  over = over_fewer c.args.index.now c.drop_to-2.new.self c.args.log.now c.drop_to.new.self
-      c.args.n c.drop_to.ensures c.requires.base c.drop_to-2.ensures.follows c.requires.is;
+  over = over_fewer c.args.index.now c.drop_to.new.self c.args.log.now c.drop_to-2.new.self
+      c.args.n c.drop_to-2.ensures c.requires.base c.drop_to.ensures.follows c.requires.is;
 }

@@ -1,13 +1,15 @@
-use Rattle.std.proofs.Common.{◌≡◌, ◌<◌, ℕ, length}
-use Rattle.overlay.specs.Index.{AreMirrored, Place, names}
+use Rattle.std.proofs.Common.{◌≤◌, ◌<◌, ◌-◌}
+use Rattle.overlay.specs.Index.{IsIndexOf}
+use Rattle.overlay.proofs.Dropping.{AreOut}
 use Rattle.overlay.proofs.index.CellIndex.drop_to.Given as goal
 
--- the records above n stay
-abbrev pub invariant-loop-index : goal.invariant-loop-index
-invariant-loop-index l = record {
-  stay : (p : Place) (i : ℕ) → l.n < i → names l.self-inside.places.keys p i ≡ names l.fn.self p i;
-  are : AreMirrored l.self-inside.places.keys l.self-inside.mirror.keys;
+-- the records so far are out
+abbrev pub invariant-loop-at : goal.invariant-loop-at
+invariant-loop-at g l = record {
+  low : g.L.ChangeLog.base l.log ≤ l.at;
+  high : g.L.ChangeLog.base l.log < l.at → l.at ≤ l.to;
+  out : IsIndexOf l.fn.self (g.L.ChangeLog.base l.log) (g.L.ChangeLog.records l.log) → AreOut l.fn.self l.at l.self;
 }
 
-abbrev pub decreases-loop-index : goal.decreases-loop-index
-decreases-loop-index l = length l.self-inside.mirror.keys
+abbrev pub decreases-loop-at : goal.decreases-loop-at
+decreases-loop-at g l = l.to - l.at

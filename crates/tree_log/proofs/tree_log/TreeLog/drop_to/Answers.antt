@@ -14,12 +14,11 @@ invariant_of-self c =
     let log = c.self.inside.log in
     let base = ap (λ (t : TreeLogValue). t.log.base) c.self.view_is in
     let from = c.requires.0 in
-    subst (λ (g : LogValue). IsIndexOf c.drop_to-2.new.self g.base (changes_in g.records))
-    (sym c.drop_to.ensures)
-    (subst (λ (h : History). IsIndexOf c.drop_to-2.new.self c.args.n h)
+    subst (λ (g : LogValue). IsIndexOf c.drop_to.new.self g.base (changes_in g.records))
+    (sym c.drop_to-2.ensures)
+    (subst (λ (h : History). IsIndexOf c.drop_to.new.self c.args.n h)
     (drop-map (λ (r : Record). r.changes) (c.args.n - log.base) log.records)
-    (c.drop_to-2.ensures.follows log.base (changes_in log.records) c.self.invariant
-    (omega (arith, base, from))))
+    (c.drop_to.ensures.follows c.self.invariant (omega (arith, base, from))))
 
 pub returns-clause-tree : goal.returns-clause-tree
 returns-clause-tree c list upto told h =
@@ -32,7 +31,7 @@ returns-clause-tree c list upto told h =
     let is_lb = order.lb in
     let is_ap = order.ap in
     let is_cp = order.cp in
-    subst (λ (g : LogValue). HoldsTree list upto g told) (sym c.drop_to.ensures)
+    subst (λ (g : LogValue). HoldsTree list upto g told) (sym c.drop_to-2.ensures)
     (dropped_holds list upto c.args.n log told (omega (arith, base, from))
     (omega (arith, lb, to, is_lb, is_ap, is_cp))
     (subst (λ (t : TreeLogValue). HoldsTree list upto t.log told) (sym c.self.view_is) h))
