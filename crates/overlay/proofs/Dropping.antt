@@ -6,7 +6,7 @@ use Rattle.std.proofs.Math.Nat.{min-le_left, le-min}
 use Rattle.std.proofs.lemmas.Bool.{cases_Bool, cases_eq, cases_lt, eq-eqb, ne_eqb, le-ltb, lt-ltb}
 use Rattle.harp_cells.specs.declared.change.Change.{Change}
 use Rattle.fuzzy_cells.specs.History.{History}
-use Rattle.overlay.specs.Index.{Entries, IsIndexOf, Place, changes_at, names, record_at}
+use Rattle.overlay.specs.Index.{Entries, IsIndexOf, Place, changes_at, names}
 use Rattle.overlay.proofs.Indexing.{at_above, indexed}
 
 -- the index names no record up to this one any more

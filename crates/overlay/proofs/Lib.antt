@@ -1,4 +1,4 @@
-pub mod Order
+pub mod Places
 pub mod Walks
 pub mod Indexing
 pub mod Dropping

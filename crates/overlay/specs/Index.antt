@@ -1,6 +1,9 @@
 -- Which records change what.
 use Rattle.std.specs.Prelude.{◌≡◌, ℕ, ◌+◌, ◌-◌, ◌<◌, ◌≤◌, Bool, true, false, ◌&&◌, ◌||◌, ◌==◌, nat_lt, List, [], take, slice_index_or, Option, Some, None, if◌then◌else◌}
+use Rattle.std.specs.BTreeSet.{BTreeSet, contains}
 use Rattle.std.specs.List.{list_any}
+use Rattle.std.specs.Map.{lookup}
+use Rattle.std.specs.Ordering.{nat_cmp}
 use Rattle.harp_cells.specs.declared.cell.Cell.{Cell}
 use Rattle.harp_cells.specs.declared.cell.Cell.TheVariants as cell
 use Rattle.harp_cells.specs.declared.change.Change.{Change}
@@ -20,16 +23,21 @@ place_of (change.Put cell value) = key cell
 place_of (change.Erase cell) = key cell
 place_of (change.EraseFrom object first) = blocks_of object
 
--- places, and the indices of records that have a change of them
+-- places, each with the indices of records that have a change of it
 abbrev pub Entries : Type 0
-Entries = List (Place × ℕ)
+Entries = List (Place × BTreeSet ℕ)
 
-abbrev pub is_entry : Place → ℕ → Place × ℕ → Bool
-is_entry p i e = is_key p e.0 && (i == e.1)
+-- one of a place's indices, where it has some
+abbrev pub has : Option (BTreeSet ℕ) → ℕ → Bool
+has None i = false
+has (Some indices) i = contains nat_cmp indices i
 
 -- the index names a record for a place
 unfoldable pub names : Entries → Place → ℕ → Bool
-names entries p i = list_any (is_entry p i) entries
+names entries p i = has (lookup (is_key p) entries) i
+
+abbrev pub is_entry : Place → ℕ → Place × ℕ → Bool
+is_entry p i e = is_key p e.0 && (i == e.1)
 
 -- one of the changes is of a place
 unfoldable pub changes_at : List Change → Place → Bool

@@ -1,12 +1,12 @@
 //! An index over the records of a log.
 
-ghost use Rattle.std.specs.Prelude.{◌≡◌, ℕ, Bool, not, ◌+◌, ◌-◌, ◌<◌, ◌≤◌, ◌==◌, ◌&&◌, ◌||◌, ◌∷◌, ◌++◌, [], length, drop, nat_lt, OnOk, OnErr};
+ghost use Rattle.std.specs.Prelude.{◌≡◌, ℕ, Bool, not, ◌+◌, ◌-◌, ◌<◌, ◌≤◌, ◌==◌, ◌&&◌, ◌||◌, ◌∷◌, ◌++◌, [], false, length, drop, nat_lt, OnOk, OnErr};
 ghost use Rattle.fuzzy_cells.specs.History.{History};
 ghost use Rattle.overlay.specs.Index.{Place, blocks_of, place_of, names, is_entry, changes_at, IsAddedTo, IsIndexOf, IsLast, IsPartAddedTo, may_set};
 
 use harp_cells::{Cell, Change, ChangeLog, Key};
 use std::alloc::{AllocError, Global};
-use std::collections::BTreeSet;
+use std::collections::{BTreeMap, BTreeSet};
 use std::marker::Model;
 
 /// Which records of a log change what: per cell the ascending indices of those that put or erase
@@ -14,7 +14,8 @@ use std::marker::Model;
 /// a logarithm.
 #[derive(Drop)]
 pub struct CellIndex {
-    places: BTreeSet<(Key, u64)>,
+    alloc: Global,
+    places: BTreeMap<Key, BTreeSet<u64>>,
 }
 
 impl Model for CellIndex {
@@ -22,7 +23,7 @@ impl Model for CellIndex {
 
     ghost Value = { Entries };
 
-    ghost view = { λ x. x.places.keys };
+    ghost view = { λ x. x.places.entries };
 }
 
 // The place of the blocks of an object.
@@ -55,12 +56,15 @@ fn later(one: Option<u64>, other: Option<u64>) -> Option<u64>
 }
 
 // The last entry of a place up to an index.
-fn last_at(places: &BTreeSet<(Key, u64)>, place: Key, upto: u64) -> Option<u64>
-    ensures { IsLast (names places.now.keys place) upto result }
+fn last_at(places: &BTreeMap<Key, BTreeSet<u64>>, place: Key, upto: u64) -> Option<u64>
+    ensures { IsLast (names places.now.entries place) upto result }
 {
-    let (_, index) = places.range((place, 0)..=(place, upto)).next_back()?;
+    let indices = places.get(&place)?;
+    let index = indices.range(..=upto).next_back()?;
     Some(*index)
 }
+
+fn discard(_indices: Option<BTreeSet<u64>>) {}
 
 impl CellIndex {
     /// An index over no records.
@@ -68,8 +72,23 @@ impl CellIndex {
         ensures { (base : ℕ) → IsIndexOf result base [] }
     {
         CellIndex {
-            places: BTreeSet::new(alloc),
+            alloc,
+            places: BTreeMap::new(alloc),
         }
+    }
+
+    // The first index of a place that has none.
+    fn add_first(&mut self, place: Key, index: u64) -> Result<(), AllocError>
+        ensures added { OnOk result (((i : ℕ) → names self.old place i ≡ false)
+            → (p : Place) (i : ℕ) → names self.new p i
+            ≡ (is_entry place index (p, i) || names self.old p i)) }
+        ensures same { OnErr result ((p : Place) (i : ℕ) → names self.new p i
+            ≡ names self.old p i) }
+    {
+        let mut indices = BTreeSet::new(self.alloc);
+        indices.insert(index)?;
+        discard(self.places.insert(place, indices)?);
+        Ok(())
     }
 
     fn add_place(&mut self, place: Key, index: u64) -> Result<(), AllocError>
@@ -78,15 +97,26 @@ impl CellIndex {
         ensures same { OnErr result ((p : Place) (i : ℕ) → names self.new p i
             ≡ names self.old p i) }
     {
-        self.places.insert((place, index))?;
-        Ok(())
+        match self.places.get_mut(&place) {
+            Some(indices) => {
+                indices.insert(index)?;
+                Ok(())
+            }
+            None => self.add_first(place, index),
+        }
     }
 
     fn remove_place(&mut self, place: Key, index: u64)
         ensures { (p : Place) (i : ℕ) → names self.new p i
             ≡ (not (is_entry place index (p, i)) && names self.old p i) }
     {
-        self.places.remove(&(place, index));
+        let Some(indices) = self.places.get_mut(&place) else {
+            return;
+        };
+        indices.remove(&index);
+        if indices.is_empty() {
+            discard(self.places.remove(&place));
+        }
     }
 
     // The record with this index has these changes; where memory runs out, some first ones.

@@ -1,14 +1,18 @@
-use Rattle.overlay.proofs.Order.{last_named, none_named}
+use Rattle.overlay.proofs.Places.{last_upto, none_there, none_upto}
 use Rattle.overlay.proofs.index.last_at.Goals as goal
+
+pub returns-in_err-indices : goal.returns-in_err-indices
+returns-in_err-indices c =
+    rw c.from_residual.ensures (none_there c.args.places.now.entries c.args.place c.args.upto c.in_err-indices.ensures.value)
 
 pub returns-in_err-index : goal.returns-in_err-index
 returns-in_err-index c =
-    rw c.from_residual.ensures (none_named c.args.place c.args.upto c.args.places.now c.range.result _ _
-    c.new.ensures.start c.new.ensures.end (c.range.ensures.in_range c.new.ensures.exhausted)
+    rw c.from_residual-in_err-index.ensures (none_upto c.args.places.now.entries c.args.place c.args.upto
+    c.in_ok-indices.indices.now c.range.result c.in_ok-indices.ensures.value (c.range.ensures.in_range tt)
     c.in_err-index.ensures.steps.0)
 
 pub returns : goal.returns
 returns c =
-    last_named c.args.place c.args.upto c.args.places.now c.range.result c.in_ok-index.field-0.now.0
-    c.in_ok-index.field-0.now.1 c.next_back.new.self _ _ c.new.ensures.start c.new.ensures.end
-    (c.range.ensures.in_range c.new.ensures.exhausted) c.in_ok-index.ensures.steps
+    last_upto c.args.places.now.entries c.args.place c.args.upto c.in_ok-indices.indices.now c.range.result
+    c.next_back.new.self c.in_ok-index.index.now c.in_ok-indices.ensures.value (c.range.ensures.in_range tt)
+    c.in_ok-index.ensures.steps

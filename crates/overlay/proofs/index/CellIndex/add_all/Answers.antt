@@ -2,7 +2,7 @@ use Rattle.std.proofs.Common.{◌≤◌, ◌==◌, ◌&&◌, ◌||◌, List, len
 use Rattle.std.proofs.lemmas.List.{take_all}
 use Rattle.harp_cells.specs.declared.change.Change.{Change}
 use Rattle.overlay.specs.Index.{IsPartAddedTo, changes_at, names, place_of}
-use Rattle.overlay.proofs.Order.{on_err}
+use Rattle.overlay.proofs.Places.{on_err}
 use Rattle.overlay.proofs.Indexing.{more_added, none_added}
 use Rattle.overlay.proofs.index.CellIndex.add_all.Goals as goal
 

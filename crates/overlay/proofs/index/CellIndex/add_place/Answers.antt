@@ -1,14 +1,27 @@
-use Rattle.std.proofs.Common.{◌≡◌, ℕ, ap, ◌∙◌}
-use Rattle.overlay.specs.Index.{Entries, Place, names}
-use Rattle.overlay.proofs.Order.{on_err, one_named}
+use Rattle.std.proofs.Common.{Some, true, refl, ap, subst}
+use Rattle.std.specs.Prelude.{IsSome}
+use Rattle.overlay.proofs.Places.{newly_named, on_err, one_named, same_indices, same_named, set_index}
 use Rattle.overlay.proofs.index.CellIndex.add_place.Goals as goal
 
-pub returns-clause-added : goal.returns-clause-added
-returns-clause-added c =
-    one_named c.self.inside.places c.insert.new.self c.args.self.now c.args.place c.args.index c.self.view_is
-    c.in_ok-insert.ensures.updates.0
+pub returns-in_err-insert-in-Some-clause-same : goal.returns-in_err-insert-in-Some-clause-same
+returns-in_err-insert-in-Some-clause-same c =
+    let there = c.in-Some.ensures.value in
+    on_err c.from_residual.result _
+    (same_named c.self.inside.places.entries (c.get_mut.follows.lender c.insert.new.self).entries c.args.self.now
+    c.args.place (Some c.insert.new.self) (Some c.in-Some.indices.now) c.self.view_is there
+    (same_indices c.in-Some.indices.now c.insert.new.self c.in_err-insert-in-Some.ensures.err)
+    ((c.get_mut.follows.holds c.insert.new.self).3 (subst IsSome there refl)).0)
 
-pub returns-in_err-insert-clause-same : goal.returns-in_err-insert-clause-same
-returns-in_err-insert-clause-same c = on_err c.from_residual.result
-    ((p : Place) (i : ℕ) → names c.insert.new.self.keys p i ≡ names c.args.self.now p i)
-    (λ p i. ap (λ (es : Entries). names es p i) (c.in_err-insert.ensures.err ∙ c.self.view_is))
+pub returns-in_ok-insert-in-Some-clause-added : goal.returns-in_ok-insert-in-Some-clause-added
+returns-in_ok-insert-in-Some-clause-added c =
+    let there = c.in-Some.ensures.value in
+    one_named c.self.inside.places.entries (c.get_mut.follows.lender c.insert.new.self).entries c.args.self.now
+    c.args.place c.args.index (Some c.insert.new.self) (Some c.in-Some.indices.now) c.self.view_is there
+    (set_index c.in-Some.indices.now c.insert.new.self c.args.index true c.in_ok-insert-in-Some.ensures.updates.0)
+    ((c.get_mut.follows.holds c.insert.new.self).3 (subst IsSome there refl)).0
+
+pub returns-in-None-clause-added : goal.returns-in-None-clause-added
+returns-in-None-clause-added c =
+    newly_named c.add_first.result c.self.inside.places.entries c.get_mut.follows.lender-at-none.entries
+    c.add_first.new.self c.args.self.now c.args.place c.args.index (ap (λ m. m.entries) c.get_mut.follows.holds-at-none)
+    c.self.view_is c.in-None.ensures.value c.add_first.ensures.added

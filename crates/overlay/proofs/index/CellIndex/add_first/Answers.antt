@@ -1,0 +1,13 @@
+use Rattle.std.proofs.Common.{Some, refl}
+use Rattle.overlay.proofs.Places.{first_index, found, none_at, one_named}
+use Rattle.overlay.proofs.index.CellIndex.add_first.Goals as goal
+
+pub returns-clause-added : goal.returns-clause-added
+returns-clause-added c none =
+    let old = c.self.inside.places.entries in
+    let before = found old c.args.place in
+    one_named old c.insert-2.new.self.entries c.args.self.now c.args.place c.args.index (Some c.insert.new.self) before
+    c.self.view_is refl
+    (first_index c.new-indices.result c.insert.new.self c.args.index before c.new-indices.ensures.empty
+    c.in_ok-insert.ensures.updates.0 (none_at old c.args.self.now c.args.place c.self.view_is none))
+    c.in_ok-insert-2.ensures.updates.0
