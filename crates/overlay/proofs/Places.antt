@@ -1,6 +1,6 @@
 -- What the map of places says that the index names.
-use Rattle.std.proofs.Common.{◌≡◌, ℕ, ◌<◌, ◌≤◌, Bool, true, false, ◌&&◌, ◌||◌, ◌==◌, cond, List, [], ◌∷◌, ◌++◌, length, Option, Some, None, refl, sym, ap, ◌∙◌, arith}
-use Rattle.std.specs.Prelude.{OnErr, OnOk, Result, Ok, Err, not}
+use Rattle.std.proofs.Common.{◌≡◌, ℕ, ◌<◌, ◌≤◌, Bool, true, false, ◌&&◌, ◌||◌, ◌==◌, cond, List, [], ◌∷◌, ◌++◌, length, Option, Some, None, refl, sym, ap, ◌∙◌, subst, arith}
+use Rattle.std.specs.Prelude.{IfSome, OnErr, OnOk, Result, Ok, Err, not}
 use Rattle.std.specs.Cmp.{ranks, unsigned_tied}
 use Rattle.std.specs.Map.{lookup}
 use Rattle.std.specs.Ordering.{MatchOrdering, nat_cmp, is_eq, is_gt, is_lt}
@@ -14,7 +14,7 @@ use Rattle.std.proofs.lemmas.List.{nil_from_length}
 use Rattle.harp_cells.specs.Effect.{is_key}
 use Rattle.harp_cells.proofs.CellLemmas.{same_key}
 use Rattle.harp_cells.proofs.KeyOrder.{key_cmp, tied}
-use Rattle.overlay.specs.Index.{Entries, IsLast, Place, has, is_entry, names}
+use Rattle.overlay.specs.Index.{AreInUse, Entries, IsLast, Place, has, is_entry, names}
 
 lookup_same : (p q : Place → Bool) → ((k : Place) → p k ≡ q k) → (entries : Entries) → lookup p entries ≡ lookup q entries
 lookup_same p q h [] = refl
@@ -213,6 +213,35 @@ none_gone old new entries place index same is none p i =
     ∙ one_gone old old entries place index None None is none (λ j. no_index (index == j))
     (λ q. stays_none (is_eq (key_cmp place q)) (found old q)
     (λ e. ap (found old) (sym (same_key place q (sym (tied place q) ∙ e))) ∙ sym none)) p i
+
+-- ---- no place is without an index
+
+abbrev HasAny : Option (BTreeSet ℕ) → Type 0
+HasAny o = IfSome o (λ indices. 0 < length indices.keys)
+
+by_order : (entries : Entries) (p : Place) → found entries p ≡ lookup (is_key p) entries
+by_order entries p = lookup_same (λ k. is_eq (key_cmp p k)) (is_key p) (tied p) entries
+
+in_use : (tie : Bool) (here at : Option (BTreeSet ℕ)) → HasAny here → HasAny at → HasAny (cond tie here at)
+in_use true here at some before = some
+in_use false here at some before = before
+
+pub still_in_use : (place : Place) (here : Option (BTreeSet ℕ)) (old new : Entries) → AreInUse old → HasAny here
+    → HasAt place here old new → AreInUse new
+still_in_use place here old new before some with p =
+    subst (λ (o : Option (BTreeSet ℕ)). HasAny o) (sym (with p) ∙ by_order new p)
+    (in_use (is_eq (key_cmp place p)) here (found old p) some
+    (subst (λ (o : Option (BTreeSet ℕ)). HasAny o) (sym (by_order old p)) (before p)))
+
+pub used_at : (entries : Entries) (place : Place) (s : BTreeSet ℕ) → AreInUse entries → Some s ≡ found entries place
+    → 0 < length s.keys
+used_at entries place s are there =
+    subst (λ (o : Option (BTreeSet ℕ)). HasAny o) (sym (there ∙ by_order entries place)) (are place)
+
+-- a set that has an index isn't empty
+pub has_some : (keys : List ℕ) (test : ℕ → Bool) → list_any test keys ≡ true → 0 < length keys
+has_some [] test some = absurd cc
+has_some (x ∷ keys) test some = omega arith
 
 -- ---- results
 

@@ -1,5 +1,5 @@
 -- Which records change what.
-use Rattle.std.specs.Prelude.{◌≡◌, ℕ, ◌+◌, ◌-◌, ◌<◌, ◌≤◌, Bool, true, false, ◌&&◌, ◌||◌, ◌==◌, nat_lt, List, [], take, slice_index_or, Option, Some, None, if◌then◌else◌}
+use Rattle.std.specs.Prelude.{◌≡◌, ℕ, ◌+◌, ◌-◌, ◌<◌, ◌≤◌, Bool, true, false, ◌&&◌, ◌||◌, ◌==◌, nat_lt, List, [], take, slice_index_or, length, IfSome, Option, Some, None, if◌then◌else◌}
 use Rattle.std.specs.BTreeSet.{BTreeSet, contains}
 use Rattle.std.specs.List.{list_any}
 use Rattle.std.specs.Map.{lookup}
@@ -26,6 +26,10 @@ place_of (change.EraseFrom object first) = blocks_of object
 -- places, each with the indices of records that have a change of it
 abbrev pub Entries : Type 0
 Entries = List (Place × BTreeSet ℕ)
+
+-- each place has one
+abbrev pub AreInUse : Entries → Type 0
+AreInUse entries = (p : Place) → IfSome (lookup (is_key p) entries) (λ indices. 0 < length indices.keys)
 
 -- one of a place's indices, where it has some
 abbrev pub has : Option (BTreeSet ℕ) → ℕ → Bool

@@ -19,11 +19,13 @@ pub struct CellIndex {
 }
 
 impl Model for CellIndex {
-    ghost use Rattle.overlay.specs.Index.{Entries};
+    ghost use Rattle.overlay.specs.Index.{AreInUse, Entries};
 
     ghost Value = { Entries };
 
     ghost view = { λ x. x.places.entries };
+
+    ghost invariant = { λ x. AreInUse x.places.entries };
 }
 
 // The place of the blocks of an object.

@@ -1,6 +1,6 @@
-use Rattle.std.proofs.Common.{Some, None, false, refl, ap, subst}
+use Rattle.std.proofs.Common.{Some, None, false, refl, ap, subst, arith}
 use Rattle.std.specs.Prelude.{IsSome}
-use Rattle.overlay.proofs.Places.{gone_after, last_index, none_gone, one_gone, set_index}
+use Rattle.overlay.proofs.Places.{gone_after, last_index, none_gone, one_gone, set_index, still_in_use}
 use Rattle.overlay.proofs.index.CellIndex.remove_place.Goals as goal
 
 pub returns-in_default : goal.returns-in_default
@@ -27,4 +27,22 @@ returns-else-is_empty c =
     one_gone c.self.inside.places.entries (c.get_mut.follows.lender c.remove.new.self).entries c.args.self.now
     c.args.place c.args.index (Some c.remove.new.self) (Some c.in-Some.indices.now) c.self.view_is there
     (set_index c.in-Some.indices.now c.remove.new.self c.args.index false c.remove.ensures.updates.0)
+    ((c.get_mut.follows.holds c.remove.new.self).3 (subst IsSome there refl)).0
+
+pub invariant_of-self-then-is_empty : goal.invariant_of-self-then-is_empty
+invariant_of-self-then-is_empty c =
+    let old = c.self.inside.places.entries in
+    let there = c.in-Some.ensures.value in
+    still_in_use c.args.place None old c.remove-then-is_empty.new.self.entries c.self.invariant tt
+    (gone_after c.args.place None (Some c.remove.new.self) old (c.get_mut.follows.lender c.remove.new.self).entries
+    c.remove-then-is_empty.new.self.entries
+    ((c.get_mut.follows.holds c.remove.new.self).3 (subst IsSome there refl)).0
+    c.remove-then-is_empty.ensures.updates.0)
+
+pub invariant_of-self-else-is_empty : goal.invariant_of-self-else-is_empty
+invariant_of-self-else-is_empty c =
+    let there = c.in-Some.ensures.value in
+    still_in_use c.args.place (Some c.remove.new.self) c.self.inside.places.entries
+    (c.get_mut.follows.lender c.remove.new.self).entries c.self.invariant
+    (grind (arith, c.is_empty.ensures, c.if-is_empty.false))
     ((c.get_mut.follows.holds c.remove.new.self).3 (subst IsSome there refl)).0
