@@ -43,7 +43,9 @@ pub fn pairs_from(
     ensures within { IfOk result (λ x. x.1 ≤ length bytes.now) }
     ensures bound { IfOk result (λ x. length x.0.items ≤ most) }
 {
-    let mut items = Vec::new(alloc);
+    // There are no more pairs than what is left has room for.
+    let room = most.min((bytes.len() - at) / 2);
+    let mut items = Vec::with_capacity(alloc, room)?;
     let mut place = at;
     for _k in 0..most {
         let Some(b) = pair_at(bytes, place) else {
