@@ -24,20 +24,6 @@ looked (Some t) line ahead ahead' (Some x) None k l = absurd l
 looked (Some t) line ahead ahead' (Some x) (Some y) k l =
     append_assoc line ahead' y ∙ ap (λ s. line ++ s) l ∙ sym (append_assoc line ahead x) ∙ k
 
--- a byte goes from what is at hand to the line
-pub moved : (text : Option (List ℕ)) (line rest : List ℕ) (b : ℕ) (left : Option (List ℕ)) → Keeps text (prepend_known (line ++ b ∷ rest) left)
-    → Keeps text (prepend_known ((line ++ b ∷ []) ++ rest) left)
-moved text line rest b left k = rw (append_assoc line (b ∷ []) rest) k
-
--- the byte that was seen goes from what is at hand to the line
-pub moved-seen : (text : Option (List ℕ)) (line ahead ahead' : List ℕ) (left : Option (List ℕ)) (old : List ℕ) (old_left : Option (List ℕ)) (byte : Option ℕ) (b : ℕ)
-    → byte ≡ Some b → Peeked old old_left ahead byte → ahead' ≡ drop 1 ahead → Keeps text (prepend_known (line ++ ahead) left)
-    → Keeps text (prepend_known ((line ++ b ∷ []) ++ ahead') left)
-moved-seen text line ahead ahead' left old old_left byte b is peeked taken k =
-    let p : Peeked old old_left ahead (Some b) = subst (Peeked old old_left ahead) is peeked in
-    let rest : ahead' ≡ p.0 = taken ∙ ap (λ (s : List ℕ). drop 1 s) p.1 in
-    rw rest (moved text line p.0 b left (subst (λ s. Keeps text (prepend_known (line ++ s) left)) p.1 k))
-
 given : (text : Option (List ℕ)) (v : Vec ℕ Global) (rest : List ℕ) (left : Option (List ℕ)) → Feedless v.items → length v.items ≤ 20000
     → Keeps text (prepend_known (v.items ++ 10 ∷ rest) left) → GivesKnown text (prepend_known rest left) (next.Line v)
 given None v rest left h few k = tt

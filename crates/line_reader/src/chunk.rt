@@ -1,6 +1,6 @@
 //! Bytes that were read from a source and not yet taken.
 
-ghost use Rattle.std.specs.Prelude.{◌≡◌, ◌≤◌, [], ◌∷◌, ◌++◌, length, drop, IfOk, OnErr};
+ghost use Rattle.std.specs.Prelude.{◌≡◌, ◌≢◌, ◌≤◌, ◌<◌, ℕ, List, [], ◌∷◌, ◌++◌, length, drop, IfOk, OnErr};
 ghost use Rattle.std.specs.Io.KnownBytes.{Keeps, prepend_known};
 ghost use Rattle.harp_base.specs.Streams.{Rose};
 ghost use Rattle.line_reader.specs.Lines.{Feedless, Peeked};
@@ -68,6 +68,9 @@ impl Chunk {
         ensures feedless { Feedless result.now }
         ensures front { result.now ++ drop (length result.now) self.now ≡ self.now }
         ensures few { length result.now ≤ most }
+        // None only where a line feed comes next, or none are asked for.
+        ensures some { (b : ℕ) (rest : List ℕ) → self.now ≡ b ∷ rest → b ≢ 10 → 0 < most
+            → 0 < length result.now }
     {
         let held = &self.bytes[self.at..self.end];
         let count = memchr(b'\n', held).unwrap_or(held.len());

@@ -1,6 +1,6 @@
 //! The lines of a source, one after the other.
 
-ghost use Rattle.std.specs.Prelude.{◌≡◌, ◌≤◌, [], ◌++◌, length, IfOk, OnErr, Err};
+ghost use Rattle.std.specs.Prelude.{◌≡◌, ◌≢◌, ◌≤◌, ◌<◌, ℕ, List, [], ◌∷◌, ◌++◌, length, IfOk, OnOk, OnErr, Err};
 ghost use Rattle.std.specs.Io.KnownBytes.{Keeps};
 ghost use Rattle.harp_base.specs.Streams.{Rose};
 ghost use Rattle.line_reader.specs.Lines.{Feedless};
@@ -83,11 +83,13 @@ impl Model for LineReader {
 
 /// Takes the bytes at hand before the next line feed to a line, as far as it has room.
 fn take_plain(line: &mut Vec<u8>, chunk: &mut Chunk) -> Result<(), AllocError>
-    requires { length line.old.items ≤ 20001 }
+    requires { length line.old.items ≤ 20000 }
     ensures whole { line.new.items ++ chunk.new ≡ line.old.items ++ chunk.old }
     ensures feedless { Feedless line.old.items → Feedless line.new.items }
     ensures few { length line.new.items ≤ 20001 }
-    ensures more { length line.old.items ≤ length line.new.items }
+    // Some come where the next byte is no line feed.
+    ensures more { OnOk result ((b : ℕ) (rest : List ℕ) → chunk.old ≡ b ∷ rest → b ≢ 10
+        → length line.old.items < length line.new.items) }
 {
     let piece = chunk.plain(MOST + 1 - line.len());
     let count = piece.len();
@@ -124,11 +126,7 @@ impl LineReader {
                     self.chunk.take(1);
                     return Ok(Next::Line(mem::replace(&mut self.line, Vec::new(alloc))));
                 }
-                Some(byte) => {
-                    self.line.push(byte)?;
-                    self.chunk.take(1);
-                    take_plain(&mut self.line, &mut self.chunk)?;
-                }
+                Some(_) => take_plain(&mut self.line, &mut self.chunk)?,
             }
         }
         Ok(Next::TooLong)

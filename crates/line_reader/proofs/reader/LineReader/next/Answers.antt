@@ -1,6 +1,6 @@
 use Rattle.std.proofs.Common.{sym, arith, ◌∙◌, ap}
 use Rattle.std.specs.Prelude.{Result, Ok, Err, OnErr, Some}
-use Rattle.line_reader.proofs.ReaderLemmas.{looked, moved-seen, gives-ended, gives-last, gives-long}
+use Rattle.line_reader.proofs.ReaderLemmas.{looked, gives-ended, gives-last, gives-long}
 use Rattle.line_reader.proofs.reader.LineReader.next.Goals as goal
 
 -- a fact that holds anyway holds after an error
@@ -13,22 +13,12 @@ returns-in_err-peek-clause-err g c =
     always c.from_residual.result
     (looked _ c.loop-alloc.self-inside.line.items c.loop-alloc.self-inside.chunk _ (g.S.Source.left c.loop-alloc.source) _ c.loop-alloc.invariant.reads_on.kept c.peek.ensures.left)
 
-pub returns-in_err-push-in-Some-clause-err : goal.returns-in_err-push-in-Some-clause-err
-returns-in_err-push-in-Some-clause-err g c =
-    always c.from_residual-in_err-push-in-Some.result (rw c.in_err-push-in-Some.ensures.items
-    (looked _ c.loop-alloc.self-inside.line.items c.loop-alloc.self-inside.chunk _ (g.S.Source.left c.loop-alloc.source) _ c.loop-alloc.invariant.reads_on.kept c.peek.ensures.left))
-
 pub returns-in_err-take_plain-in-Some-clause-err : goal.returns-in_err-take_plain-in-Some-clause-err
 returns-in_err-take_plain-in-Some-clause-err g c =
-    let line = c.loop-alloc.self-inside.line.items in
-    let left = g.S.Source.left c.peek.new.source in
-    let kept = looked _ line c.loop-alloc.self-inside.chunk c.peek.new.self
-    (g.S.Source.left c.loop-alloc.source) left c.loop-alloc.invariant.reads_on.kept c.peek.ensures.left in
-    let seen = moved-seen _ line c.peek.new.self c.take-in-Some.new.self left c.loop-alloc.self-inside.chunk
-    (g.S.Source.left c.loop-alloc.source) c.in_ok-peek.field-0 c.in-Some.byte c.in-Some.is c.in_ok-peek.ensures.ok
-    c.take-in-Some.ensures kept in
     always c.from_residual-in_err-take_plain-in-Some.result
-    (rw (c.take_plain.ensures.whole, c.in_ok-push-in-Some.ensures.items) seen)
+    (rw c.take_plain.ensures.whole
+    (looked _ c.loop-alloc.self-inside.line.items c.loop-alloc.self-inside.chunk c.peek.new.self (g.S.Source.left c.loop-alloc.source) (g.S.Source.left c.peek.new.source)
+    c.loop-alloc.invariant.reads_on.kept c.peek.ensures.left))
 
 pub returns-in-None-2-clause-ok : goal.returns-in-None-2-clause-ok
 returns-in-None-2-clause-ok g c =
