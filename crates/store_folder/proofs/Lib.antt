@@ -1,6 +1,10 @@
 mod CellLaws
 mod CutLaws
+mod CutBlocks
 mod KeyLaws
+mod BlockLaws
+mod CoverLaws
 mod SeenLaws
+mod SyncLaws
 mod MarkCodec
 mod MarkLaws

@@ -1,5 +1,7 @@
 pub mod CellFile
 pub mod MarkFile
 pub mod Unsynced
+pub mod Files
+pub mod Sync
 pub mod Store
 pub mod Names

@@ -1,8 +1,9 @@
-//! Files and folders: read whole, replaced whole, removed, synced.
+//! The files of the system.
 
-ghost use Rattle.std.specs.Prelude.{◌≡◌, ◌≢◌, ◌≤◌, IfErr, IfOk, IfSome, Err, Ok, length};
+ghost use Rattle.std.specs.Prelude.{◌≡◌, ◌≢◌, ◌≤◌, IfErr, IfOk, IfSome, Err, None, Ok, length};
 ghost use Rattle.std.specs.IoError.{error_kind};
 
+use crate::disk_files::DiskFiles;
 use harp_store::StoreFault;
 use std::alloc::Global;
 use std::fs::{File, OpenFile};
@@ -35,16 +36,16 @@ pub fn of_disk<T>(given: io::Result<T>) -> Result<T, StoreFault>
     }
 }
 
-/// Whether there is a folder at a path.
-pub fn is_folder<R: Files>(rt: &R, path: &str) -> bool {
+// Whether there is a folder at a path.
+fn is_folder<R: Files>(rt: &R, path: &str) -> bool {
     match fs::metadata(rt, path) {
         Ok(metadata) => metadata.is_dir(),
         Err(_) => false,
     }
 }
 
-/// What was written in a folder is on the disk.
-pub fn sync_folder<R: Files>(rt: &R, path: &str) -> io::Result<()> {
+// What was written in a folder is on the disk.
+fn sync_folder<R: Files>(rt: &R, path: &str) -> io::Result<()> {
     File::open(rt, path)?.sync_all()
 }
 
@@ -57,8 +58,8 @@ fn make_one<R: Files>(rt: &R, above: &str, path: &str) -> io::Result<()> {
     }
 }
 
-/// Makes a folder and those above it, where there are none.
-pub fn make_folder<R: Files>(rt: &R, path: &str) -> io::Result<()> {
+// Makes a folder and those above it, where there are none.
+fn make_folder<R: Files>(rt: &R, path: &str) -> io::Result<()> {
     let mut above = if path.starts_with('/') { "/" } else { "." };
     for end in 1..path.len() {
         let Some((front, rest)) = path.split_at_checked(end) else {
@@ -81,9 +82,9 @@ fn opened<R: Files>(rt: &R, path: &str) -> Result<Option<R::File>, StoreFault> {
     }
 }
 
-/// The bytes of a file, None where there is none. One that is longer than the most is no file of a
-/// store.
-pub fn read_file<R: Files>(
+// The bytes of a file, None where there is none. One that is longer than the most is no file of a
+// store.
+fn read_file<R: Files>(
     rt: &R,
     alloc: Global,
     path: &str,
@@ -103,19 +104,82 @@ pub fn read_file<R: Files>(
     Ok(Some(bytes))
 }
 
-/// A file with these bytes takes the place of the one at a path, in one step and for sure: it is
-/// written at another path, synced and renamed.
-pub fn replace_file<R: Files>(rt: &R, new: &str, path: &str, bytes: &[u8]) -> io::Result<()> {
+// A file with these bytes takes the place of the one at a path, in one step and for sure: it is
+// written at another path, synced and renamed.
+fn replace_file<R: Files>(rt: &R, new: &str, path: &str, bytes: &[u8]) -> io::Result<()> {
     let mut file = File::create(rt, new)?;
     file.write_all(bytes)?;
     file.sync_all()?;
     fs::rename(rt, new, path)
 }
 
-/// Removes a file, where there is one.
-pub fn remove_file<R: Files>(rt: &R, path: &str) -> io::Result<()> {
+// Removes a file, where there is one.
+fn remove_file<R: Files>(rt: &R, path: &str) -> io::Result<()> {
     match fs::remove_file(rt, path) {
         Err(error) if error.kind() == ErrorKind::NotFound => Ok(()),
         done => done,
+    }
+}
+
+// The names of what a folder has.
+fn names<R: Files + AllocGlobal + Clone + Drop>(
+    rt: &R,
+    alloc: Global,
+    path: &str,
+) -> Result<Vec<String>, StoreFault> {
+    let mut names = Vec::new(alloc);
+    for entry in of_disk(fs::read_dir(rt, path))? {
+        let entry = of_disk(entry)?;
+        let name = String::from_str(alloc, entry.file_name())?;
+        if names.push(name).is_err() {
+            return Err(StoreFault::NoMemory);
+        }
+    }
+    Ok(names)
+}
+
+/// The files of the system. They tell nothing; each error of a file is a failure, but for want of
+/// memory.
+#[derive(Drop)]
+pub struct SystemFiles<R> {
+    rt: R,
+}
+
+impl<R> SystemFiles<R> {
+    /// The files that a runtime gives.
+    pub fn new(rt: R) -> SystemFiles<R> {
+        SystemFiles { rt }
+    }
+}
+
+impl<R: Files + AllocGlobal + Clone + Drop> DiskFiles for SystemFiles<R> {
+    ghost told = { λ _. None };
+
+    fn make_folder(&mut self, path: &str) -> Result<(), StoreFault> {
+        of_disk(make_folder(&self.rt, path))
+    }
+
+    fn is_folder(&self, path: &str) -> bool {
+        is_folder(&self.rt, path)
+    }
+
+    fn names(&self, alloc: Global, path: &str) -> Result<Vec<String>, StoreFault> {
+        names(&self.rt, alloc, path)
+    }
+
+    fn read(&self, alloc: Global, path: &str, most: usize) -> Result<Option<Vec<u8>>, StoreFault> {
+        read_file(&self.rt, alloc, path, most)
+    }
+
+    fn replace(&mut self, new: &str, path: &str, bytes: &[u8]) -> Result<(), StoreFault> {
+        of_disk(replace_file(&self.rt, new, path, bytes))
+    }
+
+    fn remove(&mut self, path: &str) -> Result<(), StoreFault> {
+        of_disk(remove_file(&self.rt, path))
+    }
+
+    fn sync_folder(&mut self, path: &str) -> Result<(), StoreFault> {
+        of_disk(sync_folder(&self.rt, path))
     }
 }

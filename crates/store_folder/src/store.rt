@@ -1,18 +1,19 @@
 //! The store over a folder.
 
-ghost use Rattle.std.specs.Prelude.{◌≡◌, ◌⊎◌, ◌≤◌, Err, None, IfOk, OnOk, OnErr};
+ghost use Rattle.std.specs.Prelude.{◌≡◌, ◌⊎◌, ◌≤◌, [], Err, None, Some, IfOk, OnOk, OnErr};
 ghost use Rattle.harp_base.specs.Streams.{Rose};
 ghost use Rattle.harp_cells.specs.declared.change.Change.TheVariants as change;
-ghost use Rattle.store_folder.specs.Unsynced.{IsAlike, IsChanged, IsNothing, ReadsMade, made_of};
-ghost use Rattle.store_folder.specs.Store.{store_faults, unsynced_of};
+ghost use Rattle.store_folder.specs.Sync.{SyncsAll, SyncsSome, WritesMark};
+ghost use Rattle.store_folder.specs.Unsynced.{GainsBlock, HasBlocks, IsAlike, IsChanged, IsNothing, ReadsMade, made_of};
+ghost use Rattle.store_folder.specs.Store.{files_of, folder_of, store_faults, unsynced_of};
 
-use crate::files::of_disk;
+use crate::disk_files::DiskFiles;
+use crate::files::SystemFiles;
+use crate::folder;
 use crate::unsynced::Unsynced;
-use crate::{files, folder};
 use harp_cells::{Cell, Value};
 use harp_store::{Mark, Store, StoreFault};
 use std::alloc::Global;
-use std::rt::Files;
 
 /// A store over a folder of files, which `attach` names and makes.
 ///
@@ -27,22 +28,23 @@ use std::rt::Files;
 /// a call before `attach`, and a file that doesn't hold a value or a mark, whole and with nothing
 /// behind it.
 #[derive(Drop)]
-pub struct FolderStore<R> {
-    rt: R,
+pub struct FolderStore<F> {
+    files: F,
     folder: Option<String>,
     unsynced: Unsynced,
     faults: u64,
 }
 
-impl<R: AllocGlobal> FolderStore<R> {
-    /// A store without a folder.
-    pub fn new(rt: R) -> FolderStore<R>
+impl<R: AllocGlobal> FolderStore<SystemFiles<R>> {
+    /// A store without a folder, over the files of the system.
+    pub fn new(rt: R) -> FolderStore<SystemFiles<R>>
         ensures faults { store_faults result ≡ 0 }
         ensures unsynced { IsNothing (unsynced_of result) }
+        ensures blocks { (unsynced_of result).blocks ≡ [] }
     {
         let unsynced = Unsynced::new(rt.alloc());
         FolderStore {
-            rt,
+            files: SystemFiles::new(rt),
             folder: None,
             unsynced,
             faults: 0,
@@ -50,7 +52,7 @@ impl<R: AllocGlobal> FolderStore<R> {
     }
 }
 
-impl<R> FolderStore<R> {
+impl<F> FolderStore<F> {
     /// How many calls failed.
     pub fn faults(&self) -> u64
         ensures { result ≡ store_faults self.now }
@@ -70,6 +72,8 @@ impl<R> FolderStore<R> {
     fn counted<T: Drop>(&mut self, given: Result<T, StoreFault>) -> Result<T, StoreFault>
         ensures same { result ≡ given }
         ensures unsynced { unsynced_of self.new ≡ unsynced_of self.old }
+        ensures files { files_of self.new ≡ files_of self.old }
+        ensures folder { folder_of self.new ≡ folder_of self.old }
         ensures rose { result ≡ Err StoreFault.Failed
             → Rose (store_faults self.old) (store_faults self.new) }
         ensures count { store_faults self.old ≤ store_faults self.new }
@@ -81,16 +85,20 @@ impl<R> FolderStore<R> {
     }
 }
 
-impl<R: Files + AllocGlobal + Clone + Drop> FolderStore<R> {
+impl<F: DiskFiles + Drop> FolderStore<F> {
     fn try_attach(&mut self, alloc: Global, path: &str) -> Result<(), StoreFault>
-        ensures unsynced { unsynced_of self.new ≡ unsynced_of self.old }
+        ensures unsynced { unsynced_of self.new
+            ≡ record (unsynced_of self.old) { blocks = (unsynced_of self.new).blocks } }
+        ensures blocks { HasBlocks (unsynced_of self.old) (unsynced_of self.new) }
+        ensures written { F.told (files_of self.new) ≡ F.told (files_of self.old) }
+        ensures folder { OnOk result (folder_of self.new ≡ Some path.now) }
         ensures faults { store_faults self.new ≡ store_faults self.old }
     {
         if path.is_empty() {
             return Err(StoreFault::Failed);
         }
-        of_disk(files::make_folder(&self.rt, path))?;
-        folder::list_blocks(&self.rt, path, &mut self.unsynced)?;
+        self.files.make_folder(path)?;
+        folder::list_blocks(&self.files, alloc, path, &mut self.unsynced)?;
         self.folder = Some(String::from_str(alloc, path)?);
         Ok(())
     }
@@ -98,44 +106,64 @@ impl<R: Files + AllocGlobal + Clone + Drop> FolderStore<R> {
     fn try_read(&mut self, alloc: Global, cell: Cell) -> Result<Option<Value>, StoreFault>
         ensures made { IfOk result (λ v. ReadsMade (made_of (unsynced_of self.old) cell) v) }
         ensures alike { IsAlike (unsynced_of self.old) (unsynced_of self.new) }
+        ensures blocks { (unsynced_of self.new).blocks ≡ (unsynced_of self.old).blocks }
+        ensures written { F.told (files_of self.new) ≡ F.told (files_of self.old) }
+        ensures folder { folder_of self.new ≡ folder_of self.old }
         ensures faults { store_faults self.new ≡ store_faults self.old }
     {
         match self.unsynced.find(alloc, cell)? {
             Some(value) => Ok(value),
-            None => folder::read_cell(&self.rt, alloc, self.folder()?, cell.key()),
+            None => folder::read_cell(&self.files, alloc, self.folder()?, cell.key()),
         }
     }
 
     fn try_sync(&mut self, alloc: Global) -> Result<(), StoreFault>
         ensures done { OnOk result (IsNothing (unsynced_of self.new)) }
         ensures alike { OnErr result (IsAlike (unsynced_of self.old) (unsynced_of self.new)) }
+        ensures all { OnOk result (SyncsAll (folder_of self.old) (unsynced_of self.old)
+            (unsynced_of self.new) (F.told (files_of self.old)) (F.told (files_of self.new))) }
+        ensures some { OnErr result (SyncsSome (folder_of self.old) (unsynced_of self.old)
+            (unsynced_of self.new) (F.told (files_of self.old)) (F.told (files_of self.new))) }
+        ensures folder { folder_of self.new ≡ folder_of self.old }
         ensures faults { store_faults self.new ≡ store_faults self.old }
     {
         let Some(folder) = &self.folder else {
             return Err(StoreFault::Failed);
         };
-        folder::write_changes(&self.rt, alloc, folder.as_str(), &mut self.unsynced)?;
+        folder::write_changes(&mut self.files, alloc, folder.as_str(), &mut self.unsynced)?;
         self.unsynced.clear(alloc);
         Ok(())
     }
 
     fn try_read_mark(&self, alloc: Global) -> Result<Option<Mark>, StoreFault> {
-        folder::read_mark(&self.rt, alloc, self.folder()?)
+        folder::read_mark(&self.files, alloc, self.folder()?)
     }
 
-    fn try_write_mark(&self, alloc: Global, mark: &Mark) -> Result<(), StoreFault> {
-        folder::write_mark(&self.rt, alloc, self.folder()?, mark)
+    fn try_write_mark(&mut self, alloc: Global, mark: &Mark) -> Result<(), StoreFault>
+        ensures written { OnOk result (WritesMark (folder_of self.old) mark.now
+            (F.told (files_of self.old)) (F.told (files_of self.new))) }
+        ensures unsynced { unsynced_of self.new ≡ unsynced_of self.old }
+        ensures faults { store_faults self.new ≡ store_faults self.old }
+    {
+        let Some(folder) = &self.folder else {
+            return Err(StoreFault::Failed);
+        };
+        folder::write_mark(&mut self.files, alloc, folder.as_str(), mark)
     }
 }
 
-impl<R: Files + AllocGlobal + Clone + Drop> Store for FolderStore<R> {
+impl<F: DiskFiles + Drop> Store for FolderStore<F> {
     ghost told = { λ _. None };
 
     ghost faults = { store_faults };
 
     /// Makes the folder and those above it, where there are none.
     fn attach(&mut self, alloc: Global, path: &str) -> Result<(), StoreFault>
-        ensures unsynced { unsynced_of self.new ≡ unsynced_of self.old }
+        ensures unsynced { unsynced_of self.new
+            ≡ record (unsynced_of self.old) { blocks = (unsynced_of self.new).blocks } }
+        ensures blocks { HasBlocks (unsynced_of self.old) (unsynced_of self.new) }
+        ensures written { F.told (files_of self.new) ≡ F.told (files_of self.old) }
+        ensures folder { OnOk result (folder_of self.new ≡ Some path.now) }
 
         ensures rose { result ≡ Err StoreFault.Failed
             → Rose (store_faults self.old) (store_faults self.new) }
@@ -149,6 +177,9 @@ impl<R: Files + AllocGlobal + Clone + Drop> Store for FolderStore<R> {
         // What was put or erased and isn't synced yet is read.
         ensures made { IfOk result (λ v. ReadsMade (made_of (unsynced_of self.old) cell) v) }
         ensures alike { IsAlike (unsynced_of self.old) (unsynced_of self.new) }
+        ensures blocks { (unsynced_of self.new).blocks ≡ (unsynced_of self.old).blocks }
+        ensures written { F.told (files_of self.new) ≡ F.told (files_of self.old) }
+        ensures folder { folder_of self.new ≡ folder_of self.old }
 
         ensures rose { result ≡ Err StoreFault.Failed
             → Rose (store_faults self.old) (store_faults self.new) }
@@ -165,6 +196,11 @@ impl<R: Files + AllocGlobal + Clone + Drop> Store for FolderStore<R> {
         ensures part { OnErr result (IsAlike (unsynced_of self.old) (unsynced_of self.new)
             ⊎ IsChanged (change.Put cell value.now) (unsynced_of self.old)
             (unsynced_of self.new)) }
+        ensures added { OnOk result (GainsBlock cell (unsynced_of self.old)
+            (unsynced_of self.new)) }
+        ensures blocks { HasBlocks (unsynced_of self.old) (unsynced_of self.new) }
+        ensures written { F.told (files_of self.new) ≡ F.told (files_of self.old) }
+        ensures folder { folder_of self.new ≡ folder_of self.old }
 
         ensures rose { result ≡ Err StoreFault.Failed
             → Rose (store_faults self.old) (store_faults self.new) }
@@ -177,6 +213,9 @@ impl<R: Files + AllocGlobal + Clone + Drop> Store for FolderStore<R> {
         ensures changed { OnOk result (IsChanged (change.Erase cell)
             (unsynced_of self.old) (unsynced_of self.new)) }
         ensures alike { OnErr result (IsAlike (unsynced_of self.old) (unsynced_of self.new)) }
+        ensures blocks { (unsynced_of self.new).blocks ≡ (unsynced_of self.old).blocks }
+        ensures written { F.told (files_of self.new) ≡ F.told (files_of self.old) }
+        ensures folder { folder_of self.new ≡ folder_of self.old }
 
         ensures rose { result ≡ Err StoreFault.Failed
             → Rose (store_faults self.old) (store_faults self.new) }
@@ -189,6 +228,9 @@ impl<R: Files + AllocGlobal + Clone + Drop> Store for FolderStore<R> {
         ensures changed { OnOk result (IsChanged (change.EraseFrom object first)
             (unsynced_of self.old) (unsynced_of self.new)) }
         ensures alike { OnErr result (IsAlike (unsynced_of self.old) (unsynced_of self.new)) }
+        ensures blocks { (unsynced_of self.new).blocks ≡ (unsynced_of self.old).blocks }
+        ensures written { F.told (files_of self.new) ≡ F.told (files_of self.old) }
+        ensures folder { folder_of self.new ≡ folder_of self.old }
 
         ensures rose { result ≡ Err StoreFault.Failed
             → Rose (store_faults self.old) (store_faults self.new) }
@@ -200,6 +242,12 @@ impl<R: Files + AllocGlobal + Clone + Drop> Store for FolderStore<R> {
     fn sync(&mut self, alloc: Global) -> Result<(), StoreFault>
         ensures done { OnOk result (IsNothing (unsynced_of self.new)) }
         ensures alike { OnErr result (IsAlike (unsynced_of self.old) (unsynced_of self.new)) }
+        // Each cell that isn't synced is written, or the call fails.
+        ensures all { OnOk result (SyncsAll (folder_of self.old) (unsynced_of self.old)
+            (unsynced_of self.new) (F.told (files_of self.old)) (F.told (files_of self.new))) }
+        ensures some { OnErr result (SyncsSome (folder_of self.old) (unsynced_of self.old)
+            (unsynced_of self.new) (F.told (files_of self.old)) (F.told (files_of self.new))) }
+        ensures folder { folder_of self.new ≡ folder_of self.old }
 
         ensures rose { result ≡ Err StoreFault.Failed
             → Rose (store_faults self.old) (store_faults self.new) }
@@ -211,6 +259,8 @@ impl<R: Files + AllocGlobal + Clone + Drop> Store for FolderStore<R> {
 
     fn read_mark(&mut self, alloc: Global) -> Result<Option<Mark>, StoreFault>
         ensures unsynced { unsynced_of self.new ≡ unsynced_of self.old }
+        ensures written { F.told (files_of self.new) ≡ F.told (files_of self.old) }
+        ensures folder { folder_of self.new ≡ folder_of self.old }
 
         ensures rose { result ≡ Err StoreFault.Failed
             → Rose (store_faults self.old) (store_faults self.new) }
@@ -222,6 +272,8 @@ impl<R: Files + AllocGlobal + Clone + Drop> Store for FolderStore<R> {
 
     fn write_mark(&mut self, alloc: Global, mark: &Mark) -> Result<(), StoreFault>
         ensures unsynced { unsynced_of self.new ≡ unsynced_of self.old }
+        ensures written { OnOk result (WritesMark (folder_of self.old) mark.now
+            (F.told (files_of self.old)) (F.told (files_of self.new))) }
 
         ensures rose { result ≡ Err StoreFault.Failed
             → Rose (store_faults self.old) (store_faults self.new) }

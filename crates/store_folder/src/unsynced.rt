@@ -1,8 +1,12 @@
 //! What was put and erased since the last sync.
 
-ghost use Rattle.std.specs.Prelude.{◌≡◌, ◌⊎◌, Some, None, IfOk, OnOk, OnErr};
+ghost use Rattle.std.specs.Prelude.{◌≡◌, ◌⊎◌, ◌≤◌, ℕ, [], true, false, Contains, Some, None, IfOk, OnOk, OnErr, if◌then◌else◌};
+ghost use Rattle.harp_cells.specs.declared.cell.Cell.{Cell as CellName};
+ghost use Rattle.harp_cells.specs.declared.cell.Cell.TheVariants as cell;
 ghost use Rattle.harp_cells.specs.declared.change.Change.TheVariants as change;
-ghost use Rattle.store_folder.specs.Unsynced.{IsAlike, IsChanged, IsNothing, cut_of, earlier, is_cut, is_from, is_touched, made_of};
+ghost use Rattle.harp_cells.specs.Effect.{is_cell};
+ghost use Rattle.store_folder.specs.Sync.{AreAll};
+ghost use Rattle.store_folder.specs.Unsynced.{GainsBlock, HasBlocks, IsAlike, IsChanged, IsNothing, Stays, cut_of, earlier, is_cut, is_from, is_stored, is_touched, made_of};
 ghost use Rattle.harp_cells.specs.Memory.{held};
 
 use harp_cells::{Cell, CellRead, Key, MemCells, Value};
@@ -25,7 +29,8 @@ pub struct Unsynced {
 }
 
 impl Model for Unsynced {
-    ghost use Rattle.store_folder.specs.Unsynced.{Pending};
+    ghost use Rattle.std.specs.Prelude.{◌<◌, ◌^◌, All};
+    ghost use Rattle.store_folder.specs.Unsynced.{IsKeyed, Pending};
 
     ghost Value = { Pending };
 
@@ -33,14 +38,18 @@ impl Model for Unsynced {
       values = u.values;
       touched = u.touched.entries;
       cuts = u.cuts.entries;
+      blocks = u.blocks.keys;
     } };
+
+    ghost invariant = { λ u. IsKeyed u.touched.entries × All (λ b. b.1 < 2 ^ 32) u.blocks.keys };
 }
 
 impl Unsynced {
     /// No changes, and a disk without blocks.
     #[tactic(auto, unfolding(crate::specs::Unsynced::is_touched, crate::specs::Unsynced::is_cut))]
     pub fn new(alloc: Global) -> Unsynced
-        ensures { IsNothing result }
+        ensures nothing { IsNothing result }
+        ensures blocks { result.blocks ≡ [] }
     {
         Unsynced {
             values: MemCells::new(alloc),
@@ -52,7 +61,9 @@ impl Unsynced {
 
     /// The disk has this block.
     pub fn add_block(&mut self, object: u32, block: u32) -> Result<(), AllocError>
-        ensures { self.new ≡ self.old }
+        ensures added { OnOk result (GainsBlock (cell.Block object block) self.old self.new) }
+        ensures same { self.new ≡ record self.old { blocks = self.new.blocks } }
+        ensures kept { OnErr result (self.new ≡ self.old) }
     {
         self.blocks.insert((object, block))?;
         Ok(())
@@ -60,7 +71,9 @@ impl Unsynced {
 
     /// The disk doesn't have this cell's value any more.
     pub fn forget(&mut self, cell: Cell)
-        ensures { self.new ≡ self.old }
+        ensures lost { (c : CellName) → is_stored self.new.blocks c
+            ≡ (if is_cell cell c then false else is_stored self.old.blocks c) }
+        ensures same { self.new ≡ record self.old { blocks = self.new.blocks } }
     {
         if let Cell::Block { object, block } = cell {
             self.blocks.remove(&(object, block));
@@ -113,7 +126,8 @@ impl Unsynced {
     // The value that was put in a cell and not erased since.
     fn held(&mut self, alloc: Global, cell: Cell) -> Result<Option<Value>, AllocError>
         ensures value { IfOk result (λ value. value ≡ held self.old.values cell) }
-        ensures alike { IsAlike self.old self.new }
+        ensures same { Stays self.old self.new }
+        ensures blocks { self.new.blocks ≡ self.old.blocks }
     {
         let _fetched = self.values.fetch(cell);
         match self.values.value() {
@@ -125,13 +139,14 @@ impl Unsynced {
     /// What was made of a cell: a value, an erasure, or nothing.
     pub fn find(&mut self, alloc: Global, cell: Cell) -> Result<Option<Option<Value>>, AllocError>
         ensures made { IfOk result (λ made. made ≡ made_of self.old cell) }
+        ensures same { Stays self.old self.new }
         ensures alike { IsAlike self.old self.new }
+        ensures blocks { self.new.blocks ≡ self.old.blocks }
     {
-        let is_erased = self.is_touched(cell) || self.is_cut(cell);
-        match self.held(alloc, cell)? {
-            Some(value) => Ok(Some(Some(value))),
-            None if is_erased => Ok(Some(None)),
-            None => Ok(None),
+        if self.is_touched(cell) || self.is_cut(cell) {
+            Ok(Some(self.held(alloc, cell)?))
+        } else {
+            Ok(None)
         }
     }
 
@@ -140,6 +155,8 @@ impl Unsynced {
         ensures put { OnOk result (IsChanged (change.Put cell value.now) self.old self.new) }
         ensures part { OnErr result (IsAlike self.old self.new
             ⊎ IsChanged (change.Put cell value.now) self.old self.new) }
+        ensures added { OnOk result (GainsBlock cell self.old self.new) }
+        ensures blocks { HasBlocks self.old self.new }
     {
         if let Cell::Block { object, block } = cell {
             self.add_block(object, block)?;
@@ -151,6 +168,7 @@ impl Unsynced {
         ensures put { OnOk result (IsChanged (change.Put cell value) self.old self.new) }
         ensures part { OnErr result (IsAlike self.old self.new
             ⊎ IsChanged (change.Put cell value) self.old self.new) }
+        ensures blocks { self.new.blocks ≡ self.old.blocks }
     {
         self.values.put(cell, value)?;
         self.touched.insert(cell.key(), cell)?;
@@ -161,6 +179,7 @@ impl Unsynced {
     pub fn erase(&mut self, cell: Cell) -> Result<(), AllocError>
         ensures erased { OnOk result (IsChanged (change.Erase cell) self.old self.new) }
         ensures alike { OnErr result (IsAlike self.old self.new) }
+        ensures blocks { self.new.blocks ≡ self.old.blocks }
     {
         self.touched.insert(cell.key(), cell)?;
         self.values.erase(cell);
@@ -173,6 +192,7 @@ impl Unsynced {
         ensures erased { OnOk result (IsChanged (change.EraseFrom object first) self.old
             self.new) }
         ensures alike { OnErr result (IsAlike self.old self.new) }
+        ensures blocks { self.new.blocks ≡ self.old.blocks }
     {
         let cut = self.earlier_cut(object, first);
         self.cuts.insert(object, cut)?;
@@ -186,7 +206,13 @@ impl Unsynced {
         object: u32,
         first: u32,
         cells: &mut Vec<Cell>,
-    ) -> Result<(), AllocError> {
+    ) -> Result<(), AllocError>
+        ensures kept { (c : CellName) → Contains cells.old.items c → Contains cells.new.items c }
+        ensures added { OnOk result ((block : ℕ) → first ≤ block
+            → is_stored self.now.blocks (cell.Block object block) ≡ true
+            → is_touched self.now.touched (cell.Block object block) ≡ false
+            → Contains cells.new.items (cell.Block object block)) }
+    {
         for (_, block) in self.blocks.range((object, first)..=(object, u32::MAX)) {
             let cell = Cell::Block {
                 object,
@@ -199,23 +225,46 @@ impl Unsynced {
         Ok(())
     }
 
-    /// The cells to be written, each once: the blocks of the disk from a cut on, and the cells that
-    /// were put or erased.
-    pub fn cells(&self, alloc: Global) -> Result<Vec<Cell>, AllocError> {
-        let mut cells = Vec::new(alloc);
+    // The blocks of the disk that are cut, but for those that were put since.
+    fn add_cuts(&self, cells: &mut Vec<Cell>) -> Result<(), AllocError>
+        ensures { OnOk result ((c : CellName) → is_cut self.now.cuts c ≡ true
+            → is_stored self.now.blocks c ≡ true → is_touched self.now.touched c ≡ false
+            → Contains cells.new.items c) }
+    {
         for (object, first) in self.cuts.iter() {
-            self.add_cut_blocks(*object, *first, &mut cells)?;
+            self.add_cut_blocks(*object, *first, cells)?;
         }
+        Ok(())
+    }
+
+    // The cells that were put or erased.
+    fn add_touched(&self, cells: &mut Vec<Cell>) -> Result<(), AllocError>
+        ensures kept { (c : CellName) → Contains cells.old.items c → Contains cells.new.items c }
+        ensures added { OnOk result ((c : CellName) → is_touched self.now.touched c ≡ true
+            → Contains cells.new.items c) }
+    {
         for (_, cell) in self.touched.iter() {
             cells.push(*cell)?;
         }
+        Ok(())
+    }
+
+    /// The cells to be written, each once: the blocks of the disk from a cut on, and the cells that
+    /// were put or erased.
+    pub fn cells(&self, alloc: Global) -> Result<Vec<Cell>, AllocError>
+        ensures { IfOk result (λ cells. AreAll self.now cells.items) }
+    {
+        let mut cells = Vec::new(alloc);
+        self.add_cuts(&mut cells)?;
+        self.add_touched(&mut cells)?;
         Ok(cells)
     }
 
     /// All changes are on the disk.
     #[tactic(auto, unfolding(crate::specs::Unsynced::is_touched, crate::specs::Unsynced::is_cut))]
     pub fn clear(&mut self, alloc: Global)
-        ensures { IsNothing self.new }
+        ensures nothing { IsNothing self.new }
+        ensures blocks { self.new.blocks ≡ self.old.blocks }
     {
         self.values = MemCells::new(alloc);
         self.touched.clear();

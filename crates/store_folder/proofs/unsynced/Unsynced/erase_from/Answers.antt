@@ -9,8 +9,10 @@ use Rattle.store_folder.proofs.unsynced.Unsynced.erase_from.Goals as goal
 pub returns-clause-erased : goal.returns-clause-erased
 returns-clause-erased c = λ disk d.
     erase_from_seen
-    (pending_of c.self.inside.values c.self.inside.touched.entries c.self.inside.cuts.entries)
-    (pending_of c.erase_from.new.self c.self.inside.touched.entries c.insert.new.self.entries)
+    (pending_of c.self.inside.values c.self.inside.touched.entries c.self.inside.cuts.entries
+    c.self.inside.blocks.keys)
+    (pending_of c.erase_from.new.self c.self.inside.touched.entries c.insert.new.self.entries
+    c.self.inside.blocks.keys)
     c.args.object c.args.first c.erase_from.ensures.erased refl
     (cut_after c.self.inside.cuts.entries c.insert.new.self.entries c.args.object c.args.first
     c.earlier_cut-cut.result
