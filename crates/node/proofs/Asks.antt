@@ -116,17 +116,17 @@ refused_so now list client number cause peer items n before after told sent =
     }
 
 pub refuses_away : (me : ServerId) (mark : MarkFields) (horizon : HorizonValue) (served : ℕ)
-    (duty : Task) (s t : State) (n : NodeValue) (now : ℕ) (list : List Entry)
+    (duty : Task) (s : State) (n : NodeValue) (now : ℕ) (list : List Entry)
     (client number : ℕ) (cred : Cred) (call : Call) (peer : Peer) (items : List Entry)
-    (r : Part) (before after : Outputs) → value me mark horizon served duty s ≡ n → t ≡ s
+    (r : Part) (before after : Outputs) → value me mark horizon served duty s ≡ n
     → Fits (place_of me) mark s → is_led s ≡ false → r ≡ mark.role
     → said after ≡ refused_by (said before) peer client number
     (cause_away (place_of me) (role_of r) client)
     → records_sent after ≡ records_sent before
     → Asked now list (on_ask n.me now list (server n items) client number cred call) peer items n
-    (value me mark horizon served duty t) before after
-refuses_away me mark horizon served duty s t n now list client number cred call peer items r before
-    after of stays fits led role told sent =
+    (value me mark horizon served duty s) before after
+refuses_away me mark horizon served duty s n now list client number cred call peer items r before
+    after of fits led role told sent =
     let cause : cause_away (place_of me) (role_of r) client ≡ cause_away n.me n.plain.role client =
     ap (λ (x : Part). cause_away (place_of me) (role_of x) client) role
     ∙ ap (λ (x : NodeValue). cause_away x.me x.plain.role client) of in
@@ -137,7 +137,7 @@ refuses_away me mark horizon served duty s t n now list client number cred call 
     (leads_not me mark horizon served duty s items fits led) in
     subst (λ (x : NodeValue). Asked now list
     (on_ask n.me now list (server n items) client number cred call) peer items n x before after)
-    (sym (ap (value me mark horizon served duty) stays ∙ of))
+    (sym of)
     (subst (λ (ms : List (Move Entry)). Asked now list ms peer items n n before after)
     (sym (asks_away n.me now list (server n items) client number cred call not))
     (refused_so now list client number (cause_away n.me n.plain.role client) peer items n before

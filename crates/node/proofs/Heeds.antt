@@ -94,6 +94,15 @@ stays me mark horizon served duty s t n items q clock ms peers outs of same none
 
 -- ---- a server that doesn't lead
 
+pub no_leader : (s : State)
+    → ((leader : Leading) (plan : Form) → s ≡ state.Leads leader plan → ⊥) → is_led s ≡ false
+no_leader state.Gone not = refl
+no_leader (state.Rests kept) not = refl
+no_leader (state.Joined kept joining) not = refl
+no_leader (state.Pulls kept joining plan staged) not = refl
+no_leader (state.Leads leader plan) not = absurd (not leader plan refl)
+no_leader (state.Follows partner plan) not = refl
+
 never_open : (s : State) → is_led s ≡ false → is_open (mode_in s) ≡ false
 never_open state.Gone h = refl
 never_open (state.Rests kept) h = refl
@@ -253,6 +262,16 @@ leader_followed ahead.Zero Two = refl
 leader_followed ahead.One me = refl
 
 -- ---- a server that doesn't follow
+
+pub no_follower : (s : State)
+    → ((partner : Following) (plan : Form) → s ≡ state.Follows partner plan → ⊥)
+    → is_followed s ≡ false
+no_follower state.Gone not = refl
+no_follower (state.Rests kept) not = refl
+no_follower (state.Joined kept joining) not = refl
+no_follower (state.Pulls kept joining plan staged) not = refl
+no_follower (state.Leads leader plan) not = refl
+no_follower (state.Follows partner plan) not = absurd (not partner plan refl)
 
 -- it isn't the partner of a view that it is active in
 pub no_partner : (me : ServerId) (mark : MarkFields) (horizon : HorizonValue) (served : ℕ)

@@ -100,12 +100,6 @@ led_stock me mark horizon served duty s l m plan n at of records peers =
     same_led m.log.records l.log.records m.peers l.peers records peers
     ∙ ap stock_in (sym at) ∙ ap stock of
 
--- a node whose state stayed
-pub stayed_stock : (me : ServerId) (mark : MarkFields) (horizon : HorizonValue) (served : ℕ)
-    (duty : Task) (s t : State) (n : NodeValue) → value me mark horizon served duty s ≡ n
-    → t ≡ s → stock_in t ≡ stock n
-stayed_stock me mark horizon served duty s t n of same = ap stock_in same ∙ ap stock of
-
 drop_none : {A : Type 0} → (n : ℕ) (xs : List A) → n ≡ 0 → drop n xs ≡ xs
 drop_none n xs none = ap (λ k. drop k xs) none
 

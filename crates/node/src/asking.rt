@@ -16,7 +16,6 @@ ghost use Rattle.outputs.specs.Records.{records_sent};
 ghost use Rattle.outputs.specs.Said.{said};
 ghost use Rattle.tree_log.specs.Reading.{HoldsTree};
 
-use crate::active::take_leader;
 use crate::fault::NodeFault;
 use crate::node::Node;
 use crate::state::State;
@@ -60,12 +59,11 @@ impl Node {
             (D.faults store.new) }
         ensures count { D.faults store.old ≤ D.faults store.new }
     {
-        let Some((mut leader, plan)) = take_leader(&mut self.state) else {
+        let State::Leads(leader, _) = &mut self.state else {
             turn_away(self.me, self.mark.role(), asker, outs)?;
             return Ok(());
         };
         leader.ask(alloc, asker, call, now, store, outs)?;
-        self.state = State::Leads(leader, plan);
         Ok(())
     }
 }

@@ -13,7 +13,6 @@ ghost use Rattle.group_rules.specs.State.{top as top_of};
 ghost use Rattle.node.specs.Node.{server};
 ghost use Rattle.outputs.specs.Makes.{Makes};
 
-use crate::active::take_partner;
 use crate::node::Node;
 use crate::same::is_view;
 use crate::state::State;
@@ -61,13 +60,17 @@ impl Node {
         if !is_view(view, self.mark.accepted()) {
             return Ok(());
         }
-        let followed = take_partner(&mut self.state);
-        let Some((mut partner, plan)) = followed else {
+        let State::Follows(partner, _) = &mut self.state else {
+            // Only a partner promises.
             return Ok(());
         };
-        partner.event(cp, base, item, now, &mut self.horizon, outs)?;
-        self.state = State::Follows(partner, plan);
-        Ok(())
+        match partner.event(cp, base, item, now, &mut self.horizon, outs) {
+            Ok(()) => Ok(()),
+            Err(fault) => {
+                self.state = State::Gone;
+                Err(fault)
+            }
+        }
     }
 
     /// Deals with a Beat of a view. Where the server is active there, the base is at most its LB.
@@ -101,11 +104,10 @@ impl Node {
         if !is_view(view, self.mark.accepted()) {
             return Ok(());
         }
-        let Some((mut partner, plan)) = take_partner(&mut self.state) else {
+        let State::Follows(partner, _) = &mut self.state else {
             return Ok(());
         };
         partner.beat(cp, base, now, &mut self.horizon, outs)?;
-        self.state = State::Follows(partner, plan);
         Ok(())
     }
 }

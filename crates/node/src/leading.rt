@@ -11,7 +11,6 @@ ghost use Rattle.group_rules.specs.State.{top as top_of};
 ghost use Rattle.node.specs.Node.{server};
 ghost use Rattle.outputs.specs.Makes.{Makes};
 
-use crate::active::take_leader;
 use crate::node::Node;
 use crate::same::is_view;
 use crate::state::State;
@@ -51,12 +50,16 @@ impl Node {
         if !is_view(view, self.mark.accepted()) {
             return Ok(());
         }
-        let Some((mut leader, plan)) = take_leader(&mut self.state) else {
+        let State::Leads(leader, _) = &mut self.state else {
             return Ok(());
         };
-        leader.ack(alloc, top, lb, until, outs)?;
-        self.state = State::Leads(leader, plan);
-        Ok(())
+        match leader.ack(alloc, top, lb, until, outs) {
+            Ok(()) => Ok(()),
+            Err(fault) => {
+                self.state = State::Gone;
+                Err(fault)
+            }
+        }
     }
 
     /// The test of opening. A leader that waits opens its view where its partner's Formed has come
@@ -78,11 +81,15 @@ impl Node {
         ensures mark { self.new.mark ≡ self.old.mark }
         ensures up { OnOk result (self.new.halted ≡ false) }
     {
-        let Some((mut leader, plan)) = take_leader(&mut self.state) else {
+        let State::Leads(leader, _) = &mut self.state else {
             return Ok(());
         };
-        leader.try_open(alloc, now, outs)?;
-        self.state = State::Leads(leader, plan);
-        Ok(())
+        match leader.try_open(alloc, now, outs) {
+            Ok(()) => Ok(()),
+            Err(fault) => {
+                self.state = State::Gone;
+                Err(fault)
+            }
+        }
     }
 }

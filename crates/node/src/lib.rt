@@ -2,7 +2,6 @@
 #![tactic(auto)]
 
 mod accepting;
-mod active;
 mod applying;
 mod asking;
 mod boot;

@@ -20,7 +20,6 @@ ghost use Rattle.outputs.specs.Messages.{as_heard};
 ghost use Rattle.outputs.specs.Said.{said};
 ghost use Rattle.view_form.specs.Choice.{report};
 
-use crate::active::take_leader;
 use crate::node::Node;
 use crate::same::{is_one, is_view};
 use crate::state::{State, Task};
@@ -72,12 +71,16 @@ impl Node {
         ensures mark { self.new.mark ≡ self.old.mark }
         ensures up { OnOk result (self.new.halted ≡ false) }
     {
-        let Some((mut leader, plan)) = take_leader(&mut self.state) else {
+        let State::Leads(leader, _) = &mut self.state else {
             return Ok(());
         };
-        leader.tick(alloc, now, outs)?;
-        self.state = State::Leads(leader, plan);
-        Ok(())
+        match leader.tick(alloc, now, outs) {
+            Ok(()) => Ok(()),
+            Err(fault) => {
+                self.state = State::Gone;
+                Err(fault)
+            }
+        }
     }
 
     /// A coordinator without a choice invites those again that haven't joined; one with a choice

@@ -1,7 +1,8 @@
-use Rattle.std.proofs.Common.{sym, subst, ap, ◌∙◌}
+use Rattle.std.proofs.Common.{sym, subst, ap, refl, ◌∙◌}
 use Rattle.group_rules.specs.Names.{place_of}
 use Rattle.harp_store.specs.Disk.{cells_told}
 use Rattle.kept_log.specs.Kept.{plan_of}
+use Rattle.node.proofs.Heeds.{no_leader}
 use Rattle.node.proofs.Asks.{asked_led, cached_at, grown_leads, reads_so, refuses_away}
 use Rattle.node.specs.State.{Fits, outer, pulled_in}
 use Rattle.node.specs.declared.state.State.{State}
@@ -13,56 +14,61 @@ pub returns-in_default-clause-asked : goal.returns-in_default-clause-asked
 returns-in_default-clause-asked g c items list holds =
     let n = c.self.inside in
     let k = c.args.asker in
-    let led = sym c.in_default.ensures.found in
-    refuses_away n.me n.mark n.horizon n.served n.duty n.state c.take_leader.new.from
-    c.args.self.now c.args.now list k.client k.number k.cred c.args.call.now k.peer items
-    c.role.result c.args.outs.now c.turn_away.new.outs c.self.view_is
-    (c.take_leader.ensures.stays led) c.self.invariant.1 led c.role.ensures
+    let led = no_leader n.state c.in_default.not-Leads in
+    refuses_away n.me n.mark n.horizon n.served n.duty n.state c.args.self.now c.args.now
+    list k.client k.number k.cred c.args.call.now k.peer items c.role.result c.args.outs.now
+    c.turn_away.new.outs c.self.view_is c.self.invariant.1 led c.role.ensures
     c.in_ok-turn_away.ensures.said c.turn_away.ensures.records
 
 pub returns-in_default-clause-cached : goal.returns-in_default-clause-cached
 returns-in_default-clause-cached g c =
     let n = c.self.inside in
-    cached_at n.me n.mark n.horizon n.served n.duty n.state c.take_leader.new.from c.args.self.now
-    (cells_told (g.D.Store.told c.args.store.now)) c.self.view_is
-    (c.take_leader.ensures.stays (sym c.in_default.ensures.found)) c.requires.cached
+    cached_at n.me n.mark n.horizon n.served n.duty n.state n.state c.args.self.now
+    (cells_told (g.D.Store.told c.args.store.now)) c.self.view_is refl c.requires.cached
 
 pub ask-requires-clause-cached : goal.ask-requires-clause-cached
 ask-requires-clause-cached g c =
     let n = c.self.inside in
     cached_at n.me n.mark n.horizon n.served n.duty n.state
-    (state.Leads c.in-Some.leader c.in-Some.plan) c.args.self.now
+    (state.Leads c.in-Leads.leader c.in-Leads.field-1) c.args.self.now
     (cells_told (g.D.Store.told c.args.store.now)) c.self.view_is
-    (sym c.in-Some.ensures.value.0) c.requires.cached
+    (sym c.in-Leads.is) c.requires.cached
+
+pub invariant_of-self-in_err-ask : goal.invariant_of-self-in_err-ask
+invariant_of-self-in_err-ask g c =
+    let n = c.self.inside in (
+      c.self.invariant.0,
+      grown_leads (place_of n.me) n.mark c.in-Leads.leader c.ask.new.self
+          (plan_of c.in-Leads.field-1) c.ask.ensures.grown
+          (subst (λ (s : State). Fits (place_of n.me) n.mark s) c.in-Leads.is c.self.invariant.1),
+    )
 
 pub invariant_of-self-2 : goal.invariant_of-self-2
 invariant_of-self-2 g c =
     let n = c.self.inside in (
       c.self.invariant.0,
-      grown_leads (place_of n.me) n.mark c.in-Some.leader c.ask.new.self (plan_of c.in-Some.plan)
-          c.ask.ensures.grown (subst (λ (s : State). Fits (place_of n.me) n.mark s)
-          c.in-Some.ensures.value.0 c.self.invariant.1),
+      grown_leads (place_of n.me) n.mark c.in-Leads.leader c.ask.new.self
+          (plan_of c.in-Leads.field-1) c.ask.ensures.grown
+          (subst (λ (s : State). Fits (place_of n.me) n.mark s) c.in-Leads.is c.self.invariant.1),
     )
 
 pub returns-clause-asked : goal.returns-clause-asked
 returns-clause-asked g c items list holds =
     let n = c.self.inside in
     let k = c.args.asker in
-    let l = c.in-Some.leader in
-    let at = c.in-Some.ensures.value.0 in
-    asked_led n.me n.mark n.horizon n.served n.duty l c.ask.new.self c.in-Some.plan n.state
+    let l = c.in-Leads.leader in
+    let at = c.in-Leads.is in
+    asked_led n.me n.mark n.horizon n.served n.duty l c.ask.new.self c.in-Leads.field-1 n.state
     c.args.self.now c.args.now list k.client k.number k.cred c.args.call.now k.peer items
     c.args.outs.now c.ask.new.outs at c.self.view_is c.self.invariant.1
-    (c.in_ok-ask.ensures.asked (outer n.me n.mark n.horizon n.served n.duty c.in-Some.plan) list
-    (reads_so n.me n.mark n.horizon n.served n.duty l c.in-Some.plan n.state c.args.self.now list
-    k.client c.args.call.now c.args.now (g.D.Store.told c.args.store.now) at c.self.view_is
+    (c.in_ok-ask.ensures.asked (outer n.me n.mark n.horizon n.served n.duty c.in-Leads.field-1) list
+    (reads_so n.me n.mark n.horizon n.served n.duty l c.in-Leads.field-1 n.state c.args.self.now
+    list k.client c.args.call.now c.args.now (g.D.Store.told c.args.store.now) at c.self.view_is
     c.self.invariant.1 holds))
 
 pub returns-in_default-clause-pulled : goal.returns-in_default-clause-pulled
-returns-in_default-clause-pulled g c =
-    ap pulled_in (c.take_leader.ensures.stays (sym c.in_default.ensures.found))
-    ∙ ap (λ (n : NodeValue). n.pulled) c.self.view_is
+returns-in_default-clause-pulled g c = ap (λ (n : NodeValue). n.pulled) c.self.view_is
 
 pub returns-clause-pulled : goal.returns-clause-pulled
-returns-clause-pulled g c = ap pulled_in (sym c.in-Some.ensures.value.0)
+returns-clause-pulled g c = ap pulled_in (sym c.in-Leads.is)
     ∙ ap (λ (n : NodeValue). n.pulled) c.self.view_is

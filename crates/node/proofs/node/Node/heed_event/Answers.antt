@@ -1,4 +1,4 @@
-use Rattle.std.proofs.Common.{◌≡◌, ◌≤◌, ◌==◌, [], true, false, ℕ, sym, subst, ◌∷◌, refl}
+use Rattle.std.proofs.Common.{◌≡◌, ◌≤◌, ◌==◌, [], true, false, ℕ, sym, subst, ap, ◌∷◌, refl}
 use Rattle.std.proofs.lemmas.Bool.{eqb-true}
 use Rattle.event_record.specs.Record.{entry_of}
 use Rattle.group_rules.specs.Effects.{taken}
@@ -6,7 +6,7 @@ use Rattle.group_rules.specs.Limits.{room}
 use Rattle.group_rules.specs.Names.{number_of_view, place_of}
 use Rattle.group_rules.specs.Places.{Place, leader}
 use Rattle.group_rules.specs.Replicate.{on_event}
-use Rattle.node.proofs.Heeds.{accepted_test, base_within, in_view_followed, leader_followed, leaves, not_followed, not_in_view, other_view, room_within, stays}
+use Rattle.node.proofs.Heeds.{accepted_test, base_within, in_view_followed, leader_followed, leaves, no_follower, not_followed, not_in_view, other_view, room_within, stays}
 use Rattle.node.proofs.InView.{follows_event, follows_made}
 use Rattle.node.specs.Node.{server, value}
 use Rattle.node.specs.State.{Fits, IsFollowing, outer}
@@ -15,10 +15,11 @@ use Rattle.node.specs.declared.state.State.TheVariants as state
 use Rattle.kept_log.specs.Kept.{plan_of}
 use Rattle.outputs.specs.Makes.{Makes}
 use Rattle.view_replica.specs.Following.{followed, place_followed}
-use Rattle.node.proofs.Stocked.{event_stock, stayed_stock}
+use Rattle.node.proofs.Stocked.{event_stock}
 use Rattle.node.proofs.Stocks.{stocks_so}
 use Rattle.node.specs.Stock.{stock, stock_in}
 use Rattle.node.proofs.node.Node.heed_event.Goals as goal
+use Rattle.node.proofs.node.Node.heed_event.Goals.{In-Ok}
 
 pub returns-then-not-is_view-clause-makes : goal.returns-then-not-is_view-clause-makes
 returns-then-not-is_view-clause-makes c items from led =
@@ -37,10 +38,9 @@ returns-in_default-clause-makes c items from led =
     let n = c.self.inside in
     let now = c.args.self.now in
     let s = server now items in
-    let other = sym c.in_default.ensures.found in
-    stays n.me n.mark n.horizon n.served n.duty n.state c.take_partner-followed.new.from now items
-    now.me
-    c.args.now _ [] c.args.outs.now c.self.view_is (c.take_partner-followed.ensures.stays other)
+    let other = no_follower n.state c.in_default.not-Follows in
+    stays n.me n.mark n.horizon n.served n.duty n.state n.state now items now.me
+    c.args.now _ [] c.args.outs.now c.self.view_is refl
     (not_followed n.me n.mark n.horizon n.served n.duty n.state now items c.args.now from
     (number_of_view c.args.view) c.args.cp c.args.base
     (taken s c.args.item.index (entry_of c.args.item)) c.self.view_is c.self.invariant.1 other)
@@ -56,77 +56,79 @@ ours c =
 pub event-requires-clause-base : goal.event-requires-clause-base
 event-requires-clause-base c =
     let n = c.self.inside in
-    base_within n.me n.mark n.horizon n.served n.duty n.state c.in-Some.partner c.in-Some.plan
-    c.args.self.now (number_of_view c.args.view) c.args.base c.self.view_is
-    c.in-Some.ensures.value.0 c.self.invariant.1 (ours c) c.requires.base
+    base_within n.me n.mark n.horizon n.served n.duty n.state c.in-Follows.partner
+    c.in-Follows.field-1 c.args.self.now (number_of_view c.args.view) c.args.base c.self.view_is
+    c.in-Follows.is c.self.invariant.1 (ours c) c.requires.base
 
 pub event-requires-clause-room : goal.event-requires-clause-room
 event-requires-clause-room c next =
     let n = c.self.inside in
-    room_within n.me n.mark n.horizon n.served n.duty n.state c.in-Some.partner c.in-Some.plan
-    c.args.self.now (number_of_view c.args.view) c.args.base c.args.item.index room
-    c.self.view_is c.in-Some.ensures.value.0 (ours c) c.requires.room next
+    room_within n.me n.mark n.horizon n.served n.duty n.state c.in-Follows.partner
+    c.in-Follows.field-1 c.args.self.now (number_of_view c.args.view) c.args.base c.args.item.index
+    room c.self.view_is c.in-Follows.is (ours c) c.requires.room next
 
-followed_at : (c : goal.Joined-self)
-    → IsFollowing (place_of c.self.inside.me) c.self.inside.mark c.in-Some.partner
-    (plan_of c.in-Some.plan)
+followed_at : (c : In-Ok)
+    → IsFollowing (place_of c.self.inside.me) c.self.inside.mark c.in-Follows.partner
+    (plan_of c.in-Follows.field-1)
 followed_at c = subst (λ (s : State). Fits (place_of c.self.inside.me) c.self.inside.mark s)
-    c.in-Some.ensures.value.0 c.self.invariant.1
+    c.in-Follows.is c.self.invariant.1
 
-low : (c : goal.Joined-self) → c.args.base ≤ c.in-Some.partner.log.lb
+low : (c : In-Ok) → c.args.base ≤ c.in-Follows.partner.log.lb
 low c =
     let n = c.self.inside in
-    base_within n.me n.mark n.horizon n.served n.duty n.state c.in-Some.partner c.in-Some.plan
-    c.args.self.now (number_of_view c.args.view) c.args.base c.self.view_is
-    c.in-Some.ensures.value.0 c.self.invariant.1
+    base_within n.me n.mark n.horizon n.served n.duty n.state c.in-Follows.partner
+    c.in-Follows.field-1 c.args.self.now (number_of_view c.args.view) c.args.base c.self.view_is
+    c.in-Follows.is c.self.invariant.1
     (accepted_test n.me n.mark n.horizon n.served n.duty n.state c.args.self.now c.args.view
     c.accepted.result c.is_view.result true c.self.view_is c.accepted.ensures c.is_view.ensures
     c.if-not-is_view.false) c.requires.base
 
-follows : (c : goal.Joined-self)
+follows : (c : In-Ok)
     → IsFollowing (place_of c.self.inside.me) c.self.inside.mark c.event.new.self
-    (plan_of c.in-Some.plan)
-follows c = follows_event (place_of c.self.inside.me) c.self.inside.mark c.in-Some.partner
-    c.event.new.self c.args.cp c.args.base c.args.item (plan_of c.in-Some.plan)
-    c.in_ok-event.ensures.log (low c) (followed_at c)
+    (plan_of c.in-Follows.field-1)
+follows c = follows_event (place_of c.self.inside.me) c.self.inside.mark c.in-Follows.partner
+    c.event.new.self c.args.cp c.args.base c.args.item (plan_of c.in-Follows.field-1)
+    c.in-Ok.ensures.log (low c) (followed_at c)
 
-pub invariant_of-self-2 : goal.invariant_of-self-2
-invariant_of-self-2 c = (c.self.invariant.0, follows c)
+pub invariant_of-self-in-Ok : goal.invariant_of-self-in-Ok
+invariant_of-self-in-Ok c =
+    (c.self.invariant.0, follows (goal.at.invariant_of-self-in-Ok c).In-Ok)
 
-pub returns-clause-makes : goal.returns-clause-makes
-returns-clause-makes c items from led =
+pub returns-in-Ok-clause-makes : goal.returns-in-Ok-clause-makes
+returns-in-Ok-clause-makes c items from led =
     let n = c.self.inside in
-    let f = c.in-Some.partner in
-    let o = outer n.me n.mark n.horizon n.served n.duty c.in-Some.plan in
+    let at = (goal.at.returns-in-Ok-clause-makes c).In-Ok in
+    let f = c.in-Follows.partner in
+    let o = outer n.me n.mark n.horizon n.served n.duty c.in-Follows.field-1 in
     let q = place_followed f o in
     let v = number_of_view c.args.view in
     let now = c.args.self.now in
     let s = server now items in
     let new = server (value n.me n.mark c.event.new.horizon n.served n.duty
-    (state.Follows c.event.new.self c.in-Some.plan)) items in
+    (state.Follows c.event.new.self c.in-Follows.field-1)) items in
     let es = taken s c.args.item.index (entry_of c.args.item) in
     let test = accepted_test n.me n.mark n.horizon n.served n.duty n.state now c.args.view
     c.accepted.result c.is_view.result true c.self.view_is c.accepted.ensures c.is_view.ensures
     c.if-not-is_view.false in
     let is_from = led (in_view_followed n.me n.mark n.horizon n.served n.duty n.state f
-    c.in-Some.plan now v c.self.view_is c.in-Some.ensures.value.0 test) in
+    c.in-Follows.field-1 now v c.self.view_is c.in-Follows.is test) in
     let made = subst (λ (p : Place). Makes q c.args.now (on_event q c.args.now (followed f o) p
     f.view c.args.cp c.args.base
     (taken (followed f o) c.args.item.index (entry_of c.args.item))) [] (followed f o)
     (followed c.event.new.self (outer n.me n.mark c.event.new.horizon n.served n.duty
-    c.in-Some.plan))
+    c.in-Follows.field-1))
     c.args.outs.now c.event.new.outs) (sym (leader_followed f.ahead (place_of n.me)))
-    (c.in_ok-event.ensures.makes o) in
+    (c.in-Ok.ensures.makes o) in
     subst (λ (p : Place). Makes now.me c.args.now (on_event now.me c.args.now s p v c.args.cp
     c.args.base es) [] s new c.args.outs.now c.event.new.outs) (sym is_from)
     (subst (λ (w : ℕ). Makes now.me c.args.now (on_event now.me c.args.now s
     (leader s.plan.storers) w c.args.cp c.args.base es) [] s new c.args.outs.now
     c.event.new.outs) (sym (eqb-true v now.plain.accepted test))
     (follows_made n.me n.mark n.horizon c.event.new.horizon n.served n.duty f c.event.new.self
-    c.in-Some.plan n.state now items c.args.now
+    c.in-Follows.field-1 n.state now items c.args.now
     (λ q t. on_event q c.args.now t (leader t.plan.storers) t.accepted c.args.cp c.args.base
     (taken t c.args.item.index (entry_of c.args.item))) c.args.outs.now c.event.new.outs
-    c.in-Some.ensures.value.0 c.self.view_is (followed_at c) (follows c) made))
+    c.in-Follows.is c.self.view_is (followed_at at) (follows at) made))
 
 pub returns-then-not-is_view-clause-stock : goal.returns-then-not-is_view-clause-stock
 returns-then-not-is_view-clause-stock c items from =
@@ -144,27 +146,26 @@ pub returns-in_default-clause-stock : goal.returns-in_default-clause-stock
 returns-in_default-clause-stock c items from =
     let n = c.self.inside in
     let now = c.args.self.now in
-    let other = sym c.in_default.ensures.found in
+    let other = no_follower n.state c.in_default.not-Follows in
     stocks_so (c.args.item ∷ []) now.me (server now items) _ [] (stock now)
-    (stock_in c.take_partner-followed.new.from)
+    (stock_in n.state)
     (not_followed n.me n.mark n.horizon n.served n.duty n.state now items c.args.now from
     (number_of_view c.args.view) c.args.cp c.args.base
     (taken (server now items) c.args.item.index (entry_of c.args.item)) c.self.view_is
     c.self.invariant.1 other)
-    (λ clock list askers. stayed_stock n.me n.mark n.horizon n.served n.duty n.state
-    c.take_partner-followed.new.from now c.self.view_is
-    (c.take_partner-followed.ensures.stays other))
+    (λ clock list askers. ap stock c.self.view_is)
 
-pub returns-clause-stock : goal.returns-clause-stock
-returns-clause-stock c items from =
+pub returns-in-Ok-clause-stock : goal.returns-in-Ok-clause-stock
+returns-in-Ok-clause-stock c items from =
     let n = c.self.inside in
-    event_stock n.me n.mark n.horizon n.served n.duty items n.state c.in-Some.partner
-    c.event.new.self c.in-Some.plan c.args.self.now (number_of_view c.args.view) c.args.now from
-    c.args.cp c.args.base c.args.item c.in-Some.ensures.value.0 c.self.view_is (followed_at c)
-    c.in_ok-event.ensures.records
-    (in_view_followed n.me n.mark n.horizon n.served n.duty n.state c.in-Some.partner
-    c.in-Some.plan c.args.self.now (number_of_view c.args.view) c.self.view_is
-    c.in-Some.ensures.value.0
+    event_stock n.me n.mark n.horizon n.served n.duty items n.state c.in-Follows.partner
+    c.event.new.self c.in-Follows.field-1 c.args.self.now (number_of_view c.args.view) c.args.now
+    from c.args.cp c.args.base c.args.item c.in-Follows.is c.self.view_is
+    (followed_at (goal.at.returns-in-Ok-clause-stock c).In-Ok)
+    c.in-Ok.ensures.records
+    (in_view_followed n.me n.mark n.horizon n.served n.duty n.state c.in-Follows.partner
+    c.in-Follows.field-1 c.args.self.now (number_of_view c.args.view) c.self.view_is
+    c.in-Follows.is
     (accepted_test n.me n.mark n.horizon n.served n.duty n.state c.args.self.now c.args.view
     c.accepted.result c.is_view.result true c.self.view_is c.accepted.ensures c.is_view.ensures
     c.if-not-is_view.false))

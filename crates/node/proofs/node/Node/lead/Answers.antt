@@ -1,9 +1,10 @@
-use Rattle.std.proofs.Common.{[], sym, ap}
-use Rattle.node.proofs.Heeds.{leads_none, stays}
+use Rattle.std.proofs.Common.{[], ap, refl}
+use Rattle.node.proofs.Heeds.{leads_none, no_leader, stays}
 use Rattle.node.proofs.InView.{leads, leads_fits, leads_made, quiet_leads}
 use Rattle.node.specs.State.{outer}
 use Rattle.view_replica.specs.Leading.{led, place_led}
-use Rattle.node.proofs.Stocked.{led_stock, stayed_stock}
+use Rattle.node.proofs.Stocked.{led_stock}
+use Rattle.node.specs.Stock.{stock}
 use Rattle.volatile_log.specs.Log.{LogValue}
 use Rattle.std.proofs.lemmas.List.Elements.{Contains-append_left}
 use Rattle.node.proofs.Wholes.{leads_sent}
@@ -14,54 +15,51 @@ pub returns-in_default-clause-makes : goal.returns-in_default-clause-makes
 returns-in_default-clause-makes c items =
     let n = c.self.inside in
     let now = c.args.self.now in
-    let led = sym c.in_default.ensures.found in
-    stays n.me n.mark n.horizon n.served n.duty n.state c.take_leader.new.from now items now.me
-    c.args.now _ [] c.args.outs.now c.self.view_is (c.take_leader.ensures.stays led)
+    let led = no_leader n.state c.in_default.not-Leads in
+    stays n.me n.mark n.horizon n.served n.duty n.state n.state now items now.me
+    c.args.now _ [] c.args.outs.now c.self.view_is refl
     (leads_none n.me n.mark n.horizon n.served n.duty n.state now items c.args.now c.self.view_is
     c.self.invariant.1 led)
 
-pub invariant_of-self-2 : goal.invariant_of-self-2
-invariant_of-self-2 c =
+pub invariant_of-self-in-Ok : goal.invariant_of-self-in-Ok
+invariant_of-self-in-Ok c =
     let n = c.self.inside in
-    let l = c.in-Some.leader in
-    let o = outer n.me n.mark n.horizon n.served n.duty c.in-Some.plan in (
+    let l = c.in-Leads.leader in
+    let o = outer n.me n.mark n.horizon n.served n.duty c.in-Leads.field-1 in (
       c.self.invariant.0,
-      leads_fits n.me n.mark n.horizon n.served n.duty l c.tick.new.self c.in-Some.plan n.state
-          c.args.now (leads c.args.now (place_led l o) (led l o)) c.in-Some.ensures.value.0
+      leads_fits n.me n.mark n.horizon n.served n.duty l c.tick.new.self c.in-Leads.field-1 n.state
+          c.args.now (leads c.args.now (place_led l o) (led l o)) c.in-Leads.is
           c.self.invariant.1 (quiet_leads (place_led l o) c.args.now (led l o))
-          (c.in_ok-tick.ensures.makes o).state,
+          (c.in-Ok.ensures.makes o).state,
     )
 
-pub returns-clause-makes : goal.returns-clause-makes
-returns-clause-makes c items =
+pub returns-in-Ok-clause-makes : goal.returns-in-Ok-clause-makes
+returns-in-Ok-clause-makes c items =
     let n = c.self.inside in
-    let l = c.in-Some.leader in
-    let o = outer n.me n.mark n.horizon n.served n.duty c.in-Some.plan in
-    leads_made n.me n.mark n.horizon n.served n.duty l c.tick.new.self c.in-Some.plan n.state
+    let l = c.in-Leads.leader in
+    let o = outer n.me n.mark n.horizon n.served n.duty c.in-Leads.field-1 in
+    leads_made n.me n.mark n.horizon n.served n.duty l c.tick.new.self c.in-Leads.field-1 n.state
     c.args.self.now items c.args.now (leads c.args.now) (λ x. []) c.args.outs.now
-    c.tick.new.outs c.in-Some.ensures.value.0 c.self.view_is c.self.invariant.1
-    (quiet_leads (place_led l o) c.args.now (led l o)) (c.in_ok-tick.ensures.makes o)
+    c.tick.new.outs c.in-Leads.is c.self.view_is c.self.invariant.1
+    (quiet_leads (place_led l o) c.args.now (led l o)) (c.in-Ok.ensures.makes o)
 
 pub returns-in_default-clause-stock : goal.returns-in_default-clause-stock
-returns-in_default-clause-stock c =
-    let n = c.self.inside in
-    stayed_stock n.me n.mark n.horizon n.served n.duty n.state c.take_leader.new.from
-    c.args.self.now c.self.view_is (c.take_leader.ensures.stays (sym c.in_default.ensures.found))
+returns-in_default-clause-stock c = ap stock c.self.view_is
 
-pub returns-clause-stock : goal.returns-clause-stock
-returns-clause-stock c =
+pub returns-in-Ok-clause-stock : goal.returns-in-Ok-clause-stock
+returns-in-Ok-clause-stock c =
     let n = c.self.inside in
-    led_stock n.me n.mark n.horizon n.served n.duty n.state c.in-Some.leader c.tick.new.self
-    c.in-Some.plan c.args.self.now c.in-Some.ensures.value.0 c.self.view_is
-    (ap (λ (g : LogValue). g.records) c.in_ok-tick.ensures.log) c.in_ok-tick.ensures.peers
+    led_stock n.me n.mark n.horizon n.served n.duty n.state c.in-Leads.leader c.tick.new.self
+    c.in-Leads.field-1 c.args.self.now c.in-Leads.is c.self.view_is
+    (ap (λ (g : LogValue). g.records) c.in-Ok.ensures.log) c.in-Ok.ensures.peers
 
 pub returns-in_default-clause-sent : goal.returns-in_default-clause-sent
 returns-in_default-clause-sent c r h =
     Contains-append_left (records_sent c.args.outs.now) c.args.self.now.records r h
 
-pub returns-clause-sent : goal.returns-clause-sent
-returns-clause-sent c =
+pub returns-in-Ok-clause-sent : goal.returns-in-Ok-clause-sent
+returns-in-Ok-clause-sent c =
     let n = c.self.inside in
-    leads_sent n.me n.mark n.horizon n.served n.duty n.state c.in-Some.leader c.in-Some.plan
+    leads_sent n.me n.mark n.horizon n.served n.duty n.state c.in-Leads.leader c.in-Leads.field-1
     c.args.self.now (records_sent c.args.outs.now) (records_sent c.tick.new.outs)
-    c.in-Some.ensures.value.0 c.self.view_is c.in_ok-tick.ensures.records
+    c.in-Leads.is c.self.view_is c.in-Ok.ensures.records
