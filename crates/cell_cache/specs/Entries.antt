@@ -1,8 +1,9 @@
 -- What a cache keeps.
-use Rattle.std.specs.Prelude.{◌≡◌, ℕ, ◌-◌, Bool, not, is_some, List, [], ◌∷◌, take, Option, Some, None, Contains, if◌then◌else◌}
+use Rattle.std.specs.Prelude.{◌≡◌, ℕ, ◌-◌, ◌≤◌, Bool, not, is_some, List, [], ◌∷◌, take, Option, Some, None, Contains, if◌then◌else◌}
 use Rattle.std.specs.List.{filter}
 use Rattle.std.specs.Map.{lookup, remove_entry}
 use Rattle.harp_cells.specs.declared.cell.Cell.{Cell}
+use Rattle.harp_cells.specs.declared.cell.Cell.TheVariants as cell
 use Rattle.harp_cells.specs.declared.value.Value.{Value}
 use Rattle.harp_cells.specs.declared.change.Change.{Change}
 use Rattle.harp_cells.specs.Effect.{Cells, is_cell, sets}
@@ -20,6 +21,14 @@ pub record Kept : Type 0 where
 abbrev pub AreOf : Option Cells → Entries → Type 0
 AreOf told entries = (cells : Cells) → told ≡ Some cells → (e : Cell × Option Value)
     → Contains entries e → e.1 ≡ cells e.0
+
+-- the cell is no block with a greater number
+abbrev pub IsUpTo : ℕ → Cell → Type 0
+IsUpTo last c = (object block : ℕ) → c ≡ cell.Block object block → block ≤ last
+
+-- no entry is of a block with a greater number
+abbrev pub AreUpTo : ℕ → Entries → Type 0
+AreUpTo last entries = (e : Cell × Option Value) → Contains entries e → IsUpTo last e.0
 
 -- what the first entry's cell holds
 abbrev pub newest_of : Entries → Option Value

@@ -1,11 +1,11 @@
 //! A cache of cells.
 
-ghost use Rattle.std.specs.Prelude.{◌≡◌, ◌-◌, ◌<◌, [], ◌∷◌, length, take, IfOk, OnOk, OnErr, IfSome, IfNone, true, false, Option, Some};
+ghost use Rattle.std.specs.Prelude.{◌≡◌, ◌-◌, ◌<◌, ◌≤◌, [], ◌∷◌, length, take, IfOk, OnOk, OnErr, IfSome, IfNone, true, false, Option, Some};
 ghost use Rattle.std.specs.Option.{option_copied};
 ghost use Rattle.std.specs.Map.{remove_entry};
 ghost use Rattle.harp_cells.specs.Effect.{Cells, Reads, after, is_cell, sets};
 ghost use Rattle.harp_cells.specs.declared.change.Change.TheVariants as change;
-ghost use Rattle.cell_cache.specs.Entries.{AreOf, IsUsed, has_entry, left_by, newest_of};
+ghost use Rattle.cell_cache.specs.Entries.{AreOf, AreUpTo, IsUpTo, IsUsed, has_entry, left_by, newest_of};
 
 use harp_cells::{Cell, Change, Value};
 use lru::LruCache;
@@ -18,14 +18,18 @@ use std::num::NonZeroUsize;
 #[derive(Drop)]
 pub struct CellCache {
     entries: LruCache<Cell, Option<Value>>,
+    // No entry is of a block with a greater number.
+    last_block: u32,
 }
 
 impl Model for CellCache {
-    ghost use Rattle.cell_cache.specs.Entries.{Kept};
+    ghost use Rattle.cell_cache.specs.Entries.{Kept, AreUpTo};
 
     ghost Value = { Kept };
 
     ghost view = { λ c. record { entries = c.entries.entries; places = c.entries.cap } };
+
+    ghost invariant = { λ c. AreUpTo c.last_block c.entries.entries };
 }
 
 impl CellCache {
@@ -36,6 +40,7 @@ impl CellCache {
     {
         Ok(CellCache {
             entries: LruCache::new(alloc, NonZeroUsize::new(places as usize).unwrap())?,
+            last_block: 0,
         })
     }
 
@@ -62,6 +67,7 @@ impl CellCache {
         ensures err { OnErr result (self.new ≡ self.old) }
     {
         self.entries.put(cell, value)?;
+        self.last_block = greater_block(self.last_block, cell);
         Ok(())
     }
 
@@ -130,6 +136,31 @@ impl CellCache {
         }
     }
 
+    // No entry is of a block with a greater number.
+    fn last_block(&self) -> u32
+        ensures { AreUpTo result self.now.entries }
+    {
+        self.last_block
+    }
+
+    // Whether the blocks from the first on that may have entries are no more than the entries, so
+    // that to look each up takes no more steps than a walk.
+    fn has_few_from(&self, first: u32) -> bool {
+        (self.last_block.saturating_sub(first) as usize) < self.entries.len()
+    }
+
+    // Drops the entries of the object's blocks from the first on, without a look at the others.
+    fn forget_blocks(&mut self, object: u32, first: u32)
+        ensures { self.new ≡ record {
+          entries = left_by (change.EraseFrom object first) self.old.entries;
+          places = self.old.places;
+        } }
+    {
+        for block in first..=self.last_block() {
+            self.forget_cell(Cell::Block { object, block });
+        }
+    }
+
     /// Drops the entries of all cells that the change sets, and keeps the others in their order. It
     /// takes no memory.
     pub fn forget(&mut self, change: &Change)
@@ -143,7 +174,28 @@ impl CellCache {
         match change {
             Change::Put { cell, .. } => self.forget_cell(*cell),
             Change::Erase { cell } => self.forget_cell(*cell),
-            Change::EraseFrom { .. } => self.forget_each(change),
+            Change::EraseFrom { object, first } => {
+                if self.has_few_from(*first) {
+                    self.forget_blocks(*object, *first)
+                } else {
+                    self.forget_each(change)
+                }
+            }
         }
+    }
+}
+
+// The number, or the cell's where that is a block with a greater one.
+fn greater_block(number: u32, cell: Cell) -> u32
+    ensures number { number ≤ result }
+    ensures cell { IsUpTo result cell }
+{
+    match cell {
+        Cell::Block { block, .. } => number.max(block),
+        Cell::Meta => number,
+        Cell::Object { .. } => number,
+        Cell::Slot { .. } => number,
+        Cell::Client { .. } => number,
+        Cell::Saved { .. } => number,
     }
 }

@@ -2,6 +2,7 @@ use Rattle.std.proofs.Common.{◌≡◌, ◌<◌, true, length, sym, ap, subst, 
 use Rattle.std.specs.Map.{remove_entry}
 use Rattle.harp_cells.specs.Effect.{is_cell}
 use Rattle.cell_cache.specs.Entries.{Entries, Kept, has_entry}
+use Rattle.cell_cache.proofs.Blocks.{removed_up_to}
 use Rattle.cell_cache.proofs.Keeping.{equal, fewer, record_of, removed}
 use Rattle.cell_cache.proofs.cache.CellCache.drop_entry.Goals as goal
 
@@ -19,3 +20,9 @@ returns-clause-fewer c has =
     (subst (λ (l : Entries). length l < length c.self.inside.entries.entries)
     (sym (removed c.args.cell c.self.inside.entries.entries))
     (fewer c.args.cell c.self.inside.entries.entries inside)))
+
+pub invariant_of-self : goal.invariant_of-self
+invariant_of-self c =
+    rw c.pop.ensures.entries
+    (removed_up_to c.self.inside.last_block c.args.cell c.self.inside.entries.entries
+    c.self.invariant)

@@ -21,6 +21,17 @@ returns-in-Erase-clause-after c =
     left_after c.args.change.now old c.forget_cell-in-Erase.new.self
     (c.forget_cell-in-Erase.ensures ∙ ap (λ (x : Change). record_of (left_by x old.entries) old.places) (sym c.in-Erase.is))
 
-pub returns-in-EraseFrom-clause-after : goal.returns-in-EraseFrom-clause-after
-returns-in-EraseFrom-clause-after c =
+pub returns-then-has_few_from-clause-left : goal.returns-then-has_few_from-clause-left
+returns-then-has_few_from-clause-left c =
+    let old = c.args.self.now in
+    c.forget_blocks.ensures
+    ∙ ap (λ (x : Change). record_of (left_by x old.entries) old.places) (sym c.in-EraseFrom.is)
+
+pub returns-then-has_few_from-clause-after : goal.returns-then-has_few_from-clause-after
+returns-then-has_few_from-clause-after c =
+    left_after c.args.change.now c.args.self.now c.forget_blocks.new.self
+    (returns-then-has_few_from-clause-left c)
+
+pub returns-else-has_few_from-clause-after : goal.returns-else-has_few_from-clause-after
+returns-else-has_few_from-clause-after c =
     left_after c.args.change.now c.args.self.now c.forget_each.new.self c.forget_each.ensures

@@ -1,6 +1,7 @@
 use Rattle.std.proofs.Common.{◌≡◌, false, sym, subst}
 use Rattle.lru.specs.LruCache.{put_entries}
 use Rattle.cell_cache.specs.Entries.{AreOf, IsUsed, Kept, has_entry}
+use Rattle.cell_cache.proofs.Blocks.{put_up_to}
 use Rattle.cell_cache.proofs.Keeping.{equal, put_are, put_used, record_of}
 use Rattle.cell_cache.proofs.cache.CellCache.insert.Goals as goal
 
@@ -19,3 +20,14 @@ pub returns-clause-kept : goal.returns-clause-kept
 returns-clause-kept c told are reads =
     let inside = subst (λ (k : Kept). AreOf told k.entries) (sym c.self.view_is) are in
     rw c.in_ok-put.ensures.entries (put_are told c.args.cell c.args.value _ inside reads)
+
+pub invariant_of-self : goal.invariant_of-self
+invariant_of-self c = rw c.in_err-put.ensures.err c.self.invariant
+
+pub invariant_of-self-2 : goal.invariant_of-self-2
+invariant_of-self-2 c =
+    let more = c.greater_block-self-inside in
+    rw c.in_ok-put.ensures.entries
+    (put_up_to c.self.inside.last_block more.result c.args.cell c.args.value
+    c.self.inside.entries c.self.invariant
+    more.ensures.number more.ensures.cell)

@@ -1,6 +1,7 @@
 use Rattle.std.proofs.Common.{sym, ◌∙◌, ap, subst}
 use Rattle.lru.specs.LruCache.{promoted}
 use Rattle.cell_cache.specs.Entries.{AreOf, IsUsed, Kept, has_entry}
+use Rattle.cell_cache.proofs.Blocks.{promoted_up_to}
 use Rattle.cell_cache.proofs.Keeping.{equal, has_by_test, newest_reads, promote_still, promote_used, promoted_are, record_of}
 use Rattle.cell_cache.proofs.cache.CellCache.promote.Goals as goal
 
@@ -29,3 +30,9 @@ returns-clause-still c is =
     rw c.promote.ensures.entries
     (ap (λ l. record_of l c.self.inside.entries.cap)
     (promote_still c.args.cell c.self.inside.entries.entries (sym c.promote.ensures.value ∙ is)) ∙ c.self.view_is)
+
+pub invariant_of-self : goal.invariant_of-self
+invariant_of-self c =
+    rw c.promote.ensures.entries
+    (promoted_up_to c.self.inside.last_block c.args.cell c.self.inside.entries.entries
+    c.self.invariant)
