@@ -180,7 +180,8 @@ fn put_fields(out: &mut Vec<u8>, message: &Message) -> Result<(), AllocError>
     }
 }
 
-/// The one spelling of a message. Room beyond its bytes is given back, since what is sent is kept.
+/// The one spelling of a message, with no room beyond its bytes, since what is sent is kept. It is
+/// spelled elsewhere first: giving room back would split a block of memory for each message.
 pub fn encode(alloc: Global, message: &Message) -> Result<Bytes, AllocError>
     ensures spelled { IfOk result (λ bytes. bytes ≡ message_bytes message.now) }
     ensures fits { OnOk result (MessageFits message.now) }
@@ -188,6 +189,5 @@ pub fn encode(alloc: Global, message: &Message) -> Result<Bytes, AllocError>
     let mut out = Vec::with_capacity(alloc, USUAL_MESSAGE)?;
     out.push(form_number(message))?;
     put_fields(&mut out, message)?;
-    out.shrink_to_fit();
-    Ok(Bytes::from_vec(out))
+    Ok(Bytes::from_vec(Vec::from_slice(alloc, out.as_slice())?))
 }
