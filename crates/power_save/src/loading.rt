@@ -71,7 +71,7 @@ fn read_records<D: Store>(
     ensures rose { result ≡ Err StoreFailed → Rose (D.faults store.old) (D.faults store.new) }
     ensures count { D.faults store.old ≤ D.faults store.new }
 {
-    let mut records = Vec::new(alloc);
+    let mut records = Vec::with_capacity(alloc, (top - base) as usize)?;
     let mut index = base;
     while index < top {
         let record = read_record::<D>(alloc, ring, index + 1, store)?;
