@@ -33,23 +33,28 @@ use stopping_store::{SoundStore, StoppingStore};
 #[derive(Drop)]
 pub struct Host {
     me: ServerId,
-    node: Option<Node>,
+    /// Boxed: a step takes it out and puts it back, and so moves a pointer.
+    node: Option<Box<Node>>,
     disk: SoundStore,
 }
 
 impl Model for Host {
     ghost use Rattle.host_rules.specs.Host.{HostValue, IsRunning};
     ghost use Rattle.group_rules.specs.Names.{place_of};
-    ghost use Rattle.std.specs.Prelude.{◌≡◌, [], IfSome};
+    ghost use Rattle.std.specs.Prelude.{◌≡◌, [], IfSome, option_map};
     ghost use Rattle.stopping_store.specs.Values.{stored};
 
     ghost Value = { HostValue };
 
-    ghost view = { λ h. record { me = place_of h.me; node = h.node; store = h.disk } };
+    ghost view = { λ h. record {
+      me = place_of h.me;
+      node = option_map (λ b. b.value) h.node;
+      store = h.disk;
+    } };
 
     // No earlier moment of its disk is told any more, and its node can go on.
     ghost invariant = { λ h. ((stored h.disk).past ≡ [])
-        × IfSome h.node (IsRunning (stored h.disk).now) };
+        × IfSome (option_map (λ b. b.value) h.node) (IsRunning (stored h.disk).now) };
 }
 
 impl Host {
@@ -113,16 +118,16 @@ impl Host {
     fn run(
         &mut self,
         alloc: Global,
-        mut node: Node,
+        mut node: Box<Node>,
         input: Input,
         now: u64,
     ) -> Result<Option<Outputs>, AllocError>
         requires now { now < 2 ^ 62 }
-        requires runs { IsRunning (disk_of self.old) node }
+        requires runs { IsRunning (disk_of self.old) node.value }
         requires down { self.old.node ≡ None }
         ensures me { self.new.me ≡ self.old.me }
-        ensures takes { IfOk result (λ outs. HostTakes (with_node self.old node) self.new input now
-            None outs) }
+        ensures takes { IfOk result (λ outs. HostTakes (with_node self.old node.value) self.new
+            input now None outs) }
     {
         let stepped = node.step::<SoundStore>(alloc, input, now, &mut self.disk);
         self.disk.settle();
@@ -141,17 +146,17 @@ impl Host {
     fn run_until(
         &mut self,
         alloc: Global,
-        mut node: Node,
+        mut node: Box<Node>,
         input: Input,
         now: u64,
         stop: &Stop,
     ) -> Result<Option<Outputs>, AllocError>
         requires now { now < 2 ^ 62 }
-        requires runs { IsRunning (disk_of self.old) node }
+        requires runs { IsRunning (disk_of self.old) node.value }
         requires down { self.old.node ≡ None }
         ensures me { self.new.me ≡ self.old.me }
-        ensures takes { IfOk result (λ outs. HostTakes (with_node self.old node) self.new input now
-            (Some stop.now) outs) }
+        ensures takes { IfOk result (λ outs. HostTakes (with_node self.old node.value) self.new
+            input now (Some stop.now) outs) }
     {
         let mut disk = self.stop_disk(alloc, stop.calls);
         let stepped = node.step::<StoppingStore>(alloc, input, now, &mut disk);
@@ -171,9 +176,9 @@ impl Host {
     }
 
     /// Goes on with this node.
-    fn keep(&mut self, node: Node)
-        requires { IsRunning (disk_of self.old) node }
-        ensures { self.new ≡ with_node self.old node }
+    fn keep(&mut self, node: Box<Node>)
+        requires { IsRunning (disk_of self.old) node.value }
+        ensures { self.new ≡ with_node self.old node.value }
     {
         self.node = Some(node);
     }
@@ -234,6 +239,7 @@ impl Host {
         let Some(node) = self.node.take() else {
             return Ok(());
         };
+        let node = Box::into_inner(node);
         match stop {
             None => self.save(alloc, node),
             Some(stop) => self.save_until(alloc, node, &stop),
@@ -309,7 +315,7 @@ impl Host {
         self.disk.settle();
         match booted {
             Ok(node) => {
-                self.keep(node);
+                self.keep(Box::new(alloc, node)?);
                 Ok(())
             }
             Err(NodeFault::NoMemory) => Err(AllocError),

@@ -5,6 +5,7 @@ use Rattle.group_rules.specs.Names.{place_of}
 use Rattle.harp_store.specs.Disk.{Moments}
 use Rattle.harp_store.specs.Memory.{crashed_by}
 use Rattle.host_rules.specs.Host.{HostValue, disk_of}
+use Rattle.std.specs.Prelude.{option_map}
 
 pub returns-clause-falls : goal.returns-clause-falls
 returns-clause-falls c =
@@ -12,7 +13,7 @@ returns-clause-falls c =
     let same = c.self.view_is ∙ c.fall.ensures in
     let new : HostValue = record {
       me = place_of c.self.inside.me;
-      node = c.self.inside.node;
+      node = option_map (λ b. b.value) c.self.inside.node;
       store = c.crash.new.self;
     } in
     crash_falls c.args.self.now new pick (record {

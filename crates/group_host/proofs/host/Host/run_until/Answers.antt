@@ -1,11 +1,14 @@
 use Rattle.std.proofs.Common.{Some, ap, refl, subst, sym, ◌∙◌}
 use Rattle.cell_cache.specs.Entries.{AreOf}
 use Rattle.group_host.proofs.StopStores.{IsArmed, armed_now, on_told}
-use Rattle.group_host.proofs.Takes.{either_way}
+use Rattle.group_host.proofs.Takes.{TellsDisk, either_way}
+use Rattle.group_host.proofs.Wholes.{Stepped}
 use Rattle.group_host.proofs.UntilStops.{takes_on, takes_until}
 use Rattle.group_host.proofs.host.Host.run_until.Goals as goal
 use Rattle.harp_store.specs.Disk.{Disk, Moments, reads}
 use Rattle.host_rules.specs.Host.{HostValue, disk_of, with_node}
+use Rattle.node.specs.Node.{NodeValue}
+use Rattle.stopping_store.specs.Values.{told}
 
 armed : (c : goal.After-disk-1) → IsArmed c.args.stop.now.calls c.stop_disk-disk.result
 armed c = record {
@@ -16,13 +19,16 @@ armed c = record {
 
 pub step-stepped-requires-clause-cached : goal.step-stepped-requires-clause-cached
 step-stepped-requires-clause-cached c =
-    subst (λ (d : Disk). AreOf (Some (reads d)) c.args.node.cached)
-    (sym (armed_now c.args.stop.now.calls c.stop_disk-disk.result (armed c)
-    ∙ c.stop_disk-disk.ensures.stands)) c.requires.runs.cached
+    let s = c.stop_disk-disk.result in
+    subst (λ (n : NodeValue). AreOf (Some (reads (told s).now)) n.cached)
+    (sym c.deref_mut.ensures.value)
+    (subst (λ (d : Disk). AreOf (Some (reads d)) c.args.node.value.cached)
+    (sym (armed_now c.args.stop.now.calls s (armed c) ∙ c.stop_disk-disk.ensures.stands))
+    c.requires.runs.cached)
 
 pub returns-then-stopped-clause-takes : goal.returns-then-stopped-clause-takes
 returns-then-stopped-clause-takes c g most pick i k saved r h =
-    let n = c.args.node in
+    let n = c.args.node.value in
     takes_until (with_node c.args.self.now n) c.put_back-stopped.new.self c.args.input c.args.now n
     c.args.stop.now c.stop_disk-disk.result c.step-stepped.new.store (record {
       me = sym h.node.me;
@@ -37,7 +43,10 @@ returns-then-stopped-clause-takes c g most pick i k saved r h =
       stopped = c.stop_disk-disk.ensures.stopped;
       past = c.stop_disk-disk.ensures.past;
     }) (sym c.put_back-stopped.ensures.came ∙ c.if-stopped.true)
-    (either_way c.step-stepped.result c.step-stepped.ensures.written c.step-stepped.ensures.part)
+    (subst (λ (m : NodeValue). TellsDisk c.args.now c.args.input m
+    (Some (told c.stop_disk-disk.result)) (Some (told c.step-stepped.new.store)))
+    c.deref_mut.ensures.value
+    (either_way c.step-stepped.result c.step-stepped.ensures.written c.step-stepped.ensures.part))
     g most pick i k saved r h
 
 pub keep-requires : goal.keep-requires
@@ -55,7 +64,7 @@ keep-requires c =
 
 pub returns-in-Ok-clause-takes : goal.returns-in-Ok-clause-takes
 returns-in-Ok-clause-takes c g most pick i k saved r h =
-    let n = c.args.node in
+    let n = c.args.node.value in
     let new = c.step-stepped.new.self in
     takes_on (with_node c.args.self.now n) c.keep.new.self c.args.input c.args.now n new
     c.args.stop.now c.stop_disk-disk.result c.step-stepped.new.store c.in-Ok.outs (record {
@@ -71,11 +80,14 @@ returns-in-Ok-clause-takes c g most pick i k saved r h =
       left = c.stop_disk-disk.ensures.left;
       stopped = c.stop_disk-disk.ensures.stopped;
       past = c.stop_disk-disk.ensures.past;
-    }) (sym c.put_back-stopped.ensures.came ∙ c.if-stopped.false) (record {
+    }) (sym c.put_back-stopped.ensures.came ∙ c.if-stopped.false)
+    (subst (λ (m : NodeValue). Stepped c.args.now c.args.input m new
+    (Some (told c.stop_disk-disk.result)) (Some (told c.step-stepped.new.store)) c.in-Ok.outs)
+    c.deref_mut.ensures.value (record {
       steps = c.in-Ok.ensures.steps;
       listing = c.in-Ok.ensures.listing;
       me = c.step-stepped.ensures.me;
       served = c.in-Ok.ensures.is_server;
       mark = c.in-Ok.ensures.mark;
       written = c.in-Ok.ensures.written;
-    }) g most pick i k saved r h
+    })) g most pick i k saved r h

@@ -6,7 +6,7 @@ use Rattle.group_rules.specs.Names.{place_of}
 use Rattle.harp_store.specs.Disk.{Moments}
 use Rattle.host_rules.specs.Host.{HostValue, disk_of, with_node}
 use Rattle.host_rules.specs.Steps.{HostFails}
-use Rattle.std.specs.Prelude.{OnOk, Some}
+use Rattle.std.specs.Prelude.{OnOk, Some, option_map}
 use Rattle.std.specs.declared.alloc.AllocError.{AllocError}
 use Rattle.stopping_store.specs.Values.{stored}
 
@@ -18,7 +18,7 @@ returns-clause-fails c =
     let left = stored c.power-saved.new.store in
     let new : HostValue = record {
       me = place_of c.self.inside.me;
-      node = c.self.inside.node;
+      node = option_map (λ b. b.value) c.self.inside.node;
       store = c.settle.new.self;
     } in
     let fails : PoweredWell n (Some before) (Some left) → HostFails old new None =
