@@ -1,5 +1,5 @@
 -- Reading names and bounded numbers from left to right, with the place where none goes on.
-use Rattle.std.specs.Prelude.{ℕ, ◌+◌, ◌==◌, nat_eq, nat_le, nat_lt, List, [], ◌∷◌, length, Option, Some, None, Result, Ok, Err, if◌then◌else◌}
+use Rattle.std.specs.Prelude.{ℕ, ◌+◌, ◌==◌, nat_eq, nat_le, nat_lt, List, [], ◌∷◌, length, Option, Some, None, Ok, Err, if◌then◌else◌}
 use Rattle.std.specs.List.{common_prefix_len}
 use Rattle.text_fields.specs.declared.fault.TextFault.TheVariants.{Grammar}
 use Rattle.text_fields.specs.Fields.{Reader, ◌>>=◌, word_at, number_at, hex_at}

@@ -1,6 +1,5 @@
 -- nothing of the word is left
-use Rattle.std.proofs.Common.{◌≡◌, ◌≤◌, drop, nat_eq, arith}
-use Rattle.std.specs.List.{common_prefix_len}
+use Rattle.std.proofs.Common.{drop, nat_eq, arith}
 use Rattle.std.proofs.lemmas.List.{length-drop}
 use Rattle.std.proofs.lemmas.List.Sums.{common_prefix_len-le}
 use Rattle.text_fields.proofs.word.common_len.Goals as goal
