@@ -1,2 +1,4 @@
+pub mod Hex
+pub mod Numerals
 pub mod OneLine
 pub mod Octal

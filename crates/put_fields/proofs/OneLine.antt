@@ -1,5 +1,5 @@
 -- No field has a line end in it.
-use Rattle.std.proofs.Common.{◌≡◌, ℕ, zero, suc, ◌+◌, ◌/◌, ◌%◌, Bool, true, false, cond, eqb, ltb, List, [], ◌∷◌, ◌++◌, get_or, Option, Some, None, refl, arith}
+use Rattle.std.proofs.Common.{◌≡◌, ℕ, zero, suc, ◌+◌, ◌/◌, ◌%◌, Bool, true, false, cond, eqb, ltb, List, [], ◌∷◌, ◌++◌, get_or, refl, arith}
 use Rattle.std.specs.Prelude.{◌==◌, ◌||◌, decimal, codes}
 use Rattle.std.specs.List.{AllByRecursion, flat_map}
 use Rattle.std.specs.Fmt.{digit_glyph, digits_onto, digits}
@@ -8,7 +8,6 @@ use Rattle.hex.specs.Hex.{encode_lower, encode_with, lower_digits}
 use Rattle.harp_base.specs.Calls.{procedure_of, procedure_name}
 use Rattle.harp_base.specs.Server.{number_of}
 use Rattle.harp_base.specs.View.{View}
-use Rattle.harp_base.specs.declared.server.ServerId.{ServerId}
 use Rattle.harp_base.specs.declared.state.Mode.{Mode}
 use Rattle.harp_base.specs.declared.state.Mode.TheVariants as mode
 use Rattle.harp_base.specs.declared.state.Role.{Role}

@@ -1,15 +1,17 @@
 //! The fields of lines of schedules and traces, written: each is put at the end of what is written.
 #![tactic(auto)]
 
+mod decimals;
+mod digits;
 mod put;
 mod write_attr;
 mod write_call;
 mod write_reply;
 mod write_state;
 
+pub use digits::{put_hex, put_name};
 pub use put::{
-    put_at, put_client, put_cred, put_decimal, put_hex, put_name, put_named, put_number,
-    put_server, put_three,
+    put_at, put_client, put_cred, put_decimal, put_named, put_number, put_server, put_three,
 };
 pub use write_attr::put_attr;
 pub use write_call::put_call;

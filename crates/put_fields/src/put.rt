@@ -2,44 +2,36 @@
 
 ghost use Rattle.std.specs.Prelude.{◌≡◌, ◌++◌, ◌∷◌, [], codes, decimal, OnOk};
 ghost use Rattle.harp_base.specs.Server.{number_of};
-ghost use Rattle.spelling.specs.Text.{spaced, cred_text, hex_text, octal};
+ghost use Rattle.spelling.specs.Text.{spaced, cred_text, octal};
 
+use crate::decimals::{DIGITS, MARKED, push_behind, push_decimal};
 use harp_base::{Cred, ServerId};
-use itoa::write_digits;
 use spelling::is_implied;
-use std::alloc::{AllocError, Global};
+use std::alloc::AllocError;
 
-/// The most digits of a number.
-const DIGITS: usize = 20;
-
-/// A number in decimal digits. Most are of one digit, which needs no buffer.
-#[tactic(auto, using(std::proofs::lemmas::Fmt::decimal_digit))]
+/// A number in decimal digits.
 pub fn put_decimal(out: &mut Vec<u8>, n: u64) -> Result<(), AllocError>
     ensures { OnOk result (out.new.items ≡ out.old.items ++ decimal n) }
 {
-    if n < 10 {
-        Ok(out.push(b'0' + n as u8)?)
-    } else {
-        put_digits(out, n)
-    }
+    out.reserve(DIGITS)?;
+    push_decimal(out, n);
+    Ok(())
 }
 
-/// A number in its decimal digits.
-fn put_digits(out: &mut Vec<u8>, n: u64) -> Result<(), AllocError>
-    ensures { OnOk result (out.new.items ≡ out.old.items ++ decimal n) }
+/// A number behind a mark.
+pub fn put_behind(out: &mut Vec<u8>, mark: u8, n: u64) -> Result<(), AllocError>
+    ensures { OnOk result (out.new.items ≡ out.old.items ++ mark ∷ decimal n) }
 {
-    let mut digits = [0; DIGITS];
-    let start = write_digits(n, &mut digits, DIGITS);
-    out.extend_from_slice(&digits[start..])
+    out.reserve(MARKED)?;
+    push_behind(out, mark, n);
+    Ok(())
 }
 
 /// A number behind a space.
 pub fn put_number(out: &mut Vec<u8>, n: u64) -> Result<(), AllocError>
     ensures { OnOk result (out.new.items ≡ out.old.items ++ spaced (decimal n)) }
 {
-    out.push(b' ')?;
-    put_decimal(out, n)?;
-    Ok(())
+    put_behind(out, b' ', n)
 }
 
 /// A server's number behind a space.
@@ -71,9 +63,10 @@ pub fn put_three(out: &mut Vec<u8>, first: u64, second: u64, third: u64) -> Resu
     ensures { OnOk result (out.new.items ≡ out.old.items
         ++ spaced (decimal first) ++ spaced (decimal second) ++ spaced (decimal third)) }
 {
-    put_number(out, first)?;
-    put_number(out, second)?;
-    put_number(out, third)?;
+    out.reserve(3 * MARKED)?;
+    push_behind(out, b' ', first);
+    push_behind(out, b' ', second);
+    push_behind(out, b' ', third);
     Ok(())
 }
 
@@ -103,27 +96,6 @@ pub fn put_octal(out: &mut Vec<u8>, n: u32) -> Result<(), AllocError>
     }
     put_octal(out, n / 8)?;
     Ok(out.push(b'0' + (n % 8) as u8)?)
-}
-
-#[tactic(auto, unfolding(spelling::specs::Text::hex_text))]
-pub fn put_hex(alloc: Global, out: &mut Vec<u8>, bytes: &[u8]) -> Result<(), AllocError>
-    ensures { OnOk result (out.new.items ≡ out.old.items ++ hex_text bytes.now) }
-{
-    if bytes.is_empty() {
-        Ok(out.push(b'-')?)
-    } else {
-        let text = hex::encode(alloc, bytes)?;
-        out.extend_from_slice(text.as_bytes())
-    }
-}
-
-/// Bytes in hexadecimal digits behind a space.
-pub fn put_name(alloc: Global, out: &mut Vec<u8>, bytes: &[u8]) -> Result<(), AllocError>
-    ensures { OnOk result (out.new.items ≡ out.old.items ++ spaced (hex_text bytes.now)) }
-{
-    out.push(b' ')?;
-    put_hex(alloc, out, bytes)?;
-    Ok(())
 }
 
 /// The user and the group behind `as`, where a call has to tell them.

@@ -3,7 +3,8 @@
 ghost use Rattle.std.specs.Prelude.{◌≡◌, ◌++◌, ◌∷◌, [], codes, decimal, OnOk};
 ghost use Rattle.spelling.specs.Text.{comma, octal, time_text, left, is_left_time, number_field, mode_field, time_field, later, set_attr_text, kind_number, attr_owner, attr_extent, attr_times, attr_text, spaced};
 
-use crate::put::{put_decimal, put_octal};
+use crate::decimals::{DIGITS, MARKED, push_behind, push_decimal};
+use crate::put::{put_behind, put_decimal, put_octal};
 use harp_base::{Attr, Kind, SetAttr, Time};
 use spelling::{LEFT, is_left_time};
 use std::alloc::AllocError;
@@ -12,9 +13,9 @@ use std::alloc::AllocError;
 fn put_time(out: &mut Vec<u8>, t: &Time) -> Result<(), AllocError>
     ensures { OnOk result (out.new.items ≡ out.old.items ++ time_text t.now) }
 {
-    put_decimal(out, u64::from(t.seconds))?;
-    out.push(b':')?;
-    put_decimal(out, u64::from(t.micros))?;
+    out.reserve(DIGITS + MARKED)?;
+    push_decimal(out, u64::from(t.seconds));
+    push_behind(out, b':', u64::from(t.micros));
     Ok(())
 }
 
@@ -118,9 +119,7 @@ fn kind_number(kind: Kind) -> u64
 fn put_comma(out: &mut Vec<u8>, n: u32) -> Result<(), AllocError>
     ensures { OnOk result (out.new.items ≡ out.old.items ++ comma (decimal n)) }
 {
-    out.push(b',')?;
-    put_decimal(out, u64::from(n))?;
-    Ok(())
+    put_behind(out, b',', u64::from(n))
 }
 
 /// A time behind a comma.

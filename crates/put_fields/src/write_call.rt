@@ -4,7 +4,8 @@ ghost use Rattle.std.specs.Prelude.{◌≡◌, ◌++◌, ◌∷◌, [], codes, d
 ghost use Rattle.harp_base.specs.Calls.{procedure_of, procedure_name};
 ghost use Rattle.spelling.specs.Text.{spaced, hex_text, set_attr_text, fields_text, call_text};
 
-use crate::put::{put_name, put_number, put_three};
+use crate::digits::put_name;
+use crate::put::{put_number, put_three};
 use crate::write_attr::put_set_attr;
 use harp_base::{Bounded, Call, Procedure, SetAttr};
 use std::alloc::{AllocError, Global};

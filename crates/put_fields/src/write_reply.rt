@@ -5,7 +5,8 @@ ghost use Rattle.std.specs.List.{flat_map};
 ghost use Rattle.harp_base.specs.declared.reply.Reply.TheVariants as replies;
 ghost use Rattle.spelling.specs.Text.{spaced, hex_text, status_number, entry_text, page_end, reply_text};
 
-use crate::put::{put_decimal, put_hex, put_name, put_named, put_number, put_three};
+use crate::digits::{put_hex, put_name};
+use crate::put::{put_behind, put_named, put_number, put_three};
 use crate::write_attr::put_attr;
 use harp_base::{DirEntry, Reply, Status};
 use std::alloc::{AllocError, Global};
@@ -38,9 +39,7 @@ fn put_dir_entry(alloc: Global, out: &mut Vec<u8>, entry: &DirEntry) -> Result<(
     put_number(out, u64::from(entry.fileid))?;
     out.push(b':')?;
     put_hex(alloc, out, entry.name.as_slice())?;
-    out.push(b':')?;
-    put_decimal(out, u64::from(entry.cookie))?;
-    Ok(())
+    put_behind(out, b':', u64::from(entry.cookie))
 }
 
 fn put_entries(alloc: Global, out: &mut Vec<u8>, entries: &[DirEntry]) -> Result<(), AllocError>

@@ -5,7 +5,8 @@ ghost use Rattle.harp_base.specs.Server.{number_of};
 ghost use Rattle.spelling.specs.Text.{spaced};
 ghost use Rattle.spelling.specs.Lines.{view_text, mode_text, role_text, held_text, state_text};
 
-use crate::put::{put_decimal, put_number, put_server, put_three};
+use crate::decimals::{MARKED, push_behind};
+use crate::put::put_server;
 use harp_base::{Held, Mode, Role, StateLine, ViewNo};
 use std::alloc::AllocError;
 
@@ -14,9 +15,9 @@ use std::alloc::AllocError;
 pub fn put_view(out: &mut Vec<u8>, view: ViewNo) -> Result<(), AllocError>
     ensures { OnOk result (out.new.items ≡ out.old.items ++ spaced (view_text view)) }
 {
-    put_number(out, view.count())?;
-    out.push(b'.')?;
-    put_decimal(out, u64::from(view.coordinator().number()))?;
+    out.reserve(2 * MARKED)?;
+    push_behind(out, b' ', view.count());
+    push_behind(out, b'.', u64::from(view.coordinator().number()));
     Ok(())
 }
 
@@ -76,9 +77,12 @@ fn put_totals(out: &mut Vec<u8>, state: &StateLine) -> Result<(), AllocError>
         ++ spaced (decimal state.now.ap) ++ spaced (decimal state.now.cp)
         ++ spaced (decimal state.now.top))) }
 {
-    put_three(out, state.base, state.lb, state.ap)?;
-    put_number(out, state.cp)?;
-    put_number(out, state.top)?;
+    out.reserve(5 * MARKED)?;
+    push_behind(out, b' ', state.base);
+    push_behind(out, b' ', state.lb);
+    push_behind(out, b' ', state.ap);
+    push_behind(out, b' ', state.cp);
+    push_behind(out, b' ', state.top);
     Ok(())
 }
 
