@@ -3,6 +3,7 @@
 ghost use Rattle.std.specs.Prelude.{◌≡◌, ◌≤◌, ◌<◌, ◌++◌, ◌+◌, ℕ, List, length, take, IfOk, Ok};
 ghost use Rattle.harp_base.specs.Fields.{Gives, GivesAs, Spells, Tells, at_front, many_at};
 ghost use Rattle.harp_cells.specs.CellBytes.{change_at};
+ghost use Rattle.harp_cells.specs.ValueBytes.{longest_record};
 ghost use Rattle.event_record.specs.declared.record.RecordFields.{RecordFields};
 ghost use Rattle.event_record.specs.Bytes.{OldRecordFits, RecordFits, changes_at, head_at, index_at, item_at, old_fields_at, old_item_at, old_record_bytes, record_bytes, record_fields_at, record_from, tail_at};
 
@@ -187,6 +188,15 @@ fn front(bytes: &[u8], limit: usize) -> &[u8]
     &bytes[..limit.min(bytes.len())]
 }
 
+/// The record of the fields that were read, and the place after it.
+fn boxed(alloc: Global, fields: RecordFields, next: usize) -> Result<(Record, usize), Misread>
+    requires { length (record_bytes fields) ≤ longest_record }
+    ensures step { Gives result (Ok (fields, next)) }
+    ensures place { IfOk result (λ x. x.1 ≡ next) }
+{
+    Ok((Record::new(alloc, fields)?, next))
+}
+
 /// A record that begins at a place, and the place after it.
 pub fn item_at(alloc: Global, bytes: &[u8], at: usize) -> Result<(Record, usize), Misread>
     requires { at ≤ length bytes.now }
@@ -195,7 +205,7 @@ pub fn item_at(alloc: Global, bytes: &[u8], at: usize) -> Result<(Record, usize)
 {
     let limit = at + LONGEST_RECORD;
     match record_fields_at(alloc, front(bytes, limit), at) {
-        Ok((fields, next)) => Ok((Record::new(fields), next)),
+        Ok((fields, next)) => boxed(alloc, fields, next),
         Err(misread) => Err(misread.within(limit)),
     }
 }
@@ -208,7 +218,7 @@ fn old_item_at(alloc: Global, bytes: &[u8], at: usize) -> Result<(Record, usize)
 {
     let limit = at + LONGEST_OLD_RECORD;
     match old_fields_at(alloc, front(bytes, limit), at) {
-        Ok((fields, next)) => Ok((Record::new(fields), next)),
+        Ok((fields, next)) => boxed(alloc, fields, next),
         Err(misread) => Err(misread.within(limit)),
     }
 }

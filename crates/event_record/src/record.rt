@@ -56,7 +56,7 @@ impl RecordFields {
 /// An event record: fields whose bytes are at most 60,008. Contracts see it as its fields.
 #[derive(Debug, Drop)]
 pub struct Record {
-    fields: RecordFields,
+    fields: Box<RecordFields>,
 }
 
 impl Model for Record {
@@ -67,9 +67,9 @@ impl Model for Record {
 
     ghost Value = { RecordFields };
 
-    ghost view = { λ r. r.fields };
+    ghost view = { λ r. r.fields.value };
 
-    ghost invariant = { λ r. length (record_bytes r.fields) ≤ longest_record };
+    ghost invariant = { λ r. length (record_bytes r.fields.value) ≤ longest_record };
 }
 
 impl Record {
@@ -84,18 +84,22 @@ impl Record {
         let mut bytes = Vec::with_capacity(alloc, USUAL_RECORD)?;
         put_fields(&mut bytes, &fields)?;
         if bytes.len() <= LONGEST_RECORD {
-            Ok(Some(Record { fields }))
+            Ok(Some(Record {
+                fields: Box::new(alloc, fields)?,
+            }))
         } else {
             Ok(None)
         }
     }
 
     /// The record of fields whose bytes are known to be at most 60,008. They aren't copied.
-    pub fn new(fields: RecordFields) -> Record
+    pub fn new(alloc: Global, fields: RecordFields) -> Result<Record, AllocError>
         requires { length (record_bytes fields) ≤ longest_record }
-        ensures { result ≡ fields }
+        ensures { IfOk result (λ r. r ≡ fields) }
     {
-        Record { fields }
+        Ok(Record {
+            fields: Box::new(alloc, fields)?,
+        })
     }
 
     /// The fields.
@@ -118,7 +122,7 @@ impl Record {
         ensures { IfOk result (λ copy. copy ≡ self.now) }
     {
         Ok(Record {
-            fields: self.fields.copy(alloc)?,
+            fields: Box::new(alloc, self.fields.copy(alloc)?)?,
         })
     }
 }

@@ -64,13 +64,13 @@ fn with_plan(
 }
 
 /// The record of fields that are short as their parts are.
-fn short_record(fields: RecordFields) -> Record
+fn short_record(alloc: Global, fields: RecordFields) -> Result<Record, AllocError>
     requires { HasShortParts fields → length (record_bytes fields) ≤ longest_made }
-    ensures value { result ≡ fields }
-    ensures bytes { length (record_bytes result) ≤ longest_made }
+    ensures value { IfOk result (λ r. r ≡ fields) }
+    ensures bytes { IfOk result (λ r. length (record_bytes r) ≤ longest_made) }
 {
     parts_are_short(&fields);
-    Record::new(fields)
+    Record::new(alloc, fields)
 }
 
 /// The record of a caller's new update, appended in the view `stamped`: it is planned on the cells
@@ -114,5 +114,6 @@ pub fn new_record<R: CellRead>(
     let fields = with_plan(
         alloc, stamped, index, client, number, cred, call, stamp, plan,
     )?;
-    Ok(short_record(fields))
+    let made = short_record(alloc, fields)?;
+    Ok(made)
 }
