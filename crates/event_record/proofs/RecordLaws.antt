@@ -1,11 +1,11 @@
 -- Records undo their bytes.
-use Rattle.std.proofs.Common.{◌≡◌, ℕ, ◌+◌, ◌^◌, ◌<◌, ◌≤◌, List, ◌++◌, length, take, drop, Ok, Err, refl, sym, ap, subst, ◌∙◌, append_assoc, arith, length-append}
+use Rattle.std.proofs.Common.{◌≡◌, ℕ, ◌+◌, ◌^◌, ◌<◌, ◌≤◌, List, ◌++◌, length, take, drop, Ok, Err, true, false, refl, sym, ap, subst, ◌∙◌, append_assoc, arith, length-append}
 use Rattle.std.specs.Prelude.{nat_le, nat_lt}
 use Rattle.std.proofs.lemmas.Bool.{leb-true, le-leb, ltb-true, lt-ltb}
 use Rattle.harp_base.specs.declared.cred.Cred.{Cred}
 use Rattle.harp_base.specs.declared.field.Misread.{Misread}
 use Rattle.harp_base.specs.declared.field.Misread.TheVariants.{Ends, BadTag, TooLong, NoMemory}
-use Rattle.harp_base.specs.Fields.{Fails, Read, Reader, Spells, ◌⊗◌, limited, many_at, many_bytes, misread_within, passing, read_within, below_at, u16_at, u16_bytes, u32_bytes, u64_bytes}
+use Rattle.harp_base.specs.Fields.{Fails, Read, Reader, Spells, ◌⊗◌, field_as, limited, many_at, many_bytes, misread_within, passing, read_within, below_at, u16_at, u16_bytes, u32_bytes, u64_bytes}
 use Rattle.harp_base.specs.Names.{cred_bytes}
 use Rattle.harp_base.proofs.Codec.{IsBytes, IsCodec, Spells-then, below_codec, bind_ok, drop_past, field_as_again, field_as_codec, field_as_takes, fitting, passing_codec, u16_codec, u32_codec, u64_codec}
 use Rattle.harp_base.proofs.ReadLaws.{limited_codec}
@@ -22,6 +22,7 @@ use Rattle.event_record.specs.declared.reading.Head.{Head}
 use Rattle.event_record.specs.declared.reading.Tail.{Tail}
 use Rattle.event_record.specs.declared.record.RecordFields.{RecordFields}
 use Rattle.event_record.specs.Bytes.{ChangesFit, FieldsFit, HeadFits, IndexFits, OldRecordFits, RecordFits, TailFits, changes_at, changes_bytes, head_at, head_bytes, head_from, head_of, index_at, index_limit, item_at, moment_limit, most_changes, old_fields_at, old_item_at, old_record_bytes, record_bytes, record_fields_at, record_from, superuser, tail_at, tail_bytes, tail_from, tail_of}
+use Rattle.event_record.specs.Forms.{caller_at, fields_at}
 
 -- ---- numbers and changes
 
@@ -171,6 +172,38 @@ old_is_short r le =
       length-append head (cred_bytes r.cred),
       length-append (head ++ cred_bytes r.cred) tail,
     )
+
+-- ---- a record that may be of the old form
+
+abbrev given : {A : Type 0} → Read A → Reader A
+given read bytes at = read
+
+abbrev of_superuser : Reader Cred
+of_superuser bytes at = Ok (superuser, at)
+
+abbrev whole : Reader Head → Reader Tail → Reader RecordFields
+whole head tail = field_as (λ x. record_from x.0.0 x.0.1 x.1) (head ⊗ of_superuser ⊗ tail)
+
+abbrev short : Reader Head → Reader Tail → Reader RecordFields
+short head tail = field_as (λ x. record_from x.0 superuser x.1) (head ⊗ tail)
+
+of_tail : (h : Head × ℕ) (t : Read Tail) (bytes : List ℕ) (at : ℕ)
+    → whole (given (Ok h)) (given t) bytes at ≡ short (given (Ok h)) (given t) bytes at
+of_tail h (Ok t) bytes at = refl
+of_tail h (Err e) bytes at = refl
+
+of_head : (h : Read Head) (tail : Reader Tail) (bytes : List ℕ) (at : ℕ)
+    → whole (given h) tail bytes at ≡ short (given h) tail bytes at
+of_head (Ok h) tail bytes at = of_tail h (tail bytes h.1) bytes at
+of_head (Err e) tail bytes at = refl
+
+pub is_record : (bytes : List ℕ) (at : ℕ) → fields_at false bytes at ≡ record_fields_at bytes at
+unfolding fields_at caller_at record_fields_at
+is_record bytes at = refl
+
+pub is_old_record : (bytes : List ℕ) (at : ℕ) → fields_at true bytes at ≡ old_fields_at bytes at
+unfolding fields_at caller_at old_fields_at
+is_old_record bytes at = of_head (head_at bytes at) tail_at bytes at
 
 -- ---- what a reader of the front of the bytes gave
 

@@ -5,7 +5,8 @@ ghost use Rattle.harp_base.specs.Fields.{Gives, GivesAs, Spells, Tells, at_front
 ghost use Rattle.harp_cells.specs.CellBytes.{change_at};
 ghost use Rattle.harp_cells.specs.ValueBytes.{longest_record};
 ghost use Rattle.event_record.specs.declared.record.RecordFields.{RecordFields};
-ghost use Rattle.event_record.specs.Bytes.{OldRecordFits, RecordFits, changes_at, head_at, index_at, item_at, old_fields_at, old_item_at, old_record_bytes, record_bytes, record_fields_at, record_from, tail_at};
+ghost use Rattle.event_record.specs.Bytes.{OldRecordFits, RecordFits, changes_at, head_at, index_at, item_at, old_item_at, old_record_bytes, record_bytes, record_from, tail_at};
+ghost use Rattle.event_record.specs.Forms.{caller_at, fields_at};
 
 use crate::changes::{Changes, MOST_CHANGES};
 use crate::numbers::Index;
@@ -64,7 +65,7 @@ fn each_at(
     ensures count { IfOk result (λ x. length x.0.items ≡ count) }
     ensures within { IfOk result (λ x. x.1 ≤ length bytes.now) }
 {
-    let mut changes = Vec::new(alloc);
+    let mut changes = Vec::with_capacity(alloc, usize::from(count))?;
     let mut at = from;
     for _ in 0..count {
         let (change, next) = change_at(alloc, bytes, at)?;
@@ -154,31 +155,37 @@ fn fields_of(head: Head, cred: Cred, tail: Tail) -> RecordFields
     }
 }
 
-#[tactic(auto, unfolding(crate::specs::Bytes::record_fields_at))]
-fn record_fields_at(
-    alloc: Global,
-    bytes: &[u8],
-    at: usize,
-) -> Result<(RecordFields, usize), Misread>
+/// The credential of a record: the superuser's where the record is of the old form, without one.
+#[tactic(auto, unfolding(crate::specs::Forms::caller_at))]
+fn caller_at(is_old: bool, bytes: &[u8], at: usize) -> Result<(Cred, usize), Misread>
     requires { at ≤ length bytes.now }
-    ensures step { Gives result (record_fields_at bytes.now at) }
+    ensures step { result ≡ caller_at is_old bytes.now at }
     ensures within { IfOk result (λ x. x.1 ≤ length bytes.now) }
 {
-    let (head, at) = head_at(bytes, at)?;
-    let (cred, at) = cred_at(bytes, at)?;
-    let (tail, at) = tail_at(alloc, bytes, at)?;
-    Ok((fields_of(head, cred, tail), at))
+    if is_old {
+        Ok((SUPERUSER, at))
+    } else {
+        cred_at(bytes, at)
+    }
 }
 
-#[tactic(auto, unfolding(crate::specs::Bytes::old_fields_at))]
-fn old_fields_at(alloc: Global, bytes: &[u8], at: usize) -> Result<(RecordFields, usize), Misread>
+/// The fields of a record, which may be of the old form.
+#[tactic(auto, unfolding(crate::specs::Forms::fields_at))]
+fn fields_at(
+    alloc: Global,
+    is_old: bool,
+    bytes: &[u8],
+    at: usize,
+) -> Result<(Box<RecordFields>, usize), Misread>
     requires { at ≤ length bytes.now }
-    ensures step { Gives result (old_fields_at bytes.now at) }
+    ensures step { GivesAs (λ x. (x.0.value, x.1)) result (fields_at is_old bytes.now at) }
     ensures within { IfOk result (λ x. x.1 ≤ length bytes.now) }
 {
     let (head, at) = head_at(bytes, at)?;
+    let (cred, at) = caller_at(is_old, bytes, at)?;
     let (tail, at) = tail_at(alloc, bytes, at)?;
-    Ok((fields_of(head, SUPERUSER, tail), at))
+    let fields = Box::new(alloc, fields_of(head, cred, tail))?;
+    Ok((fields, at))
 }
 
 /// The bytes before a limit.
@@ -188,15 +195,6 @@ fn front(bytes: &[u8], limit: usize) -> &[u8]
     &bytes[..limit.min(bytes.len())]
 }
 
-/// The record of the fields that were read, and the place after it.
-fn boxed(alloc: Global, fields: RecordFields, next: usize) -> Result<(Record, usize), Misread>
-    requires { length (record_bytes fields) ≤ longest_record }
-    ensures step { Gives result (Ok (fields, next)) }
-    ensures place { IfOk result (λ x. x.1 ≡ next) }
-{
-    Ok((Record::new(alloc, fields)?, next))
-}
-
 /// A record that begins at a place, and the place after it.
 pub fn item_at(alloc: Global, bytes: &[u8], at: usize) -> Result<(Record, usize), Misread>
     requires { at ≤ length bytes.now }
@@ -204,8 +202,8 @@ pub fn item_at(alloc: Global, bytes: &[u8], at: usize) -> Result<(Record, usize)
     ensures within { IfOk result (λ x. x.1 ≤ length bytes.now) }
 {
     let limit = at + LONGEST_RECORD;
-    match record_fields_at(alloc, front(bytes, limit), at) {
-        Ok((fields, next)) => boxed(alloc, fields, next),
+    match fields_at(alloc, false, front(bytes, limit), at) {
+        Ok((fields, next)) => Ok((Record::new(fields), next)),
         Err(misread) => Err(misread.within(limit)),
     }
 }
@@ -217,8 +215,8 @@ fn old_item_at(alloc: Global, bytes: &[u8], at: usize) -> Result<(Record, usize)
     ensures { Gives result (old_item_at bytes.now at) }
 {
     let limit = at + LONGEST_OLD_RECORD;
-    match old_fields_at(alloc, front(bytes, limit), at) {
-        Ok((fields, next)) => boxed(alloc, fields, next),
+    match fields_at(alloc, true, front(bytes, limit), at) {
+        Ok((fields, next)) => Ok((Record::new(fields), next)),
         Err(misread) => Err(misread.within(limit)),
     }
 }

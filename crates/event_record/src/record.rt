@@ -93,13 +93,11 @@ impl Record {
     }
 
     /// The record of fields whose bytes are known to be at most 60,008. They aren't copied.
-    pub fn new(alloc: Global, fields: RecordFields) -> Result<Record, AllocError>
-        requires { length (record_bytes fields) ≤ longest_record }
-        ensures { IfOk result (λ r. r ≡ fields) }
+    pub fn new(fields: Box<RecordFields>) -> Record
+        requires { length (record_bytes fields.value) ≤ longest_record }
+        ensures { result ≡ fields.value }
     {
-        Ok(Record {
-            fields: Box::new(alloc, fields)?,
-        })
+        Record { fields }
     }
 
     /// The fields.

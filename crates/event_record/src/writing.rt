@@ -15,7 +15,7 @@ use std::alloc::{AllocError, Global};
 
 /// Room for the bytes of most records, taken at once. A longer record's bytes take more as they
 /// come.
-pub(crate) const USUAL_RECORD: usize = 512;
+pub const USUAL_RECORD: usize = 512;
 
 #[tactic(auto, unfolding(harp_base::specs::Fields::many_bytes))]
 fn put_each(out: &mut Vec<u8>, changes: &[Change]) -> Result<(), AllocError>

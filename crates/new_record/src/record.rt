@@ -33,9 +33,9 @@ fn with_plan(
     call: &Call,
     stamp: Moment,
     plan: Prepared,
-) -> Result<RecordFields, AllocError>
+) -> Result<Box<RecordFields>, AllocError>
     requires { length plan.changes.items ≤ 15 }
-    ensures { IfOk result (λ r. r ≡ record {
+    ensures { IfOk result (λ r. r.value ≡ record {
       stamped = stamped;
       index = index;
       client = client;
@@ -50,7 +50,7 @@ fn with_plan(
 {
     let Prepared { reply, mut changes } = plan;
     changes.push(keep(alloc, client, number, index.get(), &reply)?)?;
-    Ok(RecordFields {
+    let fields = RecordFields {
         stamped,
         index,
         client,
@@ -60,17 +60,18 @@ fn with_plan(
         stamp,
         reply,
         changes: Changes::new(changes),
-    })
+    };
+    Ok(Box::new(alloc, fields)?)
 }
 
 /// The record of fields that are short as their parts are.
-fn short_record(alloc: Global, fields: RecordFields) -> Result<Record, AllocError>
-    requires { HasShortParts fields → length (record_bytes fields) ≤ longest_made }
-    ensures value { IfOk result (λ r. r ≡ fields) }
-    ensures bytes { IfOk result (λ r. length (record_bytes r) ≤ longest_made) }
+fn short_record(fields: Box<RecordFields>) -> Record
+    requires { HasShortParts fields.value → length (record_bytes fields.value) ≤ longest_made }
+    ensures value { result ≡ fields.value }
+    ensures bytes { length (record_bytes result) ≤ longest_made }
 {
     parts_are_short(&fields);
-    Record::new(alloc, fields)
+    Record::new(fields)
 }
 
 /// The record of a caller's new update, appended in the view `stamped`: it is planned on the cells
@@ -114,6 +115,5 @@ pub fn new_record<R: CellRead>(
     let fields = with_plan(
         alloc, stamped, index, client, number, cred, call, stamp, plan,
     )?;
-    let made = short_record(alloc, fields)?;
-    Ok(made)
+    Ok(short_record(fields))
 }

@@ -6,7 +6,7 @@ ghost use Rattle.event_record.specs.declared.record.RecordFields.{RecordFields};
 ghost use Rattle.harp_cells.specs.declared.value.Value.TheVariants.{SavedCred};
 ghost use Rattle.power_save.specs.Saved.{HasRecord};
 
-use event_record::fields::put_item;
+use event_record::fields::{USUAL_RECORD, put_item};
 use event_record::{Record, read_item, read_old_item};
 use harp_base::FieldFault;
 use harp_cells::{NonEmpty, Value};
@@ -17,7 +17,7 @@ pub(crate) fn value_of(alloc: Global, item: &Record) -> Result<Value, AllocError
     ensures value { IfOk result (λ value. value ≡ SavedCred (record_bytes item.now)) }
     ensures fits { OnOk result (RecordFits item.now) }
 {
-    let mut bytes = Vec::new(alloc);
+    let mut bytes = Vec::with_capacity(alloc, USUAL_RECORD)?;
     put_item(&mut bytes, item)?;
     let _ = item.fields();
     Ok(Value::SavedCred {

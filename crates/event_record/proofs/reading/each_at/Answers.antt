@@ -4,9 +4,9 @@ use Rattle.event_record.proofs.reading.each_at.Goals as goal
 
 pub returns-in_err-change-clause-step : goal.returns-in_err-change-clause-step
 returns-in_err-change-clause-step c =
-    let h = c.from_residual.ensures in
+    let h = c.from_residual-in_err-change.ensures in
     let left : 0 < c.args.count - c.loop.counter = omega arith in
-    handed_on _ c.from_residual.result c.in_err-change.field-0.0 _ h.0 h.1
+    handed_on _ c.from_residual-in_err-change.result c.in_err-change.field-0.0 _ h.0 h.1
     (many_faults _ _ _ _ _ _ _ c.loop.invariant.step left c.in_err-change.ensures.step)
 
 pub loop-preserved : goal.loop-preserved
