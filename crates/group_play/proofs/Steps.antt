@@ -1,9 +1,10 @@
 -- A step of the world, and where the play has come then.
-use Rattle.std.proofs.Common.{◌≡◌, ◌≢◌, ℕ, true, List, [], ◌∷◌, ◌++◌, append-nil, sym, ap, ◌∙◌, subst, append_assoc, Option, Some, None, inl}
+use Rattle.std.proofs.Common.{◌≡◌, ◌≢◌, ℕ, true, List, [], ◌∷◌, ◌++◌, append-nil, drop, sym, ap, ◌∙◌, subst, append_assoc, Option, Some, None, inl}
 use Rattle.std.specs.Prelude.{IfSome}
 use Rattle.std.specs.Io.KnownBytes.{Appends}
 use Rattle.harp_base.specs.Streams.{GrewByPart}
 use Rattle.trace_types.specs.declared.line.LineFault.{LineFault}
+use Rattle.trace_types.specs.declared.line.Line.TheVariants as line
 use Rattle.trace_types.specs.declared.step.Step.{Step}
 use Rattle.trace_claims.specs.Trace.{Trace}
 use Rattle.group_trace.specs.Refusals.{refusal}
@@ -23,7 +24,7 @@ use Rattle.group_play.specs.Trace.{trace_text}
 use Rattle.group_play.proofs.Parts.{breaks_off, comes, rest_lines, stop_gives, text-parts}
 use Rattle.group_play.proofs.Runs.{disk_more, disk_scene, reached, run-append, run_lines-append}
 use Rattle.group_play.proofs.TakenLaws.{taken-more}
-use Rattle.group_play.proofs.TraceTexts.{appends-twice, grew-more, grew-second, trace_text-append}
+use Rattle.group_play.proofs.TraceTexts.{appends-twice, behind-event, grew-more, grew-second, trace_text-append}
 
 -- ---- steps that were taken
 
@@ -83,6 +84,15 @@ step_text_next m done s ls are =
     ∙ ap (λ x. trace_text (run_lines m first_scene done ++ x))
     (are ∙ sym (append-nil (step_lines m w s)))
     ∙ ap trace_text (sym (run_lines-append m first_scene done (s ∷ [])))
+
+-- the text of its event line, and behind it the lines that come after it
+pub step-told : (f : Spellings) (old new : DiskScene → Type 0) (s : Step) (ls : Trace)
+    (begun : List ℕ) (all : Reading) (rest : Scene → Reading) (before mid : Option (List ℕ))
+    → HasCome f all rest before mid old → Takes f old new s ls
+    → begun ≡ trace_text (line.Event s ∷ []) → begun ++ trace_text (drop 1 ls) ≡ trace_text ls
+step-told f old new s ls begun all rest before mid h takes is =
+    ap (λ t. t ++ trace_text (drop 1 ls)) is
+    ∙ behind-event s ls _ (taken_there f old new s ls all rest before mid h takes).lines_are
 
 -- a step was taken and its lines written
 pub steps-on : (f : Spellings) (all : Reading) (number : ℕ) (rest : Scene → Reading)

@@ -1,5 +1,5 @@
 -- The texts of traces and of their parts.
-use Rattle.std.proofs.Common.{◌≡◌, ℕ, ◌+◌, List, [], ◌∷◌, ◌++◌, length, take, refl, sym, ap, ◌∙◌, subst, append_assoc, Option, Some, None, arith, inl, inr}
+use Rattle.std.proofs.Common.{◌≡◌, ℕ, ◌+◌, List, [], ◌∷◌, ◌++◌, append-nil, drop, length, take, refl, sym, ap, ◌∙◌, subst, append_assoc, Option, Some, None, arith, inl, inr}
 use Rattle.std.specs.Io.KnownBytes.{Appends}
 use Rattle.std.proofs.lemmas.List.{take-append-le, take_all}
 use Rattle.std.proofs.Math.Seq.{take-append_seam, take-append-add}
@@ -7,8 +7,11 @@ use Rattle.std.proofs.lemmas.Bool.{cases_lt}
 use Rattle.std.proofs.lemmas.Grind.{flat_map-append}
 use Rattle.harp_base.specs.Streams.{GrewByPart}
 use Rattle.trace_types.specs.declared.line.Line.{Line}
+use Rattle.trace_types.specs.declared.line.Line.TheVariants as line
+use Rattle.trace_types.specs.declared.step.Step.{Step}
 use Rattle.trace_claims.specs.Trace.{Trace}
 use Rattle.step_spelling.specs.Lines.{line_text}
+use Rattle.step_spelling.specs.Steps.{step_text}
 use Rattle.group_play.specs.Trace.{trace_text}
 
 pub trace_text-append : (xs ys : Trace) → trace_text (xs ++ ys) ≡ trace_text xs ++ trace_text ys
@@ -19,6 +22,21 @@ pub trace_text-cons : (l : Line) (ls : Trace) → trace_text (l ∷ ls) ≡ (lin
     ++ trace_text ls
 unfolding trace_text
 trace_text-cons l ls = refl
+
+-- the event line of the step that a line spells
+pub event-text : (spelled : List ℕ) (s : Step) → spelled ≡ step_text s
+    → (62 ∷ 32 ∷ spelled) ++ 10 ∷ [] ≡ trace_text (line.Event s ∷ [])
+unfolding trace_text line_text
+event-text spelled s is =
+    ap (λ t. (62 ∷ 32 ∷ t) ++ 10 ∷ []) is
+    ∙ sym (append-nil ((62 ∷ 32 ∷ step_text s) ++ 10 ∷ []))
+
+-- an event line, and behind it the lines that come after it
+pub behind-event : (s : Step) (ls later : Trace) → ls ≡ line.Event s ∷ later
+    → trace_text (line.Event s ∷ []) ++ trace_text (drop 1 ls) ≡ trace_text ls
+behind-event s ls later is =
+    ap (λ x. trace_text (line.Event s ∷ []) ++ trace_text (drop 1 x)) is
+    ∙ sym (trace_text-append (line.Event s ∷ []) later) ∙ ap trace_text (sym is)
 
 -- what is appended in two writes
 pub appends-twice : (a b c : Option (List ℕ)) (x y : List ℕ) → Appends a b x → Appends b c y

@@ -52,6 +52,7 @@ fn take_line<W: Stage, K: Sink>(
     alloc: Global,
     number: u64,
     line: &[u8],
+    out: &mut Vec<u8>,
     world: &mut W,
     sink: &mut K,
 ) -> Result<Turn, Stop>
@@ -75,7 +76,7 @@ fn take_line<W: Stage, K: Sink>(
     }
     match read_step(alloc, line) {
         Ok(None) => Ok(Turn::GoesOn),
-        Ok(Some(step)) => take_step(alloc, number, step, world, sink),
+        Ok(Some(step)) => take_step(alloc, number, line, step, out, world, sink),
         Err(TextFault::Grammar(_)) => refuse(alloc, number, LineFault::Grammar, sink),
         Err(TextFault::NoMemory) => Err(Stop::NoMemory),
     }
@@ -86,6 +87,7 @@ fn play_line<W: Stage, S: Source, K: Sink>(
     alloc: Global,
     number: u64,
     reader: &mut LineReader,
+    out: &mut Vec<u8>,
     world: &mut W,
     source: &mut S,
     sink: &mut K,
@@ -115,7 +117,7 @@ fn play_line<W: Stage, S: Source, K: Sink>(
             Err(stop) => Err(stop),
         },
         Ok(Next::TooLong) => refuse(alloc, number, fault_of_long_line(number), sink),
-        Ok(Next::Line(line)) => take_line(alloc, number, line.as_slice(), world, sink),
+        Ok(Next::Line(line)) => take_line(alloc, number, line.as_slice(), out, world, sink),
         Err(ReadFault::Failed) => Err(Stop::SourceFailed),
         Err(ReadFault::NoMemory) => Err(Stop::NoMemory),
     }
@@ -144,9 +146,10 @@ fn play_lines<W: Stage, S: Source, K: Sink>(
         Ok(reader) => reader,
         Err(_) => return Err(Stop::NoMemory),
     };
+    let mut out = Vec::new(alloc);
     let mut number = 1;
     loop {
-        match play_line(alloc, number, &mut reader, world, source, sink) {
+        match play_line(alloc, number, &mut reader, &mut out, world, source, sink) {
             Ok(Turn::GoesOn) => number += 1,
             Ok(Turn::Ended) => return Ok(Exit::Done),
             Ok(Turn::Refused) => return Ok(Exit::RefusedLine),

@@ -1,7 +1,10 @@
 //! Taking the steps of a line: each step's lines are written before the next step is taken.
 
-ghost use Rattle.std.specs.Prelude.{◌≡◌, ◌≤◌, ℕ, List, Option, Some, MatchResult, true, Ok, Err};
+ghost use Rattle.std.specs.Prelude.{◌≡◌, ◌≤◌, ◌∷◌, ℕ, List, [], Option, Some, MatchResult, true};
+ghost use Rattle.std.specs.Prelude.{Ok, Err};
 ghost use Rattle.harp_base.specs.Streams.{Rose};
+ghost use Rattle.step_spelling.specs.Steps.{step_text};
+ghost use Rattle.trace_types.specs.declared.step.Step.TheVariants as steps;
 ghost use Rattle.group_disks.specs.Calls.{measures_of};
 ghost use Rattle.group_trace.specs.Pump.{most_deliveries};
 ghost use Rattle.group_trace.specs.Run.{is_elementary};
@@ -9,27 +12,31 @@ ghost use Rattle.group_trace.specs.Scene.{Scene};
 ghost use Rattle.group_play.specs.OnTheWay.{HasCome, StopGives, TurnGives, with_pump};
 ghost use Rattle.group_play.specs.Reading.{Reading, with_given, with_step};
 ghost use Rattle.group_play.specs.Stage.{AreReadings, clocks_after};
+ghost use Rattle.group_play.specs.Trace.{trace_text};
 
 use crate::exit::Stop;
 use crate::stage::Stage;
-use crate::text::write_lines;
+use crate::text::{begin_with_delivery, begin_with_line, behind_first, write_with_lines};
 use crate::turn::{Turn, refuse};
 use harp_base::{ServerId, Sink};
 use std::alloc::Global;
-use trace_types::Step;
+use trace_types::{Line, Step};
 
 /// More deliveries than any pump needs.
 const MOST_DELIVERIES: u64 = 1 << 40;
 
-/// Takes a step of one server, of the clocks or of the group's delta, and writes its lines.
+/// Takes a step of one server, of the clocks or of the group's delta, and writes its lines. The
+/// text was begun with its event line.
 fn take_elementary<W: Stage, K: Sink>(
     alloc: Global,
     number: u64,
     step: Step,
+    out: &mut Vec<u8>,
     world: &mut W,
     sink: &mut K,
 ) -> Result<Turn, Stop>
     requires elementary { is_elementary step ≡ true }
+    requires begun { out.old.items ≡ trace_text (Line.Event step ∷ []) }
     requires readings { AreReadings (clocks_after (W.clocks world.old) step) }
     requires now { AreReadings (W.clocks world.old) }
     ensures ends { (all : Reading) (rest : Scene → Reading) (before : Option (List ℕ))
@@ -45,7 +52,7 @@ fn take_elementary<W: Stage, K: Sink>(
     ensures own { result ≡ Err Stop.SourceFailed → ⊥ }
 {
     match world.step(alloc, step) {
-        Ok(lines) => match write_lines(alloc, lines.as_slice(), sink) {
+        Ok(lines) => match write_with_lines(alloc, out, behind_first(lines.as_slice()), sink) {
             Ok(()) => Ok(Turn::GoesOn),
             Err(stop) => Err(stop),
         },
@@ -56,12 +63,41 @@ fn take_elementary<W: Stage, K: Sink>(
     }
 }
 
+/// Delivers a packet, and writes the lines of its delivery.
+fn deliver<W: Stage, K: Sink>(
+    alloc: Global,
+    number: u64,
+    packet: u64,
+    out: &mut Vec<u8>,
+    world: &mut W,
+    sink: &mut K,
+) -> Result<Turn, Stop>
+    requires { AreReadings (W.clocks world.old) }
+    ensures ends { (all : Reading) (rest : Scene → Reading) (before : Option (List ℕ))
+        → HasCome W.spellings all
+        (with_step (measures_of W.spellings) number (steps.Deliver packet) rest) before
+        (K.written sink.old) (W.stands world.old)
+        → MatchResult result
+        (TurnGives W.spellings all rest before (K.written sink.new) (W.stands world.new))
+        (StopGives W.spellings all before (K.written sink.new) (W.stands world.new)) }
+    ensures clocks { result ≡ Ok Turn.GoesOn → W.clocks world.new ≡ W.clocks world.old }
+    ensures rose { result ≡ Err Stop.SinkFailed → Rose (K.faults sink.old) (K.faults sink.new) }
+    ensures count { K.faults sink.old ≤ K.faults sink.new }
+    ensures own { result ≡ Err Stop.SourceFailed → ⊥ }
+{
+    match begin_with_delivery(alloc, packet, out) {
+        Ok(()) => take_elementary(alloc, number, Step::Deliver { packet }, out, world, sink),
+        Err(_) => Err(Stop::NoMemory),
+    }
+}
+
 /// Delivers the packets that were never delivered, in the order of their numbers, those sent
 /// meanwhile too.
 fn pump<W: Stage, K: Sink>(
     alloc: Global,
     number: u64,
     among: Option<(ServerId, ServerId)>,
+    out: &mut Vec<u8>,
     world: &mut W,
     sink: &mut K,
 ) -> Result<Turn, Stop>
@@ -82,7 +118,7 @@ fn pump<W: Stage, K: Sink>(
         let Some(packet) = world.next(among) else {
             return Ok(Turn::GoesOn);
         };
-        match take_elementary(alloc, number, Step::Deliver { packet }, world, sink) {
+        match deliver(alloc, number, packet, out, world, sink) {
             Ok(Turn::GoesOn) => {}
             Ok(Turn::Ended) => return Ok(Turn::Ended),
             Ok(Turn::Refused) => return Ok(Turn::Refused),
@@ -92,14 +128,18 @@ fn pump<W: Stage, K: Sink>(
     Ok(Turn::GoesOn)
 }
 
-/// Takes the step of the line with this number, and writes its lines.
+/// Takes the step that the line with this number spells, and writes its lines. Their text is made
+/// in `out`, whatever that held.
 pub fn take_step<W: Stage, K: Sink>(
     alloc: Global,
     number: u64,
+    line: &[u8],
     step: Step,
+    out: &mut Vec<u8>,
     world: &mut W,
     sink: &mut K,
 ) -> Result<Turn, Stop>
+    requires spelled { line.now ≡ step_text step }
     requires readings { AreReadings (clocks_after (W.clocks world.old) step) }
     requires now { AreReadings (W.clocks world.old) }
     ensures ends { (all : Reading) (rest : Scene → Reading) (before : Option (List ℕ))
@@ -116,7 +156,10 @@ pub fn take_step<W: Stage, K: Sink>(
     ensures own { result ≡ Err Stop.SourceFailed → ⊥ }
 {
     match step {
-        Step::Pump { among } => pump(alloc, number, among, world, sink),
-        step => take_elementary(alloc, number, step, world, sink),
+        Step::Pump { among } => pump(alloc, number, among, out, world, sink),
+        step => match begin_with_line(line, out) {
+            Ok(()) => take_elementary(alloc, number, step, out, world, sink),
+            Err(_) => Err(Stop::NoMemory),
+        },
     }
 }

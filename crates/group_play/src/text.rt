@@ -1,43 +1,79 @@
 //! Lines of a trace as text.
 
-ghost use Rattle.std.specs.Prelude.{◌≡◌, ◌≤◌, ◌∷◌, [], ◌++◌, IfOk, OnOk, OnErr, Err};
+ghost use Rattle.std.specs.Prelude.{◌≡◌, ◌≤◌, ◌∷◌, [], ◌++◌, drop, OnOk, OnErr, Err};
 ghost use Rattle.std.specs.Io.KnownBytes.{Appends};
 ghost use Rattle.harp_base.specs.Streams.{GrewByPart, Rose};
+ghost use Rattle.step_spelling.specs.Steps.{step_text};
+ghost use Rattle.trace_types.specs.declared.step.Step.TheVariants as steps;
 ghost use Rattle.group_play.specs.Trace.{trace_text};
 
 use crate::exit::Stop;
 use harp_base::{Sink, write_all};
 use put_lines::append_line;
 use std::alloc::{AllocError, Global};
-use trace_types::Line;
+use trace_types::{Line, Step};
 
-/// The bytes that the lines of most steps take at most.
-const ROOM: usize = 512;
-
-/// The text of these lines, each with its line feed.
-fn text_of(alloc: Global, lines: &[Line]) -> Result<Vec<u8>, AllocError>
-    ensures { IfOk result (λ text. text.items ≡ trace_text lines.now) }
+/// Begins a text anew, with the event line of the step that a line spells: the line is its one
+/// spelling.
+pub fn begin_with_line(line: &[u8], out: &mut Vec<u8>) -> Result<(), AllocError>
+    ensures { OnOk result ((step : Step) → line.now ≡ step_text step
+        → out.new.items ≡ trace_text (Line.Event step ∷ [])) }
 {
-    let mut text = Vec::with_capacity(alloc, ROOM)?;
-    for line in lines {
-        append_line(alloc, line, &mut text)?;
-        text.push(b'\n')?;
-    }
-    Ok(text)
+    out.clear();
+    out.extend_from_slice(b"> ")?;
+    out.extend_from_slice(line)?;
+    out.push(b'\n')?;
+    Ok(())
 }
 
-/// Writes these lines; after a stop a first part of their text was written.
-pub fn write_lines<K: Sink>(alloc: Global, lines: &[Line], sink: &mut K) -> Result<(), Stop>
+/// Begins a text anew, with the event line of a delivery.
+pub fn begin_with_delivery(alloc: Global, packet: u64, out: &mut Vec<u8>) -> Result<(), AllocError>
+    ensures { OnOk result (out.new.items
+        ≡ trace_text (Line.Event (steps.Deliver packet) ∷ [])) }
+{
+    let event = Line::Event {
+        step: Step::Deliver { packet },
+    };
+    out.clear();
+    append_lines(alloc, &[event], out)
+}
+
+/// Appends these lines, each with its line feed.
+fn append_lines(alloc: Global, lines: &[Line], out: &mut Vec<u8>) -> Result<(), AllocError>
+    ensures { OnOk result (out.new.items ≡ out.old.items ++ trace_text lines.now) }
+{
+    for line in lines {
+        append_line(alloc, line, out)?;
+        out.push(b'\n')?;
+    }
+    Ok(())
+}
+
+/// The lines behind the first.
+pub fn behind_first(lines: &[Line]) -> &[Line]
+    ensures { result.now ≡ drop 1 lines.now }
+{
+    if lines.is_empty() { lines } else { &lines[1..] }
+}
+
+/// Appends these lines to the text that was begun and writes it; after a stop a first part of it
+/// was written.
+pub fn write_with_lines<K: Sink>(
+    alloc: Global,
+    out: &mut Vec<u8>,
+    lines: &[Line],
+    sink: &mut K,
+) -> Result<(), Stop>
     ensures all { OnOk result (Appends (K.written sink.old) (K.written sink.new)
-        (trace_text lines.now)) }
+        (out.old.items ++ trace_text lines.now)) }
     ensures part { OnErr result (GrewByPart (K.written sink.old) (K.written sink.new)
-        (trace_text lines.now)) }
+        (out.old.items ++ trace_text lines.now)) }
     ensures rose { result ≡ Err Stop.SinkFailed → Rose (K.faults sink.old) (K.faults sink.new) }
     ensures count { K.faults sink.old ≤ K.faults sink.new }
     ensures own { result ≡ Err Stop.SourceFailed → ⊥ }
 {
-    let text = text_of(alloc, lines)?;
-    write_all(sink, text.as_slice())?;
+    append_lines(alloc, lines, out)?;
+    write_all(sink, out.as_slice())?;
     Ok(())
 }
 
@@ -51,5 +87,6 @@ pub fn write_last<K: Sink>(alloc: Global, last: Line, sink: &mut K) -> Result<()
     ensures count { K.faults sink.old ≤ K.faults sink.new }
     ensures own { result ≡ Err Stop.SourceFailed → ⊥ }
 {
-    write_lines(alloc, &[last], sink)
+    let mut out = Vec::new(alloc);
+    write_with_lines(alloc, &mut out, &[last], sink)
 }

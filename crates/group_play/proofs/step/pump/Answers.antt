@@ -57,8 +57,8 @@ returns-in-Ok-Ended-clause-ends g c = λ all rest before h.
     let here = one-on f all c.args.number c.loop.counter c.args.among rest before
     (g.K.Sink.written c.loop.sink) (g.W.Stage.stands c.loop.world) _ c.in-Some.packet
     (c.loop.invariant.come all rest before h) (omega arith) c.next.ensures c.in-Some.is in
-    subst (TurnGives f all less before (g.K.Sink.written c.take_elementary.new.sink)
-    (g.W.Stage.stands c.take_elementary.new.world))
+    subst (TurnGives f all less before (g.K.Sink.written c.deliver.new.sink)
+    (g.W.Stage.stands c.deliver.new.world))
     c.in-Ok-Ended.field-0-is (c.in-Ok-Ended.ensures.ends all less before here)
 
 pub returns-in-Ok-Refused-clause-ends : goal.returns-in-Ok-Refused-clause-ends
@@ -69,8 +69,8 @@ returns-in-Ok-Refused-clause-ends g c = λ all rest before h.
     let here = one-on f all c.args.number c.loop.counter c.args.among rest before
     (g.K.Sink.written c.loop.sink) (g.W.Stage.stands c.loop.world) _ c.in-Some.packet
     (c.loop.invariant.come all rest before h) (omega arith) c.next.ensures c.in-Some.is in
-    subst (TurnGives f all less before (g.K.Sink.written c.take_elementary.new.sink)
-    (g.W.Stage.stands c.take_elementary.new.world))
+    subst (TurnGives f all less before (g.K.Sink.written c.deliver.new.sink)
+    (g.W.Stage.stands c.deliver.new.world))
     c.in-Ok-Refused.field-0-is (c.in-Ok-Refused.ensures.ends all less before here)
 
 pub returns-in-Err-clause-ends : goal.returns-in-Err-clause-ends
@@ -92,8 +92,8 @@ loop-preserved g c = record {
       let here = one-on f all c.args.number c.loop.counter c.args.among rest before
       (g.K.Sink.written c.loop.sink) (g.W.Stage.stands c.loop.world) _ c.in-Some.packet
       (c.loop.invariant.come all rest before h) (omega arith) c.next.ensures c.in-Some.is in
-      subst (TurnGives f all less before (g.K.Sink.written c.take_elementary.new.sink)
-      (g.W.Stage.stands c.take_elementary.new.world))
+      subst (TurnGives f all less before (g.K.Sink.written c.deliver.new.sink)
+      (g.W.Stage.stands c.deliver.new.world))
       c.in-Ok-GoesOn.field-0-is (c.in-Ok-GoesOn.ensures.ends all less before here);
   clocks = c.in-Ok-GoesOn.ensures.clocks (ap Ok c.in-Ok-GoesOn.field-0-is)
       ∙ c.loop.invariant.clocks;

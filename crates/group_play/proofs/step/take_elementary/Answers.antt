@@ -1,4 +1,4 @@
-use Rattle.std.proofs.Common.{ap, subst, sym, ◌∙◌}
+use Rattle.std.proofs.Common.{ap, drop, subst, sym, ◌∙◌, ◌++◌}
 use Rattle.std.specs.Prelude.{Err}
 use Rattle.std.specs.Io.KnownBytes.{Appends}
 use Rattle.harp_base.specs.Streams.{GrewByPart}
@@ -6,29 +6,43 @@ use Rattle.group_play.specs.OnTheWay.{HasCome}
 use Rattle.group_play.specs.Reading.{refused_at}
 use Rattle.group_play.specs.Trace.{trace_text}
 use Rattle.group_play.proofs.Parts.{grew-now, refuses}
-use Rattle.group_play.proofs.Steps.{fault-not-memory, step-refused, step-stopped, steps-on}
+use Rattle.group_play.proofs.Steps.{fault-not-memory, step-refused, step-stopped, step-told, steps-on}
 use Rattle.group_play.proofs.step.take_elementary.Goals as goal
 
-pub returns-in-Ok-write_lines-clause-ends : goal.returns-in-Ok-write_lines-clause-ends
-returns-in-Ok-write_lines-clause-ends g c = λ all rest before h.
+pub returns-in-Ok-write_with_lines-clause-ends : goal.returns-in-Ok-write_with_lines-clause-ends
+returns-in-Ok-write_with_lines-clause-ends g c = λ all rest before h.
+    let f = g.W.Stage.spellings in
+    let here = g.W.Stage.stands c.args.world.now in
+    let there = g.W.Stage.stands c.step.new.self in
     let written = g.K.Sink.written c.args.sink.now in
-    let after = g.K.Sink.written c.write_lines.new.sink in
-    steps-on g.W.Stage.spellings all c.args.number rest before written after
-    (g.W.Stage.stands c.args.world.now) (g.W.Stage.stands c.step.new.self) c.args.step
+    let after = g.K.Sink.written c.write_with_lines.new.sink in
+    let begun = c.args.out.now.items in
+    steps-on f all c.args.number rest before written after here there c.args.step
     c.in-Ok.lines.items c.requires.elementary h c.in-Ok.ensures.ok
-    (subst (λ ls. Appends written after (trace_text ls)) c.as_slice.ensures.value
-    c.in-Ok-write_lines.ensures.all)
+    (subst (Appends written after)
+    (ap (λ ls. begun ++ trace_text ls)
+    (c.behind_first.ensures ∙ ap (drop 1) c.as_slice.ensures.value)
+    ∙ step-told f here there c.args.step c.in-Ok.lines.items begun all _ before written h
+    c.in-Ok.ensures.ok c.requires.begun)
+    c.in-Ok-write_with_lines.ensures.all)
 
 pub returns-in-Ok-clause-ends : goal.returns-in-Ok-clause-ends
 returns-in-Ok-clause-ends g c = λ all rest before h.
+    let f = g.W.Stage.spellings in
+    let here = g.W.Stage.stands c.args.world.now in
+    let there = g.W.Stage.stands c.step.new.self in
     let written = g.K.Sink.written c.args.sink.now in
-    let after = g.K.Sink.written c.write_lines.new.sink in
-    step-stopped g.W.Stage.spellings all c.args.number rest before written after
-    (g.W.Stage.stands c.args.world.now) (g.W.Stage.stands c.step.new.self) c.args.step
-    c.in-Ok.lines.items c.in-Err-write_lines.stop h c.in-Ok.ensures.ok
-    (λ e. c.in-Err-write_lines.ensures.own (ap Err e))
-    (subst (λ ls. GrewByPart written after (trace_text ls)) c.as_slice.ensures.value
-    c.in-Err-write_lines.ensures.part)
+    let after = g.K.Sink.written c.write_with_lines.new.sink in
+    let begun = c.args.out.now.items in
+    step-stopped f all c.args.number rest before written after here there c.args.step
+    c.in-Ok.lines.items c.in-Err-write_with_lines.stop h c.in-Ok.ensures.ok
+    (λ e. c.in-Err-write_with_lines.ensures.own (ap Err e))
+    (subst (GrewByPart written after)
+    (ap (λ ls. begun ++ trace_text ls)
+    (c.behind_first.ensures ∙ ap (drop 1) c.as_slice.ensures.value)
+    ∙ step-told f here there c.args.step c.in-Ok.lines.items begun all _ before written h
+    c.in-Ok.ensures.ok c.requires.begun)
+    c.in-Err-write_with_lines.ensures.part)
 
 pub returns-in-Some-clause-ends : goal.returns-in-Some-clause-ends
 returns-in-Some-clause-ends g c = λ all rest before h.

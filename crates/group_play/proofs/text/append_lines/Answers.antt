@@ -6,7 +6,7 @@ use Rattle.trace_claims.specs.Trace.{Trace}
 use Rattle.step_spelling.specs.Lines.{line_text}
 use Rattle.group_play.specs.Trace.{trace_text}
 use Rattle.group_play.proofs.TraceTexts.{trace_text-cons}
-use Rattle.group_play.proofs.text.text_of.Goals as goal
+use Rattle.group_play.proofs.text.append_lines.Goals as goal
 
 -- the text of a line goes from what is left to what was made
 moved : (made : List ℕ) (lines : Trace) (i : ℕ) (x : Line) (all : List ℕ) → i < length lines
@@ -25,7 +25,7 @@ moved made lines i x all below is h =
 pub loop-line-preserved : goal.loop-line-preserved
 loop-line-preserved c =
     rw (c.in_ok-push.ensures.items, c.in_ok-append_line.ensures)
-    (moved c.loop-line.text.items c.args.lines.now c.loop-line.line-index c.line-item.result _
+    (moved c.loop-line.out.items c.args.lines.now c.loop-line.line-index c.line-item.result _
     c.loop-line-test.true
     c.line-item.is c.loop-line.invariant)
 
@@ -34,5 +34,5 @@ unfolding trace_text
 returns c =
     let none = at_drop_all trace_text c.args.lines.now c.loop-line.line-index c.loop-line-test.false
     in
-    sym (append-nil c.loop-line.text.items) ∙ ap (λ s. c.loop-line.text.items ++ s) (sym none)
+    sym (append-nil c.loop-line.out.items) ∙ ap (λ s. c.loop-line.out.items ++ s) (sym none)
     ∙ c.loop-line.invariant

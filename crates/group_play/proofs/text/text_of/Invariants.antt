@@ -1,6 +1,0 @@
-use Rattle.std.proofs.Common.{◌≡◌, ◌++◌, drop}
-use Rattle.group_play.specs.Trace.{trace_text}
-use Rattle.group_play.proofs.text.text_of.Given as goal
-
-abbrev pub invariant-loop-line : goal.invariant-loop-line
-invariant-loop-line l = l.text.items ++ trace_text (drop l.line-index l.lines) ≡ trace_text l.lines
