@@ -39,7 +39,7 @@ impl CellCache {
         ensures { IfOk result (λ c. c ≡ record { entries = []; places = places }) }
     {
         Ok(CellCache {
-            entries: LruCache::new(alloc, NonZeroUsize::new(places as usize).unwrap())?,
+            entries: LruCache::sparse(alloc, NonZeroUsize::new(places as usize).unwrap())?,
             last_block: 0,
         })
     }
