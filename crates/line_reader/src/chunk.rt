@@ -11,9 +11,9 @@ use std::alloc::{AllocError, Global};
 use std::marker::Model;
 
 /// How many bytes are asked for at once.
-const SIZE: usize = 4096;
+const SIZE: usize = 1 << 16;
 
-/// Up to 4096 bytes of a source.
+/// Up to 64 KiB of a source.
 #[derive(Drop)]
 pub struct Chunk {
     bytes: Vec<u8>,

@@ -67,6 +67,8 @@ impl From<Failed> for ReadFault {
 #[derive(Drop)]
 pub struct LineReader {
     line: Vec<u8>,
+    /// A line that was taken back: the next one to be held has its room.
+    spare: Vec<u8>,
     chunk: Chunk,
 }
 
@@ -98,12 +100,23 @@ fn take_plain(line: &mut Vec<u8>, chunk: &mut Chunk) -> Result<(), AllocError>
     Ok(())
 }
 
+/// The line that is held. An empty one with the room of the spare one is held now.
+fn hand_out(alloc: Global, line: &mut Vec<u8>, spare: &mut Vec<u8>) -> Vec<u8>
+    ensures line { result ≡ line.old }
+    ensures empty { line.new.items ≡ [] }
+{
+    let mut next = mem::replace(spare, Vec::new(alloc));
+    next.clear();
+    mem::replace(line, next)
+}
+
 impl LineReader {
     pub fn new(alloc: Global) -> Result<LineReader, AllocError>
         ensures { IfOk result (λ reader. reader ≡ []) }
     {
         Ok(LineReader {
             line: Vec::new(alloc),
+            spare: Vec::new(alloc),
             chunk: Chunk::new(alloc)?,
         })
     }
@@ -121,14 +134,21 @@ impl LineReader {
         while self.line.len() <= MOST {
             match self.chunk.peek(source)? {
                 None if self.line.is_empty() => return Ok(Next::End),
-                None => return Ok(Next::Line(mem::replace(&mut self.line, Vec::new(alloc)))),
+                None => return Ok(Next::Line(hand_out(alloc, &mut self.line, &mut self.spare))),
                 Some(b'\n') => {
                     self.chunk.take(1);
-                    return Ok(Next::Line(mem::replace(&mut self.line, Vec::new(alloc))));
+                    return Ok(Next::Line(hand_out(alloc, &mut self.line, &mut self.spare)));
                 }
                 Some(_) => take_plain(&mut self.line, &mut self.chunk)?,
             }
         }
         Ok(Next::TooLong)
+    }
+
+    /// Takes back a line that was given, so that a later one has its room.
+    pub fn take_back(&mut self, line: Vec<u8>)
+        ensures { self.new ≡ self.old }
+    {
+        self.spare = line;
     }
 }

@@ -22,14 +22,14 @@ returns-in_err-take_plain-in-Some-clause-err g c =
 
 pub returns-in-None-2-clause-ok : goal.returns-in-None-2-clause-ok
 returns-in-None-2-clause-ok g c =
-    rw (c.replace.ensures.after, c.new.ensures.items, c.replace.ensures.value)
+    rw (c.hand_out.ensures.empty, c.hand_out.ensures.line)
     (gives-last _ c.loop-alloc.self-inside.line c.loop-alloc.self-inside.chunk c.peek.new.self (g.S.Source.left c.loop-alloc.source) (g.S.Source.left c.peek.new.source)
     c.in_ok-peek.field-0 c.loop-alloc.invariant.reads_on.feedless (omega arith) (sym c.if-is_empty.ensures) c.loop-alloc.invariant.reads_on.kept c.peek.ensures.left
     c.in-None-2.is c.in_ok-peek.ensures.ok)
 
 pub returns-in-Some-eq10-clause-ok : goal.returns-in-Some-eq10-clause-ok
 returns-in-Some-eq10-clause-ok g c =
-    rw (c.replace-in-Some-eq10.ensures.after, c.new-in-Some-eq10.ensures.items, c.replace-in-Some-eq10.ensures.value)
+    rw (c.hand_out-in-Some-eq10.ensures.empty, c.hand_out-in-Some-eq10.ensures.line)
     (gives-ended _ c.loop-alloc.self-inside.line c.peek.new.self c.take.new.self (g.S.Source.left c.peek.new.source) c.loop-alloc.self-inside.chunk
     (g.S.Source.left c.loop-alloc.source) c.in_ok-peek.field-0 c.loop-alloc.invariant.reads_on.feedless (omega arith)
     (looked _ c.loop-alloc.self-inside.line.items c.loop-alloc.self-inside.chunk c.peek.new.self (g.S.Source.left c.loop-alloc.source) (g.S.Source.left c.peek.new.source)
