@@ -18,6 +18,7 @@ use harp_base::{Call, Cred, FieldFault, Misread, Reply, SUPERUSER, ViewNo};
 use harp_cells::fields::change_at;
 use harp_cells::{Change, LONGEST_OLD_RECORD, LONGEST_RECORD, Moment};
 use std::alloc::Global;
+use std::rc::Rc;
 
 // Moments are below this.
 const MOMENT_LIMIT: u64 = (1 << 62) + 2000;
@@ -176,7 +177,7 @@ fn fields_at(
     is_old: bool,
     bytes: &[u8],
     at: usize,
-) -> Result<(Box<RecordFields>, usize), Misread>
+) -> Result<(Rc<RecordFields>, usize), Misread>
     requires { at ≤ length bytes.now }
     ensures step { GivesAs (λ x. (x.0.value, x.1)) result (fields_at is_old bytes.now at) }
     ensures within { IfOk result (λ x. x.1 ≤ length bytes.now) }
@@ -184,7 +185,7 @@ fn fields_at(
     let (head, at) = head_at(bytes, at)?;
     let (cred, at) = caller_at(is_old, bytes, at)?;
     let (tail, at) = tail_at(alloc, bytes, at)?;
-    let fields = Box::new(alloc, fields_of(head, cred, tail))?;
+    let fields = Rc::new(alloc, fields_of(head, cred, tail))?;
     Ok((fields, at))
 }
 

@@ -11,6 +11,7 @@ use harp_base::{Call, Cred, Reply, ViewNo};
 use harp_cells::{LONGEST_RECORD, Moment};
 use std::alloc::{AllocError, Global};
 use std::marker::Model;
+use std::rc::Rc;
 
 /// What an event record holds: an update in the log, with the reply that its client gets once the
 /// record is committed (Harp paper).
@@ -53,10 +54,11 @@ impl RecordFields {
     }
 }
 
-/// An event record: fields whose bytes are at most 60,008. Contracts see it as its fields.
+/// An event record: fields whose bytes are at most 60,008. Copies share them. Contracts see it as
+/// its fields.
 #[derive(Debug, Drop)]
 pub struct Record {
-    fields: Box<RecordFields>,
+    fields: Rc<RecordFields>,
 }
 
 impl Model for Record {
@@ -85,7 +87,7 @@ impl Record {
         put_fields(&mut bytes, &fields)?;
         if bytes.len() <= LONGEST_RECORD {
             Ok(Some(Record {
-                fields: Box::new(alloc, fields)?,
+                fields: Rc::new(alloc, fields)?,
             }))
         } else {
             Ok(None)
@@ -93,7 +95,7 @@ impl Record {
     }
 
     /// The record of fields whose bytes are known to be at most 60,008. They aren't copied.
-    pub fn new(fields: Box<RecordFields>) -> Record
+    pub fn new(fields: Rc<RecordFields>) -> Record
         requires { length (record_bytes fields.value) ≤ longest_record }
         ensures { result ≡ fields.value }
     {
@@ -115,12 +117,12 @@ impl Record {
         self.fields.index
     }
 
-    /// An equal record.
-    pub fn copy(&self, alloc: Global) -> Result<Record, AllocError>
+    /// An equal record, which shares the fields.
+    pub fn copy(&self, _alloc: Global) -> Result<Record, AllocError>
         ensures { IfOk result (λ copy. copy ≡ self.now) }
     {
         Ok(Record {
-            fields: Box::new(alloc, self.fields.copy(alloc)?)?,
+            fields: self.fields.clone()?,
         })
     }
 }

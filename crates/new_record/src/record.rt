@@ -21,6 +21,7 @@ use harp_base::{Call, Cred, ViewNo};
 use harp_cells::{CellFault, CellRead};
 use nfs_calls::{Prepared, prepare};
 use std::alloc::{AllocError, Global};
+use std::rc::Rc;
 
 /// The fields of a record with a plan. Behind the plan's changes comes the client's Put.
 fn with_plan(
@@ -33,7 +34,7 @@ fn with_plan(
     call: &Call,
     stamp: Moment,
     plan: Prepared,
-) -> Result<Box<RecordFields>, AllocError>
+) -> Result<Rc<RecordFields>, AllocError>
     requires { length plan.changes.items ≤ 15 }
     ensures { IfOk result (λ r. r.value ≡ record {
       stamped = stamped;
@@ -61,11 +62,11 @@ fn with_plan(
         reply,
         changes: Changes::new(changes),
     };
-    Ok(Box::new(alloc, fields)?)
+    Ok(Rc::new(alloc, fields)?)
 }
 
 /// The record of fields that are short as their parts are.
-fn short_record(fields: Box<RecordFields>) -> Record
+fn short_record(fields: Rc<RecordFields>) -> Record
     requires { HasShortParts fields.value → length (record_bytes fields.value) ≤ longest_made }
     ensures value { result ≡ fields.value }
     ensures bytes { length (record_bytes result) ≤ longest_made }
