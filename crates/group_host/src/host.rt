@@ -21,6 +21,7 @@ use harp_store::Pick;
 use host_rules::Stop;
 use node::{Input, Node, NodeFault};
 use outputs::Outputs;
+use power_save::SeenRecords;
 use promise::Delta;
 use std::alloc::{AllocError, Global};
 use std::marker::Model;
@@ -36,6 +37,8 @@ pub struct Host {
     /// Boxed: a step takes it out and puts it back, and so moves a pointer.
     node: Option<Box<Node>>,
     disk: SoundStore,
+    /// The records that its boots read: each boot after a crash meets most of them again.
+    seen: SeenRecords,
 }
 
 impl Model for Host {
@@ -68,6 +71,7 @@ impl Host {
             me,
             node: None,
             disk: SoundStore::new(alloc),
+            seen: SeenRecords::new(alloc),
         };
         host.start(alloc, 0, Delta::first())?;
         Ok(host)
@@ -311,7 +315,14 @@ impl Host {
         ensures starts { OnOk result (HostStarts self.old self.new now delta) }
     {
         self.fall();
-        let booted = Node::boot::<SoundStore>(alloc, self.me, now, delta, &mut self.disk);
+        let booted = Node::boot::<SoundStore>(
+            alloc,
+            self.me,
+            now,
+            delta,
+            &mut self.disk,
+            &mut self.seen,
+        );
         self.disk.settle();
         match booted {
             Ok(node) => {

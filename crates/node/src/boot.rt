@@ -22,7 +22,7 @@ use crate::node::Node;
 use harp_base::ServerId;
 use harp_store::{Mark, Store};
 use kept_log::{Kept, can_have};
-use power_save::{SaveFault, load};
+use power_save::{SaveFault, SeenRecords, load};
 use promise::{Delta, Horizon};
 use std::alloc::Global;
 
@@ -32,14 +32,15 @@ impl Node {
     /// of a new disk, or the one that is there, with the longest promise that its disk ever saw.
     /// Then the server rests. It holds its saved log where a choice can give it its role and the
     /// disk has that log whole; else it holds nothing, as server 2 that stands outside, or its log
-    /// is lost. After an error the disk has the mark as it was or the one written first. It is
-    /// never Halted.
+    /// is lost. Records that an earlier boot read are shared. After an error the disk has the mark
+    /// as it was or the one written first. It is never Halted.
     pub fn boot<D: Store>(
         alloc: Global,
         me: ServerId,
         now: u64,
         delta: Delta,
         store: &mut D,
+        seen: &mut SeenRecords,
     ) -> Result<Node, NodeFault>
         requires { now < 2 ^ 62 }
         ensures boots { (h : Moments) (items : List Entry) → D.told store.old ≡ Some h
@@ -73,7 +74,7 @@ impl Node {
         ensures count { D.faults store.old ≤ D.faults store.new }
     {
         let mark = first_write::<D>(alloc, me, delta, store)?;
-        let kept = found::<D>(alloc, me, &mark, store)?;
+        let kept = found::<D>(alloc, me, &mark, store, seen)?;
         let horizon = Horizon::boot(now, longest_of(&mark), delta);
         Ok(Node::resting(me, lowered(mark, &kept), horizon, kept))
     }
@@ -155,6 +156,7 @@ fn found<D: Store>(
     me: ServerId,
     mark: &Mark,
     store: &mut D,
+    seen: &mut SeenRecords,
 ) -> Result<Kept, NodeFault>
     ensures boots { (cells : Cells) (items : List Entry) (clock delta : ℕ)
         → cells_told (D.told store.old) ≡ Some cells → HoldSaved cells mark.now items
@@ -181,7 +183,7 @@ fn found<D: Store>(
     if !can_have(me, mark.role()) {
         return Ok(Kept::unloaded(me, mark.role(), mark.lb()));
     }
-    match load::<D>(alloc, mark, store) {
+    match load::<D>(alloc, mark, store, seen) {
         Ok(log) => Ok(Kept::loaded(me, log)),
         Err(SaveFault::NotSaved) => Ok(Kept::unloaded(me, mark.role(), mark.lb())),
         Err(SaveFault::StoreFailed) => Err(NodeFault::StoreFailed),

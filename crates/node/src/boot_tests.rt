@@ -6,6 +6,7 @@ use crate::{Node, NodeFault};
 use harp_base::{Held, Mode, Role, ServerId, StateLine, ViewNo};
 use harp_cells::{Cell, NonEmpty, Value};
 use harp_store::{Mark, MemStore, OLD_RING, Pick, Saved, Store};
+use power_save::SeenRecords;
 use promise::Delta;
 use std::alloc::Global;
 use std::test::Fail;
@@ -45,7 +46,8 @@ fn boot(
         return Err(Fail::from("too late"));
     }
     let delta = Delta::of(delta).ok_or("no length")?;
-    match Node::boot::<MemStore>(alloc, me, now, delta, store) {
+    let mut seen = SeenRecords::new(alloc);
+    match Node::boot::<MemStore>(alloc, me, now, delta, store, &mut seen) {
         Ok(node) => Ok(node),
         Err(_) => Err(Fail::from("no boot")),
     }
@@ -145,7 +147,8 @@ fn an_old_mark_gets_the_longest_promise(rt: HostRuntime) -> Result<(), Fail> {
 /// Whether a boot of server 1 fails by its disk.
 fn fails(alloc: Global, store: &mut MemStore) -> bool {
     let delta = Delta::first();
-    match Node::boot::<MemStore>(alloc, ServerId::One, 0, delta, store) {
+    let mut seen = SeenRecords::new(alloc);
+    match Node::boot::<MemStore>(alloc, ServerId::One, 0, delta, store, &mut seen) {
         Ok(_) => false,
         Err(fault) => fault == NodeFault::StoreFailed,
     }

@@ -8,6 +8,7 @@ use event_record::{Changes, Index, Moment, Record, RecordFields};
 use harp_base::{Bounded, Call, Held, Reply, Role, SUPERUSER, ServerId, StateLine, ViewNo};
 use harp_store::{Mark, MemStore, Pick, Store};
 use kept_log::Kept;
+use power_save::SeenRecords;
 use promise::{Delta, Horizon};
 use std::alloc::Global;
 use std::test::Fail;
@@ -124,7 +125,8 @@ fn a_boot_has_the_saved_log_or_none(rt: HostRuntime) -> Result<(), Fail> {
 /// boot shows the same.
 fn saves_once(alloc: Global, store: &mut MemStore) -> Result<bool, Fail> {
     let line = rests(0, Role::Leads(ServerId::One), Held::Held, [0, 0, 0, 0, 0])?;
-    let node = match Node::boot::<MemStore>(alloc, ServerId::Zero, 0, Delta::first(), store) {
+    let (me, mut seen) = (ServerId::Zero, SeenRecords::new(alloc));
+    let node = match Node::boot::<MemStore>(alloc, me, 0, Delta::first(), store, &mut seen) {
         Ok(node) => node,
         Err(_) => return Err(Fail::from("no boot")),
     };

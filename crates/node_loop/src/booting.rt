@@ -12,6 +12,7 @@ use harp_base::ServerId;
 use harp_store::Store;
 use node::{Node, NodeFault};
 use node_link::Clock;
+use power_save::SeenRecords;
 use promise::Delta;
 use std::alloc::Global;
 
@@ -32,7 +33,8 @@ pub fn boot<D: Store, C: Clock>(
     ensures link { result ≡ Err LoopFault.LinkFailed → ⊥ }
 {
     let now = clock.now(me);
-    match Node::boot(alloc, me, now, delta, store) {
+    let mut seen = SeenRecords::new(alloc);
+    match Node::boot(alloc, me, now, delta, store, &mut seen) {
         Ok(node) => Ok(Running {
             node,
             pace: Pace::start(now),

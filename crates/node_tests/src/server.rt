@@ -10,6 +10,7 @@ use harp_base::{ServerId, StateLine, ViewNo};
 use harp_store::{MemStore, Store};
 use node::{Input, Node, NodeFault};
 use outputs::Outputs;
+use power_save::SeenRecords;
 use promise::{Deadline, Delta};
 use std::alloc::Global;
 use std::test::Fail;
@@ -33,7 +34,8 @@ impl Server {
     /// A server that boots at 0 from a new disk.
     pub(crate) fn new(alloc: Global, me: ServerId) -> Result<Server, Fail> {
         let mut store = MemStore::new(alloc);
-        match Node::boot::<MemStore>(alloc, me, 0, Delta::first(), &mut store) {
+        let mut seen = SeenRecords::new(alloc);
+        match Node::boot::<MemStore>(alloc, me, 0, Delta::first(), &mut store, &mut seen) {
             Ok(node) => Ok(Server { node, store }),
             Err(_) => Err(Fail::from("no boot")),
         }

@@ -7,8 +7,10 @@ mod laws;
 mod loading;
 mod record;
 mod saving;
+mod seen;
 
 pub use fault::SaveFault;
 pub use laws::crash_laws;
 pub use loading::load;
 pub use saving::save;
+pub use seen::SeenRecords;

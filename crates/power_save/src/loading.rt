@@ -17,6 +17,7 @@ ghost use Rattle.volatile_log.specs.Log.{AreNumberedAfter, IsLog, LogValue};
 
 use crate::fault::SaveFault;
 use crate::record::record_of;
+use crate::seen::SeenRecords;
 use event_record::Record;
 use harp_base::LOG_ROOM;
 use harp_cells::Cell;
@@ -30,6 +31,7 @@ fn read_record<D: Store>(
     ring: u32,
     index: u64,
     store: &mut D,
+    seen: &mut SeenRecords,
 ) -> Result<Record, SaveFault>
     requires { 0 < ring }
     ensures item { (cells : Cells) → cells_told (D.told store.old) ≡ Some cells
@@ -43,7 +45,7 @@ fn read_record<D: Store>(
 {
     let place = (index % u64::from(ring)) as u32;
     let value = store.read(alloc, Cell::Saved { place })?;
-    match record_of(alloc, &value, index)? {
+    match record_of(alloc, &value, index, seen)? {
         Some(record) => Ok(record),
         None => Err(SaveFault::NotSaved),
     }
@@ -56,6 +58,7 @@ fn read_records<D: Store>(
     base: u64,
     top: u64,
     store: &mut D,
+    seen: &mut SeenRecords,
 ) -> Result<Vec<Record>, SaveFault>
     requires order { base ≤ top }
     requires ring { 0 < ring }
@@ -74,7 +77,7 @@ fn read_records<D: Store>(
     let mut records = Vec::with_capacity(alloc, (top - base) as usize)?;
     let mut index = base;
     while index < top {
-        let record = read_record::<D>(alloc, ring, index + 1, store)?;
+        let record = read_record::<D>(alloc, ring, index + 1, store, seen)?;
         records.push(record)?;
         index += 1;
     }
@@ -93,9 +96,15 @@ fn fits_log(lb: u64, saved: Saved) -> bool
 
 /// The log that was saved by this mark, with AP = LB. NotSaved comes where the mark hasn't the
 /// numbers of a log, or a cell isn't the record of its index. Records are read in their old form
-/// too, and from the ring of the mark. Where the cells and the mark have the log that the group's
-/// machine saved, it is this log, and NotSaved comes only where the machine doesn't take it.
-pub fn load<D: Store>(alloc: Global, mark: &Mark, store: &mut D) -> Result<FrozenLog, SaveFault>
+/// too, and from the ring of the mark; those that were seen before are shared. Where the cells and
+/// the mark have the log that the group's machine saved, it is this log, and NotSaved comes only
+/// where the machine doesn't take it.
+pub fn load<D: Store>(
+    alloc: Global,
+    mark: &Mark,
+    store: &mut D,
+    seen: &mut SeenRecords,
+) -> Result<FrozenLog, SaveFault>
     ensures numbers { IfOk result (λ log. HasNumbers log mark.now) }
     ensures order { IfOk result (λ log. IsLog log) }
     ensures records { (cells : Cells) → cells_told (D.told store.old) ≡ Some cells
@@ -135,6 +144,6 @@ pub fn load<D: Store>(alloc: Global, mark: &Mark, store: &mut D) -> Result<Froze
     if !fits_log(lb, saved) {
         return Err(SaveFault::NotSaved);
     }
-    let records = read_records::<D>(alloc, saved.ring(), saved.base(), saved.top(), store)?;
+    let records = read_records::<D>(alloc, saved.ring(), saved.base(), saved.top(), store, seen)?;
     Ok(FrozenLog::of(saved.base(), lb, lb, saved.cp(), records))
 }

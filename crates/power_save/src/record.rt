@@ -6,6 +6,7 @@ ghost use Rattle.event_record.specs.declared.record.RecordFields.{RecordFields};
 ghost use Rattle.harp_cells.specs.declared.value.Value.TheVariants.{SavedCred};
 ghost use Rattle.power_save.specs.Saved.{HasRecord};
 
+use crate::seen::SeenRecords;
 use event_record::fields::{USUAL_RECORD, put_item};
 use event_record::{Record, read_item, read_old_item};
 use harp_base::FieldFault;
@@ -69,8 +70,34 @@ fn whole_old_record(alloc: Global, bytes: &[u8]) -> Result<Option<Record>, Alloc
     }
 }
 
-/// The record that a cell has, None where it has none.
-fn record_in(alloc: Global, value: &Option<Value>) -> Result<Option<Record>, AllocError>
+/// The same, where the record may have been seen before.
+fn seen_record(
+    alloc: Global,
+    bytes: &[u8],
+    index: u64,
+    seen: &mut SeenRecords,
+) -> Result<Option<Record>, AllocError>
+    ensures found { IfOk result (λ item. IfSome item
+        (λ r. (bytes.now ≡ record_bytes r) × RecordFits r)) }
+    ensures none { IfOk result (λ item. item ≡ None → (r : RecordFields)
+        → bytes.now ≡ record_bytes r → RecordFits r → ⊥) }
+{
+    if let Some(record) = seen.record_of(alloc, index, bytes)? {
+        return Ok(Some(record));
+    }
+    let item = whole_record(alloc, bytes)?;
+    seen.note(alloc, bytes, &item)?;
+    Ok(item)
+}
+
+/// The record that a cell has, None where it has none. It is that of the index, if it was seen
+/// before.
+fn record_in(
+    alloc: Global,
+    value: &Option<Value>,
+    index: u64,
+    seen: &mut SeenRecords,
+) -> Result<Option<Record>, AllocError>
     ensures found { IfOk result (λ item. IfSome item (λ r. HasRecord value.now r)) }
     ensures none { IfOk result (λ item. item ≡ None → (r : RecordFields)
         → HasRecord value.now r → ⊥) }
@@ -79,7 +106,7 @@ fn record_in(alloc: Global, value: &Option<Value>) -> Result<Option<Record>, All
         return Ok(None);
     };
     match value {
-        Value::SavedCred { bytes } => whole_record(alloc, bytes.as_slice()),
+        Value::SavedCred { bytes } => seen_record(alloc, bytes.as_slice(), index, seen),
         Value::Saved { bytes } => whole_old_record(alloc, bytes.as_slice()),
         Value::Meta { .. }
         | Value::Object { .. }
@@ -95,13 +122,14 @@ pub(crate) fn record_of(
     alloc: Global,
     value: &Option<Value>,
     index: u64,
+    seen: &mut SeenRecords,
 ) -> Result<Option<Record>, AllocError>
     ensures found { IfOk result (λ item. IfSome item
         (λ r. HasRecord value.now r × (r.index ≡ index))) }
     ensures none { IfOk result (λ item. item ≡ None → (r : RecordFields)
         → HasRecord value.now r → r.index ≡ index → ⊥) }
 {
-    let Some(record) = record_in(alloc, value)? else {
+    let Some(record) = record_in(alloc, value, index, seen)? else {
         return Ok(None);
     };
     if record.index().get() == index {

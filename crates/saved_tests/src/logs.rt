@@ -5,7 +5,7 @@ ghost use Rattle.std.specs.Prelude.{◌≡◌, IfOk, None};
 use event_record::{Changes, Index, Moment, Record, RecordFields};
 use harp_base::{Bounded, Call, Cred, Reply, Role, ServerId, ViewNo};
 use harp_store::{Bits, Mark, MemStore, Pick, Saved, Store};
-use power_save::{SaveFault, load, save};
+use power_save::{SaveFault, SeenRecords, load, save};
 use std::alloc::Global;
 use std::test::Fail;
 use volatile_log::{ActiveLog, FrozenLog};
@@ -87,7 +87,7 @@ pub(crate) fn loaded(
     mark: &Mark,
     store: &mut MemStore,
 ) -> Result<[u64; 5], SaveFault> {
-    let log = load::<MemStore>(alloc, mark, store)?;
+    let log = load::<MemStore>(alloc, mark, store, &mut SeenRecords::new(alloc))?;
     Ok(numbers(&log))
 }
 

@@ -5,7 +5,7 @@ use event_record::Record;
 use harp_base::{Call, SUPERUSER};
 use harp_cells::{Cell, Moment, NonEmpty, Value};
 use harp_store::{MemStore, OLD_RING, Pick, RING, Store};
-use power_save::{SaveFault, load};
+use power_save::{SaveFault, SeenRecords, load};
 use std::alloc::Global;
 use std::test::Fail;
 
@@ -164,7 +164,8 @@ fn reads_an_old_record_as_the_superusers(rt: HostRuntime) -> Result<(), Fail> {
     let alloc = rt.alloc();
     let mut store = MemStore::new(alloc);
     keep(alloc, &mut store, 3, whole(3, true))?;
-    match load::<MemStore>(alloc, &marked(2, [2, 3, 3], RING)?, &mut store) {
+    let mut seen = SeenRecords::new(alloc);
+    match load::<MemStore>(alloc, &marked(2, [2, 3, 3], RING)?, &mut store, &mut seen) {
         Err(_) => Err(Fail::from("no log")),
         Ok(log) => {
             assert!(rt; numbers(&log) == [2, 2, 2, 3, 3]);

@@ -1,6 +1,6 @@
-use Rattle.std.proofs.Common.{rules, ◌≡◌, true, false, Some, sym, subst, ap, ◌∙◌}
+use Rattle.std.proofs.Common.{rules, arith, inr, ℕ, ◌≡◌, true, false, Some, sym, subst, ap, ◌∙◌}
 use Rattle.harp_store.specs.Mark.{SavedNumbers}
-use Rattle.power_save.specs.Saved.{HoldRecords, fits_log}
+use Rattle.power_save.specs.Saved.{HoldRecords, IsSavedAs, LacksRecord, fits_log}
 use Rattle.power_save.proofs.Entries.{fits_are}
 use Rattle.power_save.proofs.Loads.{IsRead, held_by_entries, held_by_mark, no_lack, read_again, read_entries, read_is_whole, was_read}
 use Rattle.power_save.proofs.Records.{numbers_are}
@@ -13,6 +13,18 @@ returns-in_err-records-clause-found g c = λ cells ring saved before told log he
     c.base.ensures.value c.top.ensures.value c.ring.ensures.value
     (held_by_mark cells c.in-Some.saved c.args.mark.now ring saved before at is held)
     (c.in_err-records.ensures.lacks cells told (search rules))
+
+pub returns-in_err-records-clause-unsaved : goal.returns-in_err-records-clause-unsaved
+returns-in_err-records-clause-unsaved g c = λ cells told failed.
+    let at : c.args.mark.now.saved ≡ Some c.in-Some.saved = sym c.saved.ensures ∙ c.in-Some.is in
+    let lack = c.in_err-records.ensures.lacks cells told (search rules) in
+    inr (subst (LacksRecord cells) (sym at) (
+      lack.0,
+      omega (arith, lack.1, c.base.ensures.value),
+      omega (arith, lack.2, c.top.ensures.value),
+      λ r is. lack.3 r (subst (λ (ring : ℕ). IsSavedAs ring cells lack.0 r)
+          (sym c.ring.ensures.value) is),
+    ))
 
 pub returns-in_err-records-clause-refused : goal.returns-in_err-records-clause-refused
 returns-in_err-records-clause-refused g c = λ cells saved told h failed.
