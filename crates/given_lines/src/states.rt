@@ -15,12 +15,12 @@ use tree_listing::Listing;
 #[tactic(auto, unfolding(group_rules::specs::Shown::same_state))]
 pub fn show_state(
     server: ServerId,
-    before: Option<StateLine>,
-    now: Option<StateLine>,
+    before: &Option<StateLine>,
+    now: &Option<StateLine>,
     lines: &mut Vec<Line>,
 ) -> Result<(), AllocError>
     ensures { OnOk result (lines.new.items ≡ lines.old.items
-        ++ state_lines (place_of server) before now) }
+        ++ state_lines (place_of server) before.now now.now) }
 {
     match (before, now) {
         (None, None) => Ok(()),
@@ -29,14 +29,20 @@ pub fn show_state(
             Ok(())
         }
         (None, Some(state)) => {
-            lines.push(Line::State { server, state })?;
+            lines.push(Line::State {
+                server,
+                state: *state,
+            })?;
             Ok(())
         }
         (Some(before), Some(state)) => {
-            if before == state {
+            if *before == *state {
                 return Ok(());
             }
-            lines.push(Line::State { server, state })?;
+            lines.push(Line::State {
+                server,
+                state: *state,
+            })?;
             Ok(())
         }
     }

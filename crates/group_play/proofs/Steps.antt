@@ -1,5 +1,5 @@
 -- A step of the world, and where the play has come then.
-use Rattle.std.proofs.Common.{◌≡◌, ◌≢◌, ℕ, true, List, [], ◌∷◌, ◌++◌, append-nil, drop, sym, ap, ◌∙◌, subst, append_assoc, Option, Some, None, inl}
+use Rattle.std.proofs.Common.{◌≡◌, ◌≢◌, ℕ, true, List, [], ◌∷◌, ◌++◌, append-nil, sym, ap, ◌∙◌, subst, append_assoc, Option, Some, None, inl}
 use Rattle.std.specs.Prelude.{IfSome}
 use Rattle.std.specs.Io.KnownBytes.{Appends}
 use Rattle.harp_base.specs.Streams.{GrewByPart}
@@ -24,7 +24,7 @@ use Rattle.group_play.specs.Trace.{trace_text}
 use Rattle.group_play.proofs.Parts.{breaks_off, comes, rest_lines, stop_gives, text-parts}
 use Rattle.group_play.proofs.Runs.{disk_more, disk_scene, reached, run-append, run_lines-append}
 use Rattle.group_play.proofs.TakenLaws.{taken-more}
-use Rattle.group_play.proofs.TraceTexts.{appends-twice, behind-event, grew-more, grew-second, trace_text-append}
+use Rattle.group_play.proofs.TraceTexts.{appends-twice, grew-more, grew-second, trace_text-append}
 
 -- ---- steps that were taken
 
@@ -47,10 +47,10 @@ not_refused : (f : Spellings) (new : DiskScene → Type 0) (done : List Step) (s
 not_refused f new done s ls t =
     sym (ap (λ w. refusal (measures_of f) w s) (disk_scene f done)) ∙ t.not_refused
 
--- its lines are those of the run
+-- its event line and the lines behind it are those of the run
 lines_there : (f : Spellings) (new : DiskScene → Type 0) (done : List Step) (s : Step) (ls : Trace)
     → IsTaken f (disk_run f first_disk_scene done) s ls new
-    → ls ≡ step_lines (measures_of f) (run (measures_of f) first_scene done) s
+    → line.Event s ∷ ls ≡ step_lines (measures_of f) (run (measures_of f) first_scene done) s
 lines_there f new done s ls t =
     t.lines_are ∙ ap (λ w. step_lines (measures_of f) w s) (disk_scene f done)
 
@@ -85,21 +85,18 @@ step_text_next m done s ls are =
     (are ∙ sym (append-nil (step_lines m w s)))
     ∙ ap trace_text (sym (run_lines-append m first_scene done (s ∷ [])))
 
--- the text of its event line, and behind it the lines that come after it
-pub step-told : (f : Spellings) (old new : DiskScene → Type 0) (s : Step) (ls : Trace)
-    (begun : List ℕ) (all : Reading) (rest : Scene → Reading) (before mid : Option (List ℕ))
-    → HasCome f all rest before mid old → Takes f old new s ls
-    → begun ≡ trace_text (line.Event s ∷ []) → begun ++ trace_text (drop 1 ls) ≡ trace_text ls
-step-told f old new s ls begun all rest before mid h takes is =
-    ap (λ t. t ++ trace_text (drop 1 ls)) is
-    ∙ behind-event s ls _ (taken_there f old new s ls all rest before mid h takes).lines_are
+-- the text of its event line, and behind it that of the others
+pub step-told : (s : Step) (ls : Trace) (begun : List ℕ) → begun ≡ trace_text (line.Event s ∷ [])
+    → begun ++ trace_text ls ≡ trace_text (line.Event s ∷ ls)
+step-told s ls begun is =
+    ap (λ t. t ++ trace_text ls) is ∙ sym (trace_text-append (line.Event s ∷ []) ls)
 
 -- a step was taken and its lines written
 pub steps-on : (f : Spellings) (all : Reading) (number : ℕ) (rest : Scene → Reading)
     (before mid after : Option (List ℕ)) (old new : DiskScene → Type 0) (s : Step) (ls : Trace)
     → is_elementary s ≡ true
     → HasCome f all (with_step (measures_of f) number s rest) before mid old
-    → Takes f old new s ls → Appends mid after (trace_text ls)
+    → Takes f old new s ls → Appends mid after (trace_text (line.Event s ∷ ls))
     → HasCome f all rest before after new
 steps-on f all number rest before mid after old new s ls e h takes wrote =
     let m = measures_of f in
@@ -110,9 +107,9 @@ steps-on f all number rest before mid after old new s ls e h takes wrote =
       taken = taken-more m first_scene h.done s h.taken free e;
       reading_is = read_more m all number s rest h.done h.reading_is free;
       wrote = subst (Appends before after)
-          (step_text_next m h.done s ls (lines_there f new h.done s ls t))
+          (step_text_next m h.done s (line.Event s ∷ ls) (lines_there f new h.done s ls t))
           (appends-twice before mid after (trace_text (run_lines m first_scene h.done))
-          (trace_text ls) h.wrote wrote);
+          (trace_text (line.Event s ∷ ls)) h.wrote wrote);
       left = subst new (disk_more f h.done s) t.left;
     }
 
@@ -121,7 +118,7 @@ pub step-stopped : (f : Spellings) (all : Reading) (number : ℕ) (rest : Scene 
     (before mid after : Option (List ℕ)) (old new : DiskScene → Type 0) (s : Step) (ls : Trace)
     (cause : Stop) → HasCome f all (with_step (measures_of f) number s rest) before mid old
     → Takes f old new s ls
-    → (cause ≡ stop.SourceFailed → ⊥) → GrewByPart mid after (trace_text ls)
+    → (cause ≡ stop.SourceFailed → ⊥) → GrewByPart mid after (trace_text (line.Event s ∷ ls))
     → StopGives f all before after new cause
 step-stopped f all number rest before mid after old new s ls cause h takes own grew =
     let first = trace_text (run_lines m first_scene h.done) in
@@ -132,14 +129,15 @@ step-stopped f all number rest before mid after old new s ls cause h takes own g
       later = r.steps;
       parts = ap (λ (x : Reading). x.steps) is ∙ append_assoc h.done (s ∷ []) r.steps;
       wrote = subst (BreaksOff before after (run_lines m first_scene h.done)) are
-          (breaks_off before mid after (run_lines m first_scene h.done) ls h.wrote grew);
+          (breaks_off before mid after (run_lines m first_scene h.done) (line.Event s ∷ ls)
+          h.wrote grew);
       left = subst new (disk_more f h.done s) t.left;
     }))
     (subst (GrewByPart before after) (sym (text-parts m all done r is))
     (grew-more before after (trace_text (run_lines m first_scene done))
     (trace_text (rest_lines m done r))
-    (subst (GrewByPart before after) (step_text_next m h.done s ls are)
-    (grew-second before mid after first (trace_text ls) h.wrote grew))))
+    (subst (GrewByPart before after) (step_text_next m h.done s (line.Event s ∷ ls) are)
+    (grew-second before mid after first (trace_text (line.Event s ∷ ls)) h.wrote grew))))
   where
     m : Measures
     m = measures_of f
@@ -147,7 +145,7 @@ step-stopped f all number rest before mid after old new s ls cause h takes own g
     t : IsTaken f (disk_run f first_disk_scene h.done) s ls new
     t = taken_there f old new s ls all (with_step m number s rest) before mid h takes
 
-    are : ls ≡ step_lines m (run m first_scene h.done) s
+    are : line.Event s ∷ ls ≡ step_lines m (run m first_scene h.done) s
     are = lines_there f new h.done s ls t
 
     done : List Step

@@ -1,5 +1,5 @@
 -- The texts of traces and of their parts.
-use Rattle.std.proofs.Common.{◌≡◌, ℕ, ◌+◌, List, [], ◌∷◌, ◌++◌, append-nil, drop, length, take, refl, sym, ap, ◌∙◌, subst, append_assoc, Option, Some, None, arith, inl, inr}
+use Rattle.std.proofs.Common.{◌≡◌, ℕ, ◌+◌, List, [], ◌∷◌, ◌++◌, append-nil, length, take, refl, sym, ap, ◌∙◌, subst, append_assoc, Option, Some, None, arith, inl, inr}
 use Rattle.std.specs.Io.KnownBytes.{Appends}
 use Rattle.std.proofs.lemmas.List.{take-append-le, take_all}
 use Rattle.std.proofs.Math.Seq.{take-append_seam, take-append-add}
@@ -30,13 +30,6 @@ unfolding trace_text line_text
 event-text spelled s is =
     ap (λ t. (62 ∷ 32 ∷ t) ++ 10 ∷ []) is
     ∙ sym (append-nil ((62 ∷ 32 ∷ step_text s) ++ 10 ∷ []))
-
--- an event line, and behind it the lines that come after it
-pub behind-event : (s : Step) (ls later : Trace) → ls ≡ line.Event s ∷ later
-    → trace_text (line.Event s ∷ []) ++ trace_text (drop 1 ls) ≡ trace_text ls
-behind-event s ls later is =
-    ap (λ x. trace_text (line.Event s ∷ []) ++ trace_text (drop 1 x)) is
-    ∙ sym (trace_text-append (line.Event s ∷ []) later) ∙ ap trace_text (sym is)
 
 -- what is appended in two writes
 pub appends-twice : (a b c : Option (List ℕ)) (x y : List ℕ) → Appends a b x → Appends b c y

@@ -1,6 +1,7 @@
 -- What is asked of a world in which steps are taken: that it stands where they lead.
-use Rattle.std.specs.Prelude.{◌≡◌, ℕ, ◌+◌, ◌<◌, ◌^◌, List, Option, None, Some, IfSome}
+use Rattle.std.specs.Prelude.{◌≡◌, ℕ, ◌+◌, ◌<◌, ◌^◌, List, ◌∷◌, Option, None, Some, IfSome}
 use Rattle.trace_types.specs.declared.line.Line.{Line}
+use Rattle.trace_types.specs.declared.line.Line.TheVariants as line
 use Rattle.trace_types.specs.declared.line.LineFault.{LineFault}
 use Rattle.trace_types.specs.declared.line.LineFault.TheVariants as fault
 use Rattle.trace_types.specs.declared.step.Step.{Step}
@@ -21,12 +22,12 @@ pub record IsReached (f : Spellings) (w : DiskScene) : Type 0 where
   pub taken : AreTaken (measures_of f) first_scene steps
   pub leads : disk_run f first_disk_scene steps ≡ w
 
--- A step was taken in a scene: it isn't refused there, these are its lines, and now the world
--- stands where it leads
+-- A step was taken in a scene: it isn't refused there, these are its lines behind its event line,
+-- and now the world stands where it leads
 pub record IsTaken (f : Spellings) (w : DiskScene) (s : Step) (lines : List Line)
     (stands : DiskScene → Type 0) : Type 0 where
   pub not_refused : refusal (measures_of f) w.scene s ≡ None
-  pub lines_are : lines ≡ step_lines (measures_of f) w.scene s
+  pub lines_are : line.Event s ∷ lines ≡ step_lines (measures_of f) w.scene s
   pub left : stands (disk_next f w s)
 
 -- the fault of the line of a step that is refused; want of memory is no fault of it

@@ -26,6 +26,7 @@ ghost use Rattle.group_play.specs.Trace.{group_left, trace_of};
 use crate::exit::{Exit, Stop, exit_after};
 use crate::stage::Stage;
 use crate::step::take_step;
+use crate::text::Room;
 use crate::turn::{Turn, end, refuse};
 use harp_base::{Sink, Source};
 use line_reader::{LineReader, Next, ReadFault};
@@ -52,7 +53,7 @@ fn take_line<W: Stage, K: Sink>(
     alloc: Global,
     number: u64,
     line: &[u8],
-    out: &mut Vec<u8>,
+    room: &mut Room,
     world: &mut W,
     sink: &mut K,
 ) -> Result<Turn, Stop>
@@ -76,7 +77,7 @@ fn take_line<W: Stage, K: Sink>(
     }
     match read_step(alloc, line) {
         Ok(None) => Ok(Turn::GoesOn),
-        Ok(Some(step)) => take_step(alloc, number, line, step, out, world, sink),
+        Ok(Some(step)) => take_step(alloc, number, line, step, room, world, sink),
         Err(TextFault::Grammar(_)) => refuse(alloc, number, LineFault::Grammar, sink),
         Err(TextFault::NoMemory) => Err(Stop::NoMemory),
     }
@@ -87,7 +88,7 @@ fn play_line<W: Stage, S: Source, K: Sink>(
     alloc: Global,
     number: u64,
     reader: &mut LineReader,
-    out: &mut Vec<u8>,
+    room: &mut Room,
     world: &mut W,
     source: &mut S,
     sink: &mut K,
@@ -117,7 +118,11 @@ fn play_line<W: Stage, S: Source, K: Sink>(
             Err(stop) => Err(stop),
         },
         Ok(Next::TooLong) => refuse(alloc, number, fault_of_long_line(number), sink),
-        Ok(Next::Line(line)) => take_line(alloc, number, line.as_slice(), out, world, sink),
+        Ok(Next::Line(line)) => {
+            let turn = take_line(alloc, number, line.as_slice(), room, world, sink);
+            reader.take_back(line);
+            turn
+        }
         Err(ReadFault::Failed) => Err(Stop::SourceFailed),
         Err(ReadFault::NoMemory) => Err(Stop::NoMemory),
     }
@@ -146,10 +151,10 @@ fn play_lines<W: Stage, S: Source, K: Sink>(
         Ok(reader) => reader,
         Err(_) => return Err(Stop::NoMemory),
     };
-    let mut out = Vec::new(alloc);
+    let mut room = Room::new(alloc);
     let mut number = 1;
     loop {
-        match play_line(alloc, number, &mut reader, &mut out, world, source, sink) {
+        match play_line(alloc, number, &mut reader, &mut room, world, source, sink) {
             Ok(Turn::GoesOn) => number += 1,
             Ok(Turn::Ended) => return Ok(Exit::Done),
             Ok(Turn::Refused) => return Ok(Exit::RefusedLine),

@@ -1,6 +1,6 @@
 //! A world in which steps are taken.
 
-ghost use Rattle.std.specs.Prelude.{◌≡◌, ◌≢◌, ℕ, true, length, IfOk, OnOk, IfErr};
+ghost use Rattle.std.specs.Prelude.{◌≡◌, ◌≢◌, ℕ, true, [], length, OnOk, IfErr};
 ghost use Rattle.group_disks.specs.Calls.{Spellings, measures_of};
 ghost use Rattle.group_disks.specs.Run.{DiskScene};
 ghost use Rattle.group_rules.specs.Places.{Place, Trio, get};
@@ -25,14 +25,15 @@ pub trait Stage {
     // It stands at this scene.
     ghost stands: { Self → DiskScene → Type 0 };
 
-    /// Takes a step, and gives its lines, the event line first. A step that is refused changes
-    /// nothing.
-    fn step(&mut self, alloc: Global, step: Step) -> Result<Vec<Line>, Refusal>
+    /// Takes a step, and gives its lines behind its event line. A step that is refused changes
+    /// nothing of the world.
+    fn step(&mut self, alloc: Global, step: Step, lines: &mut Vec<Line>) -> Result<(), Refusal>
         requires elementary { is_elementary step ≡ true }
         requires readings { AreReadings (clocks_after (clocks self.old) step) }
         requires now { AreReadings (clocks self.old) }
-        ensures ok { IfOk result (λ lines. (w : DiskScene) → IsReached spellings w
-            → stands self.old w → IsTaken spellings w step lines.items (stands self.new)) }
+        requires none { lines.old.items ≡ [] }
+        ensures ok { OnOk result ((w : DiskScene) → IsReached spellings w
+            → stands self.old w → IsTaken spellings w step lines.new.items (stands self.new)) }
         ensures clocks { OnOk result (clocks self.new ≡ clocks_after (clocks self.old) step) }
         ensures err { IfErr result (λ why. (w : DiskScene) → IsReached spellings w
             → stands self.old w → IsRefused spellings w step why) }

@@ -16,7 +16,7 @@ ghost use Rattle.group_play.specs.Trace.{trace_text};
 
 use crate::exit::Stop;
 use crate::stage::Stage;
-use crate::text::{begin_with_delivery, begin_with_line, behind_first, write_with_lines};
+use crate::text::{Room, begin_with_delivery, begin_with_line, write_with_lines};
 use crate::turn::{Turn, refuse};
 use harp_base::{ServerId, Sink};
 use std::alloc::Global;
@@ -31,12 +31,12 @@ fn take_elementary<W: Stage, K: Sink>(
     alloc: Global,
     number: u64,
     step: Step,
-    out: &mut Vec<u8>,
+    room: &mut Room,
     world: &mut W,
     sink: &mut K,
 ) -> Result<Turn, Stop>
     requires elementary { is_elementary step ≡ true }
-    requires begun { out.old.items ≡ trace_text (Line.Event step ∷ []) }
+    requires begun { room.old.text.items ≡ trace_text (Line.Event step ∷ []) }
     requires readings { AreReadings (clocks_after (W.clocks world.old) step) }
     requires now { AreReadings (W.clocks world.old) }
     ensures ends { (all : Reading) (rest : Scene → Reading) (before : Option (List ℕ))
@@ -51,8 +51,9 @@ fn take_elementary<W: Stage, K: Sink>(
     ensures count { K.faults sink.old ≤ K.faults sink.new }
     ensures own { result ≡ Err Stop.SourceFailed → ⊥ }
 {
-    match world.step(alloc, step) {
-        Ok(lines) => match write_with_lines(alloc, out, behind_first(lines.as_slice()), sink) {
+    room.lines.clear();
+    match world.step(alloc, step, &mut room.lines) {
+        Ok(()) => match write_with_lines(alloc, &mut room.text, room.lines.as_slice(), sink) {
             Ok(()) => Ok(Turn::GoesOn),
             Err(stop) => Err(stop),
         },
@@ -68,7 +69,7 @@ fn deliver<W: Stage, K: Sink>(
     alloc: Global,
     number: u64,
     packet: u64,
-    out: &mut Vec<u8>,
+    room: &mut Room,
     world: &mut W,
     sink: &mut K,
 ) -> Result<Turn, Stop>
@@ -85,8 +86,8 @@ fn deliver<W: Stage, K: Sink>(
     ensures count { K.faults sink.old ≤ K.faults sink.new }
     ensures own { result ≡ Err Stop.SourceFailed → ⊥ }
 {
-    match begin_with_delivery(alloc, packet, out) {
-        Ok(()) => take_elementary(alloc, number, Step::Deliver { packet }, out, world, sink),
+    match begin_with_delivery(alloc, packet, &mut room.text) {
+        Ok(()) => take_elementary(alloc, number, Step::Deliver { packet }, room, world, sink),
         Err(_) => Err(Stop::NoMemory),
     }
 }
@@ -97,7 +98,7 @@ fn pump<W: Stage, K: Sink>(
     alloc: Global,
     number: u64,
     among: Option<(ServerId, ServerId)>,
-    out: &mut Vec<u8>,
+    room: &mut Room,
     world: &mut W,
     sink: &mut K,
 ) -> Result<Turn, Stop>
@@ -118,7 +119,7 @@ fn pump<W: Stage, K: Sink>(
         let Some(packet) = world.next(among) else {
             return Ok(Turn::GoesOn);
         };
-        match deliver(alloc, number, packet, out, world, sink) {
+        match deliver(alloc, number, packet, room, world, sink) {
             Ok(Turn::GoesOn) => {}
             Ok(Turn::Ended) => return Ok(Turn::Ended),
             Ok(Turn::Refused) => return Ok(Turn::Refused),
@@ -128,14 +129,14 @@ fn pump<W: Stage, K: Sink>(
     Ok(Turn::GoesOn)
 }
 
-/// Takes the step that the line with this number spells, and writes its lines. Their text is made
-/// in `out`, whatever that held.
+/// Takes the step that the line with this number spells, and writes its lines. They are made
+/// in the room, whatever that held.
 pub fn take_step<W: Stage, K: Sink>(
     alloc: Global,
     number: u64,
     line: &[u8],
     step: Step,
-    out: &mut Vec<u8>,
+    room: &mut Room,
     world: &mut W,
     sink: &mut K,
 ) -> Result<Turn, Stop>
@@ -156,9 +157,9 @@ pub fn take_step<W: Stage, K: Sink>(
     ensures own { result ≡ Err Stop.SourceFailed → ⊥ }
 {
     match step {
-        Step::Pump { among } => pump(alloc, number, among, out, world, sink),
-        step => match begin_with_line(line, out) {
-            Ok(()) => take_elementary(alloc, number, step, out, world, sink),
+        Step::Pump { among } => pump(alloc, number, among, room, world, sink),
+        step => match begin_with_line(line, &mut room.text) {
+            Ok(()) => take_elementary(alloc, number, step, room, world, sink),
             Err(_) => Err(Stop::NoMemory),
         },
     }

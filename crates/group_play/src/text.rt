@@ -1,6 +1,6 @@
 //! Lines of a trace as text.
 
-ghost use Rattle.std.specs.Prelude.{◌≡◌, ◌≤◌, ◌∷◌, [], ◌++◌, drop, OnOk, OnErr, Err};
+ghost use Rattle.std.specs.Prelude.{◌≡◌, ◌≤◌, ◌∷◌, [], ◌++◌, OnOk, OnErr, Err};
 ghost use Rattle.std.specs.Io.KnownBytes.{Appends};
 ghost use Rattle.harp_base.specs.Streams.{GrewByPart, Rose};
 ghost use Rattle.step_spelling.specs.Steps.{step_text};
@@ -12,6 +12,24 @@ use harp_base::{Sink, write_all};
 use put_lines::append_line;
 use std::alloc::{AllocError, Global};
 use trace_types::{Line, Step};
+
+/// Room for what a step gives, which the next one uses anew.
+#[derive(Drop)]
+pub struct Room {
+    /// The text of its lines.
+    pub text: Vec<u8>,
+    /// Its lines behind its event line.
+    pub lines: Vec<Line>,
+}
+
+impl Room {
+    pub fn new(alloc: Global) -> Room {
+        Room {
+            text: Vec::new(alloc),
+            lines: Vec::new(alloc),
+        }
+    }
+}
 
 /// Begins a text anew, with the event line of the step that a line spells: the line is its one
 /// spelling.
@@ -47,13 +65,6 @@ fn append_lines(alloc: Global, lines: &[Line], out: &mut Vec<u8>) -> Result<(), 
         out.push(b'\n')?;
     }
     Ok(())
-}
-
-/// The lines behind the first.
-pub fn behind_first(lines: &[Line]) -> &[Line]
-    ensures { result.now ≡ drop 1 lines.now }
-{
-    if lines.is_empty() { lines } else { &lines[1..] }
 }
 
 /// Appends these lines to the text that was begun and writes it; after a stop a first part of it

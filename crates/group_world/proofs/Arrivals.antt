@@ -250,13 +250,13 @@ is_sent true e = refl
 is_sent false e = absurd cc
 
 -- A DELIVERY is taken: its packet arrives, and then it counts as delivered
-pub delivery_taken : (old mid new : WorldValue) (n : ℕ) (p : Opened) (event lines : List Line)
-    → event ≡ line.Event (step.Deliver n) ∷ []
+pub delivery_taken : (old mid new : WorldValue) (n : ℕ) (p : Opened) (before lines : List Line)
+    → before ≡ []
     → option_map (λ (p : Posted). p.packet) (slice_get old.packets n) ≡ Some p
-    → Arrives old mid p event lines
+    → Arrives old mid p before lines
     → new ≡ record mid { packets = delivered_at mid.packets n }
     → Takes old new (step.Deliver n) lines
-delivery_taken old mid new n p event lines first opened arrives is w reached world none =
+delivery_taken old mid new n p before lines first opened arrives is w reached world none =
     let s = step.Deliver n in
     let t = turn (measures_of spellings) w.scene s in
     let leaves = arrives w n reached world opened in
@@ -264,7 +264,8 @@ delivery_taken old mid new n p event lines first opened arrives is w reached wor
     is_lt n (length w.scene.group.packets) (is_sent _ (own_none _ _ none)) in
     record {
       not_refused = none;
-      lines_are = leaves.lines ∙ ap (λ e. e ++ lines_where w.scene.group t []) first;
+      lines_are = ap (λ ls. line.Event s ∷ ls)
+          (leaves.lines ∙ ap (λ b. b ++ lines_where w.scene.group t []) first);
       left = subst (λ x. IsWorld (disk_next spellings w s) x) (sym is)
           (counted_stands (after_arrival w n) mid n leaves.left
           (turn_more w.scene.group t n less));

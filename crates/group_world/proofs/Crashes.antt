@@ -37,16 +37,16 @@ use Rattle.group_world.proofs.Turns.{disk_there, others_stay, shown_rightly, wit
 
 -- A CRASH is taken, where the state was shown before and is shown afterwards
 pub crash_taken : (l : Laws) (old new : WorldValue) (server : ServerId) (pick : Pick)
-    (h : HostValue) (before now : Option StateLine) (event lines : List Line) (by : StorePick)
-    → event ≡ line.Event (step.Crash server pick) ∷ []
+    (h : HostValue) (before now : Option StateLine) (none_yet lines : List Line) (by : StorePick)
+    → none_yet ≡ []
     → ((w : DiskScene) → IsWorld w old
     → before ≡ shown_of (w.scene.group.server (place_of server)))
     → h.me ≡ (value_of old.hosts server).me → HostFalls (value_of old.hosts server) h by
     → pick_of pick ≡ by → new ≡ with_host old server h
     → ((w : DiskScene) → IsWorld w new → now ≡ shown_of (w.scene.group.server (place_of server)))
-    → lines ≡ event ++ state_lines (place_of server) before now
+    → lines ≡ none_yet ++ state_lines (place_of server) before now
     → Takes old new (step.Crash server pick) lines
-crash_taken l old new server pick h before now event lines by first shown me falls picked is shows
+crash_taken l old new server pick h before now none_yet lines by first shown me falls picked is shows
     said w reached stands none =
     let q = place_of server in
     let g = w.scene.group in
@@ -66,9 +66,9 @@ crash_taken l old new server pick h before now event lines by first shown me fal
     (me ∙ own.me) (subst (λ d. Falls (g.server q) own.saved d h) (sym there) fell))) in
     record {
       not_refused = none;
-      lines_are = said ∙ ap (λ e. e ++ state_lines q before now) first
-          ∙ ap (λ ls. line.Event s ∷ ls) (shown_rightly [] w q (turn_moves w None q (Does Crash))
-          before now (shown w stands)
+      lines_are = ap (λ ls. line.Event s ∷ ls)
+          (said ∙ ap (λ none. none ++ state_lines q before now) first
+          ∙ shown_rightly [] w q (turn_moves w None q (Does Crash)) before now (shown w stands)
           (shows (scene_after w q (turn_moves w None q (Does Crash)) disks) left)
           (subst (λ ms. state_lines q (shown_of (g.server q))
           (shown_of ((scene_after w q ms disks).scene.group.server q)) ≡ lines_after w q ms)
@@ -83,17 +83,17 @@ is_down false e = refl
 
 -- A BOOT is taken, in the same way
 pub boot_taken : (l : Laws) (old new : WorldValue) (server : ServerId) (h : HostValue)
-    (before now : Option StateLine) (event lines : List Line)
-    → event ≡ line.Event (step.Boot server) ∷ []
+    (before now : Option StateLine) (none_yet lines : List Line)
+    → none_yet ≡ []
     → ((w : DiskScene) → IsWorld w old
     → before ≡ shown_of (w.scene.group.server (place_of server)))
     → h.me ≡ (value_of old.hosts server).me
     → HostBoots (value_of old.hosts server) h (value_of old.clocks server) old.delta
     → new ≡ with_host old server h
     → ((w : DiskScene) → IsWorld w new → now ≡ shown_of (w.scene.group.server (place_of server)))
-    → lines ≡ event ++ state_lines (place_of server) before now
+    → lines ≡ none_yet ++ state_lines (place_of server) before now
     → Takes old new (step.Boot server) lines
-boot_taken l old new server h before now event lines first shown me booting is shows said w reached
+boot_taken l old new server h before now none_yet lines first shown me booting is shows said w reached
     stands none =
     let q = place_of server in
     let g = w.scene.group in
@@ -111,9 +111,9 @@ boot_taken l old new server h before now event lines first shown me booting is s
     (boots l w reached old stands server down h (me ∙ own.me) booted) in
     record {
       not_refused = none;
-      lines_are = said ∙ ap (λ e. e ++ state_lines q before now) first
-          ∙ ap (λ ls. line.Event s ∷ ls) (shown_rightly [] w q (m ∷ []) before now
-          (shown w stands) (shows (scene_after w q (m ∷ []) w.disks) left)
-          (silent_lines w q m tt));
+      lines_are = ap (λ ls. line.Event s ∷ ls)
+          (said ∙ ap (λ none. none ++ state_lines q before now) first
+          ∙ shown_rightly [] w q (m ∷ []) before now (shown w stands)
+          (shows (scene_after w q (m ∷ []) w.disks) left) (silent_lines w q m tt));
       left = left;
     }

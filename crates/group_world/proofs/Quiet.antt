@@ -5,7 +5,7 @@ use Rattle.group_disks.specs.Run.{DiskScene, disk_next}
 use Rattle.group_play.specs.Stage.{IsTaken}
 use Rattle.group_rules.specs.Limits.{delta_tests}
 use Rattle.group_rules.specs.Names.{place_of}
-use Rattle.group_rules.specs.Places.{Zero, One, Two, Place, all_of, at}
+use Rattle.group_rules.specs.Places.{Place, all_of, at}
 use Rattle.group_safety.proofs.Moving.{at_self}
 use Rattle.group_trace.specs.Refusals.{refusal}
 use Rattle.group_trace.specs.Run.{step_lines, with_delta}
@@ -17,7 +17,6 @@ use Rattle.host_rules.specs.Spellings.{spellings}
 use Rattle.host_rules.specs.Steps.{IsStop}
 use Rattle.host_rules.specs.declared.stop.Stop.{Stop}
 use Rattle.told_disks.specs.Told.{pick_of}
-use Rattle.trace_types.specs.declared.line.Line.{Line}
 use Rattle.trace_types.specs.declared.line.Line.TheVariants as line
 use Rattle.trace_types.specs.declared.pick.Pick.{Pick}
 use Rattle.trace_types.specs.declared.step.Step.{Step}
@@ -58,24 +57,23 @@ clocked_stands w x clock delta clocks world same =
       book = record { entries = world.book.entries; updates = world.book.updates };
     }
 
-taken_so : (w : DiskScene) (s : Step) (new : WorldValue) (lines : List Line)
-    → refusal (measures_of spellings) w.scene s ≡ None → lines ≡ line.Event s ∷ []
+taken_so : (w : DiskScene) (s : Step) (new : WorldValue)
+    → refusal (measures_of spellings) w.scene s ≡ None
     → IsWorld (disk_next spellings w s) new
     → step_lines (measures_of spellings) w.scene s ≡ line.Event s ∷ []
-    → IsTaken spellings w s lines (λ v. IsWorld v new)
-taken_so w s new lines none first left says = record {
+    → IsTaken spellings w s [] (λ v. IsWorld v new)
+taken_so w s new none left says = record {
   not_refused = none;
-  lines_are = first ∙ sym says;
+  lines_are = sym says;
   left = left;
 }
 
 -- ---- noise
 
-pub noise_taken : (old : WorldValue) (server : ServerId) (bytes : List ℕ) (lines : List Line)
-    → lines ≡ line.Event (step.Noise server bytes) ∷ []
-    → Takes old old (step.Noise server bytes) lines
-noise_taken old server bytes lines first w reached world none =
-    taken_so w (step.Noise server bytes) old lines none first
+pub noise_taken : (old : WorldValue) (server : ServerId) (bytes : List ℕ)
+    → Takes old old (step.Noise server bytes) []
+noise_taken old server bytes w reached world none =
+    taken_so w (step.Noise server bytes) old none
     (subst (λ (d : ℕ). IsWorld (clocked w w.scene.group.clock d) old) world.delta
     (clocked_stands w old w.scene.group.clock old.delta old.clocks world world.clocks)) refl
 
@@ -90,14 +88,13 @@ set_right clocks clock server reading same = each_value
     (λ s other. same s ∙ sym (at_other clock (place_of server) (place_of s) reading other))
     (sym (at_self clock (place_of server) reading))
 
-pub clock_taken : (old new : WorldValue) (server : ServerId) (reading : ℕ) (lines : List Line)
-    → lines ≡ line.Event (step.Clock server reading) ∷ []
+pub clock_taken : (old new : WorldValue) (server : ServerId) (reading : ℕ)
     → new ≡ record old { clocks = with_value old.clocks server reading }
-    → Takes old new (step.Clock server reading) lines
-clock_taken old new server reading lines first is w reached world none =
+    → Takes old new (step.Clock server reading) []
+clock_taken old new server reading is w reached world none =
     let clock = at w.scene.group.clock (place_of server) reading in
     let clocks = with_value old.clocks server reading in
-    taken_so w (step.Clock server reading) new lines none first
+    taken_so w (step.Clock server reading) new none
     (subst (λ x. IsWorld (clocked w clock w.scene.group.delta) x) (sym is)
     (subst (λ (d : ℕ). IsWorld (clocked w clock d) (record old { clocks = clocks })) world.delta
     (clocked_stands w old clock old.delta clocks world
@@ -110,14 +107,13 @@ later_right clocks clock millis same server.Zero = ap (λ n. n + millis) (same s
 later_right clocks clock millis same server.One = ap (λ n. n + millis) (same server.One)
 later_right clocks clock millis same server.Two = ap (λ n. n + millis) (same server.Two)
 
-pub advance_taken : (old new : WorldValue) (millis : ℕ) (lines : List Line)
-    → lines ≡ line.Event (step.Advance millis) ∷ []
+pub advance_taken : (old new : WorldValue) (millis : ℕ)
     → new ≡ record old { clocks = later old.clocks millis }
-    → Takes old new (step.Advance millis) lines
-advance_taken old new millis lines first is w reached world none =
+    → Takes old new (step.Advance millis) []
+advance_taken old new millis is w reached world none =
     let clock = λ (q : Place). w.scene.group.clock q + millis in
     let clocks = later old.clocks millis in
-    taken_so w (step.Advance millis) new lines none first
+    taken_so w (step.Advance millis) new none
     (subst (λ x. IsWorld (clocked w clock w.scene.group.delta) x) (sym is)
     (subst (λ (d : ℕ). IsWorld (clocked w clock d) (record old { clocks = clocks })) world.delta
     (clocked_stands w old clock old.delta clocks world
@@ -144,25 +140,23 @@ delta_right w x millis world = by (all_of (delta_tests millis))
     by false = subst (λ (d : ℕ). IsWorld (clocked w w.scene.group.clock d) x) world.delta
         (clocked_stands w x w.scene.group.clock x.delta x.clocks world world.clocks)
 
-pub delta_taken : (old new : WorldValue) (millis : ℕ) (lines : List Line)
-    → lines ≡ line.Event (step.Delta millis) ∷ []
+pub delta_taken : (old new : WorldValue) (millis : ℕ)
     → new ≡ record old { delta = delta_after old.delta millis }
-    → Takes old new (step.Delta millis) lines
-delta_taken old new millis lines first is w reached world none =
-    taken_so w (step.Delta millis) new lines none first
+    → Takes old new (step.Delta millis) []
+delta_taken old new millis is w reached world none =
+    taken_so w (step.Delta millis) new none
     (subst (λ x. IsWorld (disk_next spellings w (step.Delta millis)) x) (sym is)
     (delta_right w old millis world)) refl
 
 -- ---- stops
 
 pub stop_taken : (old new : WorldValue) (server : ServerId) (calls : ℕ) (pick : Pick) (stop : Stop)
-    (lines : List Line) → lines ≡ line.Event (step.Stop server calls pick) ∷ []
     → new ≡ record old { stops = with_value old.stops server (Some stop) }
-    → IsStop (Some stop) (Some calls) pick → Takes old new (step.Stop server calls pick) lines
-stop_taken old new server calls pick stop lines first is stops w reached world none =
+    → IsStop (Some stop) (Some calls) pick → Takes old new (step.Stop server calls pick) []
+stop_taken old new server calls pick stop is stops w reached world none =
     let q = place_of server in
     let w' = disk_next spellings w (step.Stop server calls pick) in
-    taken_so w (step.Stop server calls pick) new lines none first
+    taken_so w (step.Stop server calls pick) new none
     (subst (λ x. IsWorld w' x) (sym is) (record {
       servers = λ y. server_kept w w' y (value_of old.hosts y) (λ k has. has)
           (λ records has. has) refl refl (world.servers y);

@@ -62,8 +62,8 @@ deed_begins w x q given d reached stands up begins goes = record {
 
 -- A STEP with a deed is taken by its server's turn
 pub deed_taken : (s : Step) (server : ServerId) (given : Input) (d : Deed) (old new : WorldValue)
-    (event lines : List Line) (listing : Option Listing) → event ≡ line.Event s ∷ []
-    → Turns old new server given event lines listing → input_of given ≡ Some (Does d) → GoesOn d
+    (before lines : List Line) (listing : Option Listing) → before ≡ []
+    → Turns old new server given before lines listing → input_of given ≡ Some (Does d) → GoesOn d
     → ((w : DiskScene)
     → own_refusal (measures_of spellings) w.scene.group s ≡ where_down w.scene.group server)
     → ((w : DiskScene)
@@ -71,14 +71,15 @@ pub deed_taken : (s : Step) (server : ServerId) (given : Input) (d : Deed) (old 
     → ((w : DiskScene) → step_lines (measures_of spellings) w.scene s ≡ line.Event s
     ∷ turn_lines w (w.scene.armed (place_of server)) (place_of server) (Does d))
     → Takes old new s lines
-deed_taken s server given d old new event lines listing first turns begins goes same leads says w
+deed_taken s server given d old new before lines listing first turns begins goes same leads says w
     reached stands none =
     let q = place_of server in
     let t = turns w (Does d) (deed_begins w old q given d reached stands
     (up_of w s server (same w) none) begins goes) in
     record {
       not_refused = none;
-      lines_are = t.lines ∙ ap (λ e. e ++ turn_lines w (w.scene.armed q) q (Does d)) first
+      lines_are = ap (λ ls. line.Event s ∷ ls)
+          (t.lines ∙ ap (λ b. b ++ turn_lines w (w.scene.armed q) q (Does d)) first)
           ∙ sym (says w);
       left = subst (λ v. IsWorld v new) (sym (leads w)) t.left;
     }
@@ -130,11 +131,11 @@ with_listing e a r s t l = append_assoc e (a ++ (r ++ (s ++ (t ++ [])))) l
     ∙ ap (λ x. s ++ (x ++ l)) (append-nil t))))
 
 -- A LISTING is taken by its server's turn, with its lines behind the others
-pub list_taken : (server : ServerId) (old new : WorldValue) (event ran lines : List Line)
-    (listing : Option Listing) → event ≡ line.Event (step.List server) ∷ []
-    → Turns old new server input.List event ran listing
+pub list_taken : (server : ServerId) (old new : WorldValue) (before ran lines : List Line)
+    (listing : Option Listing) → before ≡ []
+    → Turns old new server input.List before ran listing
     → lines ≡ ran ++ listing_shown server listing → Takes old new (step.List server) lines
-list_taken server old new event ran lines listing first turns shown w reached stands none =
+list_taken server old new before ran lines listing first turns shown w reached stands none =
     let q = place_of server in
     let g = w.scene.group in
     let ms = turn_moves w (w.scene.armed q) q (Does ListTree) in
@@ -146,11 +147,11 @@ list_taken server old new event ran lines listing first turns shown w reached st
     let says = turn_lines w (w.scene.armed q) q (Does ListTree) in
     record {
       not_refused = none;
-      lines_are = shown ∙ ap (λ ls. ls ++ listing_shown server listing) t.lines
-          ∙ ap (λ e. (e ++ says) ++ listing_shown server listing) first
-          ∙ ap (λ ls. line.Event (step.List server) ∷ (says ++ ls)) listed
-          ∙ ap (λ ls. line.Event (step.List server) ∷ ls)
-          (with_listing (entered_lines (length g.book) (drop (length g.book) g'.book))
+      lines_are = ap (λ ls. line.Event (step.List server) ∷ ls)
+          (shown ∙ ap (λ ls. ls ++ listing_shown server listing) t.lines
+          ∙ ap (λ b. (b ++ says) ++ listing_shown server listing) first
+          ∙ ap (λ ls. says ++ ls) listed
+          ∙ with_listing (entered_lines (length g.book) (drop (length g.book) g'.book))
           (answered_lines q ms) (refused_lines q ms) (sent_lines (length g.packets) q ms)
           (state_lines q (shown_of (g.server q)) (shown_of (g'.server q))) (list_lines g q));
       left = t.left;
@@ -160,8 +161,8 @@ list_taken server old new event ran lines listing first turns shown w reached st
 
 -- A POWER FAILURE is taken, with this stop and its pick
 pub power_taken : (s : Step) (server : ServerId) (most : Option ℕ) (pick : Pick)
-    (stop : Option Stop) (old new : WorldValue) (event lines : List Line)
-    → event ≡ line.Event s ∷ [] → PowerFails old new server stop event lines
+    (stop : Option Stop) (old new : WorldValue) (before lines : List Line)
+    → before ≡ [] → PowerFails old new server stop before lines
     → IsStop stop most pick
     → ((w : DiskScene)
     → own_refusal (measures_of spellings) w.scene.group s ≡ where_down w.scene.group server)
@@ -170,13 +171,13 @@ pub power_taken : (s : Step) (server : ServerId) (most : Option ℕ) (pick : Pic
     → ((w : DiskScene) → step_lines (measures_of spellings) w.scene s ≡ line.Event s
     ∷ turn_lines w most (place_of server) (Does Power))
     → Takes old new s lines
-power_taken s server most pick stop old new event lines first fails stops same leads says w reached
+power_taken s server most pick stop old new before lines first fails stops same leads says w reached
     stands none =
     let q = place_of server in
     let t = fails w most pick reached stands (up_of w s server (same w) none) stops in
     record {
       not_refused = none;
-      lines_are = t.lines ∙ ap (λ e. e ++ turn_lines w most q (Does Power)) first
-          ∙ sym (says w);
+      lines_are = ap (λ ls. line.Event s ∷ ls)
+          (t.lines ∙ ap (λ b. b ++ turn_lines w most q (Does Power)) first) ∙ sym (says w);
       left = subst (λ v. IsWorld v new) (sym (leads w)) t.left;
     }

@@ -25,7 +25,7 @@ use Rattle.host_rules.specs.Steps.{TakesWhole, moves_at, peers_by}
 use Rattle.node.specs.Input.{came}
 use Rattle.node.specs.Stock.{stock_after}
 use Rattle.node.specs.declared.input.Input.{Input}
-use Rattle.outputs.specs.Said.{Said, said, sent}
+use Rattle.outputs.specs.Said.{Said}
 use Rattle.outputs.specs.declared.outputs.Outputs.{Outputs}
 use Rattle.packets.specs.Machine.{StandFor}
 use Rattle.packets.specs.Posted.{bytes_of as bytes_of_posted, bytes_sent}

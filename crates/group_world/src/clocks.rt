@@ -1,6 +1,6 @@
 //! The clocks, and the length of promises.
 
-ghost use Rattle.std.specs.Prelude.{◌≡◌, ◌<◌, ◌^◌, IfOk, OnOk};
+ghost use Rattle.std.specs.Prelude.{◌≡◌, ◌<◌, ◌^◌, []};
 ghost use Rattle.group_play.specs.Stage.{AreReadings, clocks_after};
 ghost use Rattle.group_rules.specs.Names.{place_of};
 ghost use Rattle.group_rules.specs.Places.{get, with_at};
@@ -10,55 +10,38 @@ ghost use Rattle.group_world.specs.Clocks.{delta_after};
 ghost use Rattle.group_world.specs.Steps.{Takes};
 ghost use Rattle.group_world.specs.World.{clocks_in};
 
-use crate::turn::event;
 use crate::world::World;
 use harp_base::{CLOCK_SKEW, ServerId, Trio};
 use promise::Delta;
-use std::alloc::{AllocError, Global};
-use trace_types::{Line, Step};
 
 impl World {
     /// A server's clock is set.
-    pub(crate) fn set_clock(
-        &mut self,
-        alloc: Global,
-        server: ServerId,
-        reading: u64,
-    ) -> Result<Vec<Line>, AllocError>
-        ensures taken { IfOk result (λ lines. Takes self.old self.new (step.Clock server reading)
-            lines.items) }
-        ensures clocks { OnOk result (clocks_in self.new
-            ≡ clocks_after (clocks_in self.old) (step.Clock server reading)) }
+    pub(crate) fn set_clock(&mut self, server: ServerId, reading: u64)
+        ensures taken { Takes self.old self.new (step.Clock server reading) [] }
+        ensures clocks { clocks_in self.new
+            ≡ clocks_after (clocks_in self.old) (step.Clock server reading) }
     {
-        let lines = event(alloc, Step::Clock { server, reading })?;
         *self.clocks.get_mut(server) = reading;
-        Ok(lines)
     }
 
     /// All clocks go on.
-    pub(crate) fn advance(&mut self, alloc: Global, millis: u64) -> Result<Vec<Line>, AllocError>
+    pub(crate) fn advance(&mut self, millis: u64)
         requires { AreReadings (clocks_after (clocks_in self.old) (step.Advance millis)) }
-        ensures taken { IfOk result (λ lines. Takes self.old self.new (step.Advance millis)
-            lines.items) }
-        ensures clocks { OnOk result (clocks_in self.new
-            ≡ clocks_after (clocks_in self.old) (step.Advance millis)) }
+        ensures taken { Takes self.old self.new (step.Advance millis) [] }
+        ensures clocks { clocks_in self.new
+            ≡ clocks_after (clocks_in self.old) (step.Advance millis) }
     {
-        let lines = event(alloc, Step::Advance { millis })?;
         self.clocks.zero += millis;
         self.clocks.one += millis;
         self.clocks.two += millis;
-        Ok(lines)
     }
 
     /// Promises of servers that boot later last so long, where that is a length of promises.
-    pub(crate) fn set_delta(&mut self, alloc: Global, millis: u32) -> Result<Vec<Line>, AllocError>
-        ensures taken { IfOk result (λ lines. Takes self.old self.new (step.Delta millis)
-            lines.items) }
-        ensures clocks { OnOk result (self.new.clocks ≡ self.old.clocks) }
+    pub(crate) fn set_delta(&mut self, millis: u32)
+        ensures taken { Takes self.old self.new (step.Delta millis) [] }
+        ensures clocks { self.new.clocks ≡ self.old.clocks }
     {
-        let lines = event(alloc, Step::Delta { millis })?;
         self.delta = self.delta_after(millis);
-        Ok(lines)
     }
 
     /// The length of promises that is set, where it is one; else the one before stays.

@@ -1,6 +1,6 @@
 //! Packets that reach their servers.
 
-ghost use Rattle.std.specs.Prelude.{◌≡◌, ◌<◌, length, slice_get, Some, IfOk, OnOk};
+ghost use Rattle.std.specs.Prelude.{◌≡◌, ◌<◌, length, slice_get, Some, IfOk, OnOk, []};
 ghost use Rattle.std.specs.Option.{option_map};
 ghost use Rattle.group_play.specs.Stage.{AreReadings};
 ghost use Rattle.packets.specs.Posted.{Posted, delivered_at};
@@ -9,27 +9,31 @@ ghost use Rattle.group_world.specs.Deliveries.{Arrives};
 ghost use Rattle.group_world.specs.Steps.{Takes};
 ghost use Rattle.group_world.specs.World.{clocks_in};
 
-use crate::turn::event;
 use crate::world::World;
 use node::Input;
 use packets::Packet;
 use std::alloc::{AllocError, Global};
-use trace_types::{Line, Step};
+use trace_types::Line;
 
 impl World {
     /// A packet reaches its server.
-    pub(crate) fn deliver(&mut self, alloc: Global, packet: u64) -> Result<Vec<Line>, AllocError>
+    pub(crate) fn deliver(
+        &mut self,
+        alloc: Global,
+        packet: u64,
+        lines: &mut Vec<Line>,
+    ) -> Result<(), AllocError>
         requires sent { packet < length self.old.packets }
         requires now { AreReadings (clocks_in self.old) }
-        ensures taken { IfOk result (λ lines. Takes self.old self.new (step.Deliver packet)
-            lines.items) }
+        requires none { lines.old.items ≡ [] }
+        ensures taken { OnOk result (Takes self.old self.new
+            (step.Deliver packet) lines.new.items) }
         ensures clocks { OnOk result (self.new.clocks ≡ self.old.clocks) }
     {
-        let mut lines = event(alloc, Step::Deliver { packet })?;
         let opened = self.open(alloc, packet)?;
-        self.arrive(alloc, opened, &mut lines)?;
+        self.arrive(alloc, opened, lines)?;
         self.count(packet);
-        Ok(lines)
+        Ok(())
     }
 
     /// A packet that was sent, with its message as a value.

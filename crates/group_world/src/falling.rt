@@ -1,29 +1,33 @@
 //! Servers that come to be down.
 
-ghost use Rattle.std.specs.Prelude.{◌≡◌, IfOk, OnOk};
+ghost use Rattle.std.specs.Prelude.{◌≡◌, OnOk, []};
 ghost use Rattle.trace_types.specs.declared.step.Step.TheVariants as step_is;
 ghost use Rattle.group_world.specs.Steps.{Takes};
 ghost use Rattle.group_world.specs.Turns.{PowerFails};
 
 use crate::picks::pick_of;
-use crate::turn::event;
 use crate::world::World;
 use given_lines::show_state;
 use group_host::Stop;
 use harp_base::ServerId;
 use std::alloc::{AllocError, Global};
-use trace_types::{Line, Pick, Step};
+use trace_types::{Line, Pick};
 
 impl World {
     /// A server saves its log, and then it is down.
-    pub(crate) fn power(&mut self, alloc: Global, server: ServerId) -> Result<Vec<Line>, AllocError>
-        ensures taken { IfOk result (λ lines. Takes self.old self.new
-            (step_is.Power server) lines.items) }
+    pub(crate) fn power(
+        &mut self,
+        alloc: Global,
+        server: ServerId,
+        lines: &mut Vec<Line>,
+    ) -> Result<(), AllocError>
+        requires { lines.old.items ≡ [] }
+        ensures taken { OnOk result (Takes self.old self.new
+            (step_is.Power server) lines.new.items) }
         ensures clocks { OnOk result (self.new.clocks ≡ self.old.clocks) }
     {
-        let mut lines = event(alloc, Step::Power { server })?;
-        self.fail_power(alloc, server, None, &mut lines)?;
-        Ok(lines)
+        self.fail_power(alloc, server, None, lines)?;
+        Ok(())
     }
 
     /// So many calls of a server's save pass, and then it is down.
@@ -32,24 +36,20 @@ impl World {
         alloc: Global,
         server: ServerId,
         calls: u64,
-        pick: Pick,
-    ) -> Result<Vec<Line>, AllocError>
-        ensures taken { IfOk result (λ lines. Takes self.old self.new
-            (step_is.PowerCut server calls pick) lines.items) }
+        pick: &Pick,
+        lines: &mut Vec<Line>,
+    ) -> Result<(), AllocError>
+        requires { lines.old.items ≡ [] }
+        ensures taken { OnOk result (Takes self.old self.new
+            (step_is.PowerCut server calls pick.now) lines.new.items) }
         ensures clocks { OnOk result (self.new.clocks ≡ self.old.clocks) }
     {
         let stop = Stop {
             calls,
-            pick: pick_of(alloc, &pick)?,
+            pick: pick_of(alloc, pick)?,
         };
-        let step = Step::PowerCut {
-            server,
-            calls,
-            pick,
-        };
-        let mut lines = event(alloc, step)?;
-        self.fail_power(alloc, server, Some(stop), &mut lines)?;
-        Ok(lines)
+        self.fail_power(alloc, server, Some(stop), lines)?;
+        Ok(())
     }
 
     /// The power fails at a server that is up. A stop that was armed at it is spent.
@@ -67,7 +67,8 @@ impl World {
         let before = self.state_line(server);
         self.spend_stop(server);
         self.fail_host(alloc, server, stop)?;
-        show_state(server, before, self.state_line(server), lines)?;
+        let after = self.state_line(server);
+        show_state(server, &before, &after, lines)?;
         Ok(())
     }
 
@@ -76,18 +77,20 @@ impl World {
         &mut self,
         alloc: Global,
         server: ServerId,
-        pick: Pick,
-    ) -> Result<Vec<Line>, AllocError>
-        ensures taken { IfOk result (λ lines. Takes self.old self.new
-            (step_is.Crash server pick) lines.items) }
+        pick: &Pick,
+        lines: &mut Vec<Line>,
+    ) -> Result<(), AllocError>
+        requires { lines.old.items ≡ [] }
+        ensures taken { OnOk result (Takes self.old self.new
+            (step_is.Crash server pick.now) lines.new.items) }
         ensures clocks { OnOk result (self.new.clocks ≡ self.old.clocks) }
     {
-        let kept = pick_of(alloc, &pick)?;
-        let mut lines = event(alloc, Step::Crash { server, pick })?;
+        let kept = pick_of(alloc, pick)?;
         let before = self.state_line(server);
         self.spend_stop(server);
         self.crash_host(server, &kept);
-        show_state(server, before, self.state_line(server), &mut lines)?;
-        Ok(lines)
+        let after = self.state_line(server);
+        show_state(server, &before, &after, lines)?;
+        Ok(())
     }
 }

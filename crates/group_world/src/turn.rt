@@ -1,6 +1,6 @@
 //! The turn of a server: what its step gives.
 
-ghost use Rattle.std.specs.Prelude.{◌≡◌, ◌∷◌, [], IfOk, OnOk};
+ghost use Rattle.std.specs.Prelude.{◌≡◌, IfOk, OnOk};
 ghost use Rattle.group_play.specs.Stage.{AreReadings};
 ghost use Rattle.trace_types.specs.declared.line.Line.TheVariants as line;
 ghost use Rattle.group_world.specs.Given.{Gives};
@@ -13,7 +13,7 @@ use harp_base::ServerId;
 use node::Input;
 use outputs::Outputs;
 use std::alloc::{AllocError, Global};
-use trace_types::{Line, Step};
+use trace_types::Line;
 use tree_listing::Listing;
 
 impl World {
@@ -36,7 +36,8 @@ impl World {
         let stop = self.spend_stop(server);
         let outs = self.step_host(alloc, server, input, stop)?;
         let listing = self.give(alloc, server, outs, lines)?;
-        show_state(server, before, self.state_line(server), lines)?;
+        let after = self.state_line(server);
+        show_state(server, &before, &after, lines)?;
         Ok(listing)
     }
 
@@ -67,13 +68,4 @@ impl World {
             }
         }
     }
-}
-
-/// The event line of a step.
-pub(crate) fn event(alloc: Global, step: Step) -> Result<Vec<Line>, AllocError>
-    ensures { IfOk result (λ lines. lines.items ≡ line.Event step ∷ []) }
-{
-    let mut lines = Vec::new(alloc);
-    lines.push(Line::Event { step })?;
-    Ok(lines)
 }

@@ -79,14 +79,14 @@ impl Stage for World {
 
     ghost stands = { λ x w. IsWorld w x };
 
-    /// Takes a step, and gives its lines, the event line first. A step that is refused changes
+    /// Takes a step, and gives its lines behind its event line. A step that is refused changes
     /// nothing. After want of memory the world may be anything.
-    fn step(&mut self, alloc: Global, step: Step) -> Result<Vec<Line>, Refusal> {
+    fn step(&mut self, alloc: Global, step: Step, lines: &mut Vec<Line>) -> Result<(), Refusal> {
         if let Some(refusal) = self.refusal(alloc, &step) {
             return Err(refusal);
         }
-        match self.take(alloc, step) {
-            Ok(lines) => Ok(lines),
+        match self.take(alloc, step, lines) {
+            Ok(()) => Ok(()),
             Err(_) => Err(Refusal::NoMemory),
         }
     }

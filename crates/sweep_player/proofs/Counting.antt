@@ -1,6 +1,7 @@
 -- The counting of a play that has come to some place, and what the next step makes of it.
 use Rattle.std.proofs.Common.{◌≡◌, ℕ, true, List, [], ◌∷◌, ◌++◌, append-nil, length, sym, ap, ◌∙◌, subst, append_assoc, Option, Some, None}
 use Rattle.std.specs.Prelude.{IfSome}
+use Rattle.trace_types.specs.declared.line.Line.TheVariants as line
 use Rattle.trace_types.specs.declared.line.LineFault.{LineFault}
 use Rattle.trace_types.specs.declared.step.Step.{Step}
 use Rattle.trace_claims.specs.Trace.{Trace, entries}
@@ -20,6 +21,7 @@ use Rattle.sweep_player.specs.Counts.{summary_of_trace}
 use Rattle.sweep_player.specs.OnTheWay.{HasAll, HasCounted}
 use Rattle.sweep_player.specs.Tally.{IsTallyOf}
 use Rattle.sweep_player.proofs.CountLaws.{last-counts}
+use Rattle.sweep_player.proofs.TallyLaws.{event-counts}
 
 -- what is still read may be said in other words
 pub counted-as : (f : Spellings) (all : Reading) (here there : Scene → Reading) (t : Tally)
@@ -63,7 +65,7 @@ read_more m all number s rest done is taken =
     (sym (append_assoc done (s ∷ []) r.steps))
     ∙ ap (λ w. then_read (done ++ s ∷ []) (rest w)) (run_more m done s)
 
--- a step was taken and its lines counted
+-- a step was taken and the lines behind its event line counted
 pub step-counted : (f : Spellings) (all : Reading) (number : ℕ) (rest : Scene → Reading)
     (t t' : Tally) (old new : DiskScene → Type 0) (s : Step) (ls : Trace)
     → is_elementary s ≡ true
@@ -75,7 +77,9 @@ step-counted f all number rest t t' old new s ls e h takes counts = record {
   done = h.done ++ s ∷ [];
   taken = taken-more m first_scene h.done s h.taken free e;
   reading_is = read_more m all number s rest h.done h.reading_is free;
-  tally = subst (λ trace. IsTallyOf trace t') lines (counts (run_lines m first_scene h.done) h.tally);
+  tally = subst (λ trace. IsTallyOf trace t') lines (counts
+      (run_lines m first_scene h.done ++ line.Event s ∷ [])
+      (event-counts (run_lines m first_scene h.done) t s h.tally));
   left = subst new (disk_more f h.done s) there.left;
 }
   where
@@ -91,8 +95,10 @@ step-counted f all number rest t t' old new s ls e h takes counts = record {
     free : refusal m (run m first_scene h.done) s ≡ None
     free = sym (ap (λ x. refusal m x s) (disk_scene f h.done)) ∙ there.not_refused
 
-    lines : run_lines m first_scene h.done ++ ls ≡ run_lines m first_scene (h.done ++ s ∷ [])
-    lines = ap (λ x. run_lines m first_scene h.done ++ x)
+    lines : (run_lines m first_scene h.done ++ line.Event s ∷ []) ++ ls
+        ≡ run_lines m first_scene (h.done ++ s ∷ [])
+    lines = append_assoc (run_lines m first_scene h.done) (line.Event s ∷ []) ls
+        ∙ ap (λ x. run_lines m first_scene h.done ++ x)
         (there.lines_are ∙ ap (λ x. step_lines m x s) (disk_scene f h.done))
         ∙ lines_more m h.done s
 

@@ -1,5 +1,5 @@
 -- A tally with one more line.
-use Rattle.std.proofs.Common.{◌≡◌, ℕ, ◌+◌, ◌<◌, ◌≤◌, drop, get_or, length, Bool, false, [], ◌∷◌, ◌++◌, refl, sym, ap, ◌∙◌, subst, append-nil, append_assoc, not, ◌&&◌, Option}
+use Rattle.std.proofs.Common.{◌≡◌, ℕ, ◌+◌, ◌<◌, ◌≤◌, drop, get_or, length, Bool, false, [], ◌∷◌, ◌++◌, refl, sym, ap, ◌∙◌, subst, append-nil, append_assoc, arith, not, ◌&&◌, Option}
 use Rattle.std.proofs.lemmas.List.{at_drop_more, at_drop_all}
 use Rattle.harp_base.specs.Trio.{value_of, with_value}
 use Rattle.harp_base.specs.declared.server.ServerId.{ServerId}
@@ -8,6 +8,7 @@ use Rattle.harp_base.specs.declared.state.StateLine.{StateLine}
 use Rattle.harp_base.specs.declared.trio.Trio.{Trio}
 use Rattle.trace_types.specs.declared.line.Line.{Line}
 use Rattle.trace_types.specs.declared.line.Line.TheVariants as line
+use Rattle.trace_types.specs.declared.step.Step.{Step}
 use Rattle.trace_claims.specs.Servers.{is_open, last_state, later_state}
 use Rattle.trace_claims.specs.Trace.{Trace}
 use Rattle.sweep_player.specs.declared.tally.Tally.{Tally}
@@ -116,6 +117,17 @@ tally-push trace old new l c h = record {
       ∙ kept l server old.stands_open (last_state trace server) (h.stands_open server)
       ∙ ap is_open_state (sym (state-push trace l server));
 }
+
+-- an event line counts nothing
+pub event-counts : (trace : Trace) (t : Tally) (s : Step) → IsTallyOf trace t
+    → IsTallyOf (trace ++ line.Event s ∷ []) t
+event-counts trace t s = tally-push trace t t (line.Event s) (record {
+  entered = omega arith;
+  answered = omega arith;
+  refused = omega arith;
+  opened = omega arith;
+  stands_open = refl;
+})
 
 -- no line
 pub tally-first : IsTallyOf []

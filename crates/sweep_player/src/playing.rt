@@ -18,7 +18,7 @@ use group_play::Stage;
 use harp_base::ServerId;
 use std::alloc::{AllocError, Global};
 use sweep::Summary;
-use trace_types::Step;
+use trace_types::{Line, Step};
 
 /// The most lines of a schedule.
 const LINES: usize = 50_000;
@@ -53,11 +53,13 @@ fn moves_within(step: &Step) -> bool
     }
 }
 
-/// Takes a step of one server, of the clocks or of the group's delta, and counts its lines.
+/// Takes a step of one server, of the clocks or of the group's delta, and counts its lines, for
+/// which there is room.
 fn take_elementary<W: Stage>(
     alloc: Global,
     step: Step,
     world: &mut W,
+    lines: &mut Vec<Line>,
     tally: &mut Tally,
 ) -> Result<Turn, AllocError>
     requires elementary { is_elementary step ≡ true }
@@ -70,8 +72,9 @@ fn take_elementary<W: Stage>(
     ensures clocks { result ≡ Ok Turn.GoesOn → W.clocks world.new
         ≡ clocks_after (W.clocks world.old) step }
 {
-    match world.step(alloc, step) {
-        Ok(lines) => {
+    lines.clear();
+    match world.step(alloc, step, lines) {
+        Ok(()) => {
             tally.count_all(lines.as_slice())?;
             Ok(Turn::GoesOn)
         }
@@ -88,6 +91,7 @@ fn pump<W: Stage>(
     alloc: Global,
     among: Option<(ServerId, ServerId)>,
     world: &mut W,
+    lines: &mut Vec<Line>,
     tally: &mut Tally,
 ) -> Result<Turn, AllocError>
     requires { AreReadings (W.clocks world.old) }
@@ -102,7 +106,7 @@ fn pump<W: Stage>(
         let Some(packet) = world.next(among) else {
             return Ok(Turn::GoesOn);
         };
-        match take_elementary(alloc, Step::Deliver { packet }, world, tally)? {
+        match take_elementary(alloc, Step::Deliver { packet }, world, lines, tally)? {
             Turn::GoesOn => {}
             Turn::Refused => return Ok(Turn::Refused),
         }
@@ -115,6 +119,7 @@ fn take_step<W: Stage>(
     alloc: Global,
     step: Step,
     world: &mut W,
+    lines: &mut Vec<Line>,
     tally: &mut Tally,
 ) -> Result<Turn, AllocError>
     requires readings { AreReadings (clocks_after (W.clocks world.old) step) }
@@ -128,8 +133,8 @@ fn take_step<W: Stage>(
         ≡ clocks_after (W.clocks world.old) step }
 {
     match step {
-        Step::Pump { among } => pump(alloc, among, world, tally),
-        step => take_elementary(alloc, step, world, tally),
+        Step::Pump { among } => pump(alloc, among, world, lines, tally),
+        step => take_elementary(alloc, step, world, lines, tally),
     }
 }
 
@@ -139,6 +144,7 @@ fn take_line<W: Stage>(
     before: usize,
     step: &Step,
     world: &mut W,
+    lines: &mut Vec<Line>,
     tally: &mut Tally,
 ) -> Result<Turn, AllocError>
     requires { AreBelow (before + 1) (W.clocks world.old) }
@@ -155,7 +161,7 @@ fn take_line<W: Stage>(
     if !moves_within(step) {
         return Ok(Turn::Refused);
     }
-    take_step(alloc, copy_of(alloc, step)?, world, tally)
+    take_step(alloc, copy_of(alloc, step)?, world, lines, tally)
 }
 
 /// What the trace of these steps comes to, each played as a line of a schedule, in a world that
@@ -169,9 +175,10 @@ pub fn summary_over<W: Stage>(
     ensures { IfOk result
         (λ summary. summary ≡ summary_of_steps (measures_of W.spellings) steps.now) }
 {
+    let mut lines = Vec::new(alloc);
     let mut tally = Tally::new();
     for (before, step) in steps.iter().enumerate() {
-        match take_line(alloc, before, step, world, &mut tally)? {
+        match take_line(alloc, before, step, world, &mut lines, &mut tally)? {
             Turn::GoesOn => {}
             Turn::Refused => return Ok(tally.summary()),
         }

@@ -1,6 +1,7 @@
 use Rattle.std.proofs.Common.{ap, Err, ◌+◌, ◌∷◌, ◌++◌, [], List, ℕ, sym, subst}
 use Rattle.line_reader.specs.Reading.{text_left, GivesKnown}
 use Rattle.line_reader.specs.Lines.{lines_of}
+use Rattle.line_reader.specs.declared.reader.Next.TheVariants as next
 use Rattle.group_disks.specs.Calls.{measures_of}
 use Rattle.group_play.specs.OnTheWay.{HasCome}
 use Rattle.group_play.specs.Reading.{Reading, given_by, reading, reading_from, reading_of, with_given}
@@ -72,11 +73,14 @@ returns-in-Ok-Line-clause-ends g c = λ text before h.
     let here = g.W.Stage.stands c.args.world.now in
     let mid = g.K.Sink.written c.args.sink.now in
     let source = g.S.Source.left c.next.new.source in
-    let left = text_left c.next.new.self source in
+    let left = text_left c.take_back.new.self source in
     let old = text_left c.args.reader.now (g.S.Source.left c.args.source.now) in
     let line = c.in-Ok-Line.line.items in
     let come = line-comes f text c.args.number old left before mid here c.in-Ok-Line.line h
-    (subst (λ n. GivesKnown old left n) c.in-Ok-Line.field-0-is c.in-Ok-Line.ensures.ok) in
+    (subst (λ (r : List ℕ). GivesKnown old (text_left r source) (next.Line c.in-Ok-Line.line))
+    (sym c.take_back.ensures)
+    (subst (λ n. GivesKnown old (text_left c.next.new.self source) n) c.in-Ok-Line.field-0-is
+    c.in-Ok-Line.ensures.ok)) in
     let given : (all : Reading) (lines : List (List ℕ))
     → HasCome f all (reading_from m c.args.number (line ∷ lines)) before mid here
     → HasCome f all (with_given m c.args.number (given_by c.args.number c.as_slice.result.now)
@@ -88,12 +92,12 @@ returns-in-Ok-Line-clause-ends g c = λ text before h.
     (next-line f all c.args.number line lines before mid here comes) in
     let read = reading_of m (come.read ++ line ∷ []) in
     turn-line f text c.args.number line source left before mid
-    (g.K.Sink.written c.take_line.new.sink) here (g.W.Stage.stands c.take_line.new.world) come
-    c.take_line.result
-    (c.take_line.ensures.ends (reading m text)
+    (g.K.Sink.written c.take_line-turn.new.sink) here (g.W.Stage.stands c.take_line-turn.new.world) come
+    c.take_line-turn.result
+    (c.take_line-turn.ensures.ends (reading m text)
     (reading_from m (c.args.number + 1) (lines_of come.rest)) before
     (given (reading m text) (lines_of come.rest) come.whole))
-    (c.take_line.ensures.ends read (reading_from m (c.args.number + 1) []) before
+    (c.take_line-turn.ensures.ends read (reading_from m (c.args.number + 1) []) before
     (given read [] come.alone))
 
 pub returns-in-Err-Failed-clause-ends : goal.returns-in-Err-Failed-clause-ends

@@ -1,4 +1,4 @@
-use Rattle.std.proofs.Common.{ap, drop, subst, sym, ◌∙◌, ◌++◌}
+use Rattle.std.proofs.Common.{ap, subst, sym, ◌∙◌, ◌++◌}
 use Rattle.std.specs.Prelude.{Err}
 use Rattle.std.specs.Io.KnownBytes.{Appends}
 use Rattle.harp_base.specs.Streams.{GrewByPart}
@@ -16,32 +16,28 @@ returns-in-Ok-write_with_lines-clause-ends g c = λ all rest before h.
     let there = g.W.Stage.stands c.step.new.self in
     let written = g.K.Sink.written c.args.sink.now in
     let after = g.K.Sink.written c.write_with_lines.new.sink in
-    let begun = c.args.out.now.items in
+    let begun = c.args.room.now.text.items in
     steps-on f all c.args.number rest before written after here there c.args.step
-    c.in-Ok.lines.items c.requires.elementary h c.in-Ok.ensures.ok
+    c.step.new.lines.items c.requires.elementary h c.in-Ok.ensures.ok
     (subst (Appends written after)
-    (ap (λ ls. begun ++ trace_text ls)
-    (c.behind_first.ensures ∙ ap (drop 1) c.as_slice.ensures.value)
-    ∙ step-told f here there c.args.step c.in-Ok.lines.items begun all _ before written h
-    c.in-Ok.ensures.ok c.requires.begun)
+    (ap (λ ls. begun ++ trace_text ls) c.as_slice.ensures.value
+    ∙ step-told c.args.step c.step.new.lines.items begun c.requires.begun)
     c.in-Ok-write_with_lines.ensures.all)
 
-pub returns-in-Ok-clause-ends : goal.returns-in-Ok-clause-ends
-returns-in-Ok-clause-ends g c = λ all rest before h.
+pub returns-in-Err-write_with_lines-clause-ends : goal.returns-in-Err-write_with_lines-clause-ends
+returns-in-Err-write_with_lines-clause-ends g c = λ all rest before h.
     let f = g.W.Stage.spellings in
     let here = g.W.Stage.stands c.args.world.now in
     let there = g.W.Stage.stands c.step.new.self in
     let written = g.K.Sink.written c.args.sink.now in
     let after = g.K.Sink.written c.write_with_lines.new.sink in
-    let begun = c.args.out.now.items in
+    let begun = c.args.room.now.text.items in
     step-stopped f all c.args.number rest before written after here there c.args.step
-    c.in-Ok.lines.items c.in-Err-write_with_lines.stop h c.in-Ok.ensures.ok
+    c.step.new.lines.items c.in-Err-write_with_lines.stop h c.in-Ok.ensures.ok
     (λ e. c.in-Err-write_with_lines.ensures.own (ap Err e))
     (subst (GrewByPart written after)
-    (ap (λ ls. begun ++ trace_text ls)
-    (c.behind_first.ensures ∙ ap (drop 1) c.as_slice.ensures.value)
-    ∙ step-told f here there c.args.step c.in-Ok.lines.items begun all _ before written h
-    c.in-Ok.ensures.ok c.requires.begun)
+    (ap (λ ls. begun ++ trace_text ls) c.as_slice.ensures.value
+    ∙ step-told c.args.step c.step.new.lines.items begun c.requires.begun)
     c.in-Err-write_with_lines.ensures.part)
 
 pub returns-in-Some-clause-ends : goal.returns-in-Some-clause-ends
@@ -60,7 +56,7 @@ returns-in-Some-clause-ends g c = λ all rest before h.
     c.in-Err.ensures.err is))
     c.refuse.ensures.refused c.refuse.ensures.wrote c.refuse.ensures.part c.refuse.ensures.own
 
-pub returns-clause-ends : goal.returns-clause-ends
-returns-clause-ends g c = λ all rest before h.
+pub returns-in-None-clause-ends : goal.returns-in-None-clause-ends
+returns-in-None-clause-ends g c = λ all rest before h.
     grew-now g.W.Stage.spellings all _ before (g.K.Sink.written c.args.sink.now)
     (g.W.Stage.stands c.args.world.now) h

@@ -7,7 +7,7 @@ pub returns-in_ok-count_all-in-Ok-clause-counts : goal.returns-in_ok-count_all-i
 returns-in_ok-count_all-in-Ok-clause-counts g c = λ all number rest h.
     step-counted g.W.Stage.spellings all number rest c.args.tally.now c.count_all.new.self
     (g.W.Stage.stands c.args.world.now) (g.W.Stage.stands c.step.new.self) c.args.step
-    c.in-Ok.lines.items c.requires.elementary h c.in-Ok.ensures.ok
+    c.step.new.lines.items c.requires.elementary h c.in-Ok.ensures.ok
     (λ trace t. subst (λ ls. IsTallyOf (trace ++ ls) c.count_all.new.self) c.as_slice.ensures.value
     (c.in_ok-count_all-in-Ok.ensures trace t))
 

@@ -5,7 +5,7 @@ use Rattle.group_world.proofs.Quiet.{advance_taken}
 use Rattle.group_world.proofs.world.World.advance.Goals as goal
 
 pub returns-clause-taken : goal.returns-clause-taken
-returns-clause-taken c = advance_taken c.args.self.now _ c.args.millis c.in_ok-lines.lines.items
-    c.in_ok-lines.ensures (ap (λ (x : WorldValue). record x {
+returns-clause-taken c = advance_taken c.args.self.now _ c.args.millis
+    (ap (λ (x : WorldValue). record x {
       clocks = later x.clocks c.args.millis;
     }) c.self.view_is)

@@ -1,5 +1,5 @@
-use Rattle.std.proofs.Common.{Some, ap, refl}
-use Rattle.group_rules.specs.Step.{Ask, Does}
+use Rattle.std.proofs.Common.{refl}
+use Rattle.group_rules.specs.Step.{Ask}
 use Rattle.node.specs.declared.input.Input.TheVariants as input
 use Rattle.trace_types.specs.declared.step.Step.TheVariants as step
 use Rattle.group_world.specs.declared.asking.TheConstants.{CLIENT}
@@ -10,8 +10,7 @@ pub returns-clause-taken : goal.returns-clause-taken
 returns-clause-taken c =
     let a = c.args in
     deed_taken (step.Ask a.server a.client a.number a.cred a.call) a.server
-    (input.Ask CLIENT a.client a.number a.cred c.in_ok-copy.field-0)
-    (Ask a.client a.number a.cred a.call) a.self.now c.run.new.self c.in_ok-lines.lines.items
-    c.run.new.lines.items c.in_ok-run.field-0 c.in_ok-lines.ensures c.in_ok-run.ensures.turns
-    (ap (λ call. Some (Does (Ask a.client a.number a.cred call))) c.in_ok-copy.ensures) tt
-    (λ w. refl) (λ w. refl) (λ w. refl)
+    (input.Ask CLIENT a.client a.number a.cred a.call)
+    (Ask a.client a.number a.cred a.call) a.self.now c.run.new.self c.args.lines.now.items
+    c.run.new.lines.items c.in_ok-run.field-0 c.requires.none c.in_ok-run.ensures.turns
+    refl tt (λ w. refl) (λ w. refl) (λ w. refl)

@@ -13,8 +13,8 @@ returns-clause-taken c =
     let is = c.spend_stop.ensures.world in
     let has = c.in_ok-boot_host.ensures.world in
     boot_taken the_laws old new a.server (value_of new.hosts a.server)
-    c.state_line-before.result c.state_line.result c.in_ok-lines.lines.items
-    c.show_state.new.lines.items c.in_ok-lines.ensures c.state_line-before.ensures
+    c.state_line-before.result c.state_line-after.result c.args.lines.now.items
+    c.show_state.new.lines.items c.requires.none c.state_line-before.ensures
     (me_then old spent new a.server is has)
     (boots_then old spent new a.server is c.in_ok-boot_host.ensures.boots)
-    (host_then old spent new a.server is has) c.state_line.ensures c.in_ok-show_state.ensures
+    (host_then old spent new a.server is has) c.state_line-after.ensures c.in_ok-show_state.ensures

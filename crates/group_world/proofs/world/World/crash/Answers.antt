@@ -14,10 +14,10 @@ returns-clause-taken c =
     let is = c.spend_stop.ensures.world in
     let has = c.crash_host.ensures.world in
     let kept = c.in_ok-kept.kept in
-    crash_taken the_laws old new a.server a.pick (value_of new.hosts a.server)
-    c.state_line-before.result c.state_line.result c.in_ok-lines.lines.items
-    c.show_state.new.lines.items kept c.in_ok-lines.ensures c.state_line-before.ensures
+    crash_taken the_laws old new a.server a.pick.now (value_of new.hosts a.server)
+    c.state_line-before.result c.state_line-after.result c.args.lines.now.items
+    c.show_state.new.lines.items kept c.requires c.state_line-before.ensures
     (me_then old spent new a.server is has)
     (falls_then old spent new a.server is kept c.crash_host.ensures.falls)
-    (sym c.in_ok-kept.ensures) (host_then old spent new a.server is has) c.state_line.ensures
+    (sym c.in_ok-kept.ensures) (host_then old spent new a.server is has) c.state_line-after.ensures
     c.in_ok-show_state.ensures

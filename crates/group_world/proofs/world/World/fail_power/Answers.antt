@@ -13,7 +13,7 @@ returns-clause-fails c =
     let is = c.spend_stop.ensures.world in
     let has = c.in_ok-fail_host.ensures.world in
     failure_leaves the_laws old new a.server a.stop (value_of new.hosts a.server)
-    c.state_line-before.result c.state_line.result a.lines.now.items c.show_state.new.lines.items
+    c.state_line-before.result c.state_line-after.result a.lines.now.items c.show_state.new.lines.items
     c.state_line-before.ensures (me_then old spent new a.server is has)
     (fails_then old spent new a.server is a.stop c.in_ok-fail_host.ensures.fails)
-    (host_then old spent new a.server is has) c.state_line.ensures c.in_ok-show_state.ensures
+    (host_then old spent new a.server is has) c.state_line-after.ensures c.in_ok-show_state.ensures

@@ -3,6 +3,6 @@ use Rattle.group_world.proofs.world.World.list.Goals as goal
 
 pub returns-clause-taken : goal.returns-clause-taken
 returns-clause-taken c = list_taken c.args.server c.args.self.now c.run.new.self
-    c.in_ok-lines.lines.items c.run.new.lines.items c.show_listing.new.lines.items
-    c.in_ok-listing.listing c.in_ok-lines.ensures c.in_ok-listing.ensures.turns
+    c.args.lines.now.items c.run.new.lines.items c.show_listing.new.lines.items
+    c.in_ok-listing.listing c.requires.none c.in_ok-listing.ensures.turns
     c.in_ok-show_listing.ensures

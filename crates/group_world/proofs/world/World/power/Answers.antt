@@ -6,6 +6,6 @@ use Rattle.group_world.proofs.world.World.power.Goals as goal
 
 pub returns-clause-taken : goal.returns-clause-taken
 returns-clause-taken c = power_taken (step.Power c.args.server) c.args.server None pick.None None
-    c.args.self.now c.fail_power.new.self c.in_ok-lines.lines.items c.fail_power.new.lines.items
-    c.in_ok-lines.ensures c.in_ok-fail_power.ensures.fails refl (λ w. refl) (λ w. refl)
+    c.args.self.now c.fail_power.new.self c.args.lines.now.items c.fail_power.new.lines.items
+    c.requires c.in_ok-fail_power.ensures.fails refl (λ w. refl) (λ w. refl)
     (λ w. refl)

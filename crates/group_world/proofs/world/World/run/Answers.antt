@@ -17,7 +17,7 @@ returns-clause-turns c =
     let has = c.in_ok-outs.ensures.world in
     let outs = c.in_ok-outs.outs in
     turn_leaves the_laws old c.give.new.self a.server a.input (value_of stepped.hosts a.server) outs
-    c.state_line-before.result c.state_line.result a.lines.now.items c.give.new.lines.items
+    c.state_line-before.result c.state_line-after.result a.lines.now.items c.give.new.lines.items
     c.show_state.new.lines.items c.in_ok-listing.listing c.state_line-before.ensures
     (me_then old spent stepped a.server is has)
     (takes_then old spent stepped a.server is a.input c.spend_stop-stop.result outs
@@ -25,4 +25,4 @@ returns-clause-turns c =
     (subst (λ (x : WorldValue). Gives x c.give.new.self a.server outs a.lines.now.items
     c.give.new.lines.items c.in_ok-listing.listing)
     (host_then old spent stepped a.server is has) c.in_ok-listing.ensures)
-    c.state_line.ensures c.in_ok-show_state.ensures
+    c.state_line-after.ensures c.in_ok-show_state.ensures

@@ -7,6 +7,6 @@ use Rattle.group_world.proofs.world.World.set_clock.Goals as goal
 pub returns-clause-taken : goal.returns-clause-taken
 returns-clause-taken c =
     let a = c.args in
-    clock_taken a.self.now _ a.server a.reading c.in_ok-lines.lines.items c.in_ok-lines.ensures
+    clock_taken a.self.now _ a.server a.reading
     (ap (λ (x : WorldValue). record x { clocks = with_value x.clocks a.server a.reading })
     c.self.view_is)

@@ -9,7 +9,7 @@ pub returns-clause-taken : goal.returns-clause-taken
 returns-clause-taken c =
     let a = c.args in
     let inside : WorldValue = the_view c.self.inside in
-    delta_taken a.self.now _ a.millis c.in_ok-lines.lines.items c.in_ok-lines.ensures
+    delta_taken a.self.now _ a.millis
     (ap (λ (d : ℕ). record inside { delta = d }) c.delta_after-self-inside.ensures
     ∙ ap (λ (x : WorldValue). record x { delta = delta_after a.self.now.delta a.millis })
     c.self.view_is)

@@ -7,5 +7,5 @@ use Rattle.group_world.proofs.world.World.tick.Goals as goal
 
 pub returns-clause-taken : goal.returns-clause-taken
 returns-clause-taken c = deed_taken (step.Tick c.args.server) c.args.server (input.Tick) (Tick) c.args.self.now c.run.new.self
-    c.in_ok-lines.lines.items c.run.new.lines.items c.in_ok-run.field-0 c.in_ok-lines.ensures
+    c.args.lines.now.items c.run.new.lines.items c.in_ok-run.field-0 c.requires.none
     c.in_ok-run.ensures.turns refl tt (λ w. refl) (λ w. refl) (λ w. refl)
