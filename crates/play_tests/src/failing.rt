@@ -23,8 +23,8 @@ const ROWS: [Row; 3] = [
         words: &["play"],
         text: &[
             (b"suspect 0\npump\nadvance 2050\ntick 0\npump\n", 1),
-            (b"#########", 600),
-            (b"\nask 0 7 1 mkdir 1 61 755\npump\n", 1),
+            (b"#########\n", 7000),
+            (b"ask 0 7 1 mkdir 1 61 755\npump\n", 1),
         ],
         output: TRACE,
         source: [(1, 3, 0), (2, 3, 29), (3, 3, 39), (4, 0, 40), (5, 0, 40)],
@@ -33,7 +33,7 @@ const ROWS: [Row; 3] = [
     // The trace is read in seven calls, and the verdict is written in one.
     Row {
         words: &["check"],
-        text: &[(b"> clock 0 50\n> clock 1 50\n", 900), (b"end 0\n", 1)],
+        text: &[(b"> clock 0 50\n> clock 1 50\n", 15_000), (b"end 0\n", 1)],
         output: b"yes\n",
         source: [(1, 3, 0), (2, 3, 0), (3, 3, 0), (4, 3, 0), (5, 3, 0)],
         sink: [(1, 4, 0), (2, 0, 1), (3, 0, 1), (4, 0, 1), (5, 0, 1)],
