@@ -8,6 +8,7 @@ ghost use Rattle.harp_cells.specs.declared.change.Change.TheVariants as change;
 ghost use Rattle.cell_cache.specs.Entries.{AreOf, AreUpTo, IsUpTo, IsUsed, has_entry, left_by, newest_of};
 
 use harp_cells::{Cell, Change, Value};
+use harp_store::SharedValue;
 use lru::LruCache;
 use std::alloc::{AllocError, Global};
 use std::marker::Model;
@@ -17,7 +18,7 @@ use std::num::NonZeroUsize;
 /// least recently used one goes where no place is left.
 #[derive(Drop)]
 pub struct CellCache {
-    entries: LruCache<Cell, Option<Value>>,
+    entries: LruCache<Cell, Option<SharedValue>>,
     // No entry is of a block with a greater number.
     last_block: u32,
 }
@@ -58,7 +59,11 @@ impl CellCache {
     }
 
     // The cell has no entry: it gets this one, as the first.
-    pub(crate) fn insert(&mut self, cell: Cell, value: Option<Value>) -> Result<(), AllocError>
+    pub(crate) fn insert(
+        &mut self,
+        cell: Cell,
+        value: Option<SharedValue>,
+    ) -> Result<(), AllocError>
         requires { has_entry cell self.old.entries ≡ false }
         ensures found { OnOk result (newest_of self.new.entries ≡ value) }
         ensures used { OnOk result (IsUsed cell self.old self.new) }
@@ -76,7 +81,10 @@ impl CellCache {
         ensures { option_copied result ≡ newest_of self.now.entries }
     {
         let (_, value) = self.entries.peek_mru()?;
-        value.as_ref()
+        match value {
+            Some(value) => Some(value.get()),
+            None => None,
+        }
     }
 
     // Whether the cell has an entry.

@@ -8,6 +8,7 @@ mod mark;
 mod mem_store;
 mod memory;
 mod pick;
+mod shared;
 mod store;
 mod table;
 
@@ -17,4 +18,5 @@ pub use layers::Unsynced;
 pub use mark::{LONGEST_PROMISE, Mark, OLD_RING, RING, SHORTEST_PROMISE, Saved};
 pub use mem_store::MemStore;
 pub use pick::{Bits, Pick};
+pub use shared::SharedValue;
 pub use store::{Store, StoreFault};

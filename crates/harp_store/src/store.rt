@@ -7,6 +7,7 @@ ghost use Rattle.harp_cells.specs.declared.change.Change.TheVariants.{EraseFrom}
 ghost use Rattle.harp_store.specs.Disk.{Disk, Moments, with_value, without_from, synced_whole, with_mark, after_step, MayHaveMade, cells_told, ReadsMark};
 
 use crate::mark::Mark;
+use crate::shared::SharedValue;
 use harp_cells::{Cell, Value};
 use std::alloc::{AllocError, Global};
 
@@ -43,7 +44,7 @@ pub trait Store {
         ensures count { faults self.old ≤ faults self.new };
 
     /// What a cell holds, None where it is absent.
-    fn read(&mut self, alloc: Global, cell: Cell) -> Result<Option<Value>, StoreFault>
+    fn read(&mut self, alloc: Global, cell: Cell) -> Result<Option<SharedValue>, StoreFault>
         ensures value { IfOk result (λ value. Reads (cells_told (told self.old)) cell value) }
         ensures kept { told self.new ≡ told self.old }
         ensures rose { (result ≡ Err StoreFault.Failed) → Rose (faults self.old) (faults self.new) }

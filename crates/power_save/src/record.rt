@@ -11,6 +11,7 @@ use event_record::fields::{USUAL_RECORD, put_item};
 use event_record::{Record, read_item, read_old_item};
 use harp_base::FieldFault;
 use harp_cells::{NonEmpty, Value};
+use harp_store::SharedValue;
 use std::alloc::{AllocError, Global};
 
 /// The value that is written for a record: its bytes.
@@ -94,7 +95,7 @@ fn seen_record(
 /// before.
 fn record_in(
     alloc: Global,
-    value: &Option<Value>,
+    value: &Option<SharedValue>,
     index: u64,
     seen: &mut SeenRecords,
 ) -> Result<Option<Record>, AllocError>
@@ -105,7 +106,7 @@ fn record_in(
     let Some(value) = value else {
         return Ok(None);
     };
-    match value {
+    match value.get() {
         Value::SavedCred { bytes } => seen_record(alloc, bytes.as_slice(), index, seen),
         Value::Saved { bytes } => whole_old_record(alloc, bytes.as_slice()),
         Value::Meta { .. }
@@ -120,7 +121,7 @@ fn record_in(
 /// The record of an index that a cell has, None where it hasn't one of this index.
 pub(crate) fn record_of(
     alloc: Global,
-    value: &Option<Value>,
+    value: &Option<SharedValue>,
     index: u64,
     seen: &mut SeenRecords,
 ) -> Result<Option<Record>, AllocError>

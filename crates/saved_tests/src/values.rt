@@ -212,13 +212,21 @@ fn has_the_numbers_of_a_log(rt: HostRuntime) -> Result<(), Fail> {
     Ok(())
 }
 
+// The bytes of a record that was saved.
+fn saved_bytes(alloc: Global, value: &Value) -> Result<Option<Vec<u8>>, Fail> {
+    match value {
+        Value::SavedCred { bytes } => Ok(Some(Vec::from_slice(alloc, bytes.as_slice())?)),
+        _ => Ok(None),
+    }
+}
+
 // The bytes that a save puts into a cell.
 fn put_by_a_save(alloc: Global, place: u32) -> Result<Option<Vec<u8>>, Fail> {
     let (mut store, _, _) = saved(alloc, 6)?;
     store.crash(&Pick::None);
     match store.read(alloc, Cell::Saved { place }) {
-        Ok(Some(Value::SavedCred { bytes })) => Ok(Some(bytes.into_vec())),
-        Ok(_) => Ok(None),
+        Ok(Some(value)) => saved_bytes(alloc, value.get()),
+        Ok(None) => Ok(None),
         Err(_) => Err(Fail::from("a read failed")),
     }
 }

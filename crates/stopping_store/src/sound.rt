@@ -7,7 +7,7 @@ ghost use Rattle.stopping_store.specs.Values.{stands, stored};
 
 use crate::stores::{SoundStore, StoppingStore};
 use harp_cells::{Cell, Value};
-use harp_store::{Mark, MemStore, Pick, Store, StoreFault};
+use harp_store::{Mark, MemStore, Pick, SharedValue, Store, StoreFault};
 use std::alloc::Global;
 
 impl SoundStore {
@@ -71,7 +71,7 @@ impl Store for SoundStore {
         self.store.attach(alloc, path)
     }
 
-    fn read(&mut self, alloc: Global, cell: Cell) -> Result<Option<Value>, StoreFault> {
+    fn read(&mut self, alloc: Global, cell: Cell) -> Result<Option<SharedValue>, StoreFault> {
         self.store.read(alloc, cell)
     }
 

@@ -10,7 +10,7 @@ ghost use Rattle.stopping_store.specs.Values.{stands, stored, told};
 use crate::attempt::Attempt;
 use crate::stores::{SoundStore, StoppingStore};
 use harp_cells::{Cell, Value};
-use harp_store::{Mark, Pick, Store, StoreFault};
+use harp_store::{Mark, Pick, SharedValue, Store, StoreFault};
 use std::alloc::Global;
 
 impl StoppingStore {
@@ -84,7 +84,7 @@ impl Store for StoppingStore {
         self.store.attach(alloc, path)
     }
 
-    fn read(&mut self, alloc: Global, cell: Cell) -> Result<Option<Value>, StoreFault> {
+    fn read(&mut self, alloc: Global, cell: Cell) -> Result<Option<SharedValue>, StoreFault> {
         if self.stopped.is_some() {
             return Err(self.fail());
         }

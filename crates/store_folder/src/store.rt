@@ -12,8 +12,8 @@ use crate::files::SystemFiles;
 use crate::folder;
 use crate::unsynced::Unsynced;
 use harp_cells::{Cell, Value};
-use harp_store::{Mark, Store, StoreFault};
-use std::alloc::Global;
+use harp_store::{Mark, SharedValue, Store, StoreFault};
+use std::alloc::{AllocError, Global};
 
 /// A store over a folder of files, which `attach` names and makes.
 ///
@@ -85,6 +85,16 @@ impl<F> FolderStore<F> {
     }
 }
 
+// What was read, where copies share it.
+fn shared(alloc: Global, value: Option<Value>) -> Result<Option<SharedValue>, AllocError>
+    ensures { IfOk result (λ shared. shared ≡ value) }
+{
+    match value {
+        Some(value) => Ok(Some(SharedValue::new(alloc, value)?)),
+        None => Ok(None),
+    }
+}
+
 impl<F: DiskFiles + Drop> FolderStore<F> {
     fn try_attach(&mut self, alloc: Global, path: &str) -> Result<(), StoreFault>
         ensures unsynced { unsynced_of self.new
@@ -103,7 +113,7 @@ impl<F: DiskFiles + Drop> FolderStore<F> {
         Ok(())
     }
 
-    fn try_read(&mut self, alloc: Global, cell: Cell) -> Result<Option<Value>, StoreFault>
+    fn try_read(&mut self, alloc: Global, cell: Cell) -> Result<Option<SharedValue>, StoreFault>
         ensures made { IfOk result (λ v. ReadsMade (made_of (unsynced_of self.old) cell) v) }
         ensures alike { IsAlike (unsynced_of self.old) (unsynced_of self.new) }
         ensures blocks { (unsynced_of self.new).blocks ≡ (unsynced_of self.old).blocks }
@@ -111,10 +121,11 @@ impl<F: DiskFiles + Drop> FolderStore<F> {
         ensures folder { folder_of self.new ≡ folder_of self.old }
         ensures faults { store_faults self.new ≡ store_faults self.old }
     {
-        match self.unsynced.find(alloc, cell)? {
-            Some(value) => Ok(value),
-            None => folder::read_cell(&self.files, alloc, self.folder()?, cell.key()),
-        }
+        let value = match self.unsynced.find(alloc, cell)? {
+            Some(value) => value,
+            None => folder::read_cell(&self.files, alloc, self.folder()?, cell.key())?,
+        };
+        Ok(shared(alloc, value)?)
     }
 
     fn try_sync(&mut self, alloc: Global) -> Result<(), StoreFault>
@@ -173,7 +184,7 @@ impl<F: DiskFiles + Drop> Store for FolderStore<F> {
         self.counted(done)
     }
 
-    fn read(&mut self, alloc: Global, cell: Cell) -> Result<Option<Value>, StoreFault>
+    fn read(&mut self, alloc: Global, cell: Cell) -> Result<Option<SharedValue>, StoreFault>
         // What was put or erased and isn't synced yet is read.
         ensures made { IfOk result (λ v. ReadsMade (made_of (unsynced_of self.old) cell) v) }
         ensures alike { IsAlike (unsynced_of self.old) (unsynced_of self.new) }

@@ -32,11 +32,19 @@ fn sync<D: Store>(store: &mut D, alloc: Global) -> Result<(), Fail> {
     }
 }
 
+// The first byte of a block.
+fn first_byte(value: &Value) -> Option<u8> {
+    match value {
+        Value::Block { bytes } => bytes.as_slice().first().copied(),
+        _ => None,
+    }
+}
+
 // The first byte of the block that a cell holds.
 fn held<D: Store>(store: &mut D, alloc: Global, cell: Cell) -> Result<Option<u8>, StoreFault> {
     match store.read(alloc, cell)? {
-        Some(Value::Block { bytes }) => Ok(bytes.as_slice().first().copied()),
-        _ => Ok(None),
+        Some(value) => Ok(first_byte(value.get())),
+        None => Ok(None),
     }
 }
 

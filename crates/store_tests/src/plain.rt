@@ -52,9 +52,9 @@ pub fn value(next: u32) -> Value {
     }
 }
 
-fn number(value: Option<Value>) -> Option<u32> {
+fn number(value: &Value) -> Option<u32> {
     match value {
-        Some(Value::Meta { next, .. }) => Some(next),
+        Value::Meta { next, .. } => Some(*next),
         _ => None,
     }
 }
@@ -177,7 +177,8 @@ pub fn take(alloc: Global, store: &mut MemStore, step: Step) -> Result<(), Fail>
 /// The number that a store holds in a place.
 pub fn read(alloc: Global, store: &mut MemStore, place: u32) -> Result<Option<u32>, Fail> {
     match store.read(alloc, cell(place)) {
-        Ok(value) => Ok(number(value)),
+        Ok(Some(value)) => Ok(number(value.get())),
+        Ok(None) => Ok(None),
         Err(_) => Err(Fail::from("a read failed")),
     }
 }
