@@ -3,7 +3,7 @@ use Rattle.std.proofs.Common.{◌≡◌, ℕ, ◌<◌, ◌≤◌, Bool, true, fa
 use Rattle.std.specs.Prelude.{IfSome, OnErr, OnOk, Result, Ok, Err, not}
 use Rattle.std.specs.Cmp.{ranks, unsigned_tied}
 use Rattle.std.specs.Map.{lookup}
-use Rattle.std.specs.Ordering.{MatchOrdering, nat_cmp, is_eq, is_gt, is_lt}
+use Rattle.std.specs.Ordering.{MatchOrdering, nat_cmp, is_gt, is_lt}
 use Rattle.std.specs.declared.cmp.Ordering.{Ordering}
 use Rattle.std.specs.declared.cmp.Ordering.TheVariants.{Less, Equal, Greater}
 use Rattle.std.specs.declared.ops.Bound.TheVariants.{Included, Unbounded}
@@ -13,23 +13,15 @@ use Rattle.std.specs.List.{list_any}
 use Rattle.std.proofs.lemmas.List.{nil_from_length}
 use Rattle.harp_cells.specs.Effect.{is_key}
 use Rattle.harp_cells.proofs.CellLemmas.{same_key}
-use Rattle.harp_cells.proofs.KeyOrder.{key_cmp, tied}
 use Rattle.overlay.specs.Index.{AreInUse, Entries, IsLast, Place, has, is_entry, names}
 
-lookup_same : (p q : Place → Bool) → ((k : Place) → p k ≡ q k) → (entries : Entries) → lookup p entries ≡ lookup q entries
-lookup_same p q h [] = refl
-lookup_same p q h (e ∷ entries) =
-    ap (λ (b : Bool). cond b (Some e.1) (lookup p entries)) (h e.0)
-    ∙ ap (λ (o : Option (BTreeSet ℕ)). cond (q e.0) (Some e.1) o) (lookup_same p q h entries)
-
--- what a map has at a place, by its order
+-- what a map has at a place
 abbrev pub found : Entries → Place → Option (BTreeSet ℕ)
-found entries p = lookup (λ k. is_eq (key_cmp p k)) entries
+found entries p = lookup (is_key p) entries
 
 pub has_found : (entries : Entries) (p : Place) (i : ℕ) → names entries p i ≡ has (found entries p) i
 unfolding names
-has_found entries p i = ap (λ (o : Option (BTreeSet ℕ)). has o i)
-    (sym (lookup_same (λ k. is_eq (key_cmp p k)) (is_key p) (tied p) entries))
+has_found entries p i = refl
 
 -- ---- the last index of a place
 
@@ -87,7 +79,7 @@ last_upto entries p u s r t i there upto is =
 
 -- the map has these indices at a place, and at the others what it had
 abbrev pub HasAt : Place → Option (BTreeSet ℕ) → Entries → Entries → Type 0
-HasAt place here old new = (p : Place) → found new p ≡ cond (is_eq (key_cmp place p)) here (found old p)
+HasAt place here old new = (p : Place) → found new p ≡ cond (is_key place p) here (found old p)
 
 changed_by : (f : ℕ → Bool → Bool) (here before : Option (BTreeSet ℕ)) (i : ℕ) → has here i ≡ f i (has before i)
     → (tie : Bool) (at : Option (BTreeSet ℕ)) → (tie ≡ true → at ≡ before)
@@ -101,7 +93,6 @@ named_after : (f : ℕ → Bool → Bool) (old new : Entries) (place : Place) (h
     → (p : Place) (i : ℕ) → names new p i ≡ cond (is_key place p) (f i (names old p i)) (names old p i)
 named_after f old new place here before was h with p i =
     has_found new p i ∙ ap (λ (o : Option (BTreeSet ℕ)). has o i) (with p)
-    ∙ ap (λ (b : Bool). has (cond b here (found old p)) i) (tied place p)
     ∙ changed_by f here before i (h i) (is_key place p) (found old p)
     (λ e. ap (found old) (sym (same_key place p e)) ∙ sym was)
     ∙ ap (λ (b : Bool). cond (is_key place p) (f i b) b) (sym (has_found old p i))
@@ -187,8 +178,8 @@ twice false here more at = refl
 pub gone_after : (place : Place) (here more : Option (BTreeSet ℕ)) (old mid new : Entries) → HasAt place more old mid
     → HasAt place here mid new → HasAt place here old new
 gone_after place here more old mid new first second p =
-    second p ∙ ap (λ (o : Option (BTreeSet ℕ)). cond (is_eq (key_cmp place p)) here o) (first p)
-    ∙ twice (is_eq (key_cmp place p)) here more (found old p)
+    second p ∙ ap (λ (o : Option (BTreeSet ℕ)). cond (is_key place p) here o) (first p)
+    ∙ twice (is_key place p) here more (found old p)
 
 pub last_index : (old new : BTreeSet ℕ) (index : ℕ) → length new.keys ≡ 0
     → ((i : ℕ) → contains nat_cmp new i ≡ cond (is_at (nat_cmp index) i) false (contains nat_cmp old i))
@@ -211,16 +202,12 @@ pub none_gone : (old new entries : Entries) (place : Place) (index : ℕ) → ne
 none_gone old new entries place index same is none p i =
     ap (λ (es : Entries). names es p i) same
     ∙ one_gone old old entries place index None None is none (λ j. no_index (index == j))
-    (λ q. stays_none (is_eq (key_cmp place q)) (found old q)
-    (λ e. ap (found old) (sym (same_key place q (sym (tied place q) ∙ e))) ∙ sym none)) p i
+    (λ q. stays_none (is_key place q) (found old q) (λ e. ap (found old) (sym (same_key place q e)) ∙ sym none)) p i
 
 -- ---- no place is without an index
 
 abbrev HasAny : Option (BTreeSet ℕ) → Type 0
 HasAny o = IfSome o (λ indices. 0 < length indices.keys)
-
-by_order : (entries : Entries) (p : Place) → found entries p ≡ lookup (is_key p) entries
-by_order entries p = lookup_same (λ k. is_eq (key_cmp p k)) (is_key p) (tied p) entries
 
 in_use : (tie : Bool) (here at : Option (BTreeSet ℕ)) → HasAny here → HasAny at → HasAny (cond tie here at)
 in_use true here at some before = some
@@ -229,14 +216,12 @@ in_use false here at some before = before
 pub still_in_use : (place : Place) (here : Option (BTreeSet ℕ)) (old new : Entries) → AreInUse old → HasAny here
     → HasAt place here old new → AreInUse new
 still_in_use place here old new before some with p =
-    subst (λ (o : Option (BTreeSet ℕ)). HasAny o) (sym (with p) ∙ by_order new p)
-    (in_use (is_eq (key_cmp place p)) here (found old p) some
-    (subst (λ (o : Option (BTreeSet ℕ)). HasAny o) (sym (by_order old p)) (before p)))
+    subst (λ (o : Option (BTreeSet ℕ)). HasAny o) (sym (with p)) (in_use (is_key place p) here (found old p) some (before p))
 
 pub used_at : (entries : Entries) (place : Place) (s : BTreeSet ℕ) → AreInUse entries → Some s ≡ found entries place
     → 0 < length s.keys
 used_at entries place s are there =
-    subst (λ (o : Option (BTreeSet ℕ)). HasAny o) (sym (there ∙ by_order entries place)) (are place)
+    subst (λ (o : Option (BTreeSet ℕ)). HasAny o) (sym there) (are place)
 
 -- a set that has an index isn't empty
 pub has_some : (keys : List ℕ) (test : ℕ → Bool) → list_any test keys ≡ true → 0 < length keys

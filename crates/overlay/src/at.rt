@@ -12,7 +12,8 @@ use crate::set::last_set;
 use harp_cells::{Cell, CellFault, CellRead, Change, ChangeLog, Value};
 
 /// The cells after the records of a log up to an index: what the last record that sets a cell makes
-/// of it, and else what lies under. A read costs a logarithm, and copies no value.
+/// of it, and else what lies under. A read costs a look-up in the index and a pass over the changes
+/// for each record that it looks at, and copies no value.
 #[derive(Drop)]
 pub struct At<'a, U, L: ChangeLog> {
     under: &'a mut U,

@@ -6,16 +6,16 @@ ghost use Rattle.overlay.specs.Index.{Place, blocks_of, place_of, names, is_entr
 
 use harp_cells::{Cell, Change, ChangeLog, Key};
 use std::alloc::{AllocError, Global};
-use std::collections::{BTreeMap, BTreeSet};
+use std::collections::{BTreeSet, HashMap};
 use std::marker::Model;
 
 /// Which records of a log change what: per cell the ascending indices of those that put or erase
 /// it, and per object the indices of those that erase its blocks from some one on. A look-up costs
-/// a logarithm.
+/// a hash, and a logarithm of how many indices are kept there.
 #[derive(Drop)]
 pub struct CellIndex {
     alloc: Global,
-    places: BTreeMap<Key, BTreeSet<u64>>,
+    places: HashMap<Key, BTreeSet<u64>>,
 }
 
 impl Model for CellIndex {
@@ -58,7 +58,7 @@ fn later(one: Option<u64>, other: Option<u64>) -> Option<u64>
 }
 
 // The last entry of a place up to an index.
-fn last_at(places: &BTreeMap<Key, BTreeSet<u64>>, place: Key, upto: u64) -> Option<u64>
+fn last_at(places: &HashMap<Key, BTreeSet<u64>>, place: Key, upto: u64) -> Option<u64>
     ensures { IsLast (names places.now.entries place) upto result }
 {
     let indices = places.get(&place)?;
@@ -75,7 +75,7 @@ impl CellIndex {
     {
         CellIndex {
             alloc,
-            places: BTreeMap::new(alloc),
+            places: HashMap::new(alloc),
         }
     }
 
