@@ -1,15 +1,14 @@
 -- Which records change what.
 use Rattle.std.specs.Prelude.{◌≡◌, ℕ, ◌+◌, ◌-◌, ◌<◌, ◌≤◌, Bool, true, false, ◌&&◌, ◌||◌, ◌==◌, nat_lt, List, [], take, slice_index_or, length, IfSome, Option, Some, None, if◌then◌else◌}
-use Rattle.std.specs.BTreeSet.{BTreeSet, contains}
 use Rattle.std.specs.List.{list_any}
 use Rattle.std.specs.Map.{lookup}
-use Rattle.std.specs.Ordering.{nat_cmp}
 use Rattle.harp_cells.specs.declared.cell.Cell.{Cell}
 use Rattle.harp_cells.specs.declared.cell.Cell.TheVariants as cell
 use Rattle.harp_cells.specs.declared.change.Change.{Change}
 use Rattle.harp_cells.specs.declared.change.Change.TheVariants as change
 use Rattle.harp_cells.specs.Effect.{key, is_key}
 use Rattle.fuzzy_cells.specs.History.{History}
+use Rattle.overlay.specs.Indices.{is_among}
 
 -- what a change is of: a cell, by its key, or the blocks of an object from some one on
 abbrev pub Place : Type 0
@@ -25,16 +24,16 @@ place_of (change.EraseFrom object first) = blocks_of object
 
 -- places, each with the indices of records that have a change of it
 abbrev pub Entries : Type 0
-Entries = List (Place × BTreeSet ℕ)
+Entries = List (Place × List ℕ)
 
 -- each place has one
 abbrev pub AreInUse : Entries → Type 0
-AreInUse entries = (p : Place) → IfSome (lookup (is_key p) entries) (λ indices. 0 < length indices.keys)
+AreInUse entries = (p : Place) → IfSome (lookup (is_key p) entries) (λ indices. 0 < length indices)
 
 -- one of a place's indices, where it has some
-abbrev pub has : Option (BTreeSet ℕ) → ℕ → Bool
+abbrev pub has : Option (List ℕ) → ℕ → Bool
 has None i = false
-has (Some indices) i = contains nat_cmp indices i
+has (Some indices) i = is_among indices i
 
 -- the index names a record for a place
 unfoldable pub names : Entries → Place → ℕ → Bool

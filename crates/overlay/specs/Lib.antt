@@ -1,3 +1,4 @@
 pub mod Overlay
+pub mod Indices
 pub mod Index
 pub mod Laws

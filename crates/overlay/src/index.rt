@@ -4,9 +4,10 @@ ghost use Rattle.std.specs.Prelude.{◌≡◌, ℕ, Bool, not, ◌+◌, ◌-◌,
 ghost use Rattle.fuzzy_cells.specs.History.{History};
 ghost use Rattle.overlay.specs.Index.{Place, blocks_of, place_of, names, is_entry, changes_at, IsAddedTo, IsIndexOf, IsLast, IsPartAddedTo, may_set};
 
+use crate::indices::Indices;
 use harp_cells::{Cell, Change, ChangeLog, Key};
 use std::alloc::{AllocError, Global};
-use std::collections::{BTreeSet, HashMap};
+use std::collections::HashMap;
 use std::marker::Model;
 
 /// Which records of a log change what: per cell the ascending indices of those that put or erase
@@ -15,7 +16,7 @@ use std::marker::Model;
 #[derive(Drop)]
 pub struct CellIndex {
     alloc: Global,
-    places: HashMap<Key, BTreeSet<u64>>,
+    places: HashMap<Key, Indices>,
 }
 
 impl Model for CellIndex {
@@ -58,15 +59,13 @@ fn later(one: Option<u64>, other: Option<u64>) -> Option<u64>
 }
 
 // The last entry of a place up to an index.
-fn last_at(places: &HashMap<Key, BTreeSet<u64>>, place: Key, upto: u64) -> Option<u64>
+fn last_at(places: &HashMap<Key, Indices>, place: Key, upto: u64) -> Option<u64>
     ensures { IsLast (names places.now.entries place) upto result }
 {
-    let indices = places.get(&place)?;
-    let index = indices.range(..=upto).next_back()?;
-    Some(*index)
+    places.get(&place)?.last_upto(upto)
 }
 
-fn discard(_indices: Option<BTreeSet<u64>>) {}
+fn discard(_indices: Option<Indices>) {}
 
 impl CellIndex {
     /// An index over no records.
@@ -87,8 +86,7 @@ impl CellIndex {
         ensures same { OnErr result ((p : Place) (i : ℕ) → names self.new p i
             ≡ names self.old p i) }
     {
-        let mut indices = BTreeSet::new(self.alloc);
-        indices.insert(index)?;
+        let indices = Indices::one(self.alloc, index)?;
         discard(self.places.insert(place, indices)?);
         Ok(())
     }
@@ -100,10 +98,7 @@ impl CellIndex {
             ≡ names self.old p i) }
     {
         match self.places.get_mut(&place) {
-            Some(indices) => {
-                indices.insert(index)?;
-                Ok(())
-            }
+            Some(indices) => indices.add(index),
             None => self.add_first(place, index),
         }
     }
@@ -115,7 +110,7 @@ impl CellIndex {
         let Some(indices) = self.places.get_mut(&place) else {
             return;
         };
-        indices.remove(&index);
+        indices.remove(index);
         if indices.is_empty() {
             discard(self.places.remove(&place));
         }

@@ -3,6 +3,7 @@
 
 mod at;
 mod index;
+mod indices;
 mod laws;
 mod set;
 

@@ -1,24 +1,27 @@
-use Rattle.std.proofs.Common.{ℕ, ◌<◌, Some, true, List, length, refl, sym, ap, subst}
+use Rattle.std.proofs.Common.{Some, refl, ap, subst}
 use Rattle.std.specs.Prelude.{IsSome}
-use Rattle.overlay.proofs.Places.{has_some, newly_named, on_err, one_named, same_indices, same_named, set_index, still_in_use, used_at}
+use Rattle.std.proofs.lemmas.Result.{on_err_weaker, on_ok_weaker}
+use Rattle.overlay.proofs.Places.{newly_named, one_named, same_indices, same_named, some_left, still_in_use}
 use Rattle.overlay.proofs.index.CellIndex.add_place.Goals as goal
 
-pub returns-in_err-insert-in-Some-clause-same : goal.returns-in_err-insert-in-Some-clause-same
-returns-in_err-insert-in-Some-clause-same c =
+pub returns-in-Some-clause-added : goal.returns-in-Some-clause-added
+returns-in-Some-clause-added c =
     let there = c.in-Some.ensures.value in
-    on_err c.from_residual.result _
-    (same_named c.self.inside.places.entries (c.get_mut.follows.lender c.insert.new.self).entries c.args.self.now
-    c.args.place (Some c.insert.new.self) (Some c.in-Some.indices.now) c.self.view_is there
-    (same_indices c.in-Some.indices.now c.insert.new.self c.in_err-insert-in-Some.ensures.err)
-    ((c.get_mut.follows.holds c.insert.new.self).3 (subst IsSome there refl)).0)
+    on_ok_weaker c.add.result
+    (λ more. one_named c.self.inside.places.entries (c.get_mut.follows.lender c.add.new.self).entries c.args.self.now
+    c.args.place c.args.index (Some c.add.new.self) (Some c.in-Some.indices.now) c.self.view_is there more
+    ((c.get_mut.follows.holds c.add.new.self).3 (subst IsSome there refl)).0)
+    c.add.ensures.added
 
-pub returns-in_ok-insert-in-Some-clause-added : goal.returns-in_ok-insert-in-Some-clause-added
-returns-in_ok-insert-in-Some-clause-added c =
+pub returns-in-Some-clause-same : goal.returns-in-Some-clause-same
+returns-in-Some-clause-same c =
     let there = c.in-Some.ensures.value in
-    one_named c.self.inside.places.entries (c.get_mut.follows.lender c.insert.new.self).entries c.args.self.now
-    c.args.place c.args.index (Some c.insert.new.self) (Some c.in-Some.indices.now) c.self.view_is there
-    (set_index c.in-Some.indices.now c.insert.new.self c.args.index true c.in_ok-insert-in-Some.ensures.updates.0)
-    ((c.get_mut.follows.holds c.insert.new.self).3 (subst IsSome there refl)).0
+    on_err_weaker c.add.result
+    (λ same. same_named c.self.inside.places.entries (c.get_mut.follows.lender c.add.new.self).entries c.args.self.now
+    c.args.place (Some c.add.new.self) (Some c.in-Some.indices.now) c.self.view_is there
+    (same_indices c.in-Some.indices.now c.add.new.self same)
+    ((c.get_mut.follows.holds c.add.new.self).3 (subst IsSome there refl)).0)
+    c.add.ensures.same
 
 pub returns-in-None-clause-added : goal.returns-in-None-clause-added
 returns-in-None-clause-added c =
@@ -30,16 +33,8 @@ pub invariant_of-self : goal.invariant_of-self
 invariant_of-self c =
     let there = c.in-Some.ensures.value in
     let old = c.self.inside.places.entries in
-    still_in_use c.args.place (Some c.insert.new.self) old (c.get_mut.follows.lender c.insert.new.self).entries
+    still_in_use c.args.place (Some c.add.new.self) old (c.get_mut.follows.lender c.add.new.self).entries
     c.self.invariant
-    (subst (λ (keys : List ℕ). 0 < length keys) (sym c.in_err-insert-in-Some.ensures.err)
-    (used_at old c.args.place c.in-Some.indices.now c.self.invariant there))
-    ((c.get_mut.follows.holds c.insert.new.self).3 (subst IsSome there refl)).0
-
-pub invariant_of-self-in-Some : goal.invariant_of-self-in-Some
-invariant_of-self-in-Some c =
-    let there = c.in-Some.ensures.value in
-    still_in_use c.args.place (Some c.insert.new.self) c.self.inside.places.entries
-    (c.get_mut.follows.lender c.insert.new.self).entries c.self.invariant
-    (has_some c.insert.new.self.keys _ c.in_ok-insert-in-Some.ensures.updates.1)
-    ((c.get_mut.follows.holds c.insert.new.self).3 (subst IsSome there refl)).0
+    (some_left c.add.result old c.args.place c.in-Some.indices.now c.add.new.self c.self.invariant there
+    c.add.ensures.some c.add.ensures.same)
+    ((c.get_mut.follows.holds c.add.new.self).3 (subst IsSome there refl)).0

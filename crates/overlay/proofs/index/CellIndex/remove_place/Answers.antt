@@ -1,6 +1,6 @@
-use Rattle.std.proofs.Common.{Some, None, false, refl, ap, subst, arith}
+use Rattle.std.proofs.Common.{Some, None, refl, ap, subst, arith}
 use Rattle.std.specs.Prelude.{IsSome}
-use Rattle.overlay.proofs.Places.{gone_after, last_index, none_gone, one_gone, set_index, still_in_use}
+use Rattle.overlay.proofs.Places.{gone_after, last_index, none_gone, one_gone, still_in_use}
 use Rattle.overlay.proofs.index.CellIndex.remove_place.Goals as goal
 
 pub returns-in_default : goal.returns-in_default
@@ -15,7 +15,7 @@ returns-then-is_empty c =
     one_gone old c.remove-then-is_empty.new.self.entries c.args.self.now c.args.place c.args.index None
     (Some c.in-Some.indices.now) c.self.view_is there
     (last_index c.in-Some.indices.now c.remove.new.self c.args.index (c.is_empty.ensures.0 c.if-is_empty.true)
-    c.remove.ensures.updates.0)
+    c.remove.ensures)
     (gone_after c.args.place None (Some c.remove.new.self) old (c.get_mut.follows.lender c.remove.new.self).entries
     c.remove-then-is_empty.new.self.entries
     ((c.get_mut.follows.holds c.remove.new.self).3 (subst IsSome there refl)).0
@@ -26,7 +26,7 @@ returns-else-is_empty c =
     let there = c.in-Some.ensures.value in
     one_gone c.self.inside.places.entries (c.get_mut.follows.lender c.remove.new.self).entries c.args.self.now
     c.args.place c.args.index (Some c.remove.new.self) (Some c.in-Some.indices.now) c.self.view_is there
-    (set_index c.in-Some.indices.now c.remove.new.self c.args.index false c.remove.ensures.updates.0)
+    c.remove.ensures
     ((c.get_mut.follows.holds c.remove.new.self).3 (subst IsSome there refl)).0
 
 pub invariant_of-self-then-is_empty : goal.invariant_of-self-then-is_empty
