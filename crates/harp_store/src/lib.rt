@@ -9,6 +9,7 @@ mod mem_store;
 mod memory;
 mod pick;
 mod shared;
+mod spares;
 mod store;
 mod table;
 

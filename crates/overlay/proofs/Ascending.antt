@@ -94,7 +94,7 @@ mid_is true false r = refl
 mid_is false true r = refl
 mid_is false false r = refl
 
-same_test : (i n : ℕ) → (i == n) ≡ (n == i)
+pub same_test : (i n : ℕ) → (i == n) ≡ (n == i)
 same_test i n = elim (eqb_tells i n) [
   | inl e ↦ e.0 ∙ sym (eq-eqb n i (sym e.1))
   | inr e ↦ e.0 ∙ sym (ne_eqb n i (λ same. e.1 (sym same)))
@@ -232,11 +232,6 @@ pub first_pushed : (indices : List ℕ) (n : ℕ) → length indices ≤ 0 → A
 first_pushed [] n none = one_ascends n
 first_pushed (x ∷ indices) n none = absurd (omega (arith, none))
 
-pub pushed_is : (indices : List ℕ) (n i : ℕ)
-    → is_among (indices ++ n ∷ []) i ≡ cond (n == i) true (is_among indices i)
-pushed_is indices n i = among_put indices [] n i
-    ∙ ap (λ (l : List ℕ). cond (n == i) true (is_among l i)) (append-nil indices)
-
 pub below_next : (indices : List ℕ) (last n : ℕ) → Ascend indices → IsEnd indices last → last < n
     → (i : ℕ) → Among indices i → i < n
 below_next indices last n up end lt i there = omega (arith, upto_end indices last i up end there, lt)
@@ -348,18 +343,6 @@ pub removed_is : (indices : List ℕ) (n k i : ℕ) → k < length indices → n
 removed_is indices n k i inside is up =
     taken_out (take k indices) (drop (suc k) indices) n i (subst Ascend (sym (there_is indices n k inside is)) up)
     ∙ ap (λ (l : List ℕ). cond (n == i) false (is_among l i)) (there_is indices n k inside is)
-
-pub first_ascends : (rest : List ℕ) (n : ℕ) → Ascend (n ∷ rest) → Ascend rest
-unfolding Ascend
-first_ascends rest n up = up.1
-
-pub present_is : (indices : List ℕ) (n k i : ℕ) → k < length indices → n ≡ get_or indices k 0
-    → is_among indices i ≡ cond (n == i) true (is_among indices i)
-present_is indices n k i inside is = elim (eqb_tells n i) [
-  | inl e ↦ subst (λ (m : ℕ). Among indices m) (sym is ∙ e.1) (among_at indices k 0 inside)
-      ∙ ap (λ (t : Bool). cond t true (is_among indices i)) (sym e.0)
-  | inr e ↦ ap (λ (t : Bool). cond t true (is_among indices i)) (sym e.0)
-]
 
 -- ---- the last one up to a number, by a search
 

@@ -1,13 +1,13 @@
 -- What the map of places says that the index names.
-use Rattle.std.proofs.Common.{◌≡◌, ℕ, ◌<◌, Bool, true, false, ◌&&◌, ◌||◌, ◌==◌, cond, List, [], ◌∷◌, length, Option, Some, None, refl, sym, ap, ◌∙◌, subst, inl, inr}
+use Rattle.std.proofs.Common.{◌≡◌, ℕ, ◌<◌, Bool, true, false, ◌&&◌, ◌||◌, ◌==◌, cond, List, [], ◌∷◌, length, Option, Some, None, refl, sym, ap, ◌∙◌, subst}
 use Rattle.std.specs.Prelude.{IfSome, OnErr, OnOk, Result, Ok, Err, not}
 use Rattle.std.specs.Map.{lookup}
-use Rattle.std.proofs.lemmas.Bool.{cases_eq, eq-eqb, ne_eqb}
 use Rattle.std.proofs.lemmas.List.{nil_from_length}
 use Rattle.std.proofs.lemmas.Result.{on_ok_weaker}
 use Rattle.harp_cells.specs.Effect.{is_key}
 use Rattle.harp_cells.proofs.CellLemmas.{same_key}
 use Rattle.overlay.specs.Indices.{is_among}
+use Rattle.overlay.proofs.Ascending.{same_test}
 use Rattle.overlay.specs.Index.{AreInUse, Entries, IsLast, Place, has, is_entry, names}
 
 -- what a map has at a place
@@ -102,20 +102,14 @@ same_named old new entries place here before is was h with p i =
 
 -- ---- a place's indices
 
--- the first one comes, where there was none
 pub same_indices : (old new : List ℕ) → new ≡ old → (i : ℕ) → has (Some new) i ≡ has (Some old) i
 same_indices old new e i = ap (λ (l : List ℕ). is_among l i) e
-
-same_test : (a b : ℕ) → (a == b) ≡ (b == a)
-same_test a b = elim (cases_eq a b) [
-  | inl e ↦ eq-eqb a b e ∙ sym (eq-eqb b a (sym e))
-  | inr other ↦ ne_eqb a b other ∙ sym (ne_eqb b a (λ e. other (sym e)))
-]
 
 only : (b : Bool) → (b || false) ≡ cond b true false
 only true = refl
 only false = refl
 
+-- the first one comes, where there was none
 pub first_index : (new : List ℕ) (index : ℕ) (before : Option (List ℕ)) → new ≡ index ∷ []
     → ((i : ℕ) → has before i ≡ false) → (i : ℕ) → has (Some new) i ≡ cond (index == i) true (has before i)
 first_index new index before is none i =

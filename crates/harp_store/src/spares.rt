@@ -1,0 +1,43 @@
+//! Boxes of values that nothing holds any more.
+
+ghost use Rattle.std.specs.Prelude.{◌≡◌, IfOk};
+
+use crate::shared::SharedValue;
+use harp_cells::Value;
+use std::alloc::{AllocError, Global};
+
+/// Boxes of values that nothing holds any more, for the values that come. Small blocks that are
+/// freed by the thousand, between others that stay, cost the allocator more than the calls that
+/// they are for.
+#[derive(Debug, Drop)]
+pub struct Spares {
+    boxes: Vec<SharedValue>,
+}
+
+impl Spares {
+    /// No box.
+    pub fn new(alloc: Global) -> Spares {
+        Spares {
+            boxes: Vec::new(alloc),
+        }
+    }
+
+    /// An equal value, in a spare box where there is one.
+    pub fn fill(&mut self, alloc: Global, value: &Value) -> Result<SharedValue, AllocError>
+        ensures { IfOk result (λ shared. shared ≡ value.now) }
+    {
+        match self.boxes.pop() {
+            Some(spare) => spare.refilled(alloc, value),
+            None => SharedValue::of(alloc, value),
+        }
+    }
+
+    /// The box of the value is a spare one, where nothing else holds it. Without memory for one
+    /// more it is freed.
+    pub fn keep(&mut self, value: Option<SharedValue>) {
+        match value {
+            Some(shared) if shared.is_spare() => drop(self.boxes.push(shared)),
+            _ => {}
+        }
+    }
+}
