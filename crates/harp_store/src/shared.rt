@@ -54,7 +54,7 @@ impl SharedValue {
         &self.value
     }
 
-    /// Whether the value has one owner, and no bytes outside its box.
+    /// Whether the value has one owner, and is of a kind that is small outside its box too.
     pub(crate) fn is_spare(&self) -> bool {
         let boxed = matches!(
             self.get(),

@@ -7,8 +7,7 @@ use harp_cells::Value;
 use std::alloc::{AllocError, Global};
 
 /// Boxes of values that nothing holds any more, for the values that come. Small blocks that are
-/// freed by the thousand, between others that stay, cost the allocator more than the calls that
-/// they are for.
+/// freed by the thousand, between others that stay, cost the allocator more the larger a tree is.
 #[derive(Debug, Drop)]
 pub struct Spares {
     boxes: Vec<SharedValue>,
