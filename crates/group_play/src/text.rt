@@ -23,7 +23,11 @@ pub struct Room {
 }
 
 impl Room {
-    pub fn new(alloc: Global) -> Room {
+    /// No text and no lines.
+    pub fn new(alloc: Global) -> Room
+        ensures text { result.text.items ≡ [] }
+        ensures lines { result.lines.items ≡ [] }
+    {
         Room {
             text: Vec::new(alloc),
             lines: Vec::new(alloc),

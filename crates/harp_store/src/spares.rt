@@ -1,6 +1,6 @@
 //! Boxes of values that nothing holds any more.
 
-ghost use Rattle.std.specs.Prelude.{◌≡◌, IfOk};
+ghost use Rattle.std.specs.Prelude.{◌≡◌, ◌⊎◌, ◌++◌, ◌∷◌, [], None, IfOk, IfSome};
 
 use crate::shared::SharedValue;
 use harp_cells::Value;
@@ -15,7 +15,9 @@ pub struct Spares {
 
 impl Spares {
     /// No box.
-    pub fn new(alloc: Global) -> Spares {
+    pub fn new(alloc: Global) -> Spares
+        ensures { result.boxes.items ≡ [] }
+    {
         Spares {
             boxes: Vec::new(alloc),
         }
@@ -33,7 +35,11 @@ impl Spares {
 
     /// The box of the value is a spare one, where nothing else holds it. Without memory for one
     /// more it is freed.
-    pub fn keep(&mut self, value: Option<SharedValue>) {
+    pub fn keep(&mut self, value: Option<SharedValue>)
+        ensures none { value ≡ None → self.new.boxes.items ≡ self.old.boxes.items }
+        ensures some { IfSome value (λ v. (self.new.boxes.items ≡ self.old.boxes.items)
+            ⊎ (self.new.boxes.items ≡ self.old.boxes.items ++ v ∷ [])) }
+    {
         match value {
             Some(shared) if shared.is_spare() => drop(self.boxes.push(shared)),
             _ => {}

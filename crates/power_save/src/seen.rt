@@ -14,7 +14,7 @@ const PLACES: usize = 64;
 #[derive(Debug, Drop)]
 struct Seen {
     bytes: Vec<u8>,
-    record: Record,
+    read: Record,
 }
 
 impl Model for Seen {
@@ -24,9 +24,9 @@ impl Model for Seen {
 
     ghost Value = { RecordFields };
 
-    ghost view = { λ s. s.record };
+    ghost view = { λ s. s.read };
 
-    ghost invariant = { λ s. (s.bytes.items ≡ record_bytes s.record) × RecordFits s.record };
+    ghost invariant = { λ s. (s.bytes.items ≡ record_bytes s.read) × RecordFits s.read };
 }
 
 impl Seen {
@@ -36,7 +36,7 @@ impl Seen {
             (λ r. (bytes.now ≡ record_bytes r) × RecordFits r)) }
     {
         if are_same(self.bytes.as_slice(), bytes) {
-            Ok(Some(self.record.copy(alloc)?))
+            Ok(Some(self.read.copy(alloc)?))
         } else {
             Ok(None)
         }
@@ -115,7 +115,7 @@ impl SeenRecords {
         let place = place_of(record.index().get());
         let seen = Seen {
             bytes: Vec::from_slice(alloc, bytes)?,
-            record: record.copy(alloc)?,
+            read: record.copy(alloc)?,
         };
         if place < self.places.len() {
             self.places[place] = Some(seen);
