@@ -5,15 +5,11 @@ mod accepting;
 mod applying;
 mod asking;
 mod boot;
-#[cfg(test)]
-mod boot_tests;
 mod collecting;
 mod demoting;
 mod fault;
 mod flushing;
 mod following;
-#[cfg(test)]
-mod formation_tests;
 mod forming;
 mod hearing;
 mod input;
@@ -28,8 +24,6 @@ mod node;
 mod parts;
 mod places;
 mod power;
-#[cfg(test)]
-mod power_tests;
 mod pull;
 mod pulling;
 mod role;
@@ -37,13 +31,9 @@ mod same;
 mod serving;
 mod showing;
 mod state;
-#[cfg(test)]
-mod step_tests;
 mod steps;
 mod taking;
 mod taking_views;
-#[cfg(test)]
-mod tests;
 mod ticking;
 
 pub use fault::NodeFault;

@@ -17,6 +17,3 @@ pub use list_clock::{ListClock, readings_rise};
 pub use memory::MemLink;
 pub use udp::UdpLink;
 pub use wall_clock::WallClock;
-
-#[cfg(test)]
-mod tests;

@@ -24,8 +24,3 @@ pub use running::Running;
 pub use serving::{serve_one, serve_three};
 pub use turn::take_turn;
 pub use turned::Turned;
-
-#[cfg(test)]
-mod loop_tests;
-#[cfg(test)]
-mod tests;

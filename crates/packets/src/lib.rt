@@ -8,6 +8,3 @@ mod packets;
 
 pub use packet::Packet;
 pub use packets::Packets;
-
-#[cfg(test)]
-mod tests;

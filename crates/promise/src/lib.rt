@@ -11,6 +11,3 @@ pub use deadline::Deadline;
 pub use delta::Delta;
 pub use grant::Grant;
 pub use horizon::{Horizon, may_open};
-
-#[cfg(test)]
-mod tests;

@@ -16,6 +16,3 @@ pub use disk_files::DiskFiles;
 pub use files::SystemFiles;
 pub use mark_file::{LONGEST_MARK, read_mark_file, write_mark_file};
 pub use store::FolderStore;
-
-#[cfg(test)]
-mod tests;

@@ -7,6 +7,3 @@ mod records;
 
 pub use leader::Leader;
 pub use partner::Partner;
-
-#[cfg(test)]
-mod tests;
