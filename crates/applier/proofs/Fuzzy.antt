@@ -9,8 +9,8 @@ use Rattle.harp_store.proofs.Moments.{follows, images_are_of, may_step, runs_joi
 use Rattle.harp_store.proofs.Runs.{after_some, moments_of_part}
 use Rattle.fuzzy_cells.specs.History.{AllSetOnce, History, between, in_a_row}
 use Rattle.fuzzy_cells.specs.Fuzzy.{IsFuzzy}
-use Rattle.fuzzy_disks.specs.FuzzyDisk.{AreRecordsOf, IsFuzzyByMark, IsFuzzyDisk, lb_of}
-use Rattle.fuzzy_disks.proofs.FuzzyDisks.{applied, cut_off, exact, images, marked, synced}
+use Rattle.applier.specs.FuzzyDisk.{AreRecordsOf, IsFuzzyByMark, IsFuzzyDisk, lb_of}
+use Rattle.applier.proofs.FuzzyDisks.{applied, cut_off, exact, images, marked, synced}
 use Rattle.applier.specs.Applied.{changes_between, lower}
 use Rattle.applier.specs.Fuzzy.{IsFuzzyTo, StaysFuzzy}
 

@@ -3,7 +3,7 @@ use Rattle.std.specs.Prelude.{ℕ, ◌≤◌, max, Option, Some}
 use Rattle.harp_store.specs.Disk.{AtEachMoment, CrashesLeave, Disk, Moments, reads}
 use Rattle.fuzzy_cells.specs.History.{History, cells_at}
 use Rattle.fuzzy_cells.specs.Fuzzy.{AreAlike, IsFuzzy}
-use Rattle.fuzzy_disks.specs.FuzzyDisk.{IsFuzzyDisk}
+use Rattle.applier.specs.FuzzyDisk.{IsFuzzyDisk}
 
 -- at each moment of applying records up to an index the disk is fuzzy between LB and the larger of
 -- m and it, AP being as before; and so is each image that a crash at some moment might have left

@@ -1,20 +1,23 @@
-//! Applying the changes of committed records to a store, and flushing it.
+//! Applying the changes of committed records to a store, and flushing it; and what calls of a store,
+//! crashes and boots make of disks whose cells are fuzzy between two points of a history.
 #![tactic(auto)]
 
-mod laws;
+mod flushes;
+mod fuzzy;
 
 ghost use Rattle.std.specs.Prelude.{◌≡◌, ◌≤◌, ◌<◌, ◌^◌, ◌+◌, ◌⊎◌, ℕ, min, length, Option, Some, None, IfOk, OnOk, OnErr, Err};
 ghost use Rattle.harp_base.specs.Streams.{Rose};
 ghost use Rattle.harp_store.specs.declared.store.StoreFault.TheVariants.{Failed};
 ghost use Rattle.harp_store.specs.Disk.{AtEachMoment, Moments, Now, MayHaveMade, after_step, cells_told, changed_by};
 ghost use Rattle.fuzzy_cells.specs.History.{AllSetOnce, History};
-ghost use Rattle.fuzzy_disks.specs.FuzzyDisk.{AreRecordsOf, IsFuzzyByMark, IsFuzzyDisk};
+ghost use Rattle.applier.specs.FuzzyDisk.{AreRecordsOf, IsFuzzyByMark, IsFuzzyDisk};
 ghost use Rattle.applier.specs.Fuzzy.{IsFuzzyTo, StaysFuzzy};
 ghost use Rattle.applier.specs.Applied.{after_changes, AfterPart, CrashesLeave, IsAfterPart, IsLeftInPart, changes_at, changes_between, lower, flushed, FlushesInPart, IsOldOrSynced};
 
+pub use flushes::flush_laws;
+pub use fuzzy::fuzzy_disk_laws;
 use harp_cells::{Change, ChangeLog};
 use harp_store::{Mark, Store, StoreFault};
-pub use laws::flush_laws;
 use std::alloc::Global;
 
 /// Syncs the store, and then writes the mark with this number as the one up to which all updates

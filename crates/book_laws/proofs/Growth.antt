@@ -1,7 +1,7 @@
 -- What the moves of a step bring to the committed updates and to the book.
 use Rattle.std.proofs.Common.{◌≡◌, ◌⊎◌, ℕ, ◌+◌, true, List, [], ◌∷◌, ◌++◌, append_assoc, append-nil, length, Some, refl, sym, ap, ◌∙◌, ⊎_elim, length-append}
 use Rattle.file_tree.specs.Book.{Entry}
-use Rattle.given_lines.specs.Book.{new_updates}
+use Rattle.world_lines.specs.Book.{new_updates}
 use Rattle.group_rules.specs.Moves.{Move, act, moved, moved_by}
 use Rattle.group_rules.specs.Places.{Place}
 use Rattle.group_rules.specs.Said.{committed_by, committed_of, read_by, reads_said}

@@ -6,7 +6,7 @@ use Rattle.group_rules.specs.Places.{Place}
 use Rattle.group_rules.specs.Said.{committed_of, reads_said}
 use Rattle.group_rules.specs.State.{Group}
 use Rattle.group_rules.specs.Step.{Input, step_of}
-use Rattle.given_lines.specs.Book.{BookValue, new_updates, with_reads, with_updates}
+use Rattle.world_lines.specs.Book.{BookValue, new_updates, with_reads, with_updates}
 use Rattle.book_laws.specs.Books.{BookGrows, updates_brought}
 
 -- the book is the group's, and so many of its calls are updates

@@ -4,7 +4,7 @@ use Rattle.std.proofs.Common.{◌≡◌, ℕ, ◌+◌, ◌-◌, ◌<◌, ◌≤�
 use Rattle.std.proofs.lemmas.List.{drop-drop, drop-take, length-take-le, take_all}
 use Rattle.std.proofs.lemmas.Option.{slice_get_within}
 use Rattle.file_tree.specs.Book.{Entry}
-use Rattle.given_lines.specs.Book.{new_updates}
+use Rattle.world_lines.specs.Book.{new_updates}
 use Rattle.group_rules.specs.Moves.{new_entries}
 use Rattle.group_rules.specs.Places.{Place}
 use Rattle.group_rules.specs.State.{Group, Log, Server, top}

@@ -3,7 +3,7 @@ use Rattle.std.proofs.Common.{◌≡◌, false, List, [], ◌∷◌, ◌++◌, a
 use Rattle.std.specs.Prelude.{MatchBool}
 use Rattle.harp_base.specs.Update.{is_update}
 use Rattle.file_tree.specs.Book.{Entry, IsNextUpdate, IsRead, MayFollow, updates}
-use Rattle.given_lines.specs.Book.{new_updates}
+use Rattle.world_lines.specs.Book.{new_updates}
 use Rattle.group_rules.specs.Moves.{Committing, Move, Opening, Reading, book_after, committed_after}
 use Rattle.group_rules.specs.Places.{Place}
 use Rattle.group_rules.specs.Said.{committed_by, read_by}

@@ -6,7 +6,7 @@ use Rattle.std.proofs.lemmas.Bool.Decides.{nat_tests}
 use Rattle.std.proofs.lemmas.List.{length-take}
 use Rattle.std.proofs.lemmas.Option.{slice_get_within}
 use Rattle.file_tree.specs.Book.{Entry}
-use Rattle.given_lines.specs.Book.{new_updates}
+use Rattle.world_lines.specs.Book.{new_updates}
 use Rattle.group_rules.proofs.Tests.{if_is, if_not, le_is}
 use Rattle.group_safety.proofs.Lists.{get_drop, get_take}
 

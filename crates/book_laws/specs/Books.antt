@@ -1,7 +1,7 @@
 -- What a step brings to the book.
 use Rattle.std.specs.Prelude.{◌≡◌, ℕ, true, List, ◌++◌, length, Some}
 use Rattle.file_tree.specs.Book.{Entry}
-use Rattle.given_lines.specs.Book.{new_updates}
+use Rattle.world_lines.specs.Book.{new_updates}
 use Rattle.group_rules.specs.Moves.{Move, moved_by}
 use Rattle.group_rules.specs.Places.{Place}
 use Rattle.group_rules.specs.Said.{committed_of, reads_said}

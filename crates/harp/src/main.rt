@@ -2,7 +2,6 @@
 //! and the exit status.
 #![tactic(auto)]
 
-use group_world::World;
 use harp_base::{ReaderSource, Trio, WriterSink};
 use harp_cli::{Exit, harp};
 use node_link::{UdpLink, WallClock};
@@ -14,6 +13,7 @@ use std::thread::Threads;
 use std::time::Clock;
 use std::{env, io};
 use store_folder::FolderStore;
+use world::World;
 
 /// The most bytes of output that stand in memory before they are written.
 const PIECE: usize = 1 << 16;

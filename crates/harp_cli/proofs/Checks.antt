@@ -4,7 +4,7 @@ use Rattle.std.specs.Io.KnownBytes.{Appends}
 use Rattle.trace_verdict.specs.Verdicts.{IsRightText}
 use Rattle.trace_verdict.specs.declared.verdict.Verdict.{Verdict}
 use Rattle.trace_verdict.specs.declared.verdict.Verdict.TheVariants as verdict
-use Rattle.verdict_text.specs.Texts.{verdict_line}
+use Rattle.trace_verdict.specs.Texts.{verdict_line}
 use Rattle.harp_cli.specs.declared.exit.Exit.{Exit}
 use Rattle.harp_cli.specs.declared.exit.Exit.TheVariants as exit
 use Rattle.harp_cli.specs.Check.{CheckEnds, IsFound, StatusAgrees, exit_after}

@@ -1,14 +1,14 @@
 -- What a play wrote of which `check` says yes.
 use Rattle.std.proofs.Common.{◌≡◌, ◌⊎◌, ℕ, List, Option, inl, inr, arith, subst}
-use Rattle.accepted_plays.specs.Laws.{HasShortLines, PlaysAreAccepted}
+use Rattle.accept_laws.specs.AcceptLaws.{HasShortLines, PlaysAreAccepted}
 use Rattle.group_disks.specs.Run.{DiskScene}
-use Rattle.group_play.specs.Ends.{EndsWhole, PlayEnds}
-use Rattle.group_play.specs.Reading.{reading}
-use Rattle.group_play.specs.Trace.{trace_of, trace_text}
-use Rattle.group_play.specs.declared.exit.Exit.{Exit as Played}
-use Rattle.group_play.specs.declared.exit.Exit.TheVariants as played
-use Rattle.group_world.specs.World.{IsWorld, WorldValue}
-use Rattle.host_rules.specs.Spellings.{spellings}
+use Rattle.schedule_play.specs.Ends.{EndsWhole, PlayEnds}
+use Rattle.schedule_play.specs.Reading.{reading}
+use Rattle.schedule_play.specs.Trace.{trace_of, trace_text}
+use Rattle.schedule_play.specs.declared.exit.Exit.{Exit as Played}
+use Rattle.schedule_play.specs.declared.exit.Exit.TheVariants as played
+use Rattle.world.specs.World.{IsWorld, WorldValue}
+use Rattle.world_rules.specs.Spellings.{spellings}
 use Rattle.harp_cli.specs.declared.exit.Exit.{Exit}
 use Rattle.harp_cli.specs.Exit.{status_of}
 use Rattle.harp_cli.specs.Play.{HasPlayed, WroteRightText, exit_of_play, sizes}

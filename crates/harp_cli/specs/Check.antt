@@ -5,7 +5,7 @@ use Rattle.harp_base.specs.Streams.{GrewByPart}
 use Rattle.trace_verdict.specs.Verdicts.{IsRightText, IsVerdictOn}
 use Rattle.trace_verdict.specs.declared.verdict.Verdict.{Verdict}
 use Rattle.trace_verdict.specs.declared.verdict.Verdict.TheVariants as verdict
-use Rattle.verdict_text.specs.Texts.{verdict_line}
+use Rattle.trace_verdict.specs.Texts.{verdict_line}
 use Rattle.harp_cli.specs.declared.exit.Exit.{Exit}
 use Rattle.harp_cli.specs.declared.exit.Exit.TheVariants as exit
 

@@ -3,7 +3,7 @@ use Rattle.std.specs.Prelude.{ℕ, List, Option}
 use Rattle.std.specs.Io.KnownBytes.{Appends}
 use Rattle.harp_base.specs.Streams.{GrewByPart}
 use Rattle.sweep.specs.Lines.{generated}
-use Rattle.sweep_text.specs.Texts.{schedule_text}
+use Rattle.sweep.specs.Texts.{schedule_text}
 use Rattle.harp_cli.specs.declared.exit.Exit.{Exit}
 use Rattle.harp_cli.specs.declared.exit.Exit.TheVariants as exit
 

@@ -2,12 +2,12 @@
 use Rattle.std.specs.Prelude.{◌≡◌, ℕ, List, Option}
 use Rattle.std.specs.Io.KnownBytes.{Appends}
 use Rattle.group_disks.specs.Calls.{measures_of}
-use Rattle.group_play.specs.Ends.{PlayEnds}
-use Rattle.group_play.specs.declared.exit.Exit.{Exit as Played}
-use Rattle.group_play.specs.declared.exit.Exit.TheVariants as played
+use Rattle.schedule_play.specs.Ends.{PlayEnds}
+use Rattle.schedule_play.specs.declared.exit.Exit.{Exit as Played}
+use Rattle.schedule_play.specs.declared.exit.Exit.TheVariants as played
 use Rattle.group_trace.specs.Scene.{Measures}
-use Rattle.group_world.specs.World.{IsWorld, WorldValue}
-use Rattle.host_rules.specs.Spellings.{spellings}
+use Rattle.world.specs.World.{IsWorld, WorldValue}
+use Rattle.world_rules.specs.Spellings.{spellings}
 use Rattle.trace_verdict.specs.Verdicts.{IsRightText}
 use Rattle.harp_cli.specs.declared.exit.Exit.{Exit}
 use Rattle.harp_cli.specs.declared.exit.Exit.TheVariants as exit

@@ -11,7 +11,7 @@ use Rattle.node_loop.specs.Run.{IsCutOff, IsRun}
 use Rattle.node_loop.specs.Scene.{start}
 use Rattle.node_loop.specs.Turn.{sent_of}
 use Rattle.node_loop.specs.declared.counts.Served.{Served}
-use Rattle.spelling.specs.Text.{spaced}
+use Rattle.text_spelling.specs.Text.{spaced}
 use Rattle.harp_cli.specs.declared.exit.Exit.{Exit}
 use Rattle.harp_cli.specs.declared.exit.Exit.TheVariants as exit
 use Rattle.harp_cli.specs.declared.loop_words.Loop.{Loop}

@@ -5,7 +5,7 @@ use Rattle.harp_base.specs.Streams.{GrewByPart}
 use Rattle.trace_types.specs.declared.step.Step.{Step}
 use Rattle.sweep.specs.Runs.{summaries}
 use Rattle.sweep.specs.declared.summary.Summary.{Summary}
-use Rattle.sweep_text.specs.Texts.{summaries_text}
+use Rattle.sweep.specs.Texts.{summaries_text}
 use Rattle.harp_cli.specs.declared.exit.Exit.{Exit}
 use Rattle.harp_cli.specs.declared.exit.Exit.TheVariants as exit
 

@@ -8,8 +8,7 @@ use crate::exit::Exit;
 use harp_base::{Sink, SinkFault, Source};
 use line_reader::ReadFault;
 use std::alloc::Global;
-use trace_verdict::{Verdict, judge_text};
-use verdict_text::write_verdict;
+use trace_verdict::{Verdict, judge_text, write_verdict};
 
 /// How a check ends after this verdict.
 fn exit_after(verdict: Verdict) -> Exit

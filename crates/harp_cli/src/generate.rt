@@ -7,7 +7,7 @@ ghost use Rattle.harp_cli.specs.Gen.{GenEnds};
 use crate::exit::Exit;
 use harp_base::{Sink, SinkFault};
 use std::alloc::Global;
-use sweep_text::write_schedule;
+use sweep::write_schedule;
 
 /// Writes the schedule of a seed with so many drawn lines to a sink.
 pub fn generate<K: Sink>(alloc: Global, seed: u64, lines: u32, sink: &mut K) -> Exit

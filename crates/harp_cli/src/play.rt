@@ -3,28 +3,28 @@
 ghost use Rattle.std.specs.Prelude.{◌≡◌, ◌≢◌, ◌⊎◌, ℕ, List, Some};
 ghost use Rattle.harp_base.specs.Streams.{Rose};
 ghost use Rattle.group_disks.specs.Run.{first_disk_scene};
-ghost use Rattle.group_play.specs.Exit.{whole_exit};
-ghost use Rattle.group_play.specs.Reading.{reading};
-ghost use Rattle.group_world.specs.World.{IsWorld};
+ghost use Rattle.schedule_play.specs.Exit.{whole_exit};
+ghost use Rattle.schedule_play.specs.Reading.{reading};
+ghost use Rattle.world.specs.World.{IsWorld};
 ghost use Rattle.harp_cli.specs.Play.{HasPlayed, exit_of_play, sizes};
 
 use crate::exit::Exit;
-use group_world::World;
 use harp_base::{Sink, Source};
 use std::alloc::Global;
+use world::World;
 
-impl From<group_play::Exit> for Exit {
+impl From<schedule_play::Exit> for Exit {
     ghost use Rattle.harp_cli.specs.Play.{exit_of_play};
 
     ghost from_gives = { λ ended exit. exit ≡ exit_of_play ended };
 
-    fn from(ended: group_play::Exit) -> Exit {
+    fn from(ended: schedule_play::Exit) -> Exit {
         match ended {
-            group_play::Exit::Done => Exit::Done,
-            group_play::Exit::RefusedLine => Exit::RefusedLine,
-            group_play::Exit::SourceFailed => Exit::SourceFailed,
-            group_play::Exit::SinkFailed => Exit::SinkFailed,
-            group_play::Exit::NoMemory => Exit::NoMemory,
+            schedule_play::Exit::Done => Exit::Done,
+            schedule_play::Exit::RefusedLine => Exit::RefusedLine,
+            schedule_play::Exit::SourceFailed => Exit::SourceFailed,
+            schedule_play::Exit::SinkFailed => Exit::SinkFailed,
+            schedule_play::Exit::NoMemory => Exit::NoMemory,
         }
     }
 }
@@ -53,5 +53,5 @@ pub fn play<S: Source, K: Sink>(
         → Rose (S.faults source.old) (S.faults source.new) }
     ensures sink_rose { result ≡ Exit.SinkFailed → Rose (K.faults sink.old) (K.faults sink.new) }
 {
-    Exit::from(group_play::play(alloc, world, source, sink))
+    Exit::from(schedule_play::play(alloc, world, source, sink))
 }

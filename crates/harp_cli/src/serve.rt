@@ -13,8 +13,8 @@ use harp_base::{ServerId, Sink, SinkFault, Trio, write_all};
 use harp_store::{Store, StoreFault};
 use node_link::{Clock, Link};
 use node_loop::{LoopFault, Served, serve_one, serve_three};
-use put_fields::put_named;
 use std::alloc::{AllocError, Global};
+use text_writer::put_named;
 
 /// The line that tells what servers did.
 #[tactic(auto, unfolding(crate::specs::Serve::served_line))]

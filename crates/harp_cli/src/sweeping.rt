@@ -8,8 +8,7 @@ use crate::exit::Exit;
 use harp_base::{Sink, SinkFault};
 use std::alloc::Global;
 use std::thread::Threads;
-use sweep::{Player, sweep_many};
-use sweep_text::write_summaries;
+use sweep::{Player, sweep_many, write_summaries};
 
 /// Plays the schedules of so many seeds from this one on, with so many drawn lines each, by several
 /// threads, and writes to a sink what each comes to.

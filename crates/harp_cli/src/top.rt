@@ -1,26 +1,26 @@
 //! The top call.
 
 ghost use Rattle.std.specs.Prelude.{◌≡◌, ◌≢◌, ◌⊎◌, ◌∷◌, [], ℕ, ◌<◌, ◌^◌, List, Some};
-ghost use Rattle.accepted_plays.specs.Laws.{HasShortLines};
+ghost use Rattle.accept_laws.specs.AcceptLaws.{HasShortLines};
 ghost use Rattle.disk_laws.specs.Laws.{DiskRunIsRight};
 ghost use Rattle.group_disks.specs.Run.{first_disk_scene};
-ghost use Rattle.group_play.specs.Exit.{whole_exit};
-ghost use Rattle.group_play.specs.Reading.{reading};
-ghost use Rattle.group_play.specs.Trace.{group_left, trace_of};
+ghost use Rattle.schedule_play.specs.Exit.{whole_exit};
+ghost use Rattle.schedule_play.specs.Reading.{reading};
+ghost use Rattle.schedule_play.specs.Trace.{group_left, trace_of};
 ghost use Rattle.group_trace.specs.Run.{AreTaken};
 ghost use Rattle.group_trace.specs.Scene.{first_scene};
-ghost use Rattle.group_world.specs.World.{IsWorld};
+ghost use Rattle.world.specs.World.{IsWorld};
 ghost use Rattle.harp_base.specs.Streams.{Rose};
 ghost use Rattle.harp_base.specs.Trio.{value_of, with_value};
 ghost use Rattle.harp_base.specs.declared.server.ServerId.{ServerId as Place};
-ghost use Rattle.host_rules.specs.Spellings.{spellings};
+ghost use Rattle.world_rules.specs.Spellings.{spellings};
 ghost use Rattle.node_loop.specs.Scene.{OneRose, all_places, each, only};
-ghost use Rattle.step_text.specs.Grammar.{Explains};
-ghost use Rattle.step_text.specs.Reading.{meaning_of};
+ghost use Rattle.schedule_text.specs.Grammar.{Explains};
+ghost use Rattle.schedule_text.specs.Reading.{meaning_of};
 ghost use Rattle.sweep.specs.Lines.{generated};
 ghost use Rattle.sweep_player.specs.Counts.{summary_of_trace};
 ghost use Rattle.sweep_player.specs.Reading.{summary_of_steps};
-ghost use Rattle.sweep_text.specs.Texts.{schedule_text};
+ghost use Rattle.sweep.specs.Texts.{schedule_text};
 ghost use Rattle.trace_claims.specs.Right.{IsRight};
 ghost use Rattle.trace_claims.specs.Trace.{AtEachPlace, entries, steps};
 ghost use Rattle.trace_laws.specs.FirstParts.{FirstPartsAreRight};
@@ -42,16 +42,15 @@ use crate::play::play;
 use crate::serve::{serve_group, serve_node};
 use crate::sweeping::sweep;
 use crate::words::{Command, command_of, write_usage};
-use accepted_plays::accepted_texts;
-use group_play::every_text;
-use group_world::World;
+use accept_laws::accepted_texts;
 use harp_base::{Sink, Source, Trio};
 use harp_store::Store;
 use node_link::{Clock, Link};
+use schedule_play::every_text;
 use std::alloc::Global;
 use std::thread::Threads;
-use sweep_player::GroupPlayer;
-use swept_plays::swept_texts;
+use sweep_player::{GroupPlayer, swept_texts};
+use world::World;
 
 /// Does what the words ask for, and gives the exit status: 0 done, 1 a trace breaks something, 2
 /// the words are refused, 3 the source failed, 4 the sink failed, 5 a line is refused, 6 there was

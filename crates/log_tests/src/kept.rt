@@ -4,7 +4,7 @@ ghost use Rattle.std.specs.Prelude.{◌≡◌, ◌≤◌};
 
 use crate::records::{five, take_next};
 use harp_base::{Held, Role, ServerId, ViewNo};
-use kept_log::{Form, Kept, can_have, serve_active};
+use idle_log::{Form, Kept, can_have, serve_active};
 use promise::Deadline;
 use std::alloc::Global;
 use std::test::Fail;

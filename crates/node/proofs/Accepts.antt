@@ -16,11 +16,11 @@ use Rattle.harp_base.specs.View.{View}
 use Rattle.harp_base.specs.declared.server.ServerId.{ServerId}
 use Rattle.harp_store.specs.Disk.{MayHaveMade, Moments, after_step, with_mark}
 use Rattle.harp_store.specs.Mark.{MarkFields}
-use Rattle.kept_log.specs.Kept.{plan_of}
-use Rattle.kept_log.specs.Pulls.{TakesUp}
-use Rattle.kept_log.specs.declared.form.Form.{Form}
-use Rattle.kept_log.specs.declared.kept.Kept.{Kept}
-use Rattle.log_laws.specs.Laws.{new_log}
+use Rattle.idle_log.specs.Kept.{plan_of}
+use Rattle.idle_log.specs.Pulls.{TakesUp}
+use Rattle.idle_log.specs.declared.form.Form.{Form}
+use Rattle.idle_log.specs.declared.kept.Kept.{Kept}
+use Rattle.idle_log.specs.LogLaws.{new_log}
 use Rattle.node.proofs.Calls.{AreSilent, mute}
 use Rattle.node.proofs.Led.{as_led, leads_on}
 use Rattle.node.proofs.Saying.{unsaid}
@@ -34,13 +34,13 @@ use Rattle.node.specs.declared.state.State.{State}
 use Rattle.node.specs.declared.state.State.TheVariants as state
 use Rattle.node.specs.declared.state.Task.{Task}
 use Rattle.node.specs.declared.state.Task.TheVariants as task
-use Rattle.outputs.proofs.Makes.{makes_then}
-use Rattle.outputs.specs.Makes.{IsMute, Makes}
-use Rattle.outputs.specs.Said.{said}
-use Rattle.outputs.specs.declared.outputs.Outputs.{Outputs}
+use Rattle.node_outputs.proofs.Makes.{makes_then}
+use Rattle.node_outputs.specs.Makes.{IsMute, Makes}
+use Rattle.node_outputs.specs.Said.{said}
+use Rattle.node_outputs.specs.declared.outputs.Outputs.{Outputs}
 use Rattle.promise.specs.Promise.{HorizonValue}
-use Rattle.view_replica.specs.Leading.{Leading, Outer, led, partner_of, place_led, storers_led, waiting}
-use Rattle.view_replica.specs.declared.leader.Beside.{Beside}
+use Rattle.replica.specs.Leading.{Leading, Outer, led, partner_of, place_led, storers_led, waiting}
+use Rattle.replica.specs.declared.leader.Beside.{Beside}
 use Rattle.volatile_log.specs.Log.{LogValue}
 
 -- ---- the moves

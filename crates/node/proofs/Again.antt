@@ -12,9 +12,9 @@ use Rattle.group_rules.specs.State.{Fetch, Server, no_plan}
 use Rattle.group_rules.specs.Tick.{again, again_tests}
 use Rattle.harp_base.specs.declared.server.ServerId.{ServerId}
 use Rattle.harp_store.specs.Mark.{MarkFields}
-use Rattle.kept_log.specs.Kept.{plan_of}
-use Rattle.kept_log.specs.declared.form.Form.{Form}
-use Rattle.kept_log.specs.declared.kept.Kept.{Kept}
+use Rattle.idle_log.specs.Kept.{plan_of}
+use Rattle.idle_log.specs.declared.form.Form.{Form}
+use Rattle.idle_log.specs.declared.kept.Kept.{Kept}
 use Rattle.node.proofs.Heeds.{leader_is_other, no_first, none_of_two}
 use Rattle.node.specs.Node.{NodeValue, server, value}
 use Rattle.node.specs.State.{Fits}
@@ -23,7 +23,7 @@ use Rattle.node.specs.declared.state.State.{State}
 use Rattle.node.specs.declared.state.State.TheVariants as state
 use Rattle.node.specs.declared.state.Task.{Task}
 use Rattle.promise.specs.Promise.{HorizonValue}
-use Rattle.view_replica.specs.Leading.{mode_led, storers_led}
+use Rattle.replica.specs.Leading.{mode_led, storers_led}
 use Rattle.volatile_log.specs.Log.{StagedValue}
 
 again_none : (q : Place) (s : Server Entry) → is_pulls s.mode ≡ false

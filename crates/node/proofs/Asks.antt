@@ -21,8 +21,8 @@ use Rattle.harp_base.specs.declared.state.Role.{Role as Part}
 use Rattle.harp_cells.specs.Effect.{Cells}
 use Rattle.harp_store.specs.Disk.{Moments}
 use Rattle.harp_store.specs.Mark.{MarkFields}
-use Rattle.kept_log.specs.Kept.{plan_of}
-use Rattle.kept_log.specs.declared.form.Form.{Form}
+use Rattle.idle_log.specs.Kept.{plan_of}
+use Rattle.idle_log.specs.declared.form.Form.{Form}
 use Rattle.node.proofs.Heeds.{no_first, none_of_two, partner_is_other}
 use Rattle.node.proofs.InView.{leads_fits, leads_made, quiet_either}
 use Rattle.node.proofs.Led.{AreQuiet, as_led}
@@ -35,15 +35,15 @@ use Rattle.node.specs.Stored.{log_of}
 use Rattle.node.specs.declared.state.State.{State}
 use Rattle.node.specs.declared.state.State.TheVariants as state
 use Rattle.node.specs.declared.state.Task.{Task}
-use Rattle.outputs.proofs.Makes.{same_said}
-use Rattle.outputs.specs.Records.{records_sent}
-use Rattle.outputs.specs.Said.{Said, said}
-use Rattle.outputs.specs.declared.outputs.Outputs.{Outputs}
+use Rattle.node_outputs.proofs.Makes.{same_said}
+use Rattle.node_outputs.specs.Records.{records_sent}
+use Rattle.node_outputs.specs.Said.{Said, said}
+use Rattle.node_outputs.specs.declared.outputs.Outputs.{Outputs}
 use Rattle.promise.specs.Promise.{HorizonValue}
 use Rattle.tree_log.specs.Reading.{HoldsTree}
-use Rattle.view_replica.specs.Asking.{Asked as AskedLed, IsGrown, appended, reads_tree as reads_led, recorded}
-use Rattle.view_replica.specs.Following.{storers_followed}
-use Rattle.view_replica.specs.Leading.{Leading, led, mode_led, place_led}
+use Rattle.replica.specs.Asking.{Asked as AskedLed, IsGrown, appended, reads_tree as reads_led, recorded}
+use Rattle.replica.specs.Following.{storers_followed}
+use Rattle.replica.specs.Leading.{Leading, led, mode_led, place_led}
 use Rattle.volatile_log.specs.Log.{LogValue}
 
 -- ---- a server that doesn't lead

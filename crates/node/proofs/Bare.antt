@@ -19,12 +19,12 @@ use Rattle.group_rules.specs.State.{Ack, Beat, Chose, Collects, Demote, Duty, Ev
 use Rattle.group_rules.specs.Step.{Comes, on_message, rule}
 use Rattle.harp_base.specs.Limits.{clock_skew}
 use Rattle.harp_base.specs.declared.peer.Peer.{Peer}
-use Rattle.outputs.specs.Makes.{with_moves}
-use Rattle.outputs.specs.Messages.{as_heard, heard}
-use Rattle.outputs.specs.Records.{carried, records_sent}
-use Rattle.outputs.specs.Said.{Said, nothing, said, sent}
-use Rattle.outputs.specs.declared.outputs.Outputs.{Outputs}
-use Rattle.outputs.specs.declared.outputs.Sent.{Sent}
+use Rattle.node_outputs.specs.Makes.{with_moves}
+use Rattle.node_outputs.specs.Messages.{as_heard, heard}
+use Rattle.node_outputs.specs.Records.{carried, records_sent}
+use Rattle.node_outputs.specs.Said.{Said, nothing, said, sent}
+use Rattle.node_outputs.specs.declared.outputs.Outputs.{Outputs}
+use Rattle.node_outputs.specs.declared.outputs.Sent.{Sent}
 use Rattle.std.specs.Prelude.{nat_le}
 use Rattle.wire.specs.declared.message.Message.{Message as Wire}
 use Rattle.wire.specs.declared.message.Message.TheVariants as wire

@@ -16,11 +16,11 @@ use Rattle.harp_base.specs.declared.state.Role.TheVariants as part
 use Rattle.harp_cells.specs.Effect.{Cells}
 use Rattle.harp_store.specs.Disk.{Moments, after_step, cells_told, reads}
 use Rattle.harp_store.specs.Mark.{MarkFields, SavedNumbers, first_mark}
-use Rattle.kept_log.proofs.Booting.{rests_held}
-use Rattle.kept_log.specs.Boots.{rests, role_of as role_booted, saved_of, takes_saved}
-use Rattle.kept_log.specs.Kept.{held_in, lb_in, log_in}
-use Rattle.kept_log.specs.declared.kept.Kept.{Kept}
-use Rattle.kept_log.specs.declared.kept.Kept.TheVariants as kept
+use Rattle.idle_log.proofs.Booting.{rests_held}
+use Rattle.idle_log.specs.Boots.{rests, role_of as role_booted, saved_of, takes_saved}
+use Rattle.idle_log.specs.Kept.{held_in, lb_in, log_in}
+use Rattle.idle_log.specs.declared.kept.Kept.{Kept}
+use Rattle.idle_log.specs.declared.kept.Kept.TheVariants as kept
 use Rattle.node.specs.Boot.{HasBase, HoldSaved, HoldWhole, after_boot, boot_mark, booted_disk, booted_stock, booted_without, has_boot_mark, mark_before}
 use Rattle.node.specs.Node.{NodeValue, mark_with, rested_with, saved_with, server}
 use Rattle.node.specs.State.{role_of}

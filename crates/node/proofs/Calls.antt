@@ -12,10 +12,10 @@ use Rattle.group_rules.specs.Said.{answered_by, answers_said, refusals_said, ref
 use Rattle.group_rules.specs.State.{Message, Server}
 use Rattle.harp_base.specs.declared.peer.Peer.{Peer}
 use Rattle.node.specs.Step.{Steps}
-use Rattle.outputs.specs.Makes.{IsMute, Makes, with_moves}
-use Rattle.outputs.specs.Said.{Said, answered, in_turn, nothing, refused, said}
-use Rattle.outputs.specs.declared.outputs.Outputs.{Outputs}
-use Rattle.outputs.proofs.Makes.{makes_then, same_said}
+use Rattle.node_outputs.specs.Makes.{IsMute, Makes, with_moves}
+use Rattle.node_outputs.specs.Said.{Said, answered, in_turn, nothing, refused, said}
+use Rattle.node_outputs.specs.declared.outputs.Outputs.{Outputs}
+use Rattle.node_outputs.proofs.Makes.{makes_then, same_said}
 
 -- ---- moves that answer and refuse nobody
 

@@ -18,9 +18,9 @@ use Rattle.node.specs.State.{CollectsStill}
 use Rattle.node.specs.declared.state.State.{State}
 use Rattle.node.specs.declared.state.Task.{Task}
 use Rattle.node.specs.declared.state.Task.TheVariants as task
-use Rattle.outputs.specs.Makes.{Makes}
-use Rattle.outputs.specs.Said.{said}
-use Rattle.outputs.specs.declared.outputs.Outputs.{Outputs}
+use Rattle.node_outputs.specs.Makes.{Makes}
+use Rattle.node_outputs.specs.Said.{said}
+use Rattle.node_outputs.specs.declared.outputs.Outputs.{Outputs}
 use Rattle.promise.specs.Promise.{HorizonValue}
 use Rattle.view_form.specs.Choice.{Collected, chosen_at, collected, report, reports}
 use Rattle.view_form.specs.declared.join.JoinInfo.{JoinInfo}

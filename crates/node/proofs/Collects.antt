@@ -22,18 +22,18 @@ use Rattle.harp_store.specs.Mark.{MarkFields}
 use Rattle.node.proofs.Accepts.{silent_telling}
 use Rattle.node.proofs.Calls.{AreSilent, mute}
 use Rattle.node.proofs.Saying.{unsaid}
-use Rattle.kept_log.specs.Kept.{plan_of}
-use Rattle.kept_log.specs.declared.form.Form.{Form as Form'}
+use Rattle.idle_log.specs.Kept.{plan_of}
+use Rattle.idle_log.specs.declared.form.Form.{Form as Form'}
 use Rattle.node.specs.Collecting.{choosing}
 use Rattle.node.specs.Disk.{MayLeave, disk_after, marked_by, write_mark}
 use Rattle.node.specs.Node.{NodeValue, server, value}
 use Rattle.node.specs.declared.state.State.{State}
 use Rattle.node.specs.declared.state.Task.{Task}
 use Rattle.node.specs.declared.state.Task.TheVariants as task
-use Rattle.outputs.proofs.Makes.{makes_then}
-use Rattle.outputs.specs.Makes.{IsMute, Makes}
-use Rattle.outputs.specs.Said.{said}
-use Rattle.outputs.specs.declared.outputs.Outputs.{Outputs}
+use Rattle.node_outputs.proofs.Makes.{makes_then}
+use Rattle.node_outputs.specs.Makes.{IsMute, Makes}
+use Rattle.node_outputs.specs.Said.{said}
+use Rattle.node_outputs.specs.declared.outputs.Outputs.{Outputs}
 use Rattle.promise.specs.Promise.{HorizonValue}
 use Rattle.view_form.specs.Choice.{Collected, choice, chosen_at, collected, plan, report, reports}
 use Rattle.view_form.specs.declared.join.JoinInfo.{JoinInfo}

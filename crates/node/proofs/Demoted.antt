@@ -17,10 +17,10 @@ use Rattle.harp_base.specs.declared.server.ServerId.{ServerId}
 use Rattle.harp_base.specs.declared.state.Role.TheVariants as part
 use Rattle.harp_store.specs.Disk.{MayHaveMade, Moments, after_step, with_mark}
 use Rattle.harp_store.specs.Mark.{MarkFields}
-use Rattle.kept_log.specs.Kept.{IsPlaced, cp_in, held_in, with_kept}
-use Rattle.kept_log.specs.Pulls.{keeps_of, needless}
-use Rattle.kept_log.specs.declared.form.Form.{Form}
-use Rattle.kept_log.specs.declared.kept.Kept.{Kept}
+use Rattle.idle_log.specs.Kept.{IsPlaced, cp_in, held_in, with_kept}
+use Rattle.idle_log.specs.Pulls.{keeps_of, needless}
+use Rattle.idle_log.specs.declared.form.Form.{Form}
+use Rattle.idle_log.specs.declared.kept.Kept.{Kept}
 use Rattle.node.specs.Demoting.{GoesOn}
 use Rattle.node.specs.Disk.{MayLeave, disk_after, marked, marked_by}
 use Rattle.node.proofs.Heeds.{none_of_two}
@@ -33,10 +33,10 @@ use Rattle.node.specs.declared.state.State.{State}
 use Rattle.node.specs.declared.state.State.TheVariants as state
 use Rattle.node.specs.declared.state.Task.{Task}
 use Rattle.node.specs.declared.state.Task.TheVariants as task
-use Rattle.outputs.specs.Makes.{Makes, with_moves}
-use Rattle.outputs.specs.Said.{said}
-use Rattle.outputs.specs.declared.outputs.Outputs.{Outputs}
-use Rattle.outputs.proofs.Makes.{same_said}
+use Rattle.node_outputs.specs.Makes.{Makes, with_moves}
+use Rattle.node_outputs.specs.Said.{said}
+use Rattle.node_outputs.specs.declared.outputs.Outputs.{Outputs}
+use Rattle.node_outputs.proofs.Makes.{same_said}
 use Rattle.promise.specs.Promise.{HorizonValue}
 use Rattle.view_form.proofs.Views.{view_back}
 use Rattle.volatile_log.specs.Log.{StagedValue}

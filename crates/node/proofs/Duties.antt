@@ -14,9 +14,9 @@ use Rattle.node.specs.Node.{NodeValue, server, value}
 use Rattle.node.specs.declared.state.State.{State}
 use Rattle.node.specs.declared.state.Task.{Task}
 use Rattle.node.specs.declared.state.Task.TheVariants as task
-use Rattle.outputs.specs.Makes.{Makes}
-use Rattle.outputs.specs.Said.{said}
-use Rattle.outputs.specs.declared.outputs.Outputs.{Outputs}
+use Rattle.node_outputs.specs.Makes.{Makes}
+use Rattle.node_outputs.specs.Said.{said}
+use Rattle.node_outputs.specs.declared.outputs.Outputs.{Outputs}
 use Rattle.promise.specs.Promise.{HorizonValue}
 use Rattle.view_form.specs.Choice.{Collected, report}
 use Rattle.view_form.specs.declared.join.JoinInfo.{JoinInfo}

@@ -11,11 +11,11 @@ use Rattle.group_rules.specs.Serving.{gives, on_fetch, serving_accepted, serving
 use Rattle.group_rules.specs.State.{Give, Server, top}
 use Rattle.harp_base.specs.declared.server.ServerId.{ServerId}
 use Rattle.harp_store.specs.Mark.{MarkFields}
-use Rattle.kept_log.specs.Gives.{GivesFound, given_moves}
-use Rattle.kept_log.specs.Kept.{log_in, with_kept}
-use Rattle.kept_log.specs.declared.form.Form.{Form}
-use Rattle.kept_log.specs.declared.kept.Kept.{Kept}
-use Rattle.log_laws.specs.Laws.{with_log}
+use Rattle.idle_log.specs.Gives.{GivesFound, given_moves}
+use Rattle.idle_log.specs.Kept.{log_in, with_kept}
+use Rattle.idle_log.specs.declared.form.Form.{Form}
+use Rattle.idle_log.specs.declared.kept.Kept.{Kept}
+use Rattle.idle_log.specs.LogLaws.{with_log}
 use Rattle.node.proofs.Sent.{AreSent, sent_made}
 use Rattle.node.specs.Node.{NodeValue, server, value}
 use Rattle.node.specs.Serving.{AreSizedTo, FindsGiven, IsSized, last_served}
@@ -23,12 +23,12 @@ use Rattle.node.specs.declared.state.Joining.{Joining}
 use Rattle.node.specs.declared.state.State.{State}
 use Rattle.node.specs.declared.state.State.TheVariants as state
 use Rattle.node.specs.declared.state.Task.{Task}
-use Rattle.outputs.specs.Makes.{Makes}
-use Rattle.outputs.specs.Said.{said}
-use Rattle.outputs.specs.declared.outputs.Outputs.{Outputs}
+use Rattle.node_outputs.specs.Makes.{Makes}
+use Rattle.node_outputs.specs.Said.{said}
+use Rattle.node_outputs.specs.declared.outputs.Outputs.{Outputs}
 use Rattle.promise.specs.Promise.{HorizonValue}
-use Rattle.view_replica.specs.Following.{Following}
-use Rattle.view_replica.specs.Leading.{Leading}
+use Rattle.replica.specs.Following.{Following}
+use Rattle.replica.specs.Leading.{Leading}
 use Rattle.volatile_log.specs.Log.{StagedValue}
 
 -- ---- the records of each state's log

@@ -13,9 +13,9 @@ use Rattle.group_rules.specs.State.{Fetch, Plan, Pulls, Server}
 use Rattle.group_rules.specs.Names.{place_of}
 use Rattle.harp_base.specs.declared.server.ServerId.{ServerId}
 use Rattle.harp_store.specs.Mark.{MarkFields}
-use Rattle.kept_log.specs.Kept.{plan_of, with_kept}
-use Rattle.kept_log.specs.declared.form.Form.{Form}
-use Rattle.kept_log.specs.declared.kept.Kept.{Kept}
+use Rattle.idle_log.specs.Kept.{plan_of, with_kept}
+use Rattle.idle_log.specs.declared.form.Form.{Form}
+use Rattle.idle_log.specs.declared.kept.Kept.{Kept}
 use Rattle.node.proofs.Calls.{mute}
 use Rattle.node.proofs.Saying.{unsaid}
 use Rattle.node.specs.Forming.{joined_with, pulling_with}
@@ -27,10 +27,10 @@ use Rattle.node.specs.declared.state.State.TheVariants as state
 use Rattle.node.specs.declared.state.Task.{Task}
 use Rattle.promise.specs.Promise.{HorizonValue}
 use Rattle.volatile_log.specs.Log.{StagedValue}
-use Rattle.outputs.proofs.Makes.{makes_then}
-use Rattle.outputs.specs.Makes.{Makes}
-use Rattle.outputs.specs.Said.{said}
-use Rattle.outputs.specs.declared.outputs.Outputs.{Outputs}
+use Rattle.node_outputs.proofs.Makes.{makes_then}
+use Rattle.node_outputs.specs.Makes.{Makes}
+use Rattle.node_outputs.specs.Said.{said}
+use Rattle.node_outputs.specs.declared.outputs.Outputs.{Outputs}
 
 -- ---- which moves
 

@@ -14,7 +14,7 @@ use Rattle.harp_base.specs.declared.server.ServerId.{ServerId}
 use Rattle.harp_base.specs.declared.state.Held.{Held as Had}
 use Rattle.harp_store.specs.Disk.{Moments}
 use Rattle.harp_store.specs.Mark.{MarkFields}
-use Rattle.kept_log.specs.Kept.{plan_of}
+use Rattle.idle_log.specs.Kept.{plan_of}
 use Rattle.node.specs.Disk.{MayLeave, marked_by}
 use Rattle.node.specs.Node.{NodeValue}
 use Rattle.node.specs.Serving.{IsSized}
@@ -24,10 +24,10 @@ use Rattle.node.proofs.Marks.{IsAlike, alike_none, alike_on, alike_same}
 use Rattle.node.proofs.Mute.{IsNoAck, KeepsMark, mute_rule, rule_unmarked}
 use Rattle.node.proofs.Sent.{none_made}
 use Rattle.node.specs.Stock.{Stock, Stocks}
-use Rattle.outputs.specs.Makes.{Makes}
-use Rattle.outputs.specs.Messages.{heard}
-use Rattle.outputs.specs.Records.{carried}
-use Rattle.outputs.specs.declared.outputs.Outputs.{Outputs}
+use Rattle.node_outputs.specs.Makes.{Makes}
+use Rattle.node_outputs.specs.Messages.{heard}
+use Rattle.node_outputs.specs.Records.{carried}
+use Rattle.node_outputs.specs.declared.outputs.Outputs.{Outputs}
 use Rattle.view_form.specs.Choice.{report}
 use Rattle.wire.specs.declared.message.Message.{Message as Wire}
 use Rattle.wire.specs.declared.storers.Storers.{Storers}

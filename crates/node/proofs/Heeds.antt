@@ -14,8 +14,8 @@ use Rattle.harp_base.specs.View.{View}
 use Rattle.harp_base.specs.declared.peer.Peer.{Peer}
 use Rattle.harp_base.specs.declared.server.ServerId.{ServerId}
 use Rattle.harp_store.specs.Mark.{MarkFields}
-use Rattle.kept_log.specs.Kept.{plan_of}
-use Rattle.kept_log.specs.declared.form.Form.{Form}
+use Rattle.idle_log.specs.Kept.{plan_of}
+use Rattle.idle_log.specs.declared.form.Form.{Form}
 use Rattle.node.proofs.InView.{leads}
 use Rattle.node.proofs.Sent.{none_made}
 use Rattle.node.specs.Active.{is_followed, is_led}
@@ -24,14 +24,14 @@ use Rattle.node.specs.State.{Fits, mode_in, plan_in}
 use Rattle.node.specs.declared.state.State.{State}
 use Rattle.node.specs.declared.state.State.TheVariants as state
 use Rattle.node.specs.declared.state.Task.{Task}
-use Rattle.outputs.specs.Makes.{Makes}
-use Rattle.outputs.specs.declared.outputs.Outputs.{Outputs}
+use Rattle.node_outputs.specs.Makes.{Makes}
+use Rattle.node_outputs.specs.declared.outputs.Outputs.{Outputs}
 use Rattle.promise.specs.Promise.{HorizonValue}
-use Rattle.view_replica.proofs.Lists.{entries_length}
-use Rattle.view_replica.specs.Following.{Following, leader_of, mode_followed, storers_followed}
-use Rattle.view_replica.specs.Leading.{Leading, mode_led, storers_led}
-use Rattle.view_replica.specs.declared.partner.Ahead.{Ahead}
-use Rattle.view_replica.specs.declared.partner.Ahead.TheVariants as ahead
+use Rattle.replica.proofs.Lists.{entries_length}
+use Rattle.replica.specs.Following.{Following, leader_of, mode_followed, storers_followed}
+use Rattle.replica.specs.Leading.{Leading, mode_led, storers_led}
+use Rattle.replica.specs.declared.partner.Ahead.{Ahead}
+use Rattle.replica.specs.declared.partner.Ahead.TheVariants as ahead
 
 -- ---- tests that fail
 

@@ -8,10 +8,10 @@ use Rattle.group_rules.specs.State.{Mode, Plan, Server}
 use Rattle.group_rules.proofs.Tests.{if_not}
 use Rattle.harp_base.specs.declared.server.ServerId.{ServerId}
 use Rattle.harp_store.specs.Mark.{MarkFields}
-use Rattle.kept_log.specs.declared.form.Form.{Form}
+use Rattle.idle_log.specs.declared.form.Form.{Form}
 use Rattle.promise.specs.Promise.{HorizonValue}
-use Rattle.view_replica.specs.Following.{Following, mode_followed}
-use Rattle.view_replica.specs.Leading.{Leading, mode_led}
+use Rattle.replica.specs.Following.{Following, mode_followed}
+use Rattle.replica.specs.Leading.{Leading, mode_led}
 use Rattle.node.specs.Node.{NodeValue, value}
 use Rattle.node.specs.State.{mode_in}
 use Rattle.node.specs.declared.state.State.{State}

@@ -15,19 +15,19 @@ use Rattle.harp_base.specs.Limits.{clock_skew}
 use Rattle.harp_base.specs.declared.peer.Peer.{Peer}
 use Rattle.harp_base.specs.declared.server.ServerId.{ServerId}
 use Rattle.harp_store.specs.Mark.{MarkFields}
-use Rattle.kept_log.specs.Kept.{AtBase, plan_of}
-use Rattle.kept_log.specs.declared.form.Form.{Form}
+use Rattle.idle_log.specs.Kept.{AtBase, plan_of}
+use Rattle.idle_log.specs.declared.form.Form.{Form}
 use Rattle.node.proofs.Led.{AreQuiet, as_led, leads_on}
 use Rattle.node.specs.Node.{NodeValue, server, value}
 use Rattle.node.specs.State.{Fits, IsFollowing, IsLeading, outer}
 use Rattle.node.specs.declared.state.State.{State}
 use Rattle.node.specs.declared.state.State.TheVariants as state
 use Rattle.node.specs.declared.state.Task.{Task}
-use Rattle.outputs.specs.Makes.{Makes}
-use Rattle.outputs.specs.declared.outputs.Outputs.{Outputs}
+use Rattle.node_outputs.specs.Makes.{Makes}
+use Rattle.node_outputs.specs.declared.outputs.Outputs.{Outputs}
 use Rattle.promise.specs.Promise.{HorizonValue}
-use Rattle.view_replica.specs.Following.{Following, followed, place_followed, settled, with_next}
-use Rattle.view_replica.specs.Leading.{Leading, led, place_led}
+use Rattle.replica.specs.Following.{Following, followed, place_followed, settled, with_next}
+use Rattle.replica.specs.Leading.{Leading, led, place_led}
 use Rattle.volatile_log.specs.Log.{LogValue, dropped_to, with_record}
 
 -- ---- the rules of a leader are of quiet moves

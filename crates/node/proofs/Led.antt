@@ -8,14 +8,14 @@ use Rattle.group_rules.specs.Places.{Place, all_of, leader}
 use Rattle.group_rules.specs.State.{Plan, Server}
 use Rattle.harp_base.specs.declared.server.ServerId.{ServerId}
 use Rattle.harp_store.specs.Mark.{MarkFields}
-use Rattle.kept_log.specs.Kept.{plan_of}
-use Rattle.kept_log.specs.declared.form.Form.{Form}
+use Rattle.idle_log.specs.Kept.{plan_of}
+use Rattle.idle_log.specs.declared.form.Form.{Form}
 use Rattle.node.specs.Node.{server, value}
 use Rattle.node.specs.State.{IsLeading, outer}
 use Rattle.node.specs.declared.state.State.TheVariants as state
 use Rattle.node.specs.declared.state.Task.{Task}
 use Rattle.promise.specs.Promise.{HorizonValue}
-use Rattle.view_replica.specs.Leading.{Leading, Outer, led, place_led, storers_led}
+use Rattle.replica.specs.Leading.{Leading, Outer, led, place_led, storers_led}
 
 -- ---- what the moves of an active server leave
 

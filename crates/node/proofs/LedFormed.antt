@@ -13,8 +13,8 @@ use Rattle.group_rules.specs.Replicate.{is_in_view}
 use Rattle.group_rules.specs.State.{Server}
 use Rattle.harp_base.specs.declared.server.ServerId.{ServerId}
 use Rattle.harp_store.specs.Mark.{MarkFields}
-use Rattle.kept_log.specs.Kept.{plan_of}
-use Rattle.kept_log.specs.declared.form.Form.{Form}
+use Rattle.idle_log.specs.Kept.{plan_of}
+use Rattle.idle_log.specs.declared.form.Form.{Form}
 use Rattle.node.proofs.Accepts.{HearsFormed}
 use Rattle.node.proofs.Hears.{heeds_none}
 use Rattle.node.proofs.Led.{AreQuiet, as_led, leads_on}
@@ -24,9 +24,9 @@ use Rattle.node.specs.declared.state.State.{State}
 use Rattle.node.specs.declared.state.State.TheVariants as state
 use Rattle.node.specs.declared.state.Task.{Task}
 use Rattle.promise.specs.Promise.{HorizonValue}
-use Rattle.view_replica.specs.Leading.{Leading, Outer, led, mode_led, partner_of, place_led, storers_led}
-use Rattle.view_replica.specs.declared.leader.Beside.{Beside}
-use Rattle.view_replica.specs.declared.leader.Beside.TheVariants as beside
+use Rattle.replica.specs.Leading.{Leading, Outer, led, mode_led, partner_of, place_led, storers_led}
+use Rattle.replica.specs.declared.leader.Beside.{Beside}
+use Rattle.replica.specs.declared.leader.Beside.TheVariants as beside
 
 quiet_formed : (s : Server Entry) (from : Place) (v lb : ℕ) → AreQuiet (on_formed s from v lb)
 quiet_formed s from v lb =

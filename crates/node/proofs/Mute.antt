@@ -20,7 +20,7 @@ use Rattle.node.proofs.Collects.{silent_form, silent_forms}
 use Rattle.node.proofs.Marks.{none_if, none_then, opens_unmarked}
 use Rattle.node.proofs.Takes.{silent_if, silent_open, silent_then}
 use Rattle.node.specs.Disk.{write_mark}
-use Rattle.outputs.specs.Makes.{IsMute}
+use Rattle.node_outputs.specs.Makes.{IsMute}
 
 pub silent_either : (b : Bool) (ms ns : List (Move Entry)) → AreSilent ms → AreSilent ns
     → AreSilent (if b then ms else ns)

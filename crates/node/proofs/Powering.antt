@@ -13,9 +13,9 @@ use Rattle.group_rules.specs.State.{Empty, Held, Log, Lost, Mark, Saved, Server,
 use Rattle.group_rules.specs.Step.{saves}
 use Rattle.harp_base.specs.declared.server.ServerId.{ServerId}
 use Rattle.harp_store.specs.Mark.{MarkFields, SavedNumbers}
-use Rattle.kept_log.specs.Kept.{ap_in as kept_ap, base_in as kept_base, cp_in as kept_cp, held_in as kept_held, items_in as kept_items}
-use Rattle.kept_log.specs.declared.kept.Kept.{Kept}
-use Rattle.kept_log.specs.declared.kept.Kept.TheVariants as kept
+use Rattle.idle_log.specs.Kept.{ap_in as kept_ap, base_in as kept_base, cp_in as kept_cp, held_in as kept_held, items_in as kept_items}
+use Rattle.idle_log.specs.declared.kept.Kept.{Kept}
+use Rattle.idle_log.specs.declared.kept.Kept.TheVariants as kept
 use Rattle.node.specs.Node.{NodeValue, mark_with, saved_with, server, value}
 use Rattle.node.specs.Power.{mark_left, saved_log, saves_log, saving_mark}
 use Rattle.node.specs.State.{IsKept, ap_in, base_in, cp_in, held_in, items_in}

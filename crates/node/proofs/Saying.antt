@@ -9,10 +9,10 @@ use Rattle.group_rules.specs.State.{Server}
 use Rattle.harp_store.specs.Disk.{Moments}
 use Rattle.harp_store.specs.Mark.{MarkFields}
 use Rattle.node.specs.Disk.{MayLeave, disk_after, marked_by}
-use Rattle.outputs.proofs.Makes.{same_said}
-use Rattle.outputs.specs.Makes.{Makes}
-use Rattle.outputs.specs.Said.{Said}
-use Rattle.outputs.specs.declared.outputs.Outputs.{Outputs}
+use Rattle.node_outputs.proofs.Makes.{same_said}
+use Rattle.node_outputs.specs.Makes.{Makes}
+use Rattle.node_outputs.specs.Said.{Said}
+use Rattle.node_outputs.specs.declared.outputs.Outputs.{Outputs}
 
 -- what was said, and then nothing
 abbrev pub and_nothing : Said → Said

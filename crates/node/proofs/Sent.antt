@@ -15,13 +15,13 @@ use Rattle.group_rules.specs.Limits.{is_pulls}
 use Rattle.harp_base.specs.View.{View}
 use Rattle.harp_base.specs.declared.peer.Peer.{Peer}
 use Rattle.node.proofs.Calls.{AreSilent, mute}
-use Rattle.outputs.specs.Makes.{IsMute, Makes, with_moves}
-use Rattle.outputs.specs.Messages.{as_heard}
-use Rattle.outputs.specs.Said.{Said, answered, answers_of, in_turn, said}
-use Rattle.outputs.specs.declared.outputs.Answered.{Answered}
-use Rattle.outputs.specs.declared.outputs.Outputs.{Outputs}
-use Rattle.outputs.proofs.Makes.{same_said}
-use Rattle.view_replica.proofs.Spoken.{AreSpoken, spoken, spoken_acts}
+use Rattle.node_outputs.specs.Makes.{IsMute, Makes, with_moves}
+use Rattle.node_outputs.specs.Messages.{as_heard}
+use Rattle.node_outputs.specs.Said.{Said, answered, answers_of, in_turn, said}
+use Rattle.node_outputs.specs.declared.outputs.Answered.{Answered}
+use Rattle.node_outputs.specs.declared.outputs.Outputs.{Outputs}
+use Rattle.node_outputs.proofs.Makes.{same_said}
+use Rattle.replica.proofs.Spoken.{AreSpoken, spoken, spoken_acts}
 
 abbrev pub IsSent : Move Entry → Type 0
 IsSent (Sending to m) = Unit {0}

@@ -11,8 +11,8 @@ use Rattle.harp_base.specs.Fields.{u32_bytes, u64_bytes}
 use Rattle.harp_base.specs.Names.{cred_bytes, view_bytes}
 use Rattle.harp_base.specs.View.{View}
 use Rattle.harp_cells.specs.declared.change.Change.{Change}
-use Rattle.log_laws.specs.Laws.{Sized}
-use Rattle.new_record.specs.Records.{record_of}
+use Rattle.idle_log.specs.LogLaws.{Sized}
+use Rattle.tree_log.specs.Records.{record_of}
 use Rattle.node.specs.Node.{NodeValue}
 use Rattle.node.specs.Serving.{AreSized, entry_size}
 use Rattle.node.specs.Stored.{log_of}

@@ -18,9 +18,9 @@ use Rattle.node.proofs.Marks.{IsAlike, alike_same, alike_then, bases_unmarked, n
 use Rattle.node.proofs.Mute.{none_either, silent_either}
 use Rattle.node.proofs.Sent.{AreSent, sent_again, sent_duties, sent_silent, sent_then}
 use Rattle.node.proofs.Takes.{silent_open, silent_then}
-use Rattle.outputs.specs.Makes.{IsMute, Makes}
-use Rattle.outputs.specs.Said.{nothing, said}
-use Rattle.outputs.specs.declared.outputs.Outputs.{Outputs}
+use Rattle.node_outputs.specs.Makes.{IsMute, Makes}
+use Rattle.node_outputs.specs.Said.{nothing, said}
+use Rattle.node_outputs.specs.declared.outputs.Outputs.{Outputs}
 
 -- ---- ticks
 

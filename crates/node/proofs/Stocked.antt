@@ -20,10 +20,10 @@ use Rattle.group_rules.specs.State.{Ack, Chose, Form, Plan, Report, Role, Server
 use Rattle.harp_base.specs.declared.peer.Peer.{Peer}
 use Rattle.harp_base.specs.declared.server.ServerId.{ServerId}
 use Rattle.harp_store.specs.Mark.{MarkFields}
-use Rattle.kept_log.specs.Kept.{log_in, plan_of}
-use Rattle.kept_log.specs.Pulls.{adopted_records}
-use Rattle.kept_log.specs.declared.form.Form.{Form as Form'}
-use Rattle.kept_log.specs.declared.kept.Kept.{Kept}
+use Rattle.idle_log.specs.Kept.{log_in, plan_of}
+use Rattle.idle_log.specs.Pulls.{adopted_records}
+use Rattle.idle_log.specs.declared.form.Form.{Form as Form'}
+use Rattle.idle_log.specs.declared.kept.Kept.{Kept}
 use Rattle.node.proofs.Heeds.{heeds_none}
 use Rattle.node.proofs.Led.{rebased}
 use Rattle.node.proofs.Sent.{sent_each}
@@ -40,9 +40,9 @@ use Rattle.node.specs.declared.state.Task.TheVariants as task
 use Rattle.harp_base.specs.View.{View}
 use Rattle.promise.specs.Promise.{HorizonValue}
 use Rattle.std.specs.Prelude.{Option}
-use Rattle.view_replica.proofs.Follows.{same_place}
-use Rattle.view_replica.specs.Following.{Following, next_of, settled}
-use Rattle.view_replica.specs.Leading.{Leading, Outer, led, mode_led, place_led}
+use Rattle.replica.proofs.Follows.{same_place}
+use Rattle.replica.specs.Following.{Following, next_of, settled}
+use Rattle.replica.specs.Leading.{Leading, Outer, led, mode_led, place_led}
 use Rattle.volatile_log.specs.Log.{LogValue, dropped_to, top as top_of}
 
 -- ---- accepting, and a choice

@@ -5,10 +5,10 @@ use Rattle.group_rules.specs.Places.{Zero, One, Two, Pair, Place, S01, S02, S12,
 use Rattle.group_rules.specs.State.{Follows, Leads, Outside, Role}
 use Rattle.node.specs.Disk.{part_of}
 use Rattle.node.specs.State.{role_of}
-use Rattle.outputs.specs.Messages.{pair_heard}
-use Rattle.view_replica.specs.Leading.{partner_of, storers_led}
-use Rattle.view_replica.specs.declared.leader.Beside.{Beside}
-use Rattle.view_replica.specs.declared.leader.Beside.TheVariants as beside
+use Rattle.node_outputs.specs.Messages.{pair_heard}
+use Rattle.replica.specs.Leading.{partner_of, storers_led}
+use Rattle.replica.specs.declared.leader.Beside.{Beside}
+use Rattle.replica.specs.declared.leader.Beside.TheVariants as beside
 use Rattle.wire.specs.Storers.{leader_of as leader_told, partner_of as partner_told}
 use Rattle.wire.specs.declared.storers.Storers.{Storers}
 use Rattle.wire.specs.declared.storers.Storers.TheVariants as storers

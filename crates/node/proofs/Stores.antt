@@ -23,13 +23,13 @@ use Rattle.node.specs.Stored.{changes_made, flushes, log_in, log_of, stores, wit
 use Rattle.node.specs.declared.state.State.{State}
 use Rattle.node.specs.declared.state.State.TheVariants as state
 use Rattle.node.specs.declared.state.Task.{Task}
-use Rattle.outputs.proofs.Makes.{same_said}
-use Rattle.outputs.specs.Makes.{Makes}
-use Rattle.outputs.specs.Said.{Said, said}
-use Rattle.outputs.specs.declared.outputs.Outputs.{Outputs}
+use Rattle.node_outputs.proofs.Makes.{same_said}
+use Rattle.node_outputs.specs.Makes.{Makes}
+use Rattle.node_outputs.specs.Said.{Said, said}
+use Rattle.node_outputs.specs.declared.outputs.Outputs.{Outputs}
 use Rattle.promise.specs.Promise.{HorizonValue}
 use Rattle.tree_log.specs.Applying.{applied_by, changes_by}
-use Rattle.view_replica.specs.Leading.{Outer}
+use Rattle.replica.specs.Leading.{Outer}
 use Rattle.volatile_log.specs.Log.{LogValue, applied_to, lowered_to}
 
 -- ---- the log as the node tells it

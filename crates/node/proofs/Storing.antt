@@ -2,10 +2,10 @@
 use Rattle.std.proofs.Common.{◌≡◌, ◌+◌, true, false, refl, ap, sym, ◌∙◌, arith, true≢false}
 use Rattle.group_rules.specs.Places.{Place, is_p2, same}
 use Rattle.group_rules.specs.State.{Empty, Plan}
-use Rattle.kept_log.specs.Kept.{IsPlaced, held_in}
-use Rattle.kept_log.specs.Pulls.{needless}
-use Rattle.kept_log.specs.declared.kept.Kept.{Kept}
-use Rattle.kept_log.specs.declared.kept.Kept.TheVariants as kept
+use Rattle.idle_log.specs.Kept.{IsPlaced, held_in}
+use Rattle.idle_log.specs.Pulls.{needless}
+use Rattle.idle_log.specs.declared.kept.Kept.{Kept}
+use Rattle.idle_log.specs.declared.kept.Kept.TheVariants as kept
 use Rattle.node.specs.State.{IsPulling}
 use Rattle.volatile_log.specs.Log.{StagedValue}
 

@@ -12,10 +12,10 @@ use Rattle.harp_base.specs.Limits.{clock_skew}
 use Rattle.harp_base.specs.declared.peer.Peer.{Peer}
 use Rattle.node.proofs.Calls.{AreSilent, mute}
 use Rattle.node.proofs.Heeds.{leaves}
-use Rattle.outputs.specs.Makes.{IsMute, Makes, with_moves}
-use Rattle.outputs.specs.Said.{Said, said}
-use Rattle.outputs.specs.declared.outputs.Outputs.{Outputs}
-use Rattle.outputs.proofs.Makes.{makes_then, same_said}
+use Rattle.node_outputs.specs.Makes.{IsMute, Makes, with_moves}
+use Rattle.node_outputs.specs.Said.{Said, said}
+use Rattle.node_outputs.specs.declared.outputs.Outputs.{Outputs}
+use Rattle.node_outputs.proofs.Makes.{makes_then, same_said}
 
 pub silent_if : (b : Bool) (ms : List (Move Entry)) → AreSilent ms
     → AreSilent (if b then ms else [])

@@ -17,9 +17,9 @@ use Rattle.harp_base.specs.Limits.{log_room}
 use Rattle.harp_base.specs.View.{View}
 use Rattle.harp_base.specs.declared.server.ServerId.{ServerId}
 use Rattle.harp_store.specs.Mark.{MarkFields}
-use Rattle.kept_log.specs.Kept.{plan_of, with_kept}
-use Rattle.kept_log.specs.declared.form.Form.{Form}
-use Rattle.kept_log.specs.declared.kept.Kept.{Kept}
+use Rattle.idle_log.specs.Kept.{plan_of, with_kept}
+use Rattle.idle_log.specs.declared.form.Form.{Form}
+use Rattle.idle_log.specs.declared.kept.Kept.{Kept}
 use Rattle.node.proofs.Heeds.{no_first}
 use Rattle.node.specs.Active.{is_followed, is_led}
 use Rattle.node.specs.Node.{NodeValue, value}
@@ -28,12 +28,12 @@ use Rattle.node.specs.declared.state.Joining.{Joining}
 use Rattle.node.specs.declared.state.State.{State}
 use Rattle.node.specs.declared.state.State.TheVariants as state
 use Rattle.node.specs.declared.state.Task.{Task}
-use Rattle.outputs.specs.Messages.{pair_heard}
+use Rattle.node_outputs.specs.Messages.{pair_heard}
 use Rattle.promise.specs.Promise.{HorizonValue}
 use Rattle.view_form.proofs.Views.{view_back}
-use Rattle.view_replica.proofs.Lists.{entries_length}
-use Rattle.view_replica.specs.Following.{Following}
-use Rattle.view_replica.specs.Leading.{Leading}
+use Rattle.replica.proofs.Lists.{entries_length}
+use Rattle.replica.specs.Following.{Following}
+use Rattle.replica.specs.Leading.{Leading}
 use Rattle.volatile_log.specs.Log.{LogValue, top as top_of}
 use Rattle.wire.specs.Storers.{leader_of, partner_of}
 use Rattle.wire.specs.declared.storers.Storers.{Storers}

@@ -6,9 +6,9 @@ use Rattle.group_rules.specs.State.{Server}
 use Rattle.group_rules.specs.Tick.{again, duties, tick}
 use Rattle.node.proofs.InView.{leads}
 use Rattle.node.proofs.Sent.{mute_sent, sent_again, sent_duties, sent_then}
-use Rattle.outputs.specs.Makes.{Makes}
-use Rattle.outputs.specs.declared.outputs.Outputs.{Outputs}
-use Rattle.outputs.proofs.Makes.{makes_then}
+use Rattle.node_outputs.specs.Makes.{Makes}
+use Rattle.node_outputs.specs.declared.outputs.Outputs.{Outputs}
+use Rattle.node_outputs.proofs.Makes.{makes_then}
 
 pub ticks : (q : Place) (clock : ℕ) (s t : Server Entry) (p : Place)
     (before first second after : Outputs) → p ≡ q

@@ -24,10 +24,10 @@ use Rattle.harp_base.specs.declared.peer.Peer.{Peer}
 use Rattle.harp_base.specs.declared.server.ServerId.{ServerId}
 use Rattle.harp_store.specs.Disk.{Moments}
 use Rattle.harp_store.specs.Mark.{MarkFields}
-use Rattle.kept_log.proofs.Giving.{part_stands}
-use Rattle.kept_log.specs.Gives.{StandIn}
-use Rattle.kept_log.specs.declared.form.Form.{Form}
-use Rattle.new_record.specs.Records.{record_of}
+use Rattle.idle_log.proofs.Giving.{part_stands}
+use Rattle.idle_log.specs.Gives.{StandIn}
+use Rattle.idle_log.specs.declared.form.Form.{Form}
+use Rattle.tree_log.specs.Records.{record_of}
 use Rattle.node.proofs.Sizing.{are_sized}
 use Rattle.node.specs.Input.{FillsInput, FillsSized, input_of}
 use Rattle.node.specs.Serving.{AreSizedTo, entry_size, last_served}
@@ -44,19 +44,19 @@ use Rattle.node.specs.declared.state.State.TheVariants as state
 use Rattle.node.specs.declared.state.Task.{Task}
 use Rattle.promise.specs.Promise.{HorizonValue}
 use Rattle.tree_listing.specs.declared.listing.Listing.{Listing}
-use Rattle.view_replica.specs.Leading.{Leading}
-use Rattle.view_replica.specs.Resending.{sent_again}
+use Rattle.replica.specs.Leading.{Leading}
+use Rattle.replica.specs.Resending.{sent_again}
 use Rattle.wire.specs.declared.message.Message.TheVariants as wire
 use Rattle.node.proofs.Bare.{AreBare, bare_rule, bare_said}
 use Rattle.node.proofs.Sent.{sent_again as again_sent, sent_duties, sent_then}
 use Rattle.node.proofs.Stepped.{sent_beats}
 use Rattle.node.proofs.Stocks.{AreIdle, as_stock, idle_if, idle_open, idle_sent, idle_then, stock_then}
-use Rattle.outputs.specs.Makes.{Makes}
-use Rattle.outputs.specs.Messages.{heard}
-use Rattle.outputs.specs.Records.{records_sent}
-use Rattle.outputs.specs.Said.{nothing, said, waits_of}
-use Rattle.outputs.specs.declared.outputs.Outputs.{Outputs}
-use Rattle.view_replica.specs.Asking.{recorded, recorded_by}
+use Rattle.node_outputs.specs.Makes.{Makes}
+use Rattle.node_outputs.specs.Messages.{heard}
+use Rattle.node_outputs.specs.Records.{records_sent}
+use Rattle.node_outputs.specs.Said.{nothing, said, waits_of}
+use Rattle.node_outputs.specs.declared.outputs.Outputs.{Outputs}
+use Rattle.replica.specs.Asking.{recorded, recorded_by}
 use Rattle.wire.specs.declared.message.Message.{Message as Wire}
 
 -- ---- asks

@@ -13,12 +13,12 @@ use Rattle.harp_base.specs.declared.peer.Peer.{Peer}
 use Rattle.harp_store.specs.Disk.{Moments}
 use Rattle.node.specs.Node.{NodeValue, server}
 use Rattle.node.specs.Stored.{log_of}
-use Rattle.outputs.specs.Makes.{Makes}
-use Rattle.outputs.specs.Records.{records_sent}
-use Rattle.outputs.specs.Said.{waits_of}
-use Rattle.outputs.specs.declared.outputs.Outputs.{Outputs}
+use Rattle.node_outputs.specs.Makes.{Makes}
+use Rattle.node_outputs.specs.Records.{records_sent}
+use Rattle.node_outputs.specs.Said.{waits_of}
+use Rattle.node_outputs.specs.declared.outputs.Outputs.{Outputs}
 use Rattle.tree_log.specs.Reading.{HoldsTree}
-use Rattle.view_replica.specs.Asking.{appended, recorded}
+use Rattle.replica.specs.Asking.{appended, recorded}
 use Rattle.volatile_log.specs.Log.{top}
 
 -- whether the tree is read to answer an ask of a client at this clock: an open leader does so for

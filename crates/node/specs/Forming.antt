@@ -10,10 +10,10 @@ use Rattle.group_rules.specs.Places.{Place, Trio, leader, nobody, partner, same,
 use Rattle.group_rules.specs.State.{Formed, Joins, Plan, Pulls, Role, Server, no_plan}
 use Rattle.harp_base.specs.declared.server.ServerId.{ServerId}
 use Rattle.harp_store.specs.Mark.{MarkFields}
-use Rattle.kept_log.specs.Kept.{plan_of, with_kept}
-use Rattle.kept_log.specs.declared.form.Form.{Form}
-use Rattle.kept_log.specs.declared.kept.Kept.{Kept}
-use Rattle.log_laws.specs.Laws.{new_log}
+use Rattle.idle_log.specs.Kept.{plan_of, with_kept}
+use Rattle.idle_log.specs.declared.form.Form.{Form}
+use Rattle.idle_log.specs.declared.kept.Kept.{Kept}
+use Rattle.idle_log.specs.LogLaws.{new_log}
 use Rattle.node.specs.Disk.{part_of}
 use Rattle.node.specs.Node.{server, value}
 use Rattle.node.specs.State.{Fits, IsActive, heard_of, is_gone}

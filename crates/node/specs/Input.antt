@@ -13,7 +13,7 @@ use Rattle.node.specs.Stored.{log_of}
 use Rattle.node.specs.Taking.{Fills, input_in}
 use Rattle.node.specs.declared.input.Input.{Input}
 use Rattle.node.specs.declared.input.Input.TheVariants as input
-use Rattle.outputs.specs.Records.{carried}
+use Rattle.node_outputs.specs.Records.{carried}
 use Rattle.tree_log.specs.Reading.{HoldsTree, IsOfList}
 
 -- a client's message in place of a server's is nothing

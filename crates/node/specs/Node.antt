@@ -10,8 +10,8 @@ use Rattle.group_rules.specs.State.{Mark, Saved, Server, mark_of}
 use Rattle.harp_base.specs.declared.peer.Peer.{Peer}
 use Rattle.harp_base.specs.declared.server.ServerId.{ServerId}
 use Rattle.harp_store.specs.Mark.{MarkFields, SavedNumbers}
-use Rattle.kept_log.specs.Kept.{with_kept}
-use Rattle.kept_log.specs.declared.kept.Kept.{Kept}
+use Rattle.idle_log.specs.Kept.{with_kept}
+use Rattle.idle_log.specs.declared.kept.Kept.{Kept}
 use Rattle.node.specs.State.{ap_in, base_in, cached_in, cp_in, duty_of, heard_in, held_in, is_gone, items_in, mode_in, peers_in, plan_in, pulled_in, records_in, report_in, role_of, staged_in, told_in, wanted_in}
 use Rattle.node.specs.declared.state.State.{State}
 use Rattle.node.specs.declared.state.Task.{Task}

@@ -6,9 +6,9 @@ use Rattle.group_rules.specs.Names.{view_of}
 use Rattle.group_rules.specs.Places.{Place, all_of}
 use Rattle.group_rules.specs.Serving.{gives, serving_accepted, serving_joined}
 use Rattle.group_rules.specs.State.{Server, top}
-use Rattle.kept_log.specs.Gives.{given_moves}
-use Rattle.log_laws.specs.Laws.{Sized}
-use Rattle.new_record.specs.Records.{record_of}
+use Rattle.idle_log.specs.Gives.{given_moves}
+use Rattle.idle_log.specs.LogLaws.{Sized}
+use Rattle.tree_log.specs.Records.{record_of}
 use Rattle.node.specs.Node.{NodeValue, server}
 use Rattle.witness.specs.Serving.{record_size}
 

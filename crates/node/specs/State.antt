@@ -13,10 +13,10 @@ use Rattle.harp_base.specs.declared.state.Role.{Role as Part}
 use Rattle.harp_base.specs.declared.state.Role.TheVariants as part
 use Rattle.harp_base.specs.declared.trio.Trio.{Trio as Each}
 use Rattle.harp_store.specs.Mark.{MarkFields}
-use Rattle.kept_log.specs.Kept.{AtBase, IsPlaced, ap_in as kept_ap, base_in as kept_base, cp_in as kept_cp, held_in as kept_held, items_in as kept_items, lb_in, log_in, plan_of}
-use Rattle.kept_log.specs.Pulls.{CanTake, IsFor}
-use Rattle.kept_log.specs.declared.form.Form.{Form}
-use Rattle.kept_log.specs.declared.kept.Kept.{Kept}
+use Rattle.idle_log.specs.Kept.{AtBase, IsPlaced, ap_in as kept_ap, base_in as kept_base, cp_in as kept_cp, held_in as kept_held, items_in as kept_items, lb_in, log_in, plan_of}
+use Rattle.idle_log.specs.Pulls.{CanTake, IsFor}
+use Rattle.idle_log.specs.declared.form.Form.{Form}
+use Rattle.idle_log.specs.declared.kept.Kept.{Kept}
 use Rattle.node.specs.declared.state.Joining.{Joining}
 use Rattle.node.specs.declared.state.State.{State}
 use Rattle.node.specs.declared.state.State.TheVariants as state
@@ -24,8 +24,8 @@ use Rattle.node.specs.declared.state.Task.{Task}
 use Rattle.node.specs.declared.state.Task.TheVariants as task
 use Rattle.promise.specs.Promise.{HorizonValue}
 use Rattle.view_form.specs.Choice.{choice, report, reports}
-use Rattle.view_replica.specs.Following.{Following, leader_of, mode_followed, storers_followed}
-use Rattle.view_replica.specs.Leading.{Leading, Outer, heard_from, mode_led, partner_of, storers_led}
+use Rattle.replica.specs.Following.{Following, leader_of, mode_followed, storers_followed}
+use Rattle.replica.specs.Leading.{Leading, Outer, heard_from, mode_led, partner_of, storers_led}
 use Rattle.volatile_log.specs.Log.{StagedValue}
 
 -- ---- roles, plans, duties

@@ -6,21 +6,21 @@ use Rattle.group_rules.specs.Places.{Place}
 use Rattle.group_rules.specs.State.{Server}
 use Rattle.harp_base.specs.declared.peer.Peer.{Peer}
 use Rattle.harp_store.specs.Disk.{Moments}
-use Rattle.kept_log.specs.Gives.{StandIn}
+use Rattle.idle_log.specs.Gives.{StandIn}
 use Rattle.node.specs.Input.{came, peers_of}
 use Rattle.node.specs.Node.{NodeValue, server}
 use Rattle.node.specs.Stock.{stock, stock_after}
 use Rattle.node.specs.Stored.{log_of, stores}
 use Rattle.node.specs.declared.input.Input.{Input}
 use Rattle.node.specs.declared.input.Input.TheVariants as input
-use Rattle.outputs.specs.Makes.{with_moves}
-use Rattle.outputs.specs.Records.{records_sent}
-use Rattle.outputs.specs.Said.{nothing, said}
-use Rattle.outputs.specs.declared.outputs.Outputs.{Outputs}
+use Rattle.node_outputs.specs.Makes.{with_moves}
+use Rattle.node_outputs.specs.Records.{records_sent}
+use Rattle.node_outputs.specs.Said.{nothing, said}
+use Rattle.node_outputs.specs.declared.outputs.Outputs.{Outputs}
 use Rattle.tree_listing.specs.declared.listing.Listing.{Listing}
 use Rattle.tree_log.specs.Reading.{HoldsTree}
-use Rattle.view_replica.specs.Asking.{recorded}
-use Rattle.view_replica.specs.Listing.{listing_at}
+use Rattle.replica.specs.Asking.{recorded}
+use Rattle.replica.specs.Listing.{listing_at}
 
 -- A step made these moves: the server is the one after them, and the outputs are just what they say
 pub record Steps (q : Place) (clock : ℕ) (ms : List (Move Entry)) (peers : List Peer)

@@ -7,10 +7,10 @@ use Rattle.group_rules.specs.Names.{view_of}
 use Rattle.group_rules.specs.Places.{Place}
 use Rattle.group_rules.specs.State.{Server}
 use Rattle.harp_base.specs.declared.peer.Peer.{Peer}
-use Rattle.kept_log.specs.Kept.{log_in}
-use Rattle.kept_log.specs.Pulls.{adopted_records}
-use Rattle.kept_log.specs.declared.kept.Kept.{Kept}
-use Rattle.new_record.specs.Records.{record_of}
+use Rattle.idle_log.specs.Kept.{log_in}
+use Rattle.idle_log.specs.Pulls.{adopted_records}
+use Rattle.idle_log.specs.declared.kept.Kept.{Kept}
+use Rattle.tree_log.specs.Records.{record_of}
 use Rattle.node.specs.Node.{NodeValue}
 use Rattle.node.specs.State.{peers_in, pulled_in, records_in}
 use Rattle.node.specs.declared.state.State.{State}

@@ -10,7 +10,7 @@ use Rattle.group_rules.specs.Step.{Apply, Ask, Does, Flush, Input, ListTree}
 use Rattle.harp_cells.specs.declared.change.Change.{Change}
 use Rattle.harp_store.specs.Disk.{AfterPart, Moments, after_changes}
 use Rattle.harp_store.specs.Mark.{MarkFields}
-use Rattle.kept_log.specs.Kept.{log_in as kept_log}
+use Rattle.idle_log.specs.Kept.{log_in as kept_log}
 use Rattle.node.specs.Disk.{MayLeave, disk_after, marked_by}
 use Rattle.node.specs.Node.{NodeValue}
 use Rattle.node.specs.declared.state.State.{State}

@@ -9,7 +9,7 @@ use Rattle.group_rules.specs.Step.{Comes, Input, rule, step}
 use Rattle.harp_base.specs.declared.server.ServerId.{ServerId}
 use Rattle.node.specs.Node.{NodeValue}
 use Rattle.node.specs.Serving.{IsSized}
-use Rattle.outputs.specs.Messages.{heard}
+use Rattle.node_outputs.specs.Messages.{heard}
 use Rattle.wire.specs.declared.message.Message.{Message as Wire}
 
 -- those of a node that hears this message, whatever its saved log has

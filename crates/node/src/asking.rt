@@ -12,8 +12,8 @@ ghost use Rattle.node.specs.Asking.{Asked, cause_away, reads_tree};
 ghost use Rattle.node.specs.Node.{server};
 ghost use Rattle.node.specs.State.{role_of};
 ghost use Rattle.node.specs.Stored.{log_of};
-ghost use Rattle.outputs.specs.Records.{records_sent};
-ghost use Rattle.outputs.specs.Said.{said};
+ghost use Rattle.node_outputs.specs.Records.{records_sent};
+ghost use Rattle.node_outputs.specs.Said.{said};
 ghost use Rattle.tree_log.specs.Reading.{HoldsTree};
 
 use crate::fault::NodeFault;
@@ -21,7 +21,7 @@ use crate::node::Node;
 use crate::state::State;
 use harp_base::{Call, LAST_CLIENT, Role, ServerId};
 use harp_store::Store;
-use outputs::{Asker, Outputs};
+use node_outputs::{Asker, Outputs};
 use std::alloc::{AllocError, Global};
 use trace_lines::Cause;
 

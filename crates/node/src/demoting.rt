@@ -17,7 +17,7 @@ ghost use Rattle.node.specs.Active.{is_followed, is_led};
 ghost use Rattle.node.specs.Demoting.{GoesOn};
 ghost use Rattle.node.specs.Node.{server};
 ghost use Rattle.node.specs.State.{Fits, cached_in, is_gone, pulled_in};
-ghost use Rattle.outputs.specs.Makes.{Makes};
+ghost use Rattle.node_outputs.specs.Makes.{Makes};
 
 use crate::fault::NodeFault;
 use crate::joining::kept_of;
@@ -26,7 +26,7 @@ use crate::same::is_witness;
 use crate::state::{State, Task};
 use harp_base::{Role, ViewNo};
 use harp_store::{Mark, Store};
-use outputs::Outputs;
+use node_outputs::Outputs;
 use std::alloc::Global;
 use std::mem;
 

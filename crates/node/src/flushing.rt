@@ -6,7 +6,7 @@ ghost use Rattle.applier.specs.Applied.{FlushesInPart, IsOldOrSynced, flushed, l
 ghost use Rattle.cell_cache.specs.Entries.{AreOf};
 ghost use Rattle.file_tree.specs.Book.{Entry};
 ghost use Rattle.fuzzy_cells.specs.History.{History};
-ghost use Rattle.fuzzy_disks.specs.FuzzyDisk.{IsFuzzyByMark, IsFuzzyDisk};
+ghost use Rattle.applier.specs.FuzzyDisk.{IsFuzzyByMark, IsFuzzyDisk};
 ghost use Rattle.group_rules.specs.Disk.{flush};
 ghost use Rattle.harp_base.specs.Streams.{Rose};
 ghost use Rattle.harp_store.specs.Disk.{AtEachMoment, Moments, cells_told};
@@ -15,8 +15,8 @@ ghost use Rattle.node.specs.Active.{is_active};
 ghost use Rattle.node.specs.Node.{server};
 ghost use Rattle.node.specs.State.{cached_in};
 ghost use Rattle.node.specs.Stored.{LeavesFlush, disk_flushed, flushes, log_in, log_of, mark_flushed, with_log};
-ghost use Rattle.outputs.specs.Makes.{Makes};
-ghost use Rattle.outputs.specs.declared.outputs.Outputs.{Outputs};
+ghost use Rattle.node_outputs.specs.Makes.{Makes};
+ghost use Rattle.node_outputs.specs.declared.outputs.Outputs.{Outputs};
 ghost use Rattle.tree_log.specs.Reading.{HoldsTree};
 ghost use Rattle.volatile_log.specs.Log.{lowered_to};
 

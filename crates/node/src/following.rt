@@ -11,14 +11,14 @@ ghost use Rattle.group_rules.specs.Places.{Place, leader};
 ghost use Rattle.group_rules.specs.Replicate.{is_in_view, on_event};
 ghost use Rattle.group_rules.specs.State.{top as top_of};
 ghost use Rattle.node.specs.Node.{server};
-ghost use Rattle.outputs.specs.Makes.{Makes};
+ghost use Rattle.node_outputs.specs.Makes.{Makes};
 
 use crate::node::Node;
 use crate::same::is_view;
 use crate::state::State;
 use event_record::Record;
 use harp_base::ViewNo;
-use outputs::Outputs;
+use node_outputs::Outputs;
 use std::alloc::AllocError;
 
 impl Node {

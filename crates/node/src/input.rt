@@ -2,7 +2,7 @@
 
 ghost use Rattle.std.specs.Prelude.{◌≡◌, is_some};
 ghost use Rattle.node.specs.Input.{input_of};
-ghost use Rattle.outputs.specs.Messages.{heard};
+ghost use Rattle.node_outputs.specs.Messages.{heard};
 
 use harp_base::{Call, Cred, Peer, ServerId};
 use wire::Message;

@@ -1,6 +1,6 @@
 //! What a leader heeds of its view, and how it opens it. After an error the server is halted.
 
-ghost use Rattle.outputs.specs.Records.{records_sent};
+ghost use Rattle.node_outputs.specs.Records.{records_sent};
 ghost use Rattle.node.specs.Stock.{stock, Stocks};
 ghost use Rattle.std.specs.Prelude.{◌≡◌, ◌≤◌, [], List, ℕ, OnOk, false, true};
 ghost use Rattle.file_tree.specs.Book.{Entry};
@@ -9,13 +9,13 @@ ghost use Rattle.group_rules.specs.Open.{try_open};
 ghost use Rattle.group_rules.specs.Replicate.{is_in_view, on_ack};
 ghost use Rattle.group_rules.specs.State.{top as top_of};
 ghost use Rattle.node.specs.Node.{server};
-ghost use Rattle.outputs.specs.Makes.{Makes};
+ghost use Rattle.node_outputs.specs.Makes.{Makes};
 
 use crate::node::Node;
 use crate::same::is_view;
 use crate::state::State;
 use harp_base::ViewNo;
-use outputs::Outputs;
+use node_outputs::Outputs;
 use promise::Deadline;
 use std::alloc::{AllocError, Global};
 

@@ -11,18 +11,18 @@ ghost use Rattle.node.specs.Active.{is_active};
 ghost use Rattle.node.specs.Node.{server};
 ghost use Rattle.node.specs.State.{cached_in};
 ghost use Rattle.node.specs.Stored.{log_in, log_of, stores, with_log};
-ghost use Rattle.outputs.specs.Makes.{Makes};
-ghost use Rattle.outputs.specs.Records.{records_sent};
-ghost use Rattle.outputs.specs.Said.{said};
+ghost use Rattle.node_outputs.specs.Makes.{Makes};
+ghost use Rattle.node_outputs.specs.Records.{records_sent};
+ghost use Rattle.node_outputs.specs.Said.{said};
 ghost use Rattle.tree_log.specs.Reading.{HoldsTree};
-ghost use Rattle.view_replica.specs.Listing.{listing_at};
+ghost use Rattle.replica.specs.Listing.{listing_at};
 
 use crate::fault::NodeFault;
 use crate::node::Node;
 use crate::state::State;
 use harp_cells::CellFault;
 use harp_store::Store;
-use outputs::Outputs;
+use node_outputs::Outputs;
 use std::alloc::Global;
 
 impl Node {

@@ -1,7 +1,7 @@
 //! A message that has come, by its form. After an error the server is halted.
 
-ghost use Rattle.kept_log.specs.Gives.{StandIn};
-ghost use Rattle.outputs.specs.Records.{carried, records_sent};
+ghost use Rattle.idle_log.specs.Gives.{StandIn};
+ghost use Rattle.node_outputs.specs.Records.{carried, records_sent};
 ghost use Rattle.node.specs.Stock.{Stocks, stock, IsFetch};
 ghost use Rattle.std.specs.Prelude.{◌≡◌, ◌<◌, ◌≤◌, ◌^◌, List, ℕ, Err, OnErr, OnOk, false, ◌++◌};
 ghost use Rattle.file_tree.specs.Book.{Entry};
@@ -10,14 +10,14 @@ ghost use Rattle.node.specs.Cached.{IsCachedAs};
 ghost use Rattle.node.specs.Disk.{MayLeave, disk_after, marked_by};
 ghost use Rattle.node.specs.Node.{server};
 ghost use Rattle.node.specs.Taking.{Fills, input_in, ruled};
-ghost use Rattle.outputs.specs.Makes.{Makes};
+ghost use Rattle.node_outputs.specs.Makes.{Makes};
 
 use crate::fault::NodeFault;
 use crate::node::Node;
 use harp_base::ServerId;
 use harp_store::Store;
-use kept_log::Form;
-use outputs::Outputs;
+use idle_log::Form;
+use node_outputs::Outputs;
 use std::alloc::Global;
 use view_form::JoinInfo;
 use wire::Message;

@@ -8,7 +8,7 @@ ghost use Rattle.group_rules.specs.Misfits.{follow, given_tests, misfits};
 ghost use Rattle.group_rules.specs.Names.{number_of_view, place_of};
 ghost use Rattle.group_rules.specs.Places.{all_of};
 ghost use Rattle.group_rules.specs.State.{Demote, Fetch, Form as SendsForm, Give, Invite, Join};
-ghost use Rattle.kept_log.specs.Kept.{plan_of};
+ghost use Rattle.idle_log.specs.Kept.{plan_of};
 ghost use Rattle.node.specs.Misfits.{pulls_view};
 ghost use Rattle.view_form.specs.Choice.{report};
 
@@ -16,7 +16,7 @@ use crate::node::Node;
 use crate::same::{is_one, is_view};
 use crate::state::State;
 use harp_base::{ServerId, ViewNo};
-use kept_log::{Form, follow, is_within};
+use idle_log::{Form, follow, is_within};
 use view_form::JoinInfo;
 use wire::Records;
 

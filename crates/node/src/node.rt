@@ -10,7 +10,7 @@ ghost use Rattle.node.specs.Stock.{stock, stock_kept};
 use crate::state::{State, Task};
 use harp_base::ServerId;
 use harp_store::Mark;
-use kept_log::Kept;
+use idle_log::Kept;
 use promise::Horizon;
 use std::marker::Model;
 

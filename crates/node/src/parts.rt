@@ -7,13 +7,13 @@ ghost use Rattle.group_rules.specs.Names.{number_of_view};
 ghost use Rattle.group_rules.specs.Places.{all_of};
 ghost use Rattle.group_rules.specs.Replicate.{is_in_view};
 ghost use Rattle.group_rules.specs.State.{top};
-ghost use Rattle.kept_log.specs.Kept.{held_in, plan_of};
+ghost use Rattle.idle_log.specs.Kept.{held_in, plan_of};
 
 use crate::node::Node;
 use crate::same::is_view;
 use crate::state::State;
 use harp_base::ViewNo;
-use kept_log::{Form, Kept};
+use idle_log::{Form, Kept};
 
 impl Node {
     /// Whether the server holds a log.

@@ -1,7 +1,7 @@
 //! A storer's part in a view that it hasn't accepted.
 
 use crate::state::Joining;
-use kept_log::{Form, Kept};
+use idle_log::{Form, Kept};
 use volatile_log::Staged;
 
 /// A storer's part in its promised view: what it keeps and what it joined with, the plan, and the

@@ -1,6 +1,6 @@
 //! The records that a server gives to another that fetches them.
 
-ghost use Rattle.outputs.specs.Records.{records_sent};
+ghost use Rattle.node_outputs.specs.Records.{records_sent};
 ghost use Rattle.std.specs.Prelude.{◌≡◌, ◌-◌, ◌≤◌, [], List, ℕ, IfOk, OnOk, Option, false, take, ◌++◌, IfSome};
 ghost use Rattle.file_tree.specs.Book.{Entry};
 ghost use Rattle.group_rules.specs.Limits.{is_joining, is_log};
@@ -8,17 +8,17 @@ ghost use Rattle.group_rules.specs.Names.{number_of_view, place_of};
 ghost use Rattle.group_rules.specs.Places.{Place};
 ghost use Rattle.group_rules.specs.Serving.{on_fetch};
 ghost use Rattle.group_rules.specs.State.{top};
-ghost use Rattle.kept_log.specs.Gives.{given_moves, StandIn};
+ghost use Rattle.idle_log.specs.Gives.{given_moves, StandIn};
 ghost use Rattle.node.specs.Node.{server};
 ghost use Rattle.node.specs.Serving.{FindsGiven, IsSized, last_served};
-ghost use Rattle.outputs.specs.Makes.{Makes};
+ghost use Rattle.node_outputs.specs.Makes.{Makes};
 
 use crate::node::Node;
 use crate::same::is_view;
 use crate::state::State;
 use harp_base::{ServerId, ViewNo};
-use kept_log::serve_active;
-use outputs::Outputs;
+use idle_log::serve_active;
+use node_outputs::Outputs;
 use std::alloc::{AllocError, Global};
 use wire::{Message, Records};
 

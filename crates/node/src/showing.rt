@@ -4,14 +4,14 @@ ghost use Rattle.std.specs.Prelude.{◌≡◌, List, ℕ, false};
 ghost use Rattle.file_tree.specs.Book.{Entry};
 ghost use Rattle.group_rules.specs.Limits.{by_held};
 ghost use Rattle.group_rules.specs.Shown.{mode_joined, mode_shown, state_of};
-ghost use Rattle.kept_log.specs.Kept.{ap_in, held_in, lb_in};
+ghost use Rattle.idle_log.specs.Kept.{ap_in, held_in, lb_in};
 ghost use Rattle.node.specs.Node.{server};
 ghost use Rattle.node.specs.State.{duty_of};
 
 use crate::node::Node;
 use crate::state::{State, Task};
 use harp_base::{Mode, StateLine};
-use kept_log::Kept;
+use idle_log::Kept;
 
 impl Node {
     /// The server's state line. A lost server shows its LB for each number, one without a log 0.

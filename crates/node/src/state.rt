@@ -1,9 +1,9 @@
 //! What a server is doing, and its part as a coordinator.
 
 use harp_base::{Trio, ViewNo};
-use kept_log::{Form, Kept};
+use idle_log::{Form, Kept};
+use replica::{Leader, Partner};
 use view_form::{Collector, JoinInfo};
-use view_replica::{Leader, Partner};
 use volatile_log::Staged;
 
 /// A coordinator's part.

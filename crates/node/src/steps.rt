@@ -8,7 +8,7 @@ ghost use Rattle.group_rules.specs.Moves.{acts};
 ghost use Rattle.group_rules.specs.Open.{rebase};
 ghost use Rattle.harp_base.specs.Streams.{Rose};
 ghost use Rattle.harp_store.specs.Disk.{cells_told};
-ghost use Rattle.kept_log.specs.Gives.{StandIn};
+ghost use Rattle.idle_log.specs.Gives.{StandIn};
 ghost use Rattle.node.specs.Input.{FillsInput, FillsSized, came, input_of, peers_of};
 ghost use Rattle.node.specs.Node.{IsServer, server};
 ghost use Rattle.node.specs.Serving.{entry_size};
@@ -16,17 +16,17 @@ ghost use Rattle.node.specs.Step.{ListsFor, StepsWhole};
 ghost use Rattle.node.specs.Stock.{Stocks, stock, stock_after};
 ghost use Rattle.node.specs.Stored.{LeavesBy, disk_by, mark_by};
 ghost use Rattle.node.specs.Taking.{ruled, stepped};
-ghost use Rattle.outputs.specs.Makes.{Makes};
-ghost use Rattle.outputs.specs.Records.{records_sent};
-ghost use Rattle.outputs.specs.Said.{nothing, said};
-ghost use Rattle.view_replica.specs.Asking.{recorded};
+ghost use Rattle.node_outputs.specs.Makes.{Makes};
+ghost use Rattle.node_outputs.specs.Records.{records_sent};
+ghost use Rattle.node_outputs.specs.Said.{nothing, said};
+ghost use Rattle.replica.specs.Asking.{recorded};
 
 use crate::fault::NodeFault;
 use crate::input::Input;
 use crate::node::Node;
 use crate::state::State;
 use harp_store::Store;
-use outputs::{Asker, Outputs};
+use node_outputs::{Asker, Outputs};
 use std::alloc::Global;
 
 impl Node {

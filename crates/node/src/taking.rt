@@ -1,8 +1,8 @@
 //! Messages of a running view, from their tests to the test of opening. After an error the server
 //! is halted.
 
-ghost use Rattle.kept_log.specs.Gives.{StandIn};
-ghost use Rattle.outputs.specs.Records.{records_sent};
+ghost use Rattle.idle_log.specs.Gives.{StandIn};
+ghost use Rattle.node_outputs.specs.Records.{records_sent};
 ghost use Rattle.node.specs.Stock.{stock, Stocks};
 ghost use Rattle.std.specs.Prelude.{◌≡◌, ◌<◌, ◌≤◌, ◌^◌, [], List, ℕ, OnOk, false, ◌∷◌, ◌++◌};
 ghost use Rattle.event_record.specs.Record.{entry_of};
@@ -12,12 +12,12 @@ ghost use Rattle.group_rules.specs.State.{Ack, Beat, Event, Fetch, top as top_of
 ghost use Rattle.group_rules.specs.Step.{Comes, rule};
 ghost use Rattle.node.specs.Node.{server};
 ghost use Rattle.node.specs.Serving.{IsSized};
-ghost use Rattle.outputs.specs.Makes.{Makes};
+ghost use Rattle.node_outputs.specs.Makes.{Makes};
 
 use crate::node::Node;
 use event_record::Record;
 use harp_base::{ServerId, ViewNo};
-use outputs::Outputs;
+use node_outputs::Outputs;
 use promise::Deadline;
 use std::alloc::{AllocError, Global};
 

@@ -1,7 +1,7 @@
 //! What a server does from time to time. After an error it is halted.
 
-ghost use Rattle.kept_log.specs.Gives.{StandIn};
-ghost use Rattle.outputs.specs.Records.{records_sent};
+ghost use Rattle.idle_log.specs.Gives.{StandIn};
+ghost use Rattle.node_outputs.specs.Records.{records_sent};
 ghost use Rattle.node.specs.Stock.{stock};
 ghost use Rattle.std.specs.Prelude.{◌≡◌, ◌++◌, ◌∷◌, [], List, ℕ, OnOk, Some, false, map, option_map, if◌then◌else◌};
 ghost use Rattle.file_tree.specs.Book.{Entry};
@@ -13,19 +13,19 @@ ghost use Rattle.group_rules.specs.Places.{all_of, get, other_storers, same};
 ghost use Rattle.group_rules.specs.Said.{sends_said};
 ghost use Rattle.group_rules.specs.State.{Form as SendsForm};
 ghost use Rattle.group_rules.specs.Tick.{again, beats, duties, duty_tests, heard_some, invite_again, tick};
-ghost use Rattle.kept_log.specs.Kept.{plan_of};
+ghost use Rattle.idle_log.specs.Kept.{plan_of};
 ghost use Rattle.node.specs.Node.{server};
-ghost use Rattle.outputs.specs.Makes.{Makes};
-ghost use Rattle.outputs.specs.Messages.{as_heard};
-ghost use Rattle.outputs.specs.Said.{said};
+ghost use Rattle.node_outputs.specs.Makes.{Makes};
+ghost use Rattle.node_outputs.specs.Messages.{as_heard};
+ghost use Rattle.node_outputs.specs.Said.{said};
 ghost use Rattle.view_form.specs.Choice.{report};
 
 use crate::node::Node;
 use crate::same::{is_one, is_view};
 use crate::state::{State, Task};
 use harp_base::{ServerId, ViewNo};
-use kept_log::Form;
-use outputs::Outputs;
+use idle_log::Form;
+use node_outputs::Outputs;
 use std::alloc::{AllocError, Global};
 use view_form::JoinInfo;
 use wire::Message;

@@ -4,10 +4,10 @@ use Rattle.harp_base.specs.declared.peer.Peer.{Peer}
 use Rattle.harp_base.specs.declared.peer.Peer.TheVariants.{Server}
 use Rattle.harp_base.specs.declared.server.ServerId.{ServerId}
 use Rattle.node_link.specs.declared.link.SentDatagram.{SentDatagram}
-use Rattle.outputs.specs.declared.outputs.Answered.{Answered}
-use Rattle.outputs.specs.declared.outputs.Outputs.{Outputs}
-use Rattle.outputs.specs.declared.outputs.Refused.{Refused}
-use Rattle.outputs.specs.declared.outputs.Sent.{Sent}
+use Rattle.node_outputs.specs.declared.outputs.Answered.{Answered}
+use Rattle.node_outputs.specs.declared.outputs.Outputs.{Outputs}
+use Rattle.node_outputs.specs.declared.outputs.Refused.{Refused}
+use Rattle.node_outputs.specs.declared.outputs.Sent.{Sent}
 use Rattle.wire.specs.Messages.{message_bytes}
 use Rattle.wire.specs.declared.message.Message.{Message}
 use Rattle.wire.specs.declared.message.Message.TheVariants.{Answer, CannotServe}

@@ -10,7 +10,7 @@ use Rattle.node_link.specs.Readings.{MayTell}
 use Rattle.node_link.specs.Traffic.{Traffic}
 use Rattle.node_link.specs.declared.clock.Reading.{Reading}
 use Rattle.node_link.specs.declared.link.SentDatagram.{SentDatagram}
-use Rattle.outputs.specs.declared.outputs.Outputs.{Outputs}
+use Rattle.node_outputs.specs.declared.outputs.Outputs.{Outputs}
 use Rattle.node_loop.specs.declared.counts.Served.{Served}
 use Rattle.node_loop.specs.declared.running.Running.{Running}
 use Rattle.node_loop.specs.declared.turned.Turned.{Turned}

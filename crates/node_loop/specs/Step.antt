@@ -13,7 +13,7 @@ use Rattle.node.specs.Step.{StepsWhole}
 use Rattle.node.specs.Stored.{disk_by, mark_by}
 use Rattle.node.specs.Taking.{stepped}
 use Rattle.node.specs.declared.input.Input.{Input}
-use Rattle.outputs.specs.declared.outputs.Outputs.{Outputs}
+use Rattle.node_outputs.specs.declared.outputs.Outputs.{Outputs}
 use Rattle.power_save.specs.Saved.{IsNotSaved}
 
 -- A node is booted from its disk at a reading of its clock: with the log that was saved there, or

@@ -5,7 +5,7 @@ ghost use Rattle.node_loop.specs.Outgoing.{answer_sent, datagram, datagrams, mes
 
 use harp_base::{Peer, ServerId};
 use node_link::SentDatagram;
-use outputs::{Answered, Outputs, Refused, Sent};
+use node_outputs::{Answered, Outputs, Refused, Sent};
 use std::alloc::{AllocError, Global};
 use wire::{Message, encode};
 

@@ -9,7 +9,7 @@ use crate::calls::{ask, directory};
 use harp_base::{ServerId, StateLine, ViewNo};
 use harp_store::{MemStore, Store};
 use node::{Input, Node, NodeFault};
-use outputs::Outputs;
+use node_outputs::Outputs;
 use power_save::SeenRecords;
 use promise::{Deadline, Delta};
 use std::alloc::Global;

@@ -1,6 +1,5 @@
 //! How a command is run.
 
-use group_world::World;
 use harp_base::{Bytes, MemSink, MemSource, Trio};
 use harp_cli::harp;
 use harp_store::{MemStore, Store};
@@ -8,6 +7,7 @@ use node_link::{Clock, Link, ListClock, MemLink};
 use std::alloc::Global;
 use std::test::Fail;
 use std::thread::Threads;
+use world::World;
 
 /// The exit status of a command over what is new, and what it wrote.
 pub fn result_of_words<R: Threads + Sync + AllocGlobal>(

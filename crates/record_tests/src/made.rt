@@ -6,9 +6,9 @@ ghost use Rattle.harp_base.specs.Update.{is_update};
 use event_record::{Index, Moment, Record, read_item, write_item};
 use harp_base::{Bounded, Bytes, Call, FIELD_LEFT, SUPERUSER, ServerId, SetAttr, Time, ViewNo};
 use harp_cells::{Cell, Change, MemCells, Value};
-use new_record::new_record;
 use std::alloc::Global;
 use std::test::Fail;
+use tree_log::new_record;
 
 /// A name or a text.
 pub(crate) fn name(alloc: Global, text: &[u8]) -> Result<Bounded<4096>, Fail> {

@@ -1,3 +1,5 @@
 pub mod NumberLaws
 pub mod LineLaws
 mod RunLaws
+mod StepsFit
+mod TextLaws

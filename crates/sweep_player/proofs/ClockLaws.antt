@@ -5,8 +5,8 @@ use Rattle.harp_base.specs.declared.server.ServerId.TheVariants.{Zero, One, Two}
 use Rattle.trace_types.specs.declared.step.Step.{Step}
 use Rattle.trace_types.specs.declared.step.Step.TheVariants as step
 use Rattle.group_rules.specs.Places.{Trio}
-use Rattle.group_play.specs.OnTheWay.{AreBelow}
-use Rattle.group_play.specs.Stage.{AreReadings, clocks_after}
+use Rattle.schedule_play.specs.OnTheWay.{AreBelow}
+use Rattle.schedule_play.specs.Stage.{AreReadings, clocks_after}
 use Rattle.sweep_player.specs.Reading.{moves_within}
 
 pub clocks-near : (clocks : Trio ℕ) (number : ℕ) → number ≤ 50001 → AreBelow number clocks

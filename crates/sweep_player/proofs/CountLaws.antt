@@ -6,7 +6,7 @@ use Rattle.trace_types.specs.declared.line.Line.{Line}
 use Rattle.trace_types.specs.declared.line.LineFault.{LineFault}
 use Rattle.trace_claims.specs.Servers.{first_state, last_state, later_state}
 use Rattle.trace_claims.specs.Trace.{Trace}
-use Rattle.group_play.specs.Trace.{last_line}
+use Rattle.schedule_play.specs.Trace.{last_line}
 use Rattle.sweep.specs.declared.summary.Summary.{Summary}
 use Rattle.sweep_player.specs.Counts.{is_answered, is_entered, is_opening, is_refused, one_if, openings_behind, summary_of_trace}
 

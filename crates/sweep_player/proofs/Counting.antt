@@ -10,12 +10,12 @@ use Rattle.group_trace.specs.Run.{is_elementary, next, run, run_lines, step_line
 use Rattle.group_trace.specs.Scene.{Measures, Scene, first_scene}
 use Rattle.group_disks.specs.Calls.{Spellings, measures_of}
 use Rattle.group_disks.specs.Run.{DiskScene, disk_run, first_disk_scene}
-use Rattle.group_play.specs.declared.refusal.Refusal.{Refusal}
-use Rattle.group_play.specs.Reading.{Reading, refused_at, then_read, unless_refused, with_step}
-use Rattle.group_play.specs.Stage.{IsReached, IsRefused, IsTaken, fault_of}
-use Rattle.group_play.proofs.Runs.{disk_more, disk_scene, reached, run-append, run_lines-append}
-use Rattle.group_play.proofs.Steps.{Takes}
-use Rattle.group_play.proofs.TakenLaws.{taken-more}
+use Rattle.schedule_play.specs.declared.refusal.Refusal.{Refusal}
+use Rattle.schedule_play.specs.Reading.{Reading, refused_at, then_read, unless_refused, with_step}
+use Rattle.schedule_play.specs.Stage.{IsReached, IsRefused, IsTaken, fault_of}
+use Rattle.schedule_play.proofs.Runs.{disk_more, disk_scene, reached, run-append, run_lines-append}
+use Rattle.schedule_play.proofs.Steps.{Takes}
+use Rattle.schedule_play.proofs.TakenLaws.{taken-more}
 use Rattle.sweep_player.specs.declared.tally.Tally.{Tally}
 use Rattle.sweep_player.specs.Counts.{summary_of_trace}
 use Rattle.sweep_player.specs.OnTheWay.{HasAll, HasCounted}

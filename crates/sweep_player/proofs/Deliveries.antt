@@ -6,8 +6,8 @@ use Rattle.trace_types.specs.declared.step.Step.TheVariants as step
 use Rattle.group_trace.specs.Pump.{deliveries, due, most_deliveries}
 use Rattle.group_trace.specs.Run.{next}
 use Rattle.group_trace.specs.Scene.{Measures, Scene}
-use Rattle.group_play.specs.OnTheWay.{with_pump}
-use Rattle.group_play.specs.Reading.{Reading, with_step, with_steps}
+use Rattle.schedule_play.specs.OnTheWay.{with_pump}
+use Rattle.schedule_play.specs.Reading.{Reading, with_step, with_steps}
 
 deliveries_some : (m : Measures) (most : ℕ) (among : Option (ServerId × ServerId)) (w : Scene)
     (n : ℕ) → due among w ≡ Some n

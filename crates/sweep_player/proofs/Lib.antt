@@ -4,3 +4,6 @@ pub mod Deliveries
 pub mod Counting
 pub mod PlayLaws
 pub mod ClockLaws
+mod Readings
+mod Generated
+mod Swept

@@ -13,10 +13,10 @@ use Rattle.group_trace.specs.Run.{is_elementary, run, run_lines}
 use Rattle.group_trace.specs.Scene.{Measures, Scene, first_scene}
 use Rattle.group_disks.specs.Calls.{Spellings, measures_of}
 use Rattle.group_disks.specs.Run.{DiskScene, disk_run, first_disk_scene}
-use Rattle.group_play.specs.OnTheWay.{with_pump}
-use Rattle.group_play.specs.Reading.{Reading, all_read, refused_at, with_given, with_step, with_steps}
-use Rattle.group_play.specs.Stage.{IsReached}
-use Rattle.group_play.proofs.Runs.{disk_scene, reached}
+use Rattle.schedule_play.specs.OnTheWay.{with_pump}
+use Rattle.schedule_play.specs.Reading.{Reading, all_read, refused_at, with_given, with_step, with_steps}
+use Rattle.schedule_play.specs.Stage.{IsReached}
+use Rattle.schedule_play.proofs.Runs.{disk_scene, reached}
 use Rattle.sweep_player.specs.declared.tally.Tally.{Tally}
 use Rattle.sweep_player.specs.OnTheWay.{HasAll, HasCounted}
 use Rattle.sweep_player.specs.Reading.{given_as, moves_within, steps_read, steps_read_from}

@@ -5,8 +5,8 @@ use Rattle.group_disks.specs.Calls.{Spellings, measures_of}
 use Rattle.group_disks.specs.Run.{DiskScene, disk_run, first_disk_scene}
 use Rattle.group_trace.specs.Run.{AreTaken, run, run_lines}
 use Rattle.group_trace.specs.Scene.{Scene, first_scene}
-use Rattle.group_play.specs.Reading.{Reading, then_read}
-use Rattle.group_play.specs.Trace.{trace_of_reading}
+use Rattle.schedule_play.specs.Reading.{Reading, then_read}
+use Rattle.schedule_play.specs.Trace.{trace_of_reading}
 use Rattle.sweep_player.specs.declared.playing.Turn.{Turn}
 use Rattle.sweep_player.specs.declared.playing.Turn.TheVariants as turn
 use Rattle.sweep_player.specs.declared.tally.Tally.{Tally}

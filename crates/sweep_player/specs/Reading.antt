@@ -6,8 +6,8 @@ use Rattle.trace_types.specs.declared.step.Step.{Step}
 use Rattle.trace_types.specs.declared.step.Step.TheVariants as step
 use Rattle.trace_claims.specs.Trace.{Trace}
 use Rattle.group_trace.specs.Scene.{Measures, Scene, first_scene}
-use Rattle.group_play.specs.Reading.{Reading, all_read, with_given}
-use Rattle.group_play.specs.Trace.{trace_of_reading}
+use Rattle.schedule_play.specs.Reading.{Reading, all_read, with_given}
+use Rattle.schedule_play.specs.Trace.{trace_of_reading}
 use Rattle.sweep.specs.declared.summary.Summary.{Summary}
 use Rattle.sweep_player.specs.Counts.{summary_of_trace}
 

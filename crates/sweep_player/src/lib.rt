@@ -1,10 +1,13 @@
-//! The player of a sweep: it plays the steps of a schedule in a world, and counts their lines.
+//! The player of a sweep: it plays the steps of a schedule in a world, and counts their lines. What
+//! a sweep counts is what plays write.
 #![tactic(auto)]
 
 mod copies;
 mod player;
 mod playing;
+mod swept;
 mod tally;
 
 pub use player::GroupPlayer;
 pub use playing::summary_over;
+pub use swept::swept_texts;

@@ -1,10 +1,10 @@
 //! The player of a sweep.
 
 use crate::playing::summary_over;
-use group_world::World;
 use std::alloc::{AllocError, Global};
 use sweep::{Player, Summary};
 use trace_types::Step;
+use world::World;
 
 /// Plays each list of steps in a new world of three servers.
 #[derive(Clone, Copy, Debug, PartialEq, Eq)]
@@ -12,7 +12,7 @@ pub struct GroupPlayer;
 
 impl Player for GroupPlayer {
     ghost use Rattle.group_disks.specs.Calls.{measures_of};
-    ghost use Rattle.host_rules.specs.Spellings.{spellings};
+    ghost use Rattle.world_rules.specs.Spellings.{spellings};
     ghost use Rattle.sweep_player.specs.Reading.{summary_of_steps};
 
     ghost summary_of = { λ player steps. summary_of_steps (measures_of spellings) steps };

@@ -3,7 +3,7 @@
 use harp_base::{MemSink, SinkFault};
 use std::alloc::Global;
 use std::test::Fail;
-use sweep_text::write_schedule;
+use sweep::write_schedule;
 
 const OPENING: &[u8] = b"suspect 0\npump\nadvance 2050\ntick 0\npump\n";
 

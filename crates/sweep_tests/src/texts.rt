@@ -2,8 +2,7 @@
 
 use harp_base::MemSink;
 use std::test::Fail;
-use sweep::Summary;
-use sweep_text::write_summaries;
+use sweep::{Summary, write_summaries};
 
 #[test]
 fn two_runs_that_open_a_view(rt: HostRuntime) -> Result<(), Fail> {

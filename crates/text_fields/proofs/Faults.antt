@@ -2,7 +2,7 @@
 use Rattle.std.proofs.Common.{ℕ, ◌+◌, Bool, true, false, cond, eqb, List, get_or, drop, Option, Some, None, Result, Ok, Err}
 use Rattle.text_fields.specs.declared.fault.TextFault.{TextFault}
 use Rattle.text_fields.specs.declared.fault.TextFault.TheVariants.{Grammar, NoMemory}
-use Rattle.spelling.specs.Text.{is_left_time}
+use Rattle.text_spelling.specs.Text.{is_left_time}
 use Rattle.text_fields.specs.Fields.{Reader, ◌>>=◌, space_at, spaced_at, longer, number_from, number_at, u32_at, server_of, server_at, pairs_from, is_odd_at, hex_at, left_time, time_at, dash_or, number_field_at, mode_field_at, time_field_at, comma_at, later_at, later_number_at, set_attr_at}
 
 abbrev pub Placed : {A : Type 0} → Result A TextFault → Type 0

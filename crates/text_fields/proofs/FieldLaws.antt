@@ -9,8 +9,8 @@ use Rattle.harp_base.specs.declared.server.ServerId.{ServerId}
 use Rattle.harp_base.specs.declared.server.ServerId.TheVariants as servers
 use Rattle.harp_base.specs.declared.attr.Time.{Time}
 use Rattle.text_fields.specs.declared.fault.TextFault.TheVariants.{Grammar}
-use Rattle.spelling.specs.Text.{left, is_left_time, octal, time_text, number_field, mode_field, time_field}
-use Rattle.spelling.specs.Fits.{TimeFits}
+use Rattle.text_spelling.specs.Text.{left, is_left_time, octal, time_text, number_field, mode_field, time_field}
+use Rattle.text_spelling.specs.Fits.{TimeFits}
 use Rattle.text_fields.specs.Fields.{EndsWord, Reader, Read, ◌>>=◌, number_at, u32_at, count_at, server_of, server_at, left_time, time_at, dash_or, number_field_at, mode_field_at, time_field_at}
 use Rattle.text_fields.proofs.Numbers.{IsBase, numeral, StopsDigits, rereads, base_ten, base_eight, number_takes, number_again}
 use Rattle.text_fields.proofs.Places.{Spells, Spells-then, Spells-byte, IsField, head_at, drop_past, bind_ok, chosen, ok_is, passed, read_of}

@@ -5,8 +5,8 @@ use Rattle.std.proofs.lemmas.Bool.{cases_lt, eqb-true, eqb-false, eq-eqb, ne_eqb
 use Rattle.hex.specs.Hex.{encode_lower, encode_with, lower_digits}
 use Rattle.text_fields.specs.declared.fault.TextFault.{TextFault}
 use Rattle.text_fields.specs.declared.fault.TextFault.TheVariants.{Grammar}
-use Rattle.spelling.specs.Text.{hex_text}
-use Rattle.spelling.specs.Fits.{AreBytes}
+use Rattle.text_spelling.specs.Text.{hex_text}
+use Rattle.text_spelling.specs.Fits.{AreBytes}
 use Rattle.text_fields.specs.Fields.{EndsWord, Read, hex_value, pair_of, pair_at, pairs_from, is_odd_at, hex_at}
 use Rattle.text_fields.proofs.Pairs.{pairs_more, pairs_done}
 use Rattle.text_fields.proofs.Places.{Spells, Spells-then, Spells-byte, IsField, head_at, drop_past, chosen, ok_is, read_of}

@@ -5,7 +5,7 @@ use Rattle.std.proofs.lemmas.List.{drop_at, drop-drop, length-append, get_or-dro
 use Rattle.std.proofs.Math.Seq.{drop-cons}
 use Rattle.text_fields.specs.declared.fault.TextFault.{TextFault}
 use Rattle.text_fields.specs.declared.fault.TextFault.TheVariants.{Grammar}
-use Rattle.spelling.specs.Text.{spaced}
+use Rattle.text_spelling.specs.Text.{spaced}
 use Rattle.text_fields.specs.Fields.{EndsWord, Reader, Read, ◌>>=◌, space_at, spaced_at}
 
 -- from a place on the line is this text, up to the next place

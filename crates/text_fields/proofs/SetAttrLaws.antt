@@ -6,8 +6,8 @@ use Rattle.std.proofs.lemmas.List.{length-append, append-nil}
 use Rattle.harp_base.specs.declared.attr.Time.{Time}
 use Rattle.harp_base.specs.declared.attr.SetAttr.{SetAttr}
 use Rattle.text_fields.specs.declared.fault.TextFault.TheVariants.{Grammar}
-use Rattle.spelling.specs.Text.{left, is_left_time, number_field, mode_field, time_field, later, mtime_on, atime_on, size_on, gid_on, uid_on, set_attr_text}
-use Rattle.spelling.specs.Fits.{TimeFits, SetAttrFits}
+use Rattle.text_spelling.specs.Text.{left, is_left_time, number_field, mode_field, time_field, later, mtime_on, atime_on, size_on, gid_on, uid_on, set_attr_text}
+use Rattle.text_spelling.specs.Fits.{TimeFits, SetAttrFits}
 use Rattle.text_fields.specs.Fields.{EndsWord, Reader, Read, ◌>>=◌, left_time, comma_at, later_at, later_number_at, number_field_at, mode_field_at, time_at, time_field_at, set_attr_at}
 use Rattle.text_fields.proofs.FieldLaws.{StopsField, IsPart, number_part, mode_part, time_part, last_part, left_time_is, IsGivenTime}
 use Rattle.text_fields.proofs.Places.{Spells, Spells-then, Spells-byte, IsField, head_at, drop_past, bind_ok, chosen, ok_is, read_of}

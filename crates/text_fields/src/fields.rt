@@ -1,13 +1,13 @@
 //! The fields of SETATTR that are read.
 
 ghost use Rattle.std.specs.Prelude.{◌≡◌, ◌==◌, ◌+◌, ◌<◌, ◌≤◌, length, slice_index, IfOk, IsTrue};
-ghost use Rattle.spelling.specs.Text.{left, is_left_time};
+ghost use Rattle.text_spelling.specs.Text.{left, is_left_time};
 ghost use Rattle.text_fields.specs.Fields.{Gives, number_field_at, mode_field_at, time_at, time_field_at, left_time, comma_at, later_at, later_number_at, set_attr_at};
 
 use crate::fault::TextFault;
 use crate::number::{number_at, peek, u32_at};
 use harp_base::{SetAttr, Time};
-use spelling::{LEFT, is_left_time};
+use text_spelling::{LEFT, is_left_time};
 
 /// Seconds and microseconds, not both of them left.
 #[tactic(auto, unfolding(crate::specs::Fields::time_at))]

@@ -18,7 +18,7 @@ use Rattle.group_rules.specs.Step.{Apply, Ask, Comes, Crash, Deed, Does, Flush, 
 use Rattle.group_rules.proofs.Tests.{by_if}
 use Rattle.group_trace.specs.Run.{bytes_of}
 use Rattle.group_trace.specs.Scene.{Measures}
-use Rattle.message_sizes.proofs.Weights.{weight}
+use Rattle.trace_bounds.proofs.Weights.{weight}
 use Rattle.trace_laws.proofs.MoveKinds.{IsAsked, IsFront, IsMild, IsTail, Kind, Plain, accepts, appends, commits, each-append, heeds, mild, notes, plain, reads, repeats}
 use Rattle.trace_laws.proofs.Turns.{IsBegunBy, IsNoAsk, asked, came, other}
 use Rattle.trace_bounds.specs.Laws.{TakeBytes, told}

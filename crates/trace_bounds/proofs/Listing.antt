@@ -26,11 +26,11 @@ use Rattle.group_safety.specs.Laws.{Whole}
 use Rattle.group_safety.specs.Words.{Each}
 use Rattle.group_safety.proofs.Modes.{settled_is}
 use Rattle.group_trace.specs.Lines.{listed_lines, listing_of}
-use Rattle.line_text.specs.Fits.{IsCount, LineFits}
-use Rattle.move_bounds.specs.Walks.{EntryWithin}
-use Rattle.tree_bounds.specs.Trees.{AreOctets, BodyFits, SlotFits, TreeFits}
-use Rattle.tree_bounds.proofs.Attrs.{blocks_few, object_attr, object_fits}
-use Rattle.tree_bounds.proofs.Lists.{all-drop, all-take, octet_at}
+use Rattle.trace_text.specs.Fits.{IsCount, LineFits}
+use Rattle.trace_bounds.specs.Walks.{EntryWithin}
+use Rattle.trace_bounds.specs.Trees.{AreOctets, BodyFits, SlotFits, TreeFits}
+use Rattle.trace_bounds.proofs.Attrs.{blocks_few, object_attr, object_fits}
+use Rattle.trace_bounds.proofs.TreeLists.{all-drop, all-take, octet_at}
 use Rattle.trace_bounds.specs.Laws.{LineIn}
 use Rattle.trace_bounds.specs.Within.{IsWithin}
 use Rattle.trace_bounds.proofs.Lists.{each_take}

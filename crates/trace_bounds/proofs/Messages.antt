@@ -12,7 +12,7 @@ use Rattle.group_safety.specs.Bases.{BasesBody}
 use Rattle.group_safety.specs.Facts.{BodyOk}
 use Rattle.group_safety.specs.Laws.{Whole}
 use Rattle.group_trace.specs.Shown.{message_shown}
-use Rattle.line_text.specs.Fits.{IsCount, MessageFits, StateFits, ViewFits}
+use Rattle.trace_text.specs.Fits.{IsCount, MessageFits, StateFits, ViewFits}
 use Rattle.trace_bounds.specs.Within.{BodyIn, IsWithin}
 use Rattle.trace_bounds.proofs.Lists.{each_here}
 use Rattle.trace_bounds.proofs.Moved.{lb_in, numbers_in}

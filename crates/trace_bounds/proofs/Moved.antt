@@ -17,7 +17,7 @@ use Rattle.group_safety.proofs.Entering.{BesideMay}
 use Rattle.group_safety.proofs.Grow.{by_page, puts}
 use Rattle.group_safety.proofs.Moving.{Good, Goes, its, its_within}
 use Rattle.group_safety.proofs.Quiet.{Fine}
-use Rattle.move_bounds.specs.Walks.{EntryWithin, MoveFits, SendFits, Walks}
+use Rattle.trace_bounds.specs.Walks.{EntryWithin, MoveFits, SendFits, Walks}
 use Rattle.trace_bounds.specs.Within.{BodyIn, IsWithin, PageIn, ReportIn, ServerIn}
 use Rattle.trace_bounds.proofs.Lists.{each_append, each_drop, each_part, each_take}
 

@@ -12,9 +12,9 @@ use Rattle.trace_types.specs.declared.line.LineFault.TheVariants as fault
 use Rattle.trace_types.specs.declared.step.Step.{Step}
 use Rattle.trace_types.specs.declared.step.Step.TheVariants as step
 use Rattle.trace_claims.proofs.Places.{all-append}
-use Rattle.step_spelling.specs.Fits.{StepFits}
-use Rattle.step_spelling.specs.Lines.{line_text}
-use Rattle.step_spelling.specs.Steps.{step_text}
+use Rattle.text_spelling.specs.StepFits.{StepFits}
+use Rattle.text_spelling.specs.TraceLines.{line_text}
+use Rattle.text_spelling.specs.Steps.{step_text}
 use Rattle.file_tree.specs.Book.{Entry, updates}
 use Rattle.group_rules.specs.Effects.{down}
 use Rattle.group_rules.specs.Limits.{delta_tests, room}
@@ -31,10 +31,10 @@ use Rattle.group_trace.specs.Lines.{lines_of_moves, listing_of}
 use Rattle.group_trace.specs.Refusals.{before_it, net_limit, net_refusal, own_refusal, passes_full_net, refusal}
 use Rattle.group_trace.specs.Run.{AreTaken, Turn, bytes_where, group_after, is_elementary, lines_where, moved_in, moved_where, next, run, run_lines, step_lines, turn, with_delta}
 use Rattle.group_trace.specs.Scene.{Measures, Scene, first_scene}
-use Rattle.line_text.specs.Fits.{IsElementary, LineFits}
-use Rattle.message_sizes.proofs.Weights.{steps_weigh}
-use Rattle.move_bounds.specs.Walks.{InputFits, MoveFits, Walks}
-use Rattle.move_bounds.proofs.Rules.{steps_walk}
+use Rattle.trace_text.specs.Fits.{IsElementary, LineFits}
+use Rattle.trace_bounds.proofs.Weights.{steps_weigh}
+use Rattle.trace_bounds.specs.Walks.{InputFits, MoveFits, Walks}
+use Rattle.trace_bounds.proofs.Rules.{steps_walk}
 use Rattle.trace_laws.proofs.Keeping.{turn_whole}
 use Rattle.trace_laws.proofs.Turns.{IsBegunBy, Made, Turned, asked, boot, came, fell, other, own_none, take_step, whole}
 use Rattle.trace_bounds.specs.Within.{BodyIn, IsWithin, PageIn, ServerIn, latest}

@@ -26,10 +26,10 @@ use Rattle.group_safety.specs.Words.{Each, In}
 use Rattle.group_safety.proofs.Moving.{Goes}
 use Rattle.group_trace.specs.Lines.{answered_lines, entered_line, entered_lines, lines_of_moves, packet_lines, refused_lines, sent_line, sent_lines, state_line, state_lines}
 use Rattle.group_trace.specs.Shown.{message_shown, same_shown, shown_of}
-use Rattle.line_text.specs.Fits.{EntriesFit, EntryFits as ShownEntryFits, IsCount, LineFits, MessageFits, ReplyFits, StateFits}
-use Rattle.move_bounds.specs.Walks.{MoveFits, Walks}
-use Rattle.tree_bounds.specs.Replies.{PageFits, ReplyWithin}
-use Rattle.tree_bounds.proofs.Lists.{octet_at}
+use Rattle.trace_text.specs.Fits.{EntriesFit, EntryFits as ShownEntryFits, IsCount, LineFits, MessageFits, ReplyFits, StateFits}
+use Rattle.trace_bounds.specs.Walks.{MoveFits, Walks}
+use Rattle.trace_bounds.specs.Replies.{PageFits, ReplyWithin}
+use Rattle.trace_bounds.proofs.TreeLists.{octet_at}
 use Rattle.trace_bounds.specs.Laws.{LineIn}
 use Rattle.trace_bounds.specs.Within.{BodyIn, IsWithin}
 use Rattle.trace_bounds.proofs.Lists.{each_here}

@@ -23,13 +23,13 @@ use Rattle.trace_types.specs.declared.line.LineFault.{LineFault}
 use Rattle.trace_types.specs.declared.line.LineFault.TheVariants as fault
 use Rattle.trace_types.specs.declared.line.ShownMessage.{ShownMessage}
 use Rattle.trace_types.specs.declared.line.ShownMessage.TheVariants as message
-use Rattle.spelling.specs.Text.{call_text, reply_text}
-use Rattle.spelling.specs.Lines.{cause_text, held_text, hint_text, mode_text, role_text, state_text, view_text}
-use Rattle.step_spelling.specs.Lines.{entry_line, fault_text, line_text, message_text}
-use Rattle.line_text.specs.Fits.{IsCount, LineFits, MessageFits, StateFits, ViewFits}
-use Rattle.line_text.specs.Fits.{EntryLineFits}
-use Rattle.spelling.specs.Fits.{CallFits}
-use Rattle.tree_bounds.specs.Replies.{AnswersBriefly, ReplyWithin}
+use Rattle.text_spelling.specs.Text.{call_text, reply_text}
+use Rattle.text_spelling.specs.Lines.{cause_text, held_text, hint_text, mode_text, role_text, state_text, view_text}
+use Rattle.text_spelling.specs.TraceLines.{entry_line, fault_text, line_text, message_text}
+use Rattle.trace_text.specs.Fits.{IsCount, LineFits, MessageFits, StateFits, ViewFits}
+use Rattle.trace_text.specs.Fits.{EntryLineFits}
+use Rattle.text_spelling.specs.Fits.{CallFits}
+use Rattle.trace_bounds.specs.Replies.{AnswersBriefly, ReplyWithin}
 use Rattle.trace_bounds.specs.Laws.{LineIn}
 use Rattle.trace_bounds.proofs.Texts.{brief_reply, short_attr, short_call, short_count, short_cred, short_hex, short_list, short_number, short_read, short_reply, short_server}
 

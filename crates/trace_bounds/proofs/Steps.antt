@@ -8,7 +8,7 @@ use Rattle.harp_base.specs.declared.server.ServerId.{ServerId}
 use Rattle.trace_types.specs.declared.step.Step.{Step}
 use Rattle.trace_types.specs.declared.step.Step.TheVariants as step
 use Rattle.trace_types.specs.declared.line.LineFault.TheVariants as fault
-use Rattle.step_spelling.specs.Fits.{StepFits}
+use Rattle.text_spelling.specs.StepFits.{StepFits}
 use Rattle.file_tree.specs.Book.{Entry, last_stamp, stamp_next}
 use Rattle.group_rules.specs.Limits.{delta_tests}
 use Rattle.group_rules.specs.Moves.{Booting, Falling, Move, moved_by}
@@ -29,8 +29,8 @@ use Rattle.group_trace.specs.Refusals.{clock_refusal, own_refusal}
 use Rattle.group_trace.specs.Run.{delivery, group_after, is_elementary, moved_where, with_delta}
 use Rattle.group_trace.specs.Scene.{Measures, Scene}
 use Rattle.trace_laws.proofs.Turns.{is_up}
-use Rattle.move_bounds.specs.Walks.{AskFits, EntryWithin, InputFits, MoveFits, ServerKnown, Walks}
-use Rattle.move_bounds.proofs.Rules.{steps_walk}
+use Rattle.trace_bounds.specs.Walks.{AskFits, EntryWithin, InputFits, MoveFits, ServerKnown, Walks}
+use Rattle.trace_bounds.proofs.Rules.{steps_walk}
 use Rattle.trace_bounds.specs.Within.{BodyIn, IsWithin, PageIn, ReportIn, ServerIn, latest}
 use Rattle.trace_bounds.specs.Laws.{told}
 use Rattle.trace_bounds.proofs.Lists.{each_here, each_take}

@@ -27,10 +27,10 @@ use Rattle.harp_base.specs.declared.reply.Status.{Status}
 use Rattle.harp_base.specs.declared.reply.Status.TheVariants as status
 use Rattle.harp_base.specs.declared.server.ServerId.{ServerId}
 use Rattle.harp_base.specs.declared.server.ServerId.TheVariants as server
-use Rattle.spelling.specs.Fits.{CallFits, CredFits, SetAttrFits}
-use Rattle.spelling.specs.Text.{attr_extent, attr_owner, attr_text, attr_times, atime_on, call_text, cred_text, entry_text, gid_on, hex_text, is_implied, is_left_time, kind_number, later, left, mode_field, mtime_on, number_field, octal, page_end, reply_text, set_attr_text, size_on, spaced, status_number, time_field, time_text, told_text, uid_on}
+use Rattle.text_spelling.specs.Fits.{CallFits, CredFits, SetAttrFits}
+use Rattle.text_spelling.specs.Text.{attr_extent, attr_owner, attr_text, attr_times, atime_on, call_text, cred_text, entry_text, gid_on, hex_text, is_implied, is_left_time, kind_number, later, left, mode_field, mtime_on, number_field, octal, page_end, reply_text, set_attr_text, size_on, spaced, status_number, time_field, time_text, told_text, uid_on}
 use Rattle.file_tree.specs.Outcome.{entry_size}
-use Rattle.tree_bounds.specs.Replies.{DirEntryFits, IsBrief, PageFits, ReplyWithin}
+use Rattle.trace_bounds.specs.Replies.{DirEntryFits, IsBrief, PageFits, ReplyWithin}
 
 -- ---- numbers
 

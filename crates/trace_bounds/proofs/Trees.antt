@@ -8,10 +8,10 @@ use Rattle.file_tree.specs.Tree.{Tree, first_tree}
 use Rattle.file_tree.proofs.BookLaws.{tree_push}
 use Rattle.file_tree.proofs.SoundLaws.{book_sound, first_sound, outcome_sound}
 use Rattle.group_safety.specs.Words.{Each}
-use Rattle.move_bounds.specs.Walks.{EntryWithin}
-use Rattle.tree_bounds.specs.Replies.{AnswersBriefly, ReplyWithin}
-use Rattle.tree_bounds.specs.Trees.{TreeFits}
-use Rattle.tree_bounds.proofs.Calls.{calls_fit}
+use Rattle.trace_bounds.specs.Walks.{EntryWithin}
+use Rattle.trace_bounds.specs.Replies.{AnswersBriefly, ReplyWithin}
+use Rattle.trace_bounds.specs.Trees.{TreeFits}
+use Rattle.trace_bounds.proofs.Calls.{calls_fit}
 
 next_fits : (n late : ℕ) (tree : Tree) (e : Entry) → IsSound tree → TreeFits tree
     → EntryWithin n late e → TreeFits (tree_next tree e)

@@ -5,10 +5,10 @@ use Rattle.harp_base.specs.Fields.{AllFit}
 use Rattle.trace_types.specs.declared.step.Step.{Step}
 use Rattle.trace_types.specs.declared.step.Step.TheVariants as step
 use Rattle.trace_types.specs.declared.line.Line.{Line}
-use Rattle.step_spelling.specs.Fits.{StepFits}
-use Rattle.step_spelling.specs.Lines.{line_text}
-use Rattle.step_spelling.specs.Steps.{step_text}
-use Rattle.line_text.specs.Fits.{LineFits}
+use Rattle.text_spelling.specs.StepFits.{StepFits}
+use Rattle.text_spelling.specs.TraceLines.{line_text}
+use Rattle.text_spelling.specs.Steps.{step_text}
+use Rattle.trace_text.specs.Fits.{LineFits}
 use Rattle.file_tree.specs.Book.{Entry}
 use Rattle.group_rules.specs.State.{Message}
 use Rattle.group_trace.specs.Run.{AreTaken, run, run_lines}

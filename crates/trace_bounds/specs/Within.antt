@@ -5,7 +5,7 @@ use Rattle.group_rules.specs.Limits.{room}
 use Rattle.group_rules.specs.Places.{Place}
 use Rattle.group_rules.specs.State.{Fetch, Formed, Give, Group, Invite, JoinMade, Message, Packet, Page, Report, Server}
 use Rattle.group_safety.specs.Words.{Each, In}
-use Rattle.move_bounds.specs.Walks.{EntryWithin}
+use Rattle.trace_bounds.specs.Walks.{EntryWithin}
 
 -- a view's list has at most n entries, each within the bounds, and no promise that its plan waits
 -- for runs longer than the longest one that is given at the moment

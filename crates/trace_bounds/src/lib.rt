@@ -1,12 +1,15 @@
-//! The bounds of the lines of every run.
+//! The bounds of the lines of every run, and how many lines runs have: by what calls make of trees,
+//! how far the moves of each step go, and how long messages with records are.
 #![tactic(auto)]
 
-ghost use Rattle.trace_bounds.specs.Laws.{BooksAreFew, RunsFit};
+mod counts;
+mod messages;
+mod moves;
+mod runs;
+mod trees;
 
-/// Each line of each run has a spelling, where its steps have one, each message has bytes, and all
-/// but deliveries are at most half a million: the numbers of views and records stay within the
-/// steps, moments within what clocks are set and go on to, attributes within the tree's limits.
-pub fn run_laws()
-    ensures fit { RunsFit }
-    ensures few { BooksAreFew }
-{}
+pub use counts::count_laws;
+pub use messages::size_laws;
+pub use moves::step_walks;
+pub use runs::run_laws;
+pub use trees::tree_fits;

@@ -3,7 +3,7 @@ use Rattle.std.proofs.Common.{◌≡◌, ℕ, ◌+◌, ◌≤◌, ◌<◌, ◌^�
 use Rattle.std.specs.Prelude.{IfOk}
 use Rattle.std.proofs.lemmas.List.{append-nil}
 use Rattle.line_reader.specs.Lines.{lines_of}
-use Rattle.line_text.specs.Grammar.{IsTraceLine}
+use Rattle.trace_text.specs.Grammar.{IsTraceLine}
 use Rattle.trace_types.specs.declared.line.Line.{Line}
 use Rattle.trace_claims.specs.Trace.{AtEachPlace, Trace}
 use Rattle.trace_check.proofs.BreachLaws.{accepts_less, first_breaks}

@@ -1,7 +1,7 @@
 -- A judge on its way through a text.
 use Rattle.std.specs.Prelude.{◌≡◌, ℕ, ◌+◌, ◌^◌, ◌<◌, ◌≤◌, List, [], ◌∷◌, ◌++◌, length, Option, Some, None}
 use Rattle.line_reader.specs.Lines.{lines_of}
-use Rattle.line_text.specs.Grammar.{IsTraceLine}
+use Rattle.trace_text.specs.Grammar.{IsTraceLine}
 use Rattle.trace_types.specs.declared.line.Line.{Line}
 use Rattle.trace_claims.specs.Trace.{AtEachPlace, Trace}
 use Rattle.trace_check.specs.declared.breach.Breach.{Breach}

@@ -1,7 +1,7 @@
 -- What is found of the text of a trace.
 use Rattle.std.specs.Prelude.{◌≡◌, ℕ, ◌+◌, ◌^◌, ◌<◌, ◌≤◌, true, false, List, [], ◌∷◌, ◌++◌, length}
 use Rattle.line_reader.specs.Lines.{lines_of}
-use Rattle.line_text.specs.Grammar.{IsTraceLine}
+use Rattle.trace_text.specs.Grammar.{IsTraceLine}
 use Rattle.trace_types.specs.declared.line.Line.{Line}
 use Rattle.trace_claims.specs.Trace.{AtEachPlace, IsClosed, Trace}
 use Rattle.trace_check.specs.declared.breach.Breach.{Breach}

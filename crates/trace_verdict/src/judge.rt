@@ -4,7 +4,7 @@ ghost use Rattle.std.specs.Prelude.{◌≡◌, ◌≢◌, ℕ, ◌+◌, ◌<◌,
 ghost use Rattle.harp_base.specs.Streams.{Rose};
 ghost use Rattle.line_reader.specs.Lines.{lines_of};
 ghost use Rattle.line_reader.specs.Reading.{text_left};
-ghost use Rattle.line_text.specs.Grammar.{IsTraceLine};
+ghost use Rattle.trace_text.specs.Grammar.{IsTraceLine};
 ghost use Rattle.trace_types.specs.declared.line.Line.{Line as TraceLine};
 ghost use Rattle.trace_claims.specs.Trace.{Trace};
 ghost use Rattle.trace_verdict.specs.Judging.{AfterLine, AfterToldTurn, AfterTurn, Decides, Denies, HasTaken, IsOnTheWay};
@@ -14,10 +14,10 @@ ghost use Rattle.trace_verdict.specs.Verdicts.{IsRightText, IsVerdictOn};
 use crate::verdict::{Unread, Verdict};
 use harp_base::Source;
 use line_reader::{LineReader, Next, ReadFault};
-use line_text::read_line;
 use std::alloc::{AllocError, Global};
 use text_fields::TextFault;
 use trace_check::{Checker, begins_step, is_last};
+use trace_text::read_line;
 use trace_types::Line;
 
 /// The most lines of a trace.

@@ -23,7 +23,7 @@ use Rattle.fuzzy_cells.specs.History.{History, between, cells_at}
 use Rattle.fuzzy_cells.specs.Fuzzy.{AreAlike, IsFuzzy, IsOfMoment}
 use Rattle.fuzzy_cells.proofs.Alike.{alike_stand}
 use Rattle.fuzzy_cells.proofs.Fuzzy.{applies_on, each_moment, is_prolonged}
-use Rattle.fuzzy_disks.specs.FuzzyDisk.{AreRecordsOf}
+use Rattle.applier.specs.FuzzyDisk.{AreRecordsOf}
 use Rattle.overlay.specs.Laws.{IsLogOf}
 use Rattle.overlay.specs.Overlay.{cells_over}
 use Rattle.overlay.proofs.Walks.{reads_exactly}

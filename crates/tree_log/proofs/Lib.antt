@@ -1,2 +1,5 @@
 pub mod Forgetting
 pub mod Holding
+pub mod Lengths
+mod Plans
+mod Sizes

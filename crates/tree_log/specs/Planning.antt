@@ -7,7 +7,7 @@ use Rattle.file_tree.specs.Book.{Entry, last_stamp}
 use Rattle.harp_base.specs.View.{View}
 use Rattle.harp_cells.specs.declared.value.Value.{Value}
 use Rattle.harp_cells.specs.declared.value.Value.TheVariants as value
-use Rattle.new_record.specs.Records.{entry_after, record_of}
+use Rattle.tree_log.specs.Records.{entry_after, record_of}
 
 -- what is read in the cell of the whole tree
 abbrev pub stamp_found : Option Value → ℕ

@@ -2,7 +2,7 @@ use Rattle.std.proofs.Common.{ap, subst, ◌∙◌, []}
 use Rattle.group_rules.specs.Names.{number_of_view, place_of}
 use Rattle.node.proofs.Accepts.{HearsFormed, accepted_formed}
 use Rattle.node.proofs.Storers.{partner_place}
-use Rattle.view_replica.specs.Leading.{Leading}
+use Rattle.replica.specs.Leading.{Leading}
 use Rattle.node.proofs.Stocked.{same_led}
 use Rattle.volatile_log.specs.Log.{LogValue}
 use Rattle.node.proofs.accepting.leading.Goals as goal

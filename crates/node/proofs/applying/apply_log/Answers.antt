@@ -2,7 +2,7 @@ use Rattle.std.proofs.Common.{◌≡◌, ℕ, Some, subst, sym}
 use Rattle.applier.specs.Fuzzy.{StaysFuzzy}
 use Rattle.cell_cache.specs.Entries.{AreOf}
 use Rattle.fuzzy_cells.specs.History.{AllSetOnce, History}
-use Rattle.fuzzy_disks.specs.FuzzyDisk.{AreRecordsOf, IsFuzzyDisk}
+use Rattle.applier.specs.FuzzyDisk.{AreRecordsOf, IsFuzzyDisk}
 use Rattle.harp_store.specs.Disk.{Moments, cells_told}
 use Rattle.node.specs.State.{cached_in}
 use Rattle.node.specs.Stored.{log_in}

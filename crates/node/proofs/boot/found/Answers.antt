@@ -3,12 +3,12 @@ use Rattle.std.specs.Prelude.{map}
 use Rattle.event_record.specs.Record.{entry_of}
 use Rattle.file_tree.specs.Book.{Entry}
 use Rattle.group_rules.specs.Effects.{load_tests, rested}
-use Rattle.kept_log.specs.Boots.{rests}
+use Rattle.idle_log.specs.Boots.{rests}
 use Rattle.group_rules.specs.Limits.{can_have}
 use Rattle.group_rules.specs.Names.{place_of}
 use Rattle.group_rules.specs.Places.{all_of}
 use Rattle.group_rules.specs.State.{Saved}
-use Rattle.kept_log.specs.Kept.{held_in, lb_in, log_in}
+use Rattle.idle_log.specs.Kept.{held_in, lb_in, log_in}
 use Rattle.node.proofs.Booting.{lb_without, loaded_at, loaded_below, loaded_whole, no_log, no_role, of_saved, same_role_of, unloaded_whole, was_saved}
 use Rattle.node.specs.Node.{mark_with}
 use Rattle.node.specs.State.{role_of}

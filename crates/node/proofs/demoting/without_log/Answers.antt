@@ -4,7 +4,7 @@ use Rattle.group_rules.specs.Effects.{down, first_mark}
 use Rattle.group_rules.specs.Places.{Zero}
 use Rattle.group_rules.specs.State.{Server}
 use Rattle.node.proofs.Demoted.{joined_on, keeps_lb, pulls_bare, pulls_on, rests_on}
-use Rattle.kept_log.specs.Kept.{plan_of}
+use Rattle.idle_log.specs.Kept.{plan_of}
 use Rattle.node.specs.Demoting.{GoesOn}
 use Rattle.node.specs.State.{Fits}
 use Rattle.node.specs.declared.state.State.{State}

@@ -6,7 +6,7 @@ use Rattle.node.proofs.Stores.{any_outer, said_listed}
 use Rattle.node.specs.State.{cached_in}
 use Rattle.node.specs.Stored.{log_in}
 use Rattle.node.specs.declared.state.State.{State}
-use Rattle.outputs.specs.Said.{said}
+use Rattle.node_outputs.specs.Said.{said}
 use Rattle.node.proofs.listing.list_log.Goals as goal
 
 pub list-requires : goal.list-requires

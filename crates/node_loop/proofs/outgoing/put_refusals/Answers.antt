@@ -2,7 +2,7 @@ use Rattle.std.proofs.Common.{rules, ◌++◌, List, map, sym, ap, ◌∙◌}
 use Rattle.std.proofs.lemmas.Iterator.Adapters.{YieldsList-from_vec}
 use Rattle.std.proofs.lemmas.Iterator.Consumers.{YieldsList-end}
 use Rattle.std.proofs.lemmas.List.{map-id}
-use Rattle.outputs.specs.declared.outputs.Refused.{Refused}
+use Rattle.node_outputs.specs.declared.outputs.Refused.{Refused}
 use Rattle.node_loop.specs.Outgoing.{refusal_sent}
 use Rattle.node_loop.proofs.outgoing.put_refusals.Goals as goal
 

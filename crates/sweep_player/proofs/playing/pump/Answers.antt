@@ -1,7 +1,7 @@
 use Rattle.std.proofs.Common.{◌∙◌, ◌+◌, ◌-◌, ap, subst, Ok, arith}
 use Rattle.group_disks.specs.Calls.{measures_of}
 use Rattle.group_trace.specs.Pump.{most_deliveries}
-use Rattle.group_play.specs.OnTheWay.{with_pump}
+use Rattle.schedule_play.specs.OnTheWay.{with_pump}
 use Rattle.sweep_player.specs.OnTheWay.{TurnCounts}
 use Rattle.sweep_player.proofs.PlayLaws.{all-made, none-due, one-on}
 use Rattle.sweep_player.proofs.playing.pump.Goals as goal

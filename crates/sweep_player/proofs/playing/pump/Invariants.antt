@@ -3,8 +3,8 @@ use Rattle.std.proofs.Common.{◌≡◌, ◌-◌, ℕ}
 use Rattle.group_disks.specs.Calls.{measures_of}
 use Rattle.group_trace.specs.Pump.{most_deliveries}
 use Rattle.group_trace.specs.Scene.{Scene}
-use Rattle.group_play.specs.OnTheWay.{with_pump}
-use Rattle.group_play.specs.Reading.{Reading}
+use Rattle.schedule_play.specs.OnTheWay.{with_pump}
+use Rattle.schedule_play.specs.Reading.{Reading}
 use Rattle.sweep_player.specs.OnTheWay.{HasCounted}
 use Rattle.sweep_player.proofs.playing.pump.Given as goal
 

@@ -1,7 +1,7 @@
 use Rattle.std.proofs.Common.{◌+◌, ◌∙◌, ap, drop, subst, Ok}
 use Rattle.group_disks.specs.Calls.{measures_of}
 use Rattle.group_disks.specs.Run.{first_disk_scene}
-use Rattle.group_play.proofs.PlayLoop.{below-first}
+use Rattle.schedule_play.proofs.PlayLoop.{below-first}
 use Rattle.sweep_player.specs.OnTheWay.{TurnCounts}
 use Rattle.sweep_player.specs.Reading.{steps_read, steps_read_from, summary_of_steps}
 use Rattle.sweep_player.proofs.PlayLaws.{list-ends, list-first, list-on}

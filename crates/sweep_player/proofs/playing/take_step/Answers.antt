@@ -1,4 +1,4 @@
-use Rattle.group_play.proofs.NextSteps.{is-alone}
+use Rattle.schedule_play.proofs.NextSteps.{is-alone}
 use Rattle.sweep_player.proofs.PlayLaws.{gave-pump, gave-step}
 use Rattle.sweep_player.proofs.playing.take_step.Goals as goal
 

@@ -1,7 +1,7 @@
 use Rattle.std.proofs.Common.{rules, ◌≡◌, ◌+◌, ℕ, max, ap, ◌∙◌, subst}
 use Rattle.std.specs.Prelude.{IfOk}
 use Rattle.harp_cells.specs.declared.cell.Cell.TheVariants as cell
-use Rattle.new_record.specs.Records.{entry_after, record_of}
+use Rattle.tree_log.specs.Records.{entry_after, record_of}
 use Rattle.volatile_log.specs.Log.{top}
 use Rattle.tree_log.specs.Planning.{stamp_found}
 use Rattle.tree_log.proofs.planning.record_over.Goals as goal

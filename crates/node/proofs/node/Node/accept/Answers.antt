@@ -2,12 +2,12 @@ use Rattle.std.proofs.Common.{ap, inr, map, ◌∙◌, List, []}
 use Rattle.event_record.specs.Record.{entry_of}
 use Rattle.group_rules.specs.Form.{role_of as role_in}
 use Rattle.group_rules.specs.Names.{place_of}
-use Rattle.kept_log.specs.Kept.{plan_of, log_in}
+use Rattle.idle_log.specs.Kept.{plan_of, log_in}
 use Rattle.node.proofs.Accepts.{node_accepts, node_active, node_leaves, node_marks}
 use Rattle.node.proofs.Saying.{err_so}
 use Rattle.node.specs.Forming.{accepted_mark, joined_with}
 use Rattle.event_record.specs.declared.record.RecordFields.{RecordFields}
-use Rattle.kept_log.specs.Pulls.{adopted_records}
+use Rattle.idle_log.specs.Pulls.{adopted_records}
 use Rattle.node.specs.Node.{NodeValue}
 use Rattle.node.proofs.Stocks.{as_stock}
 use Rattle.node.proofs.node.Node.accept.Goals as goal

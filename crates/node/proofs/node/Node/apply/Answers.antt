@@ -1,7 +1,7 @@
 use Rattle.std.proofs.Common.{◌≡◌, ◌≤◌, ℕ, Some, refl, subst, sym, ◌∙◌, ap}
 use Rattle.applier.specs.Fuzzy.{IsFuzzyTo, StaysFuzzy}
 use Rattle.fuzzy_cells.specs.History.{AllSetOnce, History}
-use Rattle.fuzzy_disks.specs.FuzzyDisk.{AreRecordsOf, IsFuzzyDisk}
+use Rattle.applier.specs.FuzzyDisk.{AreRecordsOf, IsFuzzyDisk}
 use Rattle.harp_store.specs.Disk.{Moments, Now, cells_told}
 use Rattle.node.proofs.Asks.{cached_at}
 use Rattle.node.proofs.Stores.{applied_made, log_at, log_with, no_changes, none_done, none_part, store_fits, stores_active}

@@ -1,7 +1,7 @@
 use Rattle.std.proofs.Common.{sym, subst, ap, refl, ◌∙◌}
 use Rattle.group_rules.specs.Names.{place_of}
 use Rattle.harp_store.specs.Disk.{cells_told}
-use Rattle.kept_log.specs.Kept.{plan_of}
+use Rattle.idle_log.specs.Kept.{plan_of}
 use Rattle.node.proofs.Heeds.{no_leader}
 use Rattle.node.proofs.Asks.{asked_led, cached_at, grown_leads, reads_so, refuses_away}
 use Rattle.node.specs.State.{Fits, outer, pulled_in}

@@ -1,5 +1,5 @@
 use Rattle.std.proofs.Common.{◌≡◌, ℕ, Some, refl, subst, sym, ◌∙◌, ap}
-use Rattle.fuzzy_disks.specs.FuzzyDisk.{IsFuzzyByMark, IsFuzzyDisk}
+use Rattle.applier.specs.FuzzyDisk.{IsFuzzyByMark, IsFuzzyDisk}
 use Rattle.harp_store.specs.Disk.{AtEachMoment, cells_told}
 use Rattle.node.proofs.Asks.{cached_at}
 use Rattle.node.proofs.Stores.{ap_is, flushes_stores, lowered_fits, stores_active}

@@ -1,6 +1,6 @@
 use Rattle.std.proofs.Common.{[], sym, ◌∙◌}
 use Rattle.group_rules.specs.Form.{form_moves}
-use Rattle.kept_log.specs.Kept.{plan_of}
+use Rattle.idle_log.specs.Kept.{plan_of}
 use Rattle.node.specs.Node.{server}
 use Rattle.node.specs.declared.state.State.TheVariants as state
 use Rattle.node.proofs.Heeds.{stays}

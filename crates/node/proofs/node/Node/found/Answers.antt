@@ -1,7 +1,7 @@
 use Rattle.std.proofs.Common.{subst, List, ◌∙◌, ap, sym}
 use Rattle.std.proofs.lemmas.Result.{IfOk-weaker}
-use Rattle.kept_log.specs.Gives.{GivesFound, StandIn}
-use Rattle.log_laws.specs.Laws.{with_log}
+use Rattle.idle_log.specs.Gives.{GivesFound, StandIn}
+use Rattle.idle_log.specs.LogLaws.{with_log}
 use Rattle.node.proofs.Fetched.{finds_followed, finds_joined, finds_led, finds_pulls, finds_rests}
 use Rattle.volatile_log.specs.Log.{LogValue}
 use Rattle.std.specs.Prelude.{IfSome}

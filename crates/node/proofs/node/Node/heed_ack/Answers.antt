@@ -7,8 +7,8 @@ use Rattle.node.proofs.InView.{leads_fits, leads_made, quiet_ack}
 use Rattle.node.specs.Node.{server, value}
 use Rattle.node.specs.State.{outer}
 use Rattle.node.specs.declared.state.State.TheVariants as state
-use Rattle.outputs.specs.Makes.{Makes}
-use Rattle.view_replica.specs.Leading.{led}
+use Rattle.node_outputs.specs.Makes.{Makes}
+use Rattle.replica.specs.Leading.{led}
 use Rattle.node.proofs.Stocked.{ack_stock}
 use Rattle.node.proofs.Stocks.{stocks_so}
 use Rattle.node.specs.Stock.{stock, stock_in}

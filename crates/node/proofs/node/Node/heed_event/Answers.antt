@@ -12,9 +12,9 @@ use Rattle.node.specs.Node.{server, value}
 use Rattle.node.specs.State.{Fits, IsFollowing, outer}
 use Rattle.node.specs.declared.state.State.{State}
 use Rattle.node.specs.declared.state.State.TheVariants as state
-use Rattle.kept_log.specs.Kept.{plan_of}
-use Rattle.outputs.specs.Makes.{Makes}
-use Rattle.view_replica.specs.Following.{followed, place_followed}
+use Rattle.idle_log.specs.Kept.{plan_of}
+use Rattle.node_outputs.specs.Makes.{Makes}
+use Rattle.replica.specs.Following.{followed, place_followed}
 use Rattle.node.proofs.Stocked.{event_stock}
 use Rattle.node.proofs.Stocks.{stocks_so}
 use Rattle.node.specs.Stock.{stock, stock_in}

@@ -2,7 +2,7 @@ use Rattle.std.proofs.Common.{[], ap, sym, ◌∙◌, List, ◌++◌, subst}
 use Rattle.std.proofs.lemmas.Result.{on_ok_weaker}
 use Rattle.group_rules.specs.Names.{number_of_view, place_of}
 use Rattle.group_rules.specs.Serving.{on_fetch}
-use Rattle.kept_log.specs.Gives.{given_moves, StandIn}
+use Rattle.idle_log.specs.Gives.{given_moves, StandIn}
 use Rattle.node.proofs.Fetched.{fetches, gives_made}
 use Rattle.node.proofs.Heeds.{leaves}
 use Rattle.node.specs.Node.{server}
@@ -10,7 +10,7 @@ use Rattle.std.specs.Prelude.{IfSome, Option}
 use Rattle.std.proofs.lemmas.List.Elements.{Contains-append_left}
 use Rattle.event_record.specs.declared.record.RecordFields.{RecordFields}
 use Rattle.node.proofs.Wholes.{stand_both}
-use Rattle.outputs.specs.Records.{records_sent}
+use Rattle.node_outputs.specs.Records.{records_sent}
 use Rattle.node.proofs.node.Node.heed_fetch.Goals as goal
 
 pub returns-in-None-clause-makes : goal.returns-in-None-clause-makes

@@ -3,7 +3,7 @@ use Rattle.group_rules.specs.Names.{place_of}
 use Rattle.harp_base.specs.View.{View}
 use Rattle.harp_store.specs.Mark.{MarkFields}
 use Rattle.group_rules.specs.Places.{Zero, One, Two, Place, get}
-use Rattle.kept_log.specs.declared.kept.Kept.{Kept}
+use Rattle.idle_log.specs.declared.kept.Kept.{Kept}
 use Rattle.node.specs.Disk.{promising}
 use Rattle.node.specs.State.{Fits, IsKept, heard_of}
 use Rattle.node.specs.declared.state.Joining.{Joining}

@@ -2,13 +2,13 @@ use Rattle.std.proofs.Common.{[], ap, refl}
 use Rattle.node.proofs.Heeds.{leads_none, no_leader, stays}
 use Rattle.node.proofs.InView.{leads, leads_fits, leads_made, quiet_leads}
 use Rattle.node.specs.State.{outer}
-use Rattle.view_replica.specs.Leading.{led, place_led}
+use Rattle.replica.specs.Leading.{led, place_led}
 use Rattle.node.proofs.Stocked.{led_stock}
 use Rattle.node.specs.Stock.{stock}
 use Rattle.volatile_log.specs.Log.{LogValue}
 use Rattle.std.proofs.lemmas.List.Elements.{Contains-append_left}
 use Rattle.node.proofs.Wholes.{leads_sent}
-use Rattle.outputs.specs.Records.{records_sent}
+use Rattle.node_outputs.specs.Records.{records_sent}
 use Rattle.node.proofs.node.Node.lead.Goals as goal
 
 pub returns-in_default-clause-makes : goal.returns-in_default-clause-makes

@@ -3,7 +3,7 @@ use Rattle.harp_store.specs.Disk.{cells_told}
 use Rattle.node.proofs.Asks.{cached_at}
 use Rattle.node.proofs.Stores.{log_at, stores_active}
 use Rattle.tree_log.specs.Reading.{HoldsTree}
-use Rattle.view_replica.specs.Listing.{listing_at}
+use Rattle.replica.specs.Listing.{listing_at}
 use Rattle.volatile_log.specs.Log.{LogValue}
 use Rattle.node.proofs.Stocked.{logged_stock}
 use Rattle.node.specs.State.{cached_in}

@@ -1,5 +1,5 @@
 use Rattle.std.proofs.Common.{ap}
-use Rattle.kept_log.specs.Kept.{plan_of}
+use Rattle.idle_log.specs.Kept.{plan_of}
 use Rattle.node.proofs.Tested.{form_misfits, form_unsent}
 use Rattle.node.specs.Node.{NodeValue}
 use Rattle.node.proofs.node.Node.misfits_form.Goals as goal

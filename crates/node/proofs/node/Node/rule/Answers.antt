@@ -14,19 +14,19 @@ use Rattle.node.specs.Node.{server}
 use Rattle.node.specs.Stored.{LeavesBy, disk_by, mark_by}
 use Rattle.node.specs.Taking.{input_in, ruled}
 use Rattle.node.specs.declared.input.Input.{Input}
-use Rattle.outputs.specs.Makes.{Makes}
-use Rattle.outputs.specs.Messages.{heard}
+use Rattle.node_outputs.specs.Makes.{Makes}
+use Rattle.node_outputs.specs.Messages.{heard}
 use Rattle.group_rules.specs.Disk.{apply, flush, list_tree}
-use Rattle.kept_log.specs.Gives.{StandIn}
+use Rattle.idle_log.specs.Gives.{StandIn}
 use Rattle.node.proofs.Bare.{bare_said, bare_suspect}
 use Rattle.node.proofs.Stocks.{idle_stock}
 use Rattle.node.proofs.Wholes.{asked_sent, asks_stock, idle_apply, idle_flush, idle_list, idle_tick, message_sent, stand_first, stand_fresh, stand_none}
 use Rattle.node.specs.Step.{ListsFor}
 use Rattle.node.specs.Stock.{stock, stock_after}
-use Rattle.outputs.specs.Records.{records_sent}
-use Rattle.outputs.specs.Said.{said}
-use Rattle.outputs.specs.declared.outputs.Outputs.{Outputs}
-use Rattle.view_replica.specs.Asking.{recorded}
+use Rattle.node_outputs.specs.Records.{records_sent}
+use Rattle.node_outputs.specs.Said.{said}
+use Rattle.node_outputs.specs.declared.outputs.Outputs.{Outputs}
+use Rattle.replica.specs.Asking.{recorded}
 use Rattle.node.proofs.node.Node.rule.Goals as goal
 
 pub returns-in_ok-tick-in-Tick-clause-makes : goal.returns-in_ok-tick-in-Tick-clause-makes

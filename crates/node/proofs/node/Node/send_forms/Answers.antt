@@ -1,6 +1,6 @@
 use Rattle.std.proofs.Common.{ap, ◌∙◌}
 use Rattle.group_rules.specs.Names.{place_of}
-use Rattle.kept_log.specs.Kept.{plan_of}
+use Rattle.idle_log.specs.Kept.{plan_of}
 use Rattle.node.proofs.Collects.{sends_both}
 use Rattle.node.proofs.Storers.{leader_place, partner_place}
 use Rattle.node.proofs.node.Node.send_forms.Goals as goal

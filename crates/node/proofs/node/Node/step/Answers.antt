@@ -14,8 +14,8 @@ use Rattle.node.proofs.Wholes.{fills_sized, lists_none, no_listing, stand_none, 
 use Rattle.node.specs.Serving.{entry_size}
 use Rattle.node.specs.Step.{ListsFor}
 use Rattle.node.specs.Stock.{stock, stock_after}
-use Rattle.outputs.specs.Records.{records_sent}
-use Rattle.outputs.specs.Said.{Said}
+use Rattle.node_outputs.specs.Records.{records_sent}
+use Rattle.node_outputs.specs.Said.{Said}
 use Rattle.tree_listing.specs.declared.listing.Listing.{Listing}
 use Rattle.node.proofs.node.Node.step.Goals as goal
 

@@ -8,8 +8,8 @@ use Rattle.group_rules.specs.Step.{on_message}
 use Rattle.node.proofs.Takes.{ignored, taken_then}
 use Rattle.node.specs.Node.{server}
 use Rattle.event_record.specs.declared.record.RecordFields.{RecordFields}
-use Rattle.kept_log.specs.Gives.{StandIn}
-use Rattle.outputs.specs.Records.{records_sent}
+use Rattle.idle_log.specs.Gives.{StandIn}
+use Rattle.node_outputs.specs.Records.{records_sent}
 use Rattle.std.proofs.lemmas.List.Elements.{Contains-append_left}
 use Rattle.node.proofs.node.Node.take_fetch.Goals as goal
 

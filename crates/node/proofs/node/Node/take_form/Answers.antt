@@ -11,7 +11,7 @@ use Rattle.node.specs.Node.{server}
 use Rattle.node.proofs.Stocks.{stocks_misfit, stocks_on, stocks_taken}
 use Rattle.node.specs.Stock.{stock}
 use Rattle.node.proofs.node.Node.take_form.Goals as goal
-use Rattle.kept_log.specs.Kept.{plan_of}
+use Rattle.idle_log.specs.Kept.{plan_of}
 
 pub returns-then-misfits_form-clause-makes : goal.returns-then-misfits_form-clause-makes
 returns-then-misfits_form-clause-makes g c items size list =

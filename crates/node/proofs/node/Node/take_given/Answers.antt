@@ -2,18 +2,18 @@ use Rattle.std.proofs.Common.{◌+◌, ◌++◌, ◌<◌, ◌≤◌, ap, arith, 
 use Rattle.std.proofs.lemmas.Bool.{eqb-true}
 use Rattle.event_record.specs.Record.{entry_of}
 use Rattle.group_rules.specs.Form.{accept_moves}
-use Rattle.kept_log.specs.Kept.{plan_of, log_in}
+use Rattle.idle_log.specs.Kept.{plan_of, log_in}
 use Rattle.node.proofs.Given.{accepts_alike, given_all, given_none, given_part, none_staged, pulled_so, stages, staged_so, staging, staged_in, restaged}
 use Rattle.node.proofs.Saying.{disk_so, makes_so, mark_so, on_err, on_ok, part_so, unsaid}
 use Rattle.node.specs.Forming.{joined_with, pulling_with}
 use Rattle.node.specs.Node.{NodeValue, server}
-use Rattle.outputs.specs.Said.{said}
+use Rattle.node_outputs.specs.Said.{said}
 use Rattle.volatile_log.specs.Log.{StagedValue, next}
 use Rattle.group_rules.specs.Places.{partner, same}
 use Rattle.node.proofs.Stocked.{accepting_stock}
 use Rattle.node.proofs.Stocks.{as_stock, idle_if, stocks_so}
 use Rattle.node.specs.Stock.{stock, stock_kept}
-use Rattle.kept_log.specs.Pulls.{adopted_records}
+use Rattle.idle_log.specs.Pulls.{adopted_records}
 use Rattle.node.proofs.node.Node.take_given.Goals as goal
 
 pub returns-then-not-branch-clause-makes : goal.returns-then-not-branch-clause-makes

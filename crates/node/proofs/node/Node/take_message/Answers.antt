@@ -7,11 +7,11 @@ use Rattle.file_tree.specs.Book.{Entry}
 use Rattle.node.proofs.Heard.{fills_fetch, forms, heard_ack, heard_alike, heard_keeps, heard_makes, heard_stocks, joins}
 use Rattle.node.proofs.Marks.{disk_as, mark_as, part_as}
 use Rattle.node.specs.Node.{server}
-use Rattle.outputs.specs.Messages.{heard}
+use Rattle.node_outputs.specs.Messages.{heard}
 use Rattle.node.proofs.Stocks.{idle_fetch, idle_formed, idle_rule, stocks_idle}
 use Rattle.node.specs.Stock.{stock}
 use Rattle.group_rules.specs.Step.{Comes, rule}
-use Rattle.outputs.specs.Records.{carried}
+use Rattle.node_outputs.specs.Records.{carried}
 use Rattle.node.proofs.node.Node.take_message.Goals as goal
 
 pub returns-in-Invite-clause-makes : goal.returns-in-Invite-clause-makes

@@ -4,17 +4,17 @@ use Rattle.event_record.specs.declared.record.RecordFields.{RecordFields}
 use Rattle.group_rules.specs.Form.{accept_moves, wanted}
 use Rattle.group_rules.specs.Names.{place_of}
 use Rattle.group_rules.specs.Places.{Place, is_in, partner, same}
-use Rattle.kept_log.specs.Kept.{plan_of, with_kept, log_in}
+use Rattle.idle_log.specs.Kept.{plan_of, with_kept, log_in}
 use Rattle.node.proofs.Forms.{begins, begins_so, joined_is, no_test, none_at, not_source, part_at, pulling, stores_at, wanted_at, whole_at}
 use Rattle.node.proofs.Saying.{disk_so, makes_so, mark_so, on_err, on_ok, part_so, unsaid}
 use Rattle.node.specs.Forming.{joined_with}
 use Rattle.node.specs.Node.{NodeValue, server}
 use Rattle.node.specs.State.{IsPulling}
-use Rattle.outputs.specs.Said.{said}
+use Rattle.node_outputs.specs.Said.{said}
 use Rattle.node.proofs.Stocked.{accepting_stock}
 use Rattle.node.proofs.Stocks.{as_stock, idle_if, stocks_so}
 use Rattle.node.specs.Stock.{stock, stock_kept}
-use Rattle.kept_log.specs.Pulls.{adopted_records}
+use Rattle.idle_log.specs.Pulls.{adopted_records}
 use Rattle.node.proofs.node.Node.take_part.Goals as goal
 
 pub returns-then-not-fits-clause-makes : goal.returns-then-not-fits-clause-makes

@@ -1,6 +1,6 @@
 use Rattle.std.proofs.Common.{true}
 use Rattle.group_rules.specs.Names.{number_of_view, place_of}
-use Rattle.kept_log.specs.Kept.{plan_of}
+use Rattle.idle_log.specs.Kept.{plan_of}
 use Rattle.node.proofs.Tested.{fits_joined, joined_kept, promised_test}
 use Rattle.node.proofs.node.Node.takes.Goals as goal
 

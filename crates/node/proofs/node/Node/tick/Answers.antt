@@ -3,8 +3,8 @@ use Rattle.node.proofs.Ticks.{ticks}
 use Rattle.node.specs.Node.{server}
 use Rattle.std.proofs.Common.{List, ◌++◌, sym, subst, ◌∙◌}
 use Rattle.event_record.specs.declared.record.RecordFields.{RecordFields}
-use Rattle.kept_log.specs.Gives.{StandIn}
-use Rattle.outputs.specs.Records.{records_sent}
+use Rattle.idle_log.specs.Gives.{StandIn}
+use Rattle.node_outputs.specs.Records.{records_sent}
 use Rattle.node.proofs.node.Node.tick.Goals as goal
 
 pub returns-clause-makes : goal.returns-clause-makes

@@ -3,7 +3,7 @@ use Rattle.group_rules.specs.Open.{try_open}
 use Rattle.node.proofs.Heeds.{no_leader, stays, tries_none}
 use Rattle.node.proofs.InView.{leads_fits, leads_made, quiet_open}
 use Rattle.node.specs.State.{outer}
-use Rattle.view_replica.specs.Leading.{led, place_led}
+use Rattle.replica.specs.Leading.{led, place_led}
 use Rattle.node.proofs.Stocked.{led_stock}
 use Rattle.node.specs.Stock.{stock}
 use Rattle.volatile_log.specs.Log.{LogValue}

@@ -2,7 +2,7 @@ use Rattle.std.proofs.Common.{rules, ◌≡◌, ◌+◌, ◌≤◌, ℕ, min, sy
 use Rattle.applier.specs.Applied.{AfterPart, after_changes, changes_between}
 use Rattle.applier.specs.Fuzzy.{IsFuzzyTo, StaysFuzzy}
 use Rattle.cell_cache.specs.Entries.{AreOf}
-use Rattle.fuzzy_disks.specs.FuzzyDisk.{AreRecordsOf, IsFuzzyDisk}
+use Rattle.applier.specs.FuzzyDisk.{AreRecordsOf, IsFuzzyDisk}
 use Rattle.harp_store.specs.Disk.{Now, cells_told}
 use Rattle.volatile_log.specs.Log.{LogValue, applied_to}
 use Rattle.tree_log.specs.Applying.{applied_by, changes_by}

@@ -3,7 +3,7 @@ use Rattle.std.specs.Prelude.{IfOk}
 use Rattle.cell_cache.specs.Entries.{AreOf}
 use Rattle.harp_cells.specs.declared.cell.Cell.TheVariants as cell
 use Rattle.harp_store.specs.Disk.{cells_told}
-use Rattle.new_record.specs.Records.{entry_after, record_of}
+use Rattle.tree_log.specs.Records.{entry_after, record_of}
 use Rattle.overlay.specs.Overlay.{cells_over, told_over}
 use Rattle.volatile_log.specs.Log.{top}
 use Rattle.tree_log.specs.Planning.{stamp_found}

@@ -1,0 +1,2 @@
+pub mod AcceptLaws
+pub mod TextLaws

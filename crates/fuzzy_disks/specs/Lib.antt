@@ -1,2 +1,0 @@
-pub mod FuzzyDisk
-pub mod Laws

@@ -1,7 +1,0 @@
-use Rattle.std.proofs.Common.{◌≡◌, ◌++◌, drop}
-use Rattle.given_lines.specs.Given.{refused_lines}
-use Rattle.given_lines.proofs.given.show_refusals.Given as goal
-
-abbrev pub invariant-loop-refusal : goal.invariant-loop-refusal
-invariant-loop-refusal l = l.lines.items ++ refused_lines l.server (drop l.refusal-index l.refusals)
-    ≡ l.initial.lines.items ++ refused_lines l.server l.refusals

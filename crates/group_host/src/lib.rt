@@ -1,8 +1,0 @@
-//! One server of a played group: its node over its disk in memory, with stops, power failures,
-//! crashes and boots.
-#![tactic(auto)]
-
-mod host;
-
-pub use host::Host;
-pub use host_rules::Stop;

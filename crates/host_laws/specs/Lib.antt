@@ -1,4 +1,0 @@
-pub mod Begins
-pub mod Waits
-pub mod Laws
-pub mod Sizes

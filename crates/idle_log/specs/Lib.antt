@@ -1,0 +1,5 @@
+pub mod Kept
+pub mod Pulls
+pub mod Gives
+pub mod Boots
+pub mod LogLaws

@@ -1,4 +1,0 @@
-pub mod TakingUp
-pub mod FormTests
-pub mod Giving
-pub mod Booting

@@ -1,4 +1,0 @@
-pub mod Kept
-pub mod Pulls
-pub mod Gives
-pub mod Boots

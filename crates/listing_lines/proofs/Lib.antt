@@ -1,2 +1,0 @@
-pub mod PartLines
-pub mod TreeLines

@@ -1,6 +1,0 @@
-use Rattle.std.proofs.Common.{◌≡◌, ◌++◌, map}
-use Rattle.listing_lines.specs.Lines.{line_of_slot}
-use Rattle.listing_lines.proofs.lines.push_slots.Given as goal
-
-abbrev pub invariant-loop-slot : goal.invariant-loop-slot
-invariant-loop-slot l = l.lines.items ≡ l.fn.lines.items ++ map (line_of_slot l.dir) l.yielded

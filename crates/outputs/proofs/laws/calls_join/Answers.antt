@@ -1,5 +1,0 @@
-use Rattle.outputs.proofs.Makes.{makes_then}
-use Rattle.outputs.proofs.laws.calls_join.Goals as goal
-
-pub returns : goal.returns
-returns c = makes_then

@@ -1,8 +1,0 @@
-//! That calls are put together as their moves are.
-
-ghost use Rattle.outputs.specs.Makes.{MakesThen};
-
-/// Two calls, of which the second answers and refuses nobody, make the moves of both.
-pub fn calls_join()
-    ensures { MakesThen }
-{}

@@ -1,5 +1,0 @@
-pub mod TextLines
-pub mod Readings
-pub mod Fits
-pub mod StepsRead
-pub mod Few

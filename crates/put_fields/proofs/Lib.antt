@@ -1,4 +1,0 @@
-pub mod Hex
-pub mod Numerals
-pub mod OneLine
-pub mod Octal

@@ -1,5 +1,0 @@
--- what is above the last four digits is less
-use Rattle.put_fields.proofs.decimals.+push_digits.Given as goal
-
-abbrev pub decreases-push_digits : goal.decreases-push_digits
-decreases-push_digits l = l.n

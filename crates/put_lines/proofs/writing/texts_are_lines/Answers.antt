@@ -1,8 +1,0 @@
-use Rattle.put_lines.proofs.OneLine.{step_line, trace_line}
-use Rattle.put_lines.proofs.writing.texts_are_lines.Goals as goal
-
-pub returns-clause-step : goal.returns-clause-step
-returns-clause-step c = step_line
-
-pub returns-clause-line : goal.returns-clause-line
-returns-clause-line c = trace_line

@@ -1,0 +1,10 @@
+use Rattle.std.proofs.Common.{sym, subst}
+use Rattle.cell_cache.specs.Entries.{AreOf}
+use Rattle.harp_store.specs.Disk.{cells_told}
+use Rattle.replica.specs.Following.{Following}
+use Rattle.replica.proofs.partner.Partner.flush.Goals as goal
+
+pub flush-requires : goal.flush-requires
+flush-requires g c =
+    subst (λ (x : Following). AreOf (cells_told (g.D.Store.told c.args.store.now)) x.cached)
+    (sym c.self.view_is) c.requires

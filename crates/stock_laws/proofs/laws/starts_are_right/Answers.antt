@@ -1,5 +1,0 @@
-use Rattle.stock_laws.proofs.Starts.{starts_right}
-use Rattle.stock_laws.proofs.laws.starts_are_right.Goals as goal
-
-pub returns : goal.returns
-returns c = record { start = starts_right }

@@ -1,4 +1,0 @@
-pub mod Stocks
-pub mod Laws
-pub mod Sent
-pub mod Trees

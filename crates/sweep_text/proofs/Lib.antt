@@ -1,2 +1,0 @@
-mod StepsFit
-mod TextLaws

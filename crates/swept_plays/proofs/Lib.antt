@@ -1,3 +1,0 @@
-mod Readings
-mod Generated
-mod Swept

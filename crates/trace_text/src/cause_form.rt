@@ -1,0 +1,76 @@
+//! The causes of a refusal, by their names.
+
+ghost use Rattle.std.specs.Prelude.{◌≡◌, ◌≤◌, ◌+◌, length, find, map, codes, IfOk};
+ghost use Rattle.std.specs.Str.{bytes_eq};
+ghost use Rattle.text_fields.specs.Fields.{Gives};
+ghost use Rattle.text_fields.specs.Words.{farthest};
+ghost use Rattle.trace_text.specs.Fields.{value_named, name_at};
+ghost use Rattle.trace_text.specs.Replies.{cause_name, cause_forms};
+
+use text_fields::{TextFault, farther, word_at};
+
+/// A cause without the hint that one of them has.
+#[derive(Clone, Copy)]
+pub enum CauseForm {
+    BadClient,
+    NotLeader,
+    NotYetOpen,
+    NoPromise,
+    LogFull,
+    Old,
+}
+
+const FORMS: [CauseForm; 6] = [
+    CauseForm::BadClient,
+    CauseForm::NotLeader,
+    CauseForm::NotYetOpen,
+    CauseForm::NoPromise,
+    CauseForm::LogFull,
+    CauseForm::Old,
+];
+
+impl CauseForm {
+    fn name(self) -> &'static [u8]
+        ensures { result.now ≡ cause_name self }
+    {
+        match self {
+            CauseForm::BadClient => b"bad-client",
+            CauseForm::NotLeader => b"not-leader",
+            CauseForm::NotYetOpen => b"not-yet-open",
+            CauseForm::NoPromise => b"no-promise",
+            CauseForm::LogFull => b"log-full",
+            CauseForm::Old => b"old",
+        }
+    }
+
+    fn named(word: &[u8]) -> Option<CauseForm>
+        ensures { result ≡ value_named cause_name cause_forms word.now }
+    {
+        FORMS.iter().copied().find(|form| word == form.name())
+    }
+}
+
+/// How far a word goes along with the name of a form.
+fn far_along(word: &[u8]) -> usize
+    ensures value { result ≡ farthest (map cause_name cause_forms) word.now 0 }
+    ensures within { result ≤ length word.now }
+{
+    let far = farther(b"bad-client", word, 0);
+    let far = farther(b"not-leader", word, far);
+    let far = farther(b"not-yet-open", word, far);
+    let far = farther(b"no-promise", word, far);
+    let far = farther(b"log-full", word, far);
+    farther(b"old", word, far)
+}
+
+pub fn form_at(line: &[u8], at: usize) -> Result<(CauseForm, usize), TextFault>
+    requires { at ≤ length line.now }
+    ensures step { Gives (λ x. x) result (name_at cause_name cause_forms line.now at) }
+    ensures within { IfOk result (λ x. x.1 ≤ length line.now) }
+{
+    let word = word_at(line, at);
+    match CauseForm::named(word) {
+        None => Err(TextFault::Grammar(at + far_along(word))),
+        Some(form) => Ok((form, at + word.len())),
+    }
+}

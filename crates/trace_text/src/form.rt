@@ -1,0 +1,107 @@
+//! The forms of lines, by their names.
+
+ghost use Rattle.std.specs.Prelude.{◌≡◌, ◌≤◌, ◌+◌, length, find, map, codes, IfOk};
+ghost use Rattle.std.specs.Str.{bytes_eq};
+ghost use Rattle.text_fields.specs.Fields.{Gives};
+ghost use Rattle.text_fields.specs.Words.{farthest};
+ghost use Rattle.trace_text.specs.Fields.{value_named, name_at};
+ghost use Rattle.trace_text.specs.Reading.{form_name, forms};
+
+use text_fields::{TextFault, farther, word_at};
+
+/// What the first word of a line tells of it.
+#[derive(Clone, Copy)]
+pub enum LineForm {
+    Event,
+    Entered,
+    Answered,
+    Refused,
+    Sent,
+    State,
+    Listed,
+    Unlisted,
+    Object,
+    Slot,
+    Block,
+    Text,
+    Bad,
+    End,
+}
+
+const FORMS: [LineForm; 14] = [
+    LineForm::Event,
+    LineForm::Entered,
+    LineForm::Answered,
+    LineForm::Refused,
+    LineForm::Sent,
+    LineForm::State,
+    LineForm::Listed,
+    LineForm::Unlisted,
+    LineForm::Object,
+    LineForm::Slot,
+    LineForm::Block,
+    LineForm::Text,
+    LineForm::Bad,
+    LineForm::End,
+];
+
+impl LineForm {
+    fn name(self) -> &'static [u8]
+        ensures { result.now ≡ form_name self }
+    {
+        match self {
+            LineForm::Event => b">",
+            LineForm::Entered => b"entered",
+            LineForm::Answered => b"answered",
+            LineForm::Refused => b"refused",
+            LineForm::Sent => b"send",
+            LineForm::State => b"state",
+            LineForm::Listed => b"listed",
+            LineForm::Unlisted => b"unlisted",
+            LineForm::Object => b"object",
+            LineForm::Slot => b"slot",
+            LineForm::Block => b"block",
+            LineForm::Text => b"text",
+            LineForm::Bad => b"bad",
+            LineForm::End => b"end",
+        }
+    }
+
+    fn named(word: &[u8]) -> Option<LineForm>
+        ensures { result ≡ value_named form_name forms word.now }
+    {
+        FORMS.iter().copied().find(|form| word == form.name())
+    }
+}
+
+/// How far a word goes along with the name of a form.
+fn far_along(word: &[u8]) -> usize
+    ensures value { result ≡ farthest (map form_name forms) word.now 0 }
+    ensures within { result ≤ length word.now }
+{
+    let far = farther(b">", word, 0);
+    let far = farther(b"entered", word, far);
+    let far = farther(b"answered", word, far);
+    let far = farther(b"refused", word, far);
+    let far = farther(b"send", word, far);
+    let far = farther(b"state", word, far);
+    let far = farther(b"listed", word, far);
+    let far = farther(b"unlisted", word, far);
+    let far = farther(b"object", word, far);
+    let far = farther(b"slot", word, far);
+    let far = farther(b"block", word, far);
+    let far = farther(b"text", word, far);
+    let far = farther(b"bad", word, far);
+    farther(b"end", word, far)
+}
+
+/// The form of a line, from its first word.
+pub fn first_form(line: &[u8]) -> Result<(LineForm, usize), TextFault>
+    ensures { Gives (λ x. x) result (name_at form_name forms line.now 0) }
+{
+    let word = word_at(line, 0);
+    match LineForm::named(word) {
+        None => Err(TextFault::Grammar(far_along(word))),
+        Some(form) => Ok((form, word.len())),
+    }
+}

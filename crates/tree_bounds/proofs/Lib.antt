@@ -1,6 +1,0 @@
-pub mod Lists
-pub mod Attrs
-pub mod Changes
-pub mod Shown
-pub mod ReadCalls
-pub mod Calls

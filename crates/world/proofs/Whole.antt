@@ -1,0 +1,201 @@
+-- A whole turn of a server: what its host gives in the world is what the scene after it has.
+use Rattle.std.proofs.Common.{◌≡◌, ℕ, ◌+◌, List, [], ◌++◌, append-nil, drop, length, refl, sym, ap, ◌∙◌, subst, append_assoc, true≢false}
+use Rattle.std.proofs.lemmas.List.Sums.{sum_by-append}
+use Rattle.file_tree.specs.Book.{Entry}
+use Rattle.fuzzy_cells.specs.Disk.{Disk}
+use Rattle.world_lines.specs.Given.{answered_lines as answered_lines_of, book_given, lines_given, packets_of, reads_in, refused_lines as refused_lines_of, sent_lines as sent_lines_of, updates_in}
+use Rattle.group_disks.specs.Calls.{measures_of}
+use Rattle.group_disks.specs.Run.{DiskScene, Stores}
+use Rattle.group_rules.specs.Moves.{Move, Sending, acts, moved_by}
+use Rattle.group_rules.specs.Names.{place_of}
+use Rattle.group_rules.specs.Places.{Place}
+use Rattle.group_rules.specs.Said.{committed_of, reads_said, sends_said}
+use Rattle.group_rules.specs.State.{Group, Message, Server}
+use Rattle.group_rules.specs.Step.{Input as Begins, list_of}
+use Rattle.group_safety.specs.Words.{In}
+use Rattle.group_trace.specs.Lines.{answered_lines, entered_lines, refused_lines, state_lines}
+use Rattle.group_trace.specs.Run.{bytes_of}
+use Rattle.group_trace.specs.Shown.{shown_of}
+use Rattle.harp_base.specs.Trio.{value_of}
+use Rattle.harp_base.specs.declared.server.ServerId.{ServerId}
+use Rattle.world_laws.specs.Waits.{HasWaits, StepWaits}
+use Rattle.world_rules.specs.Host.{HostValue, IsHost}
+use Rattle.world_rules.specs.Spellings.{spellings}
+use Rattle.world_rules.specs.Steps.{TakesWhole, moves_at, peers_by}
+use Rattle.node.specs.Input.{came}
+use Rattle.node.specs.Stock.{stock_after}
+use Rattle.node.specs.declared.input.Input.{Input}
+use Rattle.node_outputs.specs.Said.{Said}
+use Rattle.node_outputs.specs.declared.outputs.Outputs.{Outputs}
+use Rattle.world_packets.specs.Machine.{StandFor}
+use Rattle.world_packets.specs.Posted.{bytes_of as bytes_of_posted, bytes_sent}
+use Rattle.world_packets.proofs.Machine.{as_many_stand}
+use Rattle.world_laws.specs.Sent.{at_hand}
+use Rattle.trace_laws.proofs.After.{moved_server}
+use Rattle.trace_types.specs.declared.line.Line.{Line}
+use Rattle.world.specs.Turns.{TurnBegins}
+use Rattle.world.specs.World.{HasPackets, IsServer, IsWorld, WorldValue}
+use Rattle.world.proofs.Begun.{Begun, begun}
+use Rattle.world.proofs.Books.{Brings, book_brought, book_lines}
+use Rattle.world.proofs.Laws.{Laws}
+use Rattle.world.proofs.Moved.{bytes_said, packets_said, said_in}
+use Rattle.world.proofs.Packets.{carried_still}
+use Rattle.world.proofs.Says.{answers_are, reads_are, refusals_are}
+use Rattle.world.proofs.Scenes.{lines_after, scene_after, scene_turns}
+use Rattle.world.proofs.Sends.{AreSent, are_sent, carried_both, sends_carry, sends_count, sends_lines, sends_stand}
+use Rattle.world.proofs.Servers.{turned_to, world_turned}
+
+regroup : (e a r s t : List Line) → (e ++ (a ++ (r ++ s))) ++ t
+    ≡ e ++ (a ++ (r ++ (s ++ (t ++ []))))
+regroup e a r s t = append_assoc e (a ++ (r ++ s)) t
+    ∙ ap (λ x. e ++ x) (append_assoc a (r ++ s) t
+    ∙ ap (λ x. a ++ x) (append_assoc r s t
+    ∙ ap (λ x. r ++ (s ++ x)) (sym (append-nil t))))
+
+-- what a turn that isn't cut has: its beginning, its server's host before it, and what the host
+-- makes of it
+pub record WholeTurn (w : DiskScene) (x : WorldValue) (server : ServerId) (given : Input)
+    (i : Begins) (left : Disk) (h : HostValue) (outs : Outputs) : Type 0 where
+  pub begins : TurnBegins w x (place_of server) given i
+  pub me : h.me ≡ place_of server
+  pub takes : TakesWhole w.scene.group (place_of server) given i
+      (begins.stands.servers server).stock (begins.stands.servers server).saved left h outs
+
+module _ (l : Laws) (w : DiskScene) (x : WorldValue) (server : ServerId) (given : Input)
+    (i : Begins) (left : Disk) (h : HostValue) (outs : Outputs)
+    (t : WholeTurn w x server given i left h outs) where
+  abbrev q : Place
+  q = place_of server
+
+  abbrev g : Group Entry
+  g = w.scene.group
+
+  abbrev ms : List (Move Entry)
+  ms = moves_at g q i
+
+  abbrev after : Group Entry
+  after = moved_by g q (g.server q) ms
+
+  abbrev own : IsServer w server (value_of x.hosts server)
+  own = t.begins.stands.servers server
+
+  begins : Begun (measures_of spellings).size g q given i
+  begins = begun l (measures_of spellings).size g (l.whole w t.begins.reached) q t.begins.up given i
+      t.begins.begins t.begins.rightly
+
+  waits : StepWaits g q own.stock given i
+  waits = l.wait g (l.whole w t.begins.reached) q t.begins.up own.stock own.waits given i
+      t.begins.begins begins.may
+
+  server_is : after.server q ≡ acts q (g.clock q) (g.server q) ms
+  server_is = moved_server ms g q (g.server q) refl
+
+  -- ---- the server
+
+  own_after : (disks : Stores) → disks q ≡ left → IsServer (scene_after w q ms disks) server h
+  own_after disks is =
+      let stock = stock_after q (g.clock q) (list_of g q) (came given) (peers_by own.stock given)
+      (g.server q) ms own.stock in
+      record {
+        me = t.me;
+        stock = stock;
+        saved = own.saved;
+        host = subst (λ (s : Server Entry). IsHost s stock own.saved (disks q) h) (sym server_is)
+            (subst (λ (d : Disk). IsHost (acts q (g.clock q) (g.server q) ms) stock own.saved d h)
+            (sym is) t.takes.host);
+        has_stock = begins.keeps.stock (peers_by own.stock given) own.stock own.has_stock;
+        are_saved = begins.keeps.saved own.saved own.are_saved;
+        waits = subst (λ (s : Server Entry). HasWaits s stock) (sym server_is) waits.after;
+        rests = λ down. absurd (true≢false (sym begins.up
+            ∙ sym (ap (λ (s : Server Entry). s.up) server_is) ∙ down));
+      }
+
+  -- ---- packets
+
+  abbrev bytes : Message Entry → ℕ
+  bytes = (measures_of spellings).bytes (list_of after q)
+
+  sent_all : AreSent after.page bytes outs.sends.items (sends_said ms)
+  sent_all = are_sent after.page bytes (at_hand (measures_of spellings).size g q i own.stock)
+      (λ y. In ms (Sending y.0 y.1))
+      (λ y m sends hears stand.
+      let carries = begins.sends own.stock own.has_stock y.0 y.1 sends m hears stand in (
+        carries,
+        l.sized g (l.whole w t.begins.reached) q t.begins.up i begins.may y.0 y.1 sends m hears
+            carries,
+      ))
+      outs.sends.items (sends_said ms) (ap (λ (s : Said). s.sends) t.takes.said) (said_in ms)
+      t.takes.sent
+
+  packets_after : (disks : Stores)
+      → HasPackets (scene_after w q ms disks) (x.packets ++ packets_of server outs.sends.items)
+  packets_after disks =
+      let old = t.begins.stands.packets in
+      record {
+        packets = subst (λ ps. StandFor (x.packets ++ packets_of server outs.sends.items) ps
+            w.scene.delivered) (sym (packets_said ms g q (g.server q)))
+            (sends_stand after.page bytes server outs.sends.items (sends_said ms) sent_all x.packets
+            g.packets w.scene.delivered old.packets);
+        records = carried_both after.page x.packets (packets_of server outs.sends.items)
+            (carried_still g after x.packets w.scene.delivered begins.stays old.packets old.records)
+            (sends_carry after.page bytes server outs.sends.items (sends_said ms) sent_all);
+        bytes = ap (λ n. n + bytes_of (measures_of spellings) (list_of after q) ms) old.bytes
+            ∙ ap (λ n. bytes_sent x.packets + n)
+            (bytes_said (measures_of spellings) (list_of after q) ms
+            ∙ sym (sends_count after.page bytes server outs.sends.items (sends_said ms) sent_all))
+            ∙ sym (sum_by-append bytes_of_posted x.packets (packets_of server outs.sends.items));
+      }
+
+  -- ---- the book
+
+  brings : Brings g after outs
+  brings =
+      let grows = begins.grows in
+      record {
+        committed = committed_of q (g.clock q) (g.server q) ms;
+        reads = reads_said ms;
+        has_committed = ap (λ (s : Said). s.committed) t.takes.said;
+        has_reads = ap reads_in (ap (λ (s : Said). s.answers) t.takes.said)
+            ∙ reads_are ms (peers_by own.stock given) waits.answers;
+        updates = grows.committed;
+        book = grows.book;
+      }
+
+  -- ---- all of it
+
+  pub whole_stands : (disks : Stores) → disks q ≡ left
+      → ((y : Place) → (y ≡ q → ⊥) → disks y ≡ w.disks y)
+      → IsWorld (scene_after w q ms disks)
+      (turned_to x server h (x.packets ++ packets_of server outs.sends.items)
+      (book_given x.book outs))
+  whole_stands disks is others = world_turned w (scene_after w q ms disks) x server h
+      (x.packets ++ packets_of server outs.sends.items) (book_given x.book outs) t.begins.stands
+      (scene_turns w q ms disks begins.stays others) (own_after disks is) (packets_after disks)
+      (book_brought g after outs x.book brings t.begins.stands.book)
+
+  pub whole_lines : lines_given server x.book (length x.packets) outs
+      ++ state_lines q (shown_of (g.server q)) (shown_of (after.server q)) ≡ lines_after w q ms
+  whole_lines =
+      let e = entered_lines (length x.book.entries)
+      (updates_in x.book outs ++ reads_in outs.answers.items) in
+      let a = answered_lines_of server outs.answers.items in
+      let r = refused_lines_of server outs.refusals.items in
+      let s = sent_lines_of server (length x.packets) outs.sends.items in
+      let now = state_lines q (shown_of (g.server q)) (shown_of (after.server q)) in
+      let e' = entered_lines (length g.book) (drop (length g.book) after.book) in
+      let a' = answered_lines q ms in
+      let r' = refused_lines q ms in
+      regroup e a r s now
+      ∙ ap (λ y. y ++ (a ++ (r ++ (s ++ (now ++ [])))))
+      (book_lines g after outs x.book brings t.begins.stands.book)
+      ∙ ap (λ y. e' ++ (y ++ (r ++ (s ++ (now ++ [])))))
+      (ap (answered_lines_of server) (ap (λ (s : Said). s.answers) t.takes.said)
+      ∙ answers_are server ms (peers_by own.stock given) waits.answers)
+      ∙ ap (λ y. e' ++ (a' ++ (y ++ (s ++ (now ++ [])))))
+      (ap (refused_lines_of server) (ap (λ (s : Said). s.refusals) t.takes.said)
+      ∙ refusals_are server ms (peers_by own.stock given) waits.refusals)
+      ∙ ap (λ y. e' ++ (a' ++ (r' ++ (y ++ (now ++ [])))))
+      (ap (λ n. sent_lines_of server n outs.sends.items)
+      (as_many_stand x.packets g.packets w.scene.delivered t.begins.stands.packets.packets)
+      ∙ sends_lines after.page bytes server (length g.packets) outs.sends.items (sends_said ms)
+      sent_all)

@@ -1,0 +1,20 @@
+use Rattle.harp_base.specs.Trio.{value_of}
+use Rattle.world.proofs.Crashes.{boot_taken}
+use Rattle.world.proofs.Spent.{boots_then, host_then, me_then}
+use Rattle.world.proofs.TheLaws.{the_laws}
+use Rattle.world.proofs.world.World.boot.Goals as goal
+
+pub returns-clause-taken : goal.returns-clause-taken
+returns-clause-taken c =
+    let a = c.args in
+    let old = a.self.now in
+    let spent = c.spend_stop.new.self in
+    let new = c.boot_host.new.self in
+    let is = c.spend_stop.ensures.world in
+    let has = c.in_ok-boot_host.ensures.world in
+    boot_taken the_laws old new a.server (value_of new.hosts a.server)
+    c.state_line-before.result c.state_line-after.result c.args.lines.now.items
+    c.show_state.new.lines.items c.requires.none c.state_line-before.ensures
+    (me_then old spent new a.server is has)
+    (boots_then old spent new a.server is c.in_ok-boot_host.ensures.boots)
+    (host_then old spent new a.server is has) c.state_line-after.ensures c.in_ok-show_state.ensures

@@ -1,0 +1,4 @@
+pub mod Book
+pub mod Given
+pub mod Lines
+pub mod Laws

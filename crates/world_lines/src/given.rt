@@ -1,0 +1,141 @@
+//! The lines that a server's step gives, and what it puts into the book and among the packets.
+
+ghost use Rattle.std.specs.Prelude.{◌≡◌, ◌++◌, ◌∷◌, [], length, OnOk};
+ghost use Rattle.world_lines.specs.Given.{answered_line, answered_lines, book_given, lines_given, packet_of, packets_of, refused_line, refused_lines, sent_line, sent_lines};
+
+use crate::book::Book;
+use crate::shown::shown;
+use harp_base::ServerId;
+use node_outputs::{Answered, Outputs, Refused, Sent};
+use std::alloc::{AllocError, Global};
+use trace_types::Line;
+use world_packets::Packets;
+
+/// The line of an answer.
+fn show_answer(
+    alloc: Global,
+    server: ServerId,
+    answer: &Answered,
+    lines: &mut Vec<Line>,
+) -> Result<(), AllocError>
+    ensures { OnOk result (lines.new.items ≡ lines.old.items
+        ++ answered_line server answer.now ∷ []) }
+{
+    lines.push(Line::Answered {
+        server,
+        client: answer.client,
+        number: answer.number,
+        index: answer.index,
+        reply: answer.reply.copy(alloc)?,
+    })?;
+    Ok(())
+}
+
+/// The lines of the answers.
+fn show_answers(
+    alloc: Global,
+    server: ServerId,
+    answers: &[Answered],
+    lines: &mut Vec<Line>,
+) -> Result<(), AllocError>
+    ensures { OnOk result (lines.new.items ≡ lines.old.items ++ answered_lines server answers.now) }
+{
+    for answer in answers {
+        show_answer(alloc, server, answer, lines)?;
+    }
+    Ok(())
+}
+
+/// The line of a refusal.
+fn show_refusal(server: ServerId, refusal: Refused, lines: &mut Vec<Line>) -> Result<(), AllocError>
+    ensures { OnOk result (lines.new.items ≡ lines.old.items ++ refused_line server refusal ∷ []) }
+{
+    lines.push(Line::Refused {
+        server,
+        client: refusal.client,
+        number: refusal.number,
+        cause: refusal.cause,
+    })?;
+    Ok(())
+}
+
+/// The lines of the refusals.
+fn show_refusals(
+    server: ServerId,
+    refusals: &[Refused],
+    lines: &mut Vec<Line>,
+) -> Result<(), AllocError>
+    ensures { OnOk result (lines.new.items ≡ lines.old.items ++ refused_lines server refusals.now) }
+{
+    for refusal in refusals {
+        show_refusal(server, *refusal, lines)?;
+    }
+    Ok(())
+}
+
+/// A message between servers goes among the packets, with its line.
+fn post(
+    alloc: Global,
+    from: ServerId,
+    send: &Sent,
+    packets: &mut Packets,
+    lines: &mut Vec<Line>,
+) -> Result<(), AllocError>
+    ensures packets { OnOk result (packets.new ≡ packets.old ++ packet_of from send.now) }
+    ensures lines { OnOk result (lines.new.items ≡ lines.old.items
+        ++ sent_line from (length packets.old) send.now) }
+{
+    let Some(message) = shown(&send.message) else {
+        return Ok(());
+    };
+    lines.push(Line::Sent {
+        packet: packets.count(),
+        from,
+        to: send.to,
+        message,
+    })?;
+    packets.send(alloc, from, send.to, &send.message)?;
+    Ok(())
+}
+
+/// The messages go among the packets, with their lines.
+fn post_all(
+    alloc: Global,
+    from: ServerId,
+    sends: &[Sent],
+    packets: &mut Packets,
+    lines: &mut Vec<Line>,
+) -> Result<(), AllocError>
+    ensures packets { OnOk result (packets.new ≡ packets.old ++ packets_of from sends.now) }
+    ensures lines { OnOk result (lines.new.items ≡ lines.old.items
+        ++ sent_lines from (length packets.old) sends.now) }
+{
+    for send in sends {
+        post(alloc, from, send, packets, lines)?;
+    }
+    Ok(())
+}
+
+/// Puts a server's outputs into the book, among the packets and into lines, in the order of a
+/// trace.
+pub fn give(
+    alloc: Global,
+    server: ServerId,
+    outs: &Outputs,
+    book: &mut Book,
+    packets: &mut Packets,
+    lines: &mut Vec<Line>,
+) -> Result<(), AllocError>
+    ensures book { OnOk result (book.new ≡ book_given book.old outs.now) }
+    ensures packets { OnOk result (packets.new ≡ packets.old
+        ++ packets_of server outs.now.sends.items) }
+    ensures lines { OnOk result (lines.new.items ≡ lines.old.items
+        ++ lines_given server book.old (length packets.old) outs.now) }
+{
+    book.enter_updates(alloc, outs.committed.as_slice(), lines)?;
+    book.enter_reads(alloc, outs.answers.as_slice(), lines)?;
+    show_answers(alloc, server, outs.answers.as_slice(), lines)?;
+    show_refusals(server, outs.refusals.as_slice(), lines)?;
+    post_all(alloc, server, outs.sends.as_slice(), packets, lines)?;
+    Ok(())
+}

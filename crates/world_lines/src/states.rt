@@ -1,0 +1,71 @@
+//! The lines of a server's state and of its listing.
+
+ghost use Rattle.std.specs.Prelude.{◌≡◌, ◌++◌, OnOk};
+ghost use Rattle.group_rules.specs.Names.{place_of};
+ghost use Rattle.group_trace.specs.Lines.{state_lines};
+ghost use Rattle.world_lines.specs.Given.{listing_shown};
+
+use crate::lines_of_listing;
+use harp_base::{ServerId, StateLine};
+use std::alloc::{AllocError, Global};
+use trace_types::Line;
+use tree_listing::Listing;
+
+/// The line of a server's state, where it isn't the one before. A server that is down has none.
+#[tactic(auto, unfolding(group_rules::specs::Shown::same_state))]
+pub fn show_state(
+    server: ServerId,
+    before: &Option<StateLine>,
+    now: &Option<StateLine>,
+    lines: &mut Vec<Line>,
+) -> Result<(), AllocError>
+    ensures { OnOk result (lines.new.items ≡ lines.old.items
+        ++ state_lines (place_of server) before.now now.now) }
+{
+    match (before, now) {
+        (None, None) => Ok(()),
+        (Some(_), None) => {
+            lines.push(Line::Down { server })?;
+            Ok(())
+        }
+        (None, Some(state)) => {
+            lines.push(Line::State {
+                server,
+                state: *state,
+            })?;
+            Ok(())
+        }
+        (Some(before), Some(state)) => {
+            if *before == *state {
+                return Ok(());
+            }
+            lines.push(Line::State {
+                server,
+                state: *state,
+            })?;
+            Ok(())
+        }
+    }
+}
+
+/// The lines of a listing that a server was asked for.
+pub fn show_listing(
+    alloc: Global,
+    server: ServerId,
+    listing: Option<Listing>,
+    lines: &mut Vec<Line>,
+) -> Result<(), AllocError>
+    ensures { OnOk result (lines.new.items ≡ lines.old.items ++ listing_shown server listing) }
+{
+    match listing {
+        None => {
+            lines.push(Line::Unlisted { server })?;
+            Ok(())
+        }
+        Some(listing) => {
+            let mut shown = lines_of_listing(alloc, server, listing)?;
+            lines.append(&mut shown)?;
+            Ok(())
+        }
+    }
+}
