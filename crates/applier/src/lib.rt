@@ -2,8 +2,8 @@
 //! crashes and boots make of disks whose cells are fuzzy between two points of a history.
 #![tactic(auto)]
 
-mod flushes;
-mod fuzzy;
+mod disks;
+mod syncs;
 
 ghost use Rattle.std.specs.Prelude.{◌≡◌, ◌≤◌, ◌<◌, ◌^◌, ◌+◌, ◌⊎◌, ℕ, min, length, Option, Some, None, IfOk, OnOk, OnErr, Err};
 ghost use Rattle.harp_base.specs.Streams.{Rose};
@@ -14,11 +14,11 @@ ghost use Rattle.applier.specs.FuzzyDisk.{AreRecordsOf, IsFuzzyByMark, IsFuzzyDi
 ghost use Rattle.applier.specs.Fuzzy.{IsFuzzyTo, StaysFuzzy};
 ghost use Rattle.applier.specs.Applied.{after_changes, AfterPart, CrashesLeave, IsAfterPart, IsLeftInPart, changes_at, changes_between, lower, flushed, FlushesInPart, IsOldOrSynced};
 
-pub use flushes::flush_laws;
-pub use fuzzy::fuzzy_disk_laws;
+pub use disks::fuzzy_disk_laws;
 use harp_cells::{Change, ChangeLog};
 use harp_store::{Mark, Store, StoreFault};
 use std::alloc::Global;
+pub use syncs::flush_laws;
 
 /// Syncs the store, and then writes the mark with this number as the one up to which all updates
 /// are on the disk. At each moment the mark on the disk is the old one, or all cells are synced.

@@ -5,9 +5,9 @@
 mod copies;
 mod player;
 mod playing;
-mod swept;
+mod swept_plays;
 mod tally;
 
 pub use player::GroupPlayer;
 pub use playing::summary_over;
-pub use swept::swept_texts;
+pub use swept_plays::swept_texts;

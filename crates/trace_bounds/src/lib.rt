@@ -2,14 +2,14 @@
 //! how far the moves of each step go, and how long messages with records are.
 #![tactic(auto)]
 
-mod counts;
-mod messages;
-mod moves;
-mod runs;
-mod trees;
+mod line_counts;
+mod message_bounds;
+mod move_bounds;
+mod run_bounds;
+mod tree_bounds;
 
-pub use counts::count_laws;
-pub use messages::size_laws;
-pub use moves::step_walks;
-pub use runs::run_laws;
-pub use trees::tree_fits;
+pub use line_counts::count_laws;
+pub use message_bounds::size_laws;
+pub use move_bounds::step_walks;
+pub use run_bounds::run_laws;
+pub use tree_bounds::tree_fits;

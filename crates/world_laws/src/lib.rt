@@ -2,11 +2,11 @@
 //! keep and send are those of their views' lists.
 #![tactic(auto)]
 
-mod hosts;
-mod stocks;
+mod host_laws;
+mod stock_laws;
 
-pub use hosts::{hosts_can, messages_are_sized, steps_wait};
-pub use stocks::{
+pub use host_laws::{hosts_can, messages_are_sized, steps_wait};
+pub use stock_laws::{
     logs_are_right, marks_keep_logs, sends_are_right, starts_are_right, steps_keep_stocks,
     stocks_stay,
 };

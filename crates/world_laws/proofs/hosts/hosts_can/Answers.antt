@@ -1,5 +1,0 @@
-use Rattle.world_laws.proofs.Hosts.{can_fail, can_take, reached_whole}
-use Rattle.world_laws.proofs.hosts.hosts_can.Goals as goal
-
-pub returns : goal.returns
-returns c = record { whole = reached_whole; take = can_take; fail = can_fail }

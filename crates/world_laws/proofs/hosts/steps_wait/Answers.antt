@@ -1,6 +1,0 @@
-use Rattle.world_laws.proofs.HostSteps.{steps_wait}
-use Rattle.world_laws.proofs.Waits.{resting_wait}
-use Rattle.world_laws.proofs.hosts.steps_wait.Goals as goal
-
-pub returns : goal.returns
-returns c = record { wait = steps_wait; rest = resting_wait }

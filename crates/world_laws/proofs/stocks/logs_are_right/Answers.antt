@@ -1,5 +1,0 @@
-use Rattle.world_laws.proofs.Logs.{logs_right}
-use Rattle.world_laws.proofs.stocks.logs_are_right.Goals as goal
-
-pub returns : goal.returns
-returns c = record { right = logs_right }

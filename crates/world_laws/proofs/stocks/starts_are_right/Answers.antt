@@ -1,5 +1,0 @@
-use Rattle.world_laws.proofs.Starts.{starts_right}
-use Rattle.world_laws.proofs.stocks.starts_are_right.Goals as goal
-
-pub returns : goal.returns
-returns c = record { start = starts_right }

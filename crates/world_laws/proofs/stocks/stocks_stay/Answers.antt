@@ -1,5 +1,0 @@
-use Rattle.world_laws.proofs.Logs.{stocks_stay}
-use Rattle.world_laws.proofs.stocks.stocks_stay.Goals as goal
-
-pub returns : goal.returns
-returns c = record { stay = stocks_stay }

@@ -1,5 +1,0 @@
-use Rattle.world_laws.proofs.Trees.{trees_held}
-use Rattle.world_laws.proofs.stocks.trees_are_held.Goals as goal
-
-pub returns : goal.returns
-returns c = record { held = trees_held }
