@@ -1,5 +1,5 @@
-use Rattle.overlay_tests.proofs.Over.{over_fewer}
-use Rattle.overlay_tests.proofs.indexed.drop_both.Goals as goal
+use Rattle.disk_rows.proofs.Over.{over_fewer}
+use Rattle.disk_rows.proofs.indexed.drop_both.Goals as goal
 
 pub returns : goal.returns
 returns c = record {

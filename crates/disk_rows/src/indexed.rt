@@ -1,16 +1,15 @@
 //! A log with its index, which grow together and are dropped together.
 
-ghost use Rattle.std.specs.Prelude.{◌≡◌, ◌≤◌, ◌<◌, ◌+◌, ◌^◌, IfOk, OnOk};
+ghost use Rattle.std.specs.Prelude.{◌≡◌, ◌≤◌, ◌<◌, ◌+◌, ◌^◌, IfSome, OnSome};
 ghost use Rattle.volatile_log.specs.Log.{top};
 ghost use Rattle.overlay.specs.Index.{Entries};
-ghost use Rattle.overlay_tests.specs.Indexed.{IsOver};
+ghost use Rattle.disk_rows.specs.Indexed.{IsOver};
 
-use event_record::{Changes, Index, Moment, Record, RecordFields};
-use harp_base::{Call, Reply, SUPERUSER, ServerId, ViewNo};
+use crate::records::record;
+use event_record::{Index, Record};
 use harp_cells::Change;
 use overlay::CellIndex;
 use std::alloc::Global;
-use std::test::Fail;
 use volatile_log::ActiveLog;
 
 /// A log and the index over its records.
@@ -21,38 +20,19 @@ pub(crate) struct Indexed {
     ghost is: { IsOver index log },
 }
 
-/// A record with these changes.
-fn record(alloc: Global, index: Index, changes: Vec<Change>) -> Result<Record, Fail>
-    ensures { IfOk result (λ r. r.index ≡ index) }
-{
-    let fields = RecordFields {
-        stamped: ViewNo::of(1, ServerId::Zero).ok_or("no view")?,
-        index,
-        client: 7,
-        number: 1,
-        cred: SUPERUSER,
-        call: Call::RmDir {
-            dir: 1,
-            name: harp_base::Bounded::of(Vec::new(alloc)).ok_or("too long")?,
-        },
-        stamp: Moment::new(2050),
-        reply: Reply::Done,
-        changes: Changes::of(changes).ok_or("too many changes")?,
-    };
-    Ok(Record::of(alloc, fields)?.ok_or("too long")?)
-}
-
 // One more record.
-fn add(log: &mut ActiveLog, index: &mut CellIndex, item: Record) -> Result<(), Fail>
+fn add(log: &mut ActiveLog, index: &mut CellIndex, item: Record) -> Option<()>
     requires is { IsOver index.old log.old }
     requires next { item.index ≡ top log.old + 1 }
     requires limit { item.index < 2 ^ 62 }
-    ensures over { OnOk result (IsOver index.new log.new) }
+    ensures over { OnSome result (IsOver index.new log.new) }
 {
-    index.add(item.index().get(), item.fields().changes.as_slice())?;
+    index
+        .add(item.index().get(), item.fields().changes.as_slice())
+        .ok()?;
     match log.append(item) {
-        Ok(()) => Ok(()),
-        Err(_) => Err(Fail::from("full")),
+        Ok(()) => Some(()),
+        Err(_) => None,
     }
 }
 
@@ -81,33 +61,33 @@ fn drop_both(log: &mut ActiveLog, index: &mut CellIndex, n: u64)
 
 impl Indexed {
     /// No record.
-    pub(crate) fn new(alloc: Global) -> Result<Indexed, Fail> {
-        Ok(Indexed {
-            log: ActiveLog::start(alloc)?,
+    pub(crate) fn new(alloc: Global) -> Option<Indexed> {
+        Some(Indexed {
+            log: ActiveLog::start(alloc).ok()?,
             index: CellIndex::new(alloc),
         })
     }
 
     /// With one more record, of these changes.
-    pub(crate) fn append(self, alloc: Global, changes: Vec<Change>) -> Result<Indexed, Fail> {
+    pub(crate) fn append(self, alloc: Global, changes: Vec<Change>) -> Option<Indexed> {
         let Indexed { mut log, mut index } = self;
         let place = log.top() + 1;
         if place >= 1 << 62 {
-            return Err(Fail::from("too far"));
+            return None;
         }
         let record = record(alloc, Index::new(place), changes)?;
         add(&mut log, &mut index, record)?;
-        Ok(Indexed { log, index })
+        Some(Indexed { log, index })
     }
 
     /// Without the records up to n, where it is from the base to the top.
-    pub(crate) fn drop_to(self, n: u64) -> Result<Indexed, Fail> {
+    pub(crate) fn drop_to(self, n: u64) -> Option<Indexed> {
         let Indexed { mut log, mut index } = self;
         if n < log.base() || n > log.top() {
-            return Err(Fail::from("no record"));
+            return None;
         }
         apply_all(&mut log);
         drop_both(&mut log, &mut index, n);
-        Ok(Indexed { log, index })
+        Some(Indexed { log, index })
     }
 }

@@ -1,0 +1,75 @@
+//! Plays each line of standard input: the name of a case, and its words, each with its numbers
+//! behind colons. The modules have the words. What it writes of a line is the name, and each word
+//! with what came of it.
+#![tactic(auto)]
+
+mod kept;
+mod logs;
+mod views;
+mod words;
+
+use kept::Log;
+use std::alloc::Global;
+use std::io::{self, BufRead, BufReader};
+use views::{Choices, Promises};
+use words::{Answer, parsed};
+
+/// What the words of a line are about.
+#[derive(Drop)]
+struct Player {
+    promises: Promises,
+    choices: Choices,
+    log: Log,
+}
+
+impl Player {
+    /// Takes a word. None where nothing takes it.
+    fn step(&mut self, alloc: Global, text: &str) -> Option<Answer> {
+        let (name, numbers) = parsed(text);
+        if let Some(answer) = self.promises.step(name, numbers) {
+            return Some(answer);
+        }
+        if let Some(answer) = self.choices.step(name, numbers) {
+            return Some(answer);
+        }
+        self.log.step(alloc, name, numbers)
+    }
+}
+
+/// Writes a word, and what came of it.
+fn tell(rt: HostRuntime, word: &str, answer: Option<Answer>) -> io::Result<()> {
+    match answer {
+        None => print!(rt; " {word} failed"),
+        Some(Answer::Nothing) => print!(rt; " {word}"),
+        Some(Answer::Says(text)) => print!(rt; " {word}={text}"),
+        Some(Answer::One(number)) => print!(rt; " {word}={number}"),
+        Some(Answer::Two(numbers)) => print!(rt; " {word}={numbers:?}"),
+        Some(Answer::Five(numbers)) => print!(rt; " {word}={numbers:?}"),
+        Some(Answer::Seven(numbers)) => print!(rt; " {word}={numbers:?}"),
+    }
+}
+
+/// Plays a line.
+fn play(rt: HostRuntime, line: &str) -> io::Result<()> {
+    let mut player = Player {
+        promises: Promises::new(),
+        choices: Choices::new(),
+        log: Log::new(),
+    };
+    let mut words = line.split(' ');
+    if let Some(name) = words.next() {
+        print!(rt; "{name}")?;
+    }
+    for word in words {
+        let answer = player.step(rt.alloc(), word);
+        tell(rt, word, answer)?;
+    }
+    println!(rt; "")
+}
+
+fn main(rt: HostRuntime) -> io::Result<()> {
+    for line in BufReader::new(rt.alloc(), rt.reader())?.lines(rt.alloc()) {
+        play(rt, line?.as_str())?;
+    }
+    Ok(())
+}

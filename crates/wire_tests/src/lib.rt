@@ -1,5 +1,0 @@
-//! Messages and their bytes.
-#![tactic(auto)]
-
-#[cfg(test)]
-mod messages;
