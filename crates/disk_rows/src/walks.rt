@@ -120,7 +120,10 @@ impl Overlay {
             return self.append(alloc);
         }
         let (base, top) = (self.all.log.base(), self.all.log.top());
-        self.drop_to(alloc, base + u64::from(numbers.next()) % (top - base + 1))
+        self.drop_to(
+            alloc,
+            base.wrapping_add(u64::from(numbers.next()) % (top - base + 1)),
+        )
     }
 
     /// Takes so many random steps, and gives a digest of what all cells are behind each.

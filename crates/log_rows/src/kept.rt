@@ -117,12 +117,14 @@ fn form_of(numbers: [u64; 7]) -> Option<(ServerId, Form)> {
 fn is_placed(me: ServerId, kept: &Kept) -> bool
     ensures { result ≡ true → IsPlaced (place_of me) kept.now }
 {
-    match (me, kept) {
-        (ServerId::Two, Kept::Held(log)) => log.lb() == log.base() && log.ap() == log.base(),
-        (_, Kept::Held(_)) => true,
-        (_, Kept::Lost(_)) => true,
-        (ServerId::Two, Kept::Empty(_)) => true,
-        (_, Kept::Empty(_)) => false,
+    match me {
+        ServerId::Zero => !matches!(kept, Kept::Empty(_)),
+        ServerId::One => !matches!(kept, Kept::Empty(_)),
+        ServerId::Two => match kept {
+            Kept::Held(log) => log.lb() == log.base() && log.ap() == log.base(),
+            Kept::Lost(_) => true,
+            Kept::Empty(_) => true,
+        },
     }
 }
 
@@ -166,7 +168,7 @@ fn fill(alloc: Global, staged: &mut Staged) -> Option<()>
     ensures start { staged.new.start ≡ staged.old.start }
     ensures full { OnSome result (staged.new.start < next staged.new) }
 {
-    for _ in 0..u64::MAX {
+    'filling: for _ in 0..u64::MAX {
         if staged.is_full() {
             return Some(());
         }
