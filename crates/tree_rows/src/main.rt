@@ -18,11 +18,11 @@ mod shown;
 mod table;
 mod watched;
 
+use crate::fault::put_fault;
 use crate::rows::{play, unrolled};
 use crate::table::Table;
 use harp_base::{WriterSink, write_all};
 use std::io::{self, BufRead, BufReader};
-use text_writer::put_named;
 
 fn main(rt: HostRuntime) -> io::Result<()> {
     let alloc = rt.alloc();
@@ -36,7 +36,7 @@ fn main(rt: HostRuntime) -> io::Result<()> {
         let mut out = Vec::new(alloc);
         let row = unrolled(alloc, line.as_str())?;
         if let Err(fault) = play(alloc, &mut out, &mut table, row.as_slice()) {
-            put_named(&mut out, fault.what, fault.at as u64)?;
+            put_fault(&mut out, fault)?;
             out.extend_from_slice(b"\n")?;
         }
         if write_all(&mut sink, out.as_slice()).is_err() {

@@ -1,6 +1,6 @@
 //! Rows that are read and played.
 
-use crate::fault::{Fault, fault_at};
+use crate::fault::Fault;
 use crate::shown::put_shown;
 use crate::table::Table;
 use dedup::Seen;
@@ -30,7 +30,10 @@ fn set_clock(table: &mut Table, line: &[u8]) -> Result<(), Fault> {
     let (_, at) = spaced_server_at(line, 5)?;
     let (reading, at) = spaced_count_at(line, at)?;
     end_at(line, at)?;
-    table.now = Moment::of(reading).ok_or(fault_at(b"clock", at))?;
+    let Some(now) = Moment::of(reading) else {
+        return Err(Fault::Bounds);
+    };
+    table.now = now;
     Ok(())
 }
 
@@ -134,6 +137,6 @@ pub fn play(alloc: Global, out: &mut Vec<u8>, table: &mut Table, line: &[u8]) ->
         }
         b"call" => call(alloc, out, line),
         b"reply" => reply(alloc, out, line),
-        _ => Err(fault_at(b"row", 0)),
+        _ => Err(Fault::Grammar(0)),
     }
 }

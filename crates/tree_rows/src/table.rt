@@ -3,7 +3,7 @@
 ghost use Rattle.std.specs.Prelude.{◌≡◌, true};
 ghost use Rattle.harp_base.specs.Update.{is_update};
 
-use crate::fault::{Fault, fault_at};
+use crate::fault::Fault;
 use crate::shown::{put_change, put_shown};
 use crate::watched::Watched;
 use event_record::{Index, read_item, write_item};
@@ -29,6 +29,9 @@ pub struct Table {
 impl Table {
     /// Two trees with the root alone, at time 0.
     pub fn new(alloc: Global) -> Result<Table, Fault> {
+        let Some(view) = ViewNo::of(3, ServerId::Zero) else {
+            return Err(Fault::Bounds);
+        };
         let cells = Watched {
             cells: MemCells::new(alloc),
             broken: None,
@@ -40,7 +43,7 @@ impl Table {
             cells,
             plain: PlainTree::new(alloc)?,
             now: Moment::new(0),
-            view: ViewNo::of(3, ServerId::Zero).ok_or(fault_at(b"view", 0))?,
+            view,
             index: Index::new(1),
         })
     }
@@ -72,7 +75,10 @@ impl Table {
         out.extend_from_slice(b"\n")?;
         let changes = fields.changes.copy(alloc)?;
         self.cells.cells.apply(alloc, changes.as_slice())?;
-        self.index = Index::of(index.get() + 1).ok_or(fault_at(b"index", 0))?;
+        let Some(index) = Index::of(index.get() + 1) else {
+            return Err(Fault::Bounds);
+        };
+        self.index = index;
         Ok(fields.reply.copy(alloc)?)
     }
 
