@@ -4,7 +4,7 @@ use crate::fault::Fault;
 use crate::shown::put_shown;
 use crate::table::Table;
 use dedup::Seen;
-use harp_base::{Bytes, read_call, read_reply, write_call, write_reply};
+use harp_base::{Bytes, Call, Reply, read_call, read_reply, write_call, write_reply};
 use harp_cells::{Cell, CellRead, Inode, Moment, Value};
 use schedule_text::{end_at, spaced_count_at, spaced_server_at, spaced_u32_at};
 use std::alloc::{AllocError, Global};
@@ -89,33 +89,54 @@ fn break_cell(table: &mut Table, line: &[u8]) -> Result<(), Fault> {
     Ok(())
 }
 
-/// How many bytes a call is read from, which call it is, and the bytes of a copy.
-fn call(alloc: Global, out: &mut Vec<u8>, line: &[u8]) -> Result<(), Fault> {
-    let (bytes, at) = all_hex_at(alloc, line, space_at(line, 4)?)?;
+/// The bytes of a row.
+fn given(alloc: Global, line: &[u8], at: usize) -> Result<Bytes, Fault> {
+    let at = space_at(line, at)?;
+    let (bytes, at) = all_hex_at(alloc, line, at)?;
     end_at(line, at)?;
-    let (call, length) = read_call(alloc, bytes.as_slice())?;
-    put_named(out, b"read", length as u64)?;
-    out.extend_from_slice(b" ")?;
-    put_call(alloc, out, &call)?;
-    let mut written = Bytes::new(alloc);
-    write_call(alloc, &call.copy(alloc)?, &mut written)?;
-    out.extend_from_slice(b"\ncopy")?;
-    put_name(alloc, out, written.as_slice())?;
-    Ok(out.extend_from_slice(b"\n")?)
+    Ok(bytes)
 }
 
-/// How many bytes a reply is read from, which reply it is, and the bytes of a copy.
-fn reply(alloc: Global, out: &mut Vec<u8>, line: &[u8]) -> Result<(), Fault> {
-    let (bytes, at) = all_hex_at(alloc, line, space_at(line, 5)?)?;
-    end_at(line, at)?;
-    let (reply, length) = read_reply(alloc, bytes.as_slice())?;
-    put_named(out, b"read", length as u64)?;
-    put_shown(alloc, out, &reply)?;
-    let mut written = Bytes::new(alloc);
-    write_reply(alloc, &reply.copy(alloc)?, &mut written)?;
+/// The bytes of a copy.
+fn put_copy(alloc: Global, out: &mut Vec<u8>, written: &Bytes) -> Result<(), AllocError> {
     out.extend_from_slice(b"\ncopy")?;
     put_name(alloc, out, written.as_slice())?;
-    Ok(out.extend_from_slice(b"\n")?)
+    out.extend_from_slice(b"\n")
+}
+
+/// Which call it is, and the bytes of a copy.
+fn put_read_call(alloc: Global, out: &mut Vec<u8>, call: &Call) -> Result<(), AllocError> {
+    out.extend_from_slice(b" ")?;
+    put_call(alloc, out, call)?;
+    let copy = call.copy(alloc)?;
+    let mut written = Bytes::new(alloc);
+    write_call(alloc, &copy, &mut written)?;
+    put_copy(alloc, out, &written)
+}
+
+/// Which reply it is, and the bytes of a copy.
+fn put_read_reply(alloc: Global, out: &mut Vec<u8>, reply: &Reply) -> Result<(), AllocError> {
+    put_shown(alloc, out, reply)?;
+    let copy = reply.copy(alloc)?;
+    let mut written = Bytes::new(alloc);
+    write_reply(alloc, &copy, &mut written)?;
+    put_copy(alloc, out, &written)
+}
+
+/// How many bytes a call is read from, and which call it is.
+fn call(alloc: Global, out: &mut Vec<u8>, line: &[u8]) -> Result<(), Fault> {
+    let bytes = given(alloc, line, 4)?;
+    let (call, length) = read_call(alloc, bytes.as_slice())?;
+    put_named(out, b"read", length as u64)?;
+    Ok(put_read_call(alloc, out, &call)?)
+}
+
+/// How many bytes a reply is read from, and which reply it is.
+fn reply(alloc: Global, out: &mut Vec<u8>, line: &[u8]) -> Result<(), Fault> {
+    let bytes = given(alloc, line, 5)?;
+    let (reply, length) = read_reply(alloc, bytes.as_slice())?;
+    put_named(out, b"read", length as u64)?;
+    Ok(put_read_reply(alloc, out, &reply)?)
 }
 
 /// Plays a row, and writes what came of it.
