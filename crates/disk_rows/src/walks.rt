@@ -1,12 +1,15 @@
 //! The words of a log over a store: its cells through an index, what applies it, and caches.
 
+ghost use Rattle.std.specs.Prelude.{◌≡◌, ◌≤◌};
+ghost use Rattle.volatile_log.specs.Log.{top};
+
 use crate::cells::{Numbers, PLACES, cell, folded, number, told, value};
 use crate::disk::{Disk, passed};
 use crate::indexed::Indexed;
 use applier::{apply_some, flush};
 use cell_cache::{Cached, CellCache};
 use harp_cells::{CellRead, Change};
-use harp_store::StoreFault;
+use harp_store::{MemStore, StoreFault};
 use overlay::At;
 use std::alloc::Global;
 use std::mem;
@@ -36,11 +39,27 @@ impl Numbers {
     }
 }
 
+/// What the index gives of a place up to a record, over other cells.
+fn indexed_over<U: CellRead>(
+    under: &mut U,
+    all: &Indexed,
+    upto: u64,
+    place: u32,
+) -> Option<Option<u32>>
+    requires from { all.now.log.base ≤ upto }
+    requires to { upto ≤ top all.now.log }
+    ensures left { U.left under.new ≡ U.left under.old }
+{
+    let mut at = At::new(under, &all.index, &all.log, upto);
+    at.fetch(cell(place)).ok()?;
+    Some(number(at.value()))
+}
+
 /// What the index gives of a place up to a record, over a store behind a cache.
 fn indexed_at(
     alloc: Global,
     all: &Indexed,
-    disk: &mut Disk,
+    store: &mut MemStore,
     upto: u64,
     place: u32,
 ) -> Option<Option<u32>> {
@@ -48,34 +67,38 @@ fn indexed_at(
         return None;
     }
     let mut cache = CellCache::new(alloc, 2).ok()?;
-    let mut cells = Cached::new(alloc, &mut disk.store, &mut cache);
-    let mut at = At::new(&mut cells, &all.index, &all.log, upto);
-    at.fetch(cell(place)).ok()?;
-    Some(number(at.value()))
+    let mut cells = Cached::new(alloc, store, &mut cache);
+    indexed_over(&mut cells, all, upto, place)
 }
 
 /// A digest with each place up to a record.
-fn digest_at(alloc: Global, all: &Indexed, disk: &mut Disk, upto: u64, before: u64) -> Option<u64> {
+fn digest_at(
+    alloc: Global,
+    all: &Indexed,
+    store: &mut MemStore,
+    upto: u64,
+    before: u64,
+) -> Option<u64> {
     let mut digest = before;
     for place in 0..PLACES {
-        digest = folded(digest, indexed_at(alloc, all, disk, upto, place)?);
+        digest = folded(digest, indexed_at(alloc, all, store, upto, place)?);
     }
     Some(digest)
 }
 
 /// A digest with each place up to each record.
-fn digest_all(alloc: Global, all: &Indexed, disk: &mut Disk, before: u64) -> Option<u64> {
+fn digest_all(alloc: Global, all: &Indexed, store: &mut MemStore, before: u64) -> Option<u64> {
     let mut digest = before;
     for upto in all.log.base()..=all.log.top() {
-        digest = digest_at(alloc, all, disk, upto, digest)?;
+        digest = digest_at(alloc, all, store, upto, digest)?;
     }
     Some(digest)
 }
 
-/// What a cache with two places fetches of these places, up to the first that fails.
-fn fetched(alloc: Global, disk: &mut Disk, places: [u32; 7]) -> Option<String> {
-    let mut cache = CellCache::new(alloc, 2).ok()?;
-    let mut cells = Cached::new(alloc, &mut disk.store, &mut cache);
+/// What fetches of these places give, up to the first that fails.
+fn fetched_by<U: CellRead>(alloc: Global, cells: &mut U, places: [u32; 7]) -> Option<String>
+    ensures left { U.left cells.new ≡ U.left cells.old }
+{
     let mut text = String::new(alloc);
     for place in places {
         if cells.fetch(cell(place)).is_err() {
@@ -87,6 +110,13 @@ fn fetched(alloc: Global, disk: &mut Disk, places: [u32; 7]) -> Option<String> {
         text.push_str(",").ok()?;
     }
     Some(text)
+}
+
+/// What a cache with two places fetches of these places, up to the first that fails.
+fn fetched(alloc: Global, store: &mut MemStore, places: [u32; 7]) -> Option<String> {
+    let mut cache = CellCache::new(alloc, 2).ok()?;
+    let mut cells = Cached::new(alloc, store, &mut cache);
+    fetched_by(alloc, &mut cells, places)
 }
 
 impl Overlay {
@@ -137,7 +167,7 @@ impl Overlay {
         let mut digest = 0;
         for _ in 0..count {
             self.random(alloc, numbers)?;
-            digest = digest_all(alloc, &self.all, disk, digest)?;
+            digest = digest_all(alloc, &self.all, &mut disk.store, digest)?;
         }
         Some(digest)
     }
@@ -164,7 +194,13 @@ impl Overlay {
             }
             "append" => self.append(alloc)?,
             "at" => {
-                let found = indexed_at(alloc, &self.all, disk, u64::from(first), second)?;
+                let found = indexed_at(
+                    alloc,
+                    &self.all,
+                    &mut disk.store,
+                    u64::from(first),
+                    second,
+                )?;
                 return told(alloc, found);
             }
             "some" => return self.apply(alloc, disk, u64::from(first), u64::from(second), third),
@@ -173,7 +209,7 @@ impl Overlay {
                 let text = passed(flush(alloc, &mut disk.store, &mut disk.mark, lb));
                 return String::from_str(alloc, text).ok();
             }
-            "fetches" => return fetched(alloc, disk, numbers),
+            "fetches" => return fetched(alloc, &mut disk.store, numbers),
             _ => return None,
         }
         Some(String::new(alloc))

@@ -6,7 +6,6 @@
 //! else came of the first one that isn't.
 #![tactic(auto)]
 
-use harp_base::ServerId;
 use std::alloc::{AllocError, Global};
 use std::io::{self, BufRead, BufReader};
 use wire::{DecodeFault, Message, decode, encode};
@@ -14,7 +13,12 @@ use wire::{DecodeFault, Message, decode, encode};
 /// What decoding came to.
 enum Outcome {
     Same,
-    Beat([u64; 4]),
+    Beat {
+        count: u64,
+        coordinator: u8,
+        cp: u64,
+        base: u64,
+    },
     Other,
     Fault(DecodeFault),
 }
@@ -30,14 +34,12 @@ fn bytes_of(alloc: Global, line: &str) -> Option<Vec<u8>> {
 /// A message that is encoded as it was.
 fn right(message: &Message) -> Outcome {
     match message {
-        Message::Beat { view, cp, base } => {
-            let coordinator = match view.coordinator() {
-                ServerId::Zero => 0,
-                ServerId::One => 1,
-                ServerId::Two => 2,
-            };
-            Outcome::Beat([view.count(), coordinator, *cp, *base])
-        }
+        Message::Beat { view, cp, base } => Outcome::Beat {
+            count: view.count(),
+            coordinator: view.coordinator().number(),
+            cp: *cp,
+            base: *base,
+        },
         _ => Outcome::Same,
     }
 }
@@ -59,9 +61,12 @@ fn tried(alloc: Global, bytes: &[u8]) -> Result<Outcome, AllocError> {
 fn text_of(alloc: Global, outcome: Outcome) -> Result<String, AllocError> {
     match outcome {
         Outcome::Same => format!(in alloc; "ok"),
-        Outcome::Beat([count, coordinator, cp, base]) => {
-            format!(in alloc; "ok {count}.{coordinator} {cp} {base}")
-        }
+        Outcome::Beat {
+            count,
+            coordinator,
+            cp,
+            base,
+        } => format!(in alloc; "ok {count}.{coordinator} {cp} {base}"),
         Outcome::Other => format!(in alloc; "other"),
         Outcome::Fault(DecodeFault::Short(at)) => format!(in alloc; "Short {at}"),
         Outcome::Fault(DecodeFault::BadTag(at)) => format!(in alloc; "BadTag {at}"),
