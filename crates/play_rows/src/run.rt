@@ -2,8 +2,9 @@
 
 use crate::case::Case;
 use crate::given::Given;
-use harp_base::{Bytes, MemSink, MemSource, Peer};
+use harp_base::{Bytes, MemSink, MemSource, Peer, Trio};
 use harp_cli::harp;
+use harp_store::MemStore;
 use node_link::{ListClock, MemLink, SentDatagram, readings_rise};
 use std::alloc::{AllocError, Global};
 use std::thread::Threads;
@@ -37,6 +38,60 @@ fn output_of(alloc: Global, sink: &MemSink, link: &MemLink) -> Result<Bytes, All
     Ok(output)
 }
 
+/// What surrounds a command.
+#[derive(Drop)]
+struct Scene {
+    source: MemSource,
+    sink: MemSink,
+    link: MemLink,
+    disks: Trio<MemStore>,
+    clock: ListClock,
+}
+
+impl Scene {
+    /// A text to read, and what else is given.
+    fn of(alloc: Global, text: Bytes, given: Given) -> Result<Scene, AllocError> {
+        let Given {
+            source_fails,
+            sink_fails,
+            link_fails,
+            waiting,
+            disks,
+            readings,
+            ..
+        } = given;
+        Ok(Scene {
+            source: MemSource::new(text, source_fails),
+            sink: MemSink::new(alloc, sink_fails)?,
+            link: MemLink::new(alloc, waiting, link_fails)?,
+            disks,
+            clock: clock_of(alloc, readings),
+        })
+    }
+
+    /// Does what the words say, in a new world. Nothing else stands here, since what `harp` promises
+    /// is long.
+    fn status_of<R: Threads + Sync>(
+        &mut self,
+        rt: &R,
+        alloc: Global,
+        words: &[String],
+    ) -> Result<u8, AllocError> {
+        let mut world = World::new(alloc)?;
+        Ok(harp(
+            rt,
+            alloc,
+            words,
+            &mut world,
+            &mut self.source,
+            &mut self.sink,
+            &mut self.link,
+            &mut self.disks,
+            &mut self.clock,
+        ))
+    }
+}
+
 /// Gives a text to a command over what is given. The exit status, and what it wrote and sent.
 fn ended<R: Threads + Sync>(
     rt: &R,
@@ -45,32 +100,9 @@ fn ended<R: Threads + Sync>(
     text: Bytes,
     given: Given,
 ) -> Result<(u8, Bytes), AllocError> {
-    let Given {
-        source_fails,
-        sink_fails,
-        link_fails,
-        waiting,
-        mut disks,
-        readings,
-        ..
-    } = given;
-    let mut source = MemSource::new(text, source_fails);
-    let mut sink = MemSink::new(alloc, sink_fails)?;
-    let mut link = MemLink::new(alloc, waiting, link_fails)?;
-    let mut clock = clock_of(alloc, readings);
-    let mut world = World::new(alloc)?;
-    let status = harp(
-        rt,
-        alloc,
-        words,
-        &mut world,
-        &mut source,
-        &mut sink,
-        &mut link,
-        &mut disks,
-        &mut clock,
-    );
-    Ok((status, output_of(alloc, &sink, &link)?))
+    let mut scene = Scene::of(alloc, text, given)?;
+    let status = scene.status_of(rt, alloc, words)?;
+    Ok((status, output_of(alloc, &scene.sink, &scene.link)?))
 }
 
 /// The name of a case, what its command wrote and sent, and the exit status.
