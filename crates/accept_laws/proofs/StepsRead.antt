@@ -1,6 +1,6 @@
 -- How many steps are read of a text: one of each line, and the deliveries of pumps.
 use Rattle.std.proofs.Common.{◌≡◌, ℕ, zero, suc, ◌+◌, ◌-◌, ◌≤◌, true, List, [], ◌∷◌, length, Option, Some, None, Result, Ok, Err, refl, arith, nat_lt}
-use Rattle.harp_base.specs.declared.server.ServerId.{ServerId}
+use Rattle.harp_types.specs.declared.server.ServerId.{ServerId}
 use Rattle.trace_types.specs.declared.line.LineFault.{LineFault}
 use Rattle.trace_types.specs.declared.line.LineFault.TheVariants as fault
 use Rattle.trace_types.specs.declared.step.Step.{Step}

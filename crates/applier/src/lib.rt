@@ -6,7 +6,7 @@ mod disks;
 mod syncs;
 
 ghost use Rattle.std.specs.Prelude.{◌≡◌, ◌≤◌, ◌<◌, ◌^◌, ◌+◌, ◌⊎◌, ℕ, min, length, Option, Some, None, IfOk, OnOk, OnErr, Err};
-ghost use Rattle.harp_base.specs.Streams.{Rose};
+ghost use Rattle.harp_types.specs.Streams.{Rose};
 ghost use Rattle.harp_store.specs.declared.store.StoreFault.TheVariants.{Failed};
 ghost use Rattle.harp_store.specs.Disk.{AtEachMoment, Moments, Now, MayHaveMade, after_step, cells_told, changed_by};
 ghost use Rattle.fuzzy_cells.specs.History.{AllSetOnce, History};

@@ -1,7 +1,7 @@
 -- What each move brings to the committed updates and to the book.
 use Rattle.std.proofs.Common.{◌≡◌, false, List, [], ◌∷◌, ◌++◌, append-nil, length, sym, ap, ◌∙◌, subst}
 use Rattle.std.specs.Prelude.{MatchBool}
-use Rattle.harp_base.specs.Update.{is_update}
+use Rattle.harp_types.specs.Update.{is_update}
 use Rattle.file_tree.specs.Book.{Entry, IsNextUpdate, IsRead, MayFollow, updates}
 use Rattle.world_lines.specs.Book.{new_updates}
 use Rattle.group_rules.specs.Moves.{Committing, Move, Opening, Reading, book_after, committed_after}

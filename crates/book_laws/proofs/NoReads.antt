@@ -2,7 +2,7 @@
 use Rattle.std.proofs.Common.{◌≡◌, ℕ, ◌+◌, ◌-◌, ◌/◌, ◌||◌, ◌==◌, Bool, List, [], ◌∷◌, ◌++◌, length, take, drop, Option, None, Some, refl, ap, ◌∙◌, nat_lt, nat_le, if◌then◌else◌}
 use Rattle.std.specs.Prelude.{⊤}
 use Rattle.std.proofs.lemmas.List.Concat.{flat_map-append}
-use Rattle.harp_base.specs.Limits.{clock_skew}
+use Rattle.harp_types.specs.Limits.{clock_skew}
 use Rattle.file_tree.specs.Book.{Entry}
 use Rattle.group_rules.proofs.Tests.{by_if}
 use Rattle.group_rules.specs.Choose.{choose}

@@ -1,9 +1,9 @@
 -- Asks commit nothing; so each step answers no read or commits nothing.
 use Rattle.std.proofs.Common.{◌≡◌, ◌⊎◌, ℕ, ◌||◌, ◌==◌, Bool, List, [], ◌∷◌, ◌++◌, append_assoc, length, Option, None, Some, refl, sym, ap, ◌∙◌, inl, inr, nat_lt, nat_le, if◌then◌else◌}
-use Rattle.harp_base.specs.declared.call.Call.{Call}
-use Rattle.harp_base.specs.declared.cred.Cred.{Cred}
-use Rattle.harp_base.specs.Limits.{last_client}
-use Rattle.harp_base.specs.Update.{is_update}
+use Rattle.harp_types.specs.declared.call.Call.{Call}
+use Rattle.harp_types.specs.declared.cred.Cred.{Cred}
+use Rattle.harp_types.specs.Limits.{last_client}
+use Rattle.harp_types.specs.Update.{is_update}
 use Rattle.file_tree.specs.Book.{Entry, last_of}
 use Rattle.group_rules.proofs.Tests.{by_if}
 use Rattle.group_rules.specs.Ask.{append, new_entry, on_ask, read_entry, read_moves, update_moves}

@@ -3,7 +3,7 @@
 ghost use Rattle.std.specs.Prelude.{◌≡◌, ℕ, ◌≤◌, Option, None, OnOk, OnErr, Err, false};
 ghost use Rattle.std.specs.Option.{option_copied};
 ghost use Rattle.harp_cells.specs.Effect.{Reads};
-ghost use Rattle.harp_base.specs.Streams.{Rose};
+ghost use Rattle.harp_types.specs.Streams.{Rose};
 ghost use Rattle.harp_store.specs.Disk.{Moments, cells_told};
 ghost use Rattle.cell_cache.specs.Entries.{AreOf, IsUsed, found_in};
 

@@ -3,13 +3,13 @@ use Rattle.std.proofs.Common.{◌≡◌, ℕ, ◌+◌, ◌*◌, ◌≤◌, not, 
 use Rattle.std.specs.Prelude.{nat_lt}
 use Rattle.std.proofs.lemmas.Bool.{ltb-false}
 use Rattle.std.proofs.lemmas.List.{get_or_past}
-use Rattle.harp_base.specs.declared.attr.Time.{Time}
-use Rattle.harp_base.specs.declared.attr.SetAttr.{SetAttr}
-use Rattle.harp_base.specs.declared.call.Call.TheVariants as call
-use Rattle.harp_base.specs.declared.cred.Cred.{Cred}
-use Rattle.harp_base.specs.declared.reply.Reply.{Reply}
-use Rattle.harp_base.specs.declared.reply.Reply.TheVariants.{Node}
-use Rattle.harp_base.specs.declared.reply.Status.TheVariants.{FBig, NameTooLong, Exist}
+use Rattle.harp_types.specs.declared.attr.Time.{Time}
+use Rattle.harp_types.specs.declared.attr.SetAttr.{SetAttr}
+use Rattle.harp_types.specs.declared.call.Call.TheVariants as call
+use Rattle.harp_types.specs.declared.cred.Cred.{Cred}
+use Rattle.harp_types.specs.declared.reply.Reply.{Reply}
+use Rattle.harp_types.specs.declared.reply.Reply.TheVariants.{Node}
+use Rattle.harp_types.specs.declared.reply.Status.TheVariants.{FBig, NameTooLong, Exist}
 use Rattle.file_tree.specs.declared.object.Body.{Body}
 use Rattle.file_tree.specs.declared.object.Body.TheVariants as body
 use Rattle.file_tree.specs.declared.object.Object.{Object}
@@ -17,7 +17,7 @@ use Rattle.file_tree.specs.Tree.{Tree, Slots, place, slots_within, entry, attr_a
 use Rattle.file_tree.specs.Tries.{live, entry_name}
 use Rattle.file_tree.specs.Permissions.{searched, may_make, heeded}
 use Rattle.file_tree.specs.Outcome.{given, made, with_object, has_entry, free_name, room_for, is_regular, is_regular_at, set_fields, create_again, create_new, create_at, create, make_dir, make_link}
-use Rattle.harp_base.specs.Limits.{largest_file}
+use Rattle.harp_types.specs.Limits.{largest_file}
 use Rattle.file_tree.proofs.TryLaws.{Given, done, step, unless, given_at, IsDirectoryOf, searched_is, searched_slots, room_for_is, heeded_size}
 use Rattle.harp_cells.specs.declared.value.Value.{Value}
 use Rattle.harp_cells.specs.Effect.{Cells, after}

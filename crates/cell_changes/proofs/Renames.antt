@@ -1,12 +1,12 @@
 -- The changes of RENAME lead to the tree with the entry moved.
 use Rattle.std.proofs.Common.{◌≡◌, ℕ, ◌==◌, ◌&&◌, true, List, length, Option, Some, None, Ok, refl, sym, ap, ◌∙◌, subst}
 use Rattle.std.proofs.lemmas.Bool.{eqb-false}
-use Rattle.harp_base.specs.declared.attr.Time.{Time}
-use Rattle.harp_base.specs.declared.call.Call.TheVariants as call
-use Rattle.harp_base.specs.declared.cred.Cred.{Cred}
-use Rattle.harp_base.specs.declared.reply.Reply.{Reply}
-use Rattle.harp_base.specs.declared.reply.Reply.TheVariants.{Done}
-use Rattle.harp_base.specs.declared.reply.Status.TheVariants.{Perm, NoEnt}
+use Rattle.harp_types.specs.declared.attr.Time.{Time}
+use Rattle.harp_types.specs.declared.call.Call.TheVariants as call
+use Rattle.harp_types.specs.declared.cred.Cred.{Cred}
+use Rattle.harp_types.specs.declared.reply.Reply.{Reply}
+use Rattle.harp_types.specs.declared.reply.Reply.TheVariants.{Done}
+use Rattle.harp_types.specs.declared.reply.Status.TheVariants.{Perm, NoEnt}
 use Rattle.file_tree.specs.Tree.{Tree, Slots, place, slots_of, slots_within, entry, is_directory_at}
 use Rattle.file_tree.specs.Tries.{some_or, live, slots_in, is_dots, check_name, room}
 use Rattle.file_tree.specs.Permissions.{searching, writing, allowed}

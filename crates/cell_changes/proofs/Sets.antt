@@ -4,19 +4,19 @@ use Rattle.std.specs.Bool.{if◌then◌else◌}
 use Rattle.std.specs.List.{list_any}
 use Rattle.std.specs.Prelude.{nat_lt}
 use Rattle.std.proofs.lemmas.Bool.{cases_eq, ne_eqb, or_from}
-use Rattle.harp_base.specs.declared.attr.Time.{Time}
-use Rattle.harp_base.specs.declared.attr.SetAttr.{SetAttr}
-use Rattle.harp_base.specs.declared.call.Call.TheVariants as call
-use Rattle.harp_base.specs.declared.cred.Cred.{Cred}
-use Rattle.harp_base.specs.declared.reply.Reply.{Reply}
-use Rattle.harp_base.specs.declared.reply.Status.TheVariants.{Perm, FBig}
+use Rattle.harp_types.specs.declared.attr.Time.{Time}
+use Rattle.harp_types.specs.declared.attr.SetAttr.{SetAttr}
+use Rattle.harp_types.specs.declared.call.Call.TheVariants as call
+use Rattle.harp_types.specs.declared.cred.Cred.{Cred}
+use Rattle.harp_types.specs.declared.reply.Reply.{Reply}
+use Rattle.harp_types.specs.declared.reply.Status.TheVariants.{Perm, FBig}
 use Rattle.file_tree.specs.declared.object.Body.{Body}
 use Rattle.file_tree.specs.declared.object.Body.TheVariants as body
 use Rattle.file_tree.specs.declared.object.Object.{Object}
 use Rattle.file_tree.specs.Tree.{Tree, place, slots_of, slots_within, names_in, is_directory}
 use Rattle.file_tree.specs.Tries.{live, bytes_in, room}
 use Rattle.file_tree.specs.Permissions.{writing, allowed, may_set}
-use Rattle.harp_base.specs.Limits.{field_left, largest_file}
+use Rattle.harp_types.specs.Limits.{field_left, largest_file}
 use Rattle.file_tree.specs.Outcome.{change, body_with, resized, written, rewritten, with_fields, with_size, set_fields, set_attr, write}
 use Rattle.file_tree.proofs.Kept.{live_place}
 use Rattle.file_tree.proofs.Reslots.{place_set, change_is}

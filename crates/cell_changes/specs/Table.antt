@@ -1,11 +1,11 @@
 -- The changes of cells that each update makes, in their order.
 use Rattle.std.specs.Prelude.{ℕ, ◌==◌, ◌&&◌, List, [], ◌∷◌, ◌++◌, length, map, Option, Some, None, Ok, Err, if◌then◌else◌}
-use Rattle.harp_base.specs.declared.call.Call.{Call}
-use Rattle.harp_base.specs.declared.call.Call.TheVariants as call
-use Rattle.harp_base.specs.declared.cred.Cred.{Cred}
-use Rattle.harp_base.specs.Time.{time_of}
+use Rattle.harp_types.specs.declared.call.Call.{Call}
+use Rattle.harp_types.specs.declared.call.Call.TheVariants as call
+use Rattle.harp_types.specs.declared.cred.Cred.{Cred}
+use Rattle.harp_types.specs.Time.{time_of}
 use Rattle.file_tree.specs.Tree.{Tree, place, slots_of, entry, free_from, used_blocks}
-use Rattle.harp_base.specs.Limits.{field_left}
+use Rattle.harp_types.specs.Limits.{field_left}
 use Rattle.file_tree.specs.Outcome.{Outcome}
 use Rattle.file_tree.specs.Rename.{freed}
 use Rattle.file_tree.specs.Calls.{answered, outcome}

@@ -1,7 +1,7 @@
 //! An update beside the last one of its client.
 
 ghost use Rattle.std.specs.Prelude.{◌≡◌, ◌≤◌, List, Some, Err, IfOk};
-ghost use Rattle.harp_base.specs.Streams.{Rose};
+ghost use Rattle.harp_types.specs.Streams.{Rose};
 ghost use Rattle.file_tree.specs.Book.{Entry, last_of};
 ghost use Rattle.harp_cells.specs.declared.cell.Cell.TheVariants as cell;
 ghost use Rattle.harp_cells.specs.declared.value.Value.TheVariants as value;
@@ -11,7 +11,7 @@ ghost use Rattle.harp_cells.specs.CellsOfTree.{client_value};
 ghost use Rattle.dedup.specs.Repeats.{repeated, seen_beside, seen_in, seen_after};
 
 use crate::repeat::Seen;
-use harp_base::Reply;
+use harp_types::Reply;
 use harp_cells::{Cell, CellFault, CellRead, Change, Value};
 use std::alloc::{AllocError, Global};
 

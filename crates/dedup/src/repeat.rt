@@ -1,9 +1,9 @@
 //! What an update can be beside the last one of its client.
 
-use harp_base::Reply;
+use harp_types::Reply;
 
 /// What an update is beside the last one of its client.
-#[derive(Debug, Drop)]
+#[derive(Drop)]
 pub enum Seen {
     /// Its number is above the client's last, or the client has made no update.
     New,

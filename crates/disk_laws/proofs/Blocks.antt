@@ -1,7 +1,7 @@
 -- The disks of a run have few blocks for each object.
 use Rattle.std.proofs.Common.{◌≡◌, ℕ, ◌*◌, ◌≤◌, Bool, true, false, List, [], ◌∷◌, length, take, Option, None, Some, refl, ◌∙◌, subst, arith, if◌then◌else◌}
-use Rattle.harp_base.specs.Limits.{block_size}
-use Rattle.harp_base.specs.Update.{is_update}
+use Rattle.harp_types.specs.Limits.{block_size}
+use Rattle.harp_types.specs.Update.{is_update}
 use Rattle.harp_cells.specs.CellsOfTree.{content_of}
 use Rattle.harp_cells.specs.declared.cell.Cell.TheVariants as cell
 use Rattle.file_tree.specs.Book.{Entry, tree_after, updates}

@@ -1,7 +1,7 @@
 //! The words of a store.
 
 use crate::cells::{Numbers, cell, folded, number, told, value};
-use harp_base::{Role, ServerId, ViewNo};
+use harp_types::{Role, ServerId, ViewNo};
 use harp_cells::Cell;
 use harp_store::{Bits, Mark, MemStore, Pick, Store, StoreFault};
 use std::alloc::Global;

@@ -3,7 +3,7 @@
 ghost use Rattle.std.specs.Prelude.{◌≡◌, IfSome};
 
 use event_record::{Changes, Index, Moment, Record, RecordFields};
-use harp_base::{Bounded, Call, Cred, Reply, ServerId, ViewNo};
+use harp_types::{Bounded, Call, Cred, Reply, ServerId, ViewNo};
 use harp_cells::Change;
 use std::alloc::Global;
 use volatile_log::{ActiveLog, FrozenLog};

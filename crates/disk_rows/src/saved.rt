@@ -4,7 +4,7 @@ use crate::cells::value;
 use crate::disk::{Disk, passed, unsaved};
 use crate::records::{four, spelled};
 use event_record::Record;
-use harp_base::Call;
+use harp_types::Call;
 use harp_cells::{Cell, NonEmpty, Value};
 use harp_store::{Saved, Store};
 use power_save::{SaveFault, SeenRecords, load, save};

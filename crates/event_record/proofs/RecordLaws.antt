@@ -2,7 +2,7 @@
 use Rattle.std.proofs.Common.{◌≡◌, ℕ, ◌+◌, ◌^◌, ◌<◌, ◌≤◌, List, ◌++◌, length, take, drop, Ok, Err, true, false, refl, sym, ap, subst, ◌∙◌, append_assoc, arith, length-append}
 use Rattle.std.specs.Prelude.{nat_le, nat_lt}
 use Rattle.std.proofs.lemmas.Bool.{leb-true, le-leb, ltb-true, lt-ltb}
-use Rattle.harp_base.specs.declared.cred.Cred.{Cred}
+use Rattle.harp_types.specs.declared.cred.Cred.{Cred}
 use Rattle.harp_base.specs.declared.field.Misread.{Misread}
 use Rattle.harp_base.specs.declared.field.Misread.TheVariants.{Ends, BadTag, TooLong, NoMemory}
 use Rattle.harp_base.specs.Fields.{Fails, Read, Reader, Spells, ◌⊗◌, field_as, limited, many_at, many_bytes, misread_within, passing, read_within, below_at, u16_at, u16_bytes, u32_bytes, u64_bytes}

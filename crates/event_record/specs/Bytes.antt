@@ -1,9 +1,9 @@
 -- The one spelling of a record, and reading it.
 use Rattle.std.specs.Prelude.{◌≡◌, ℕ, ◌+◌, ◌<◌, ◌≤◌, ◌^◌, List, ◌++◌, length, nat_le, nat_lt}
-use Rattle.harp_base.specs.declared.call.Call.{Call}
-use Rattle.harp_base.specs.declared.cred.Cred.{Cred}
-use Rattle.harp_base.specs.declared.reply.Reply.{Reply}
-use Rattle.harp_base.specs.View.{View}
+use Rattle.harp_types.specs.declared.call.Call.{Call}
+use Rattle.harp_types.specs.declared.cred.Cred.{Cred}
+use Rattle.harp_types.specs.declared.reply.Reply.{Reply}
+use Rattle.harp_types.specs.View.{View}
 use Rattle.harp_base.specs.Fields.{AllFit, Reader, ◌⊗◌, below_at, field_as, fields_by_tag, limited, many_at, many_bytes, passing, u16_at, u16_bytes, u32_at, u32_bytes, u64_at, u64_bytes}
 use Rattle.harp_base.specs.Calls.{CallFits, call_at, call_bytes}
 use Rattle.harp_base.specs.Names.{CredFits, ViewFits, cred_at, cred_bytes, view_at, view_bytes}

@@ -1,6 +1,6 @@
 -- Reading a record that may be of the old form.
 use Rattle.std.specs.Prelude.{Bool, true, false, Ok}
-use Rattle.harp_base.specs.declared.cred.Cred.{Cred}
+use Rattle.harp_types.specs.declared.cred.Cred.{Cred}
 use Rattle.harp_base.specs.Fields.{Reader, ◌⊗◌, field_as}
 use Rattle.harp_base.specs.Names.{cred_at}
 use Rattle.event_record.specs.declared.record.RecordFields.{RecordFields}

@@ -10,7 +10,7 @@ use std::marker::Model;
 pub(crate) const MOST_CHANGES: usize = 16;
 
 /// The changes of cells that an update makes, in their order, at most 16.
-#[derive(Debug, Drop)]
+#[derive(Drop)]
 pub struct Changes {
     items: Vec<Change>,
 }

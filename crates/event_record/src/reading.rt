@@ -14,7 +14,8 @@ use crate::record::{Record, RecordFields};
 use harp_base::fields::{
     below_at, call_at, cred_at, reply_at, told, u16_at, u32_at, u64_at, view_at,
 };
-use harp_base::{Call, Cred, FieldFault, Misread, Reply, SUPERUSER, ViewNo};
+use harp_base::{FieldFault, Misread};
+use harp_types::{Call, Cred, Reply, SUPERUSER, ViewNo};
 use harp_cells::fields::change_at;
 use harp_cells::{Change, LONGEST_OLD_RECORD, LONGEST_RECORD, Moment};
 use std::alloc::Global;

@@ -7,7 +7,7 @@ ghost use Rattle.harp_cells.specs.ValueBytes.{longest_record};
 use crate::changes::Changes;
 use crate::numbers::Index;
 use crate::writing::{USUAL_RECORD, put_fields};
-use harp_base::{Call, Cred, Reply, ViewNo};
+use harp_types::{Call, Cred, Reply, ViewNo};
 use harp_cells::{LONGEST_RECORD, Moment};
 use std::alloc::{AllocError, Global};
 use std::marker::Model;
@@ -15,7 +15,7 @@ use std::rc::Rc;
 
 /// What an event record holds: an update in the log, with the reply that its client gets once the
 /// record is committed (Harp paper).
-#[derive(Debug, Drop)]
+#[derive(Drop)]
 pub struct RecordFields {
     /// The view in which the record was appended.
     pub stamped: ViewNo,
@@ -56,7 +56,7 @@ impl RecordFields {
 
 /// An event record: fields whose bytes are at most 60,008. Copies share them. Contracts see it as
 /// its fields.
-#[derive(Debug, Drop)]
+#[derive(Drop)]
 pub struct Record {
     fields: Rc<RecordFields>,
 }

@@ -5,7 +5,7 @@ use Rattle.std.proofs.lemmas.Bool.{cases_Bool}
 use Rattle.std.proofs.lemmas.List.{append-nil}
 use Rattle.std.proofs.lemmas.List.Sums.{fold_push}
 use Rattle.std.proofs.lemmas.List.Elements.{filter-append}
-use Rattle.harp_base.specs.Update.{is_update}
+use Rattle.harp_types.specs.Update.{is_update}
 use Rattle.file_tree.specs.Tree.{Tree, first_tree}
 use Rattle.file_tree.specs.Book.{Entry, tree_next, tree_after, updates, MayFollow, MayFollowAll, IsBook, last_next, last_of, stamp_next, last_stamp}
 use Rattle.file_tree.proofs.ReadLaw.{read_keeps}

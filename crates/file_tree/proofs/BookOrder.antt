@@ -4,7 +4,7 @@ use Rattle.std.specs.Prelude.{◌↔◌, IfSome}
 use Rattle.std.specs.List.{AllByRecursion}
 use Rattle.std.proofs.lemmas.Bool.{cases_Bool, cases_eq, cases_lt, eq-eqb, ne_eqb, and_from, and_left, and_right, MatchBool-at_true, MatchBool-at_false}
 use Rattle.std.proofs.lemmas.List.{append-nil, length_push, get_or_append_left, get_or_push}
-use Rattle.harp_base.specs.Update.{is_update}
+use Rattle.harp_types.specs.Update.{is_update}
 use Rattle.file_tree.specs.Calls.{outcome}
 use Rattle.file_tree.specs.Book.{Entry, tree_after, updates, IsNextUpdate, IsRead, MayFollow, MayFollowAll, IsBook, last_next, last_of, stamp_next, last_stamp, ComesNext}
 use Rattle.file_tree.proofs.BookLaws.{updates_push_update, updates_push_read, last_push, stamp_push}

@@ -4,7 +4,7 @@ use Rattle.std.specs.List.{AllByRecursion}
 use Rattle.std.proofs.lemmas.Bool.{cases_Bool, cases_lt}
 use Rattle.std.proofs.lemmas.List.{length_push, get_or_append_left, get_or_push}
 use Rattle.std.proofs.lemmas.List.Elements.{All-get_or, All-from_recursion}
-use Rattle.harp_base.specs.Update.{is_update}
+use Rattle.harp_types.specs.Update.{is_update}
 use Rattle.file_tree.specs.Book.{Entry, updates, IsNextUpdate, MayFollow, MayFollowAll, IsBook, IsBefore}
 use Rattle.file_tree.proofs.BookLaws.{updates_push_update, updates_push_read}
 use Rattle.file_tree.proofs.BookOrder.{book_grows, order_of}

@@ -1,21 +1,21 @@
 -- A refused call leaves the tree as it is: an outcome with a new tree has another reply than a
 -- refusal.
 use Rattle.std.proofs.Common.{◌≡◌, ℕ, ◌+◌, ◌==◌, ◌&&◌, not, ltb, List, length, Option, Some, None, Ok, Err, refl}
-use Rattle.harp_base.specs.declared.attr.Time.{Time}
-use Rattle.harp_base.specs.declared.attr.SetAttr.{SetAttr}
-use Rattle.harp_base.specs.declared.call.Call.{Call}
-use Rattle.harp_base.specs.declared.call.Call.TheVariants as call
-use Rattle.harp_base.specs.declared.cred.Cred.{Cred}
-use Rattle.harp_base.specs.declared.reply.Reply.{Reply}
-use Rattle.harp_base.specs.declared.reply.Reply.TheVariants.{Refused}
-use Rattle.harp_base.specs.declared.reply.Status.{Status}
-use Rattle.harp_base.specs.declared.reply.Status.TheVariants.{Perm, NoEnt, NotDir, Exist, IsDir, FBig, NameTooLong, NotEmpty}
-use Rattle.harp_base.specs.Time.{time_of}
+use Rattle.harp_types.specs.declared.attr.Time.{Time}
+use Rattle.harp_types.specs.declared.attr.SetAttr.{SetAttr}
+use Rattle.harp_types.specs.declared.call.Call.{Call}
+use Rattle.harp_types.specs.declared.call.Call.TheVariants as call
+use Rattle.harp_types.specs.declared.cred.Cred.{Cred}
+use Rattle.harp_types.specs.declared.reply.Reply.{Reply}
+use Rattle.harp_types.specs.declared.reply.Reply.TheVariants.{Refused}
+use Rattle.harp_types.specs.declared.reply.Status.{Status}
+use Rattle.harp_types.specs.declared.reply.Status.TheVariants.{Perm, NoEnt, NotDir, Exist, IsDir, FBig, NameTooLong, NotEmpty}
+use Rattle.harp_types.specs.Time.{time_of}
 use Rattle.file_tree.specs.Tree.{Tree, Slots, place, slots_of, entry, is_directory, is_directory_at}
 use Rattle.file_tree.specs.Tries.{some_or, live, slots_in, bytes_in, text_in, directory, is_dots, check_name, entry_name, room}
 use Rattle.file_tree.specs.Permissions.{reading, writing, searching, allowed, searched, may_make, heeded}
 use Rattle.file_tree.specs.Outcome.{Outcome, given, get_attr, set_fields, set_attr, lookup, resolve, read_link, read, write, has_entry, free_name, room_for, is_regular_at, create_again, create_new, create_at, create, make_dir, make_link, doomed, remove, remove_dir, has_no_entry, add_entry, link, read_dir, stat_fs}
-use Rattle.harp_base.specs.Limits.{largest_file}
+use Rattle.harp_types.specs.Limits.{largest_file}
 use Rattle.file_tree.specs.Rename.{is_above, check_target, moved_to, rename}
 use Rattle.file_tree.specs.Calls.{answered, settled, outcome}
 use Rattle.file_tree.proofs.TryLaws.{Given, done, step, unless, either}

@@ -1,9 +1,9 @@
 -- A rename leaves a sound tree sound.
 use Rattle.std.proofs.Common.{◌≡◌, ℕ, ◌==◌, ◌&&◌, false, not, List, length, Option, Some, None, Ok, refl, inl, inr}
 use Rattle.std.proofs.lemmas.Bool.{cases_Bool, eqb-false, ne_eqb, not-false}
-use Rattle.harp_base.specs.declared.attr.Time.{Time}
-use Rattle.harp_base.specs.declared.cred.Cred.{Cred}
-use Rattle.harp_base.specs.declared.reply.Status.TheVariants.{Perm, NoEnt, NotDir, IsDir, NotEmpty}
+use Rattle.harp_types.specs.declared.attr.Time.{Time}
+use Rattle.harp_types.specs.declared.cred.Cred.{Cred}
+use Rattle.harp_types.specs.declared.reply.Status.TheVariants.{Perm, NoEnt, NotDir, IsDir, NotEmpty}
 use Rattle.file_tree.specs.Tree.{Tree, Slots, place, slots_of, entry, is_directory_at}
 use Rattle.file_tree.specs.Tries.{some_or, live, slots_in, is_dots, check_name, entry_name, room}
 use Rattle.file_tree.specs.Permissions.{searching, writing, allowed}

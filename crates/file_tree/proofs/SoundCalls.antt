@@ -3,17 +3,17 @@ use Rattle.std.proofs.Common.{◌≡◌, ℕ, ◌+◌, ◌%◌, ◌<◌, ◌≤�
 use Rattle.std.proofs.lemmas.Bool.{ltb-false, cond_both, not-false}
 use Rattle.std.proofs.lemmas.List.{length-append, length-take, length-replicate}
 use Rattle.std.proofs.lemmas.List.Sums.{sum_by-cons}
-use Rattle.harp_base.specs.declared.attr.Time.{Time}
-use Rattle.harp_base.specs.declared.attr.SetAttr.{SetAttr}
-use Rattle.harp_base.specs.declared.cred.Cred.{Cred}
-use Rattle.harp_base.specs.declared.reply.Status.TheVariants.{Perm, NotDir, Exist, IsDir, FBig, NameTooLong, NotEmpty}
+use Rattle.harp_types.specs.declared.attr.Time.{Time}
+use Rattle.harp_types.specs.declared.attr.SetAttr.{SetAttr}
+use Rattle.harp_types.specs.declared.cred.Cred.{Cred}
+use Rattle.harp_types.specs.declared.reply.Status.TheVariants.{Perm, NotDir, Exist, IsDir, FBig, NameTooLong, NotEmpty}
 use Rattle.file_tree.specs.declared.object.Body.{Body}
 use Rattle.file_tree.specs.declared.object.Body.TheVariants.{Regular, Directory, Link}
 use Rattle.file_tree.specs.declared.object.Object.{Object}
 use Rattle.file_tree.specs.Tree.{Tree, Slots, place, slots_of, slots_within, names_in, blocks_of, blocks_at, used_blocks, is_directory, is_directory_at, entry}
 use Rattle.file_tree.specs.Tries.{live, bytes_in, entry_name, room}
 use Rattle.file_tree.specs.Permissions.{writing, allowed, searched, may_set, may_make, heeded}
-use Rattle.harp_base.specs.Limits.{field_left, largest_file}
+use Rattle.harp_types.specs.Limits.{field_left, largest_file}
 use Rattle.file_tree.specs.Outcome.{Outcome, given, given_mode, change, resized, written, rewritten, with_fields, with_size, set_fields, set_attr, write, has_entry, free_name, doomed, room_for, made, is_regular_at, create_again, create_new, create_at, create, make_dir, make_link, remove, remove_dir, has_no_entry, add_entry, link}
 use Rattle.file_tree.specs.Sound.{IsSoundObject, IsSoundBody, IsSound}
 use Rattle.file_tree.proofs.Kept.{live_place, place_within, IsWithinLimits-set, IsWithinLimits-same}

@@ -1,9 +1,9 @@
 -- The tree after any calls from the first one is sound.
 use Rattle.std.proofs.Common.{◌≡◌, ℕ, zero, suc, true, List, [], ◌∷◌, length, fold, Ok, Err, refl, arith}
-use Rattle.harp_base.specs.declared.call.Call.{Call}
-use Rattle.harp_base.specs.declared.call.Call.TheVariants as call
-use Rattle.harp_base.specs.declared.cred.Cred.{Cred}
-use Rattle.harp_base.specs.Time.{time_of}
+use Rattle.harp_types.specs.declared.call.Call.{Call}
+use Rattle.harp_types.specs.declared.call.Call.TheVariants as call
+use Rattle.harp_types.specs.declared.cred.Cred.{Cred}
+use Rattle.harp_types.specs.Time.{time_of}
 use Rattle.file_tree.specs.Tree.{Tree, first_tree, place, names_of, is_directory_at}
 use Rattle.file_tree.specs.Rename.{is_above}
 use Rattle.file_tree.specs.Book.{Entry, tree_next, tree_after}

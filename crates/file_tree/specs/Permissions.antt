@@ -1,9 +1,9 @@
 -- What a caller may do: Unix permissions by owner, group and others. User 0 may do all.
 use Rattle.std.specs.Prelude.{ℕ, ◌/◌, ◌%◌, Bool, false, not, ◌==◌, ◌&&◌, ◌||◌, bit_and, Option, Some, None, Ok, if◌then◌else◌}
-use Rattle.harp_base.specs.Limits.{field_left}
-use Rattle.harp_base.specs.declared.attr.SetAttr.{SetAttr}
-use Rattle.harp_base.specs.declared.cred.Cred.{Cred}
-use Rattle.harp_base.specs.declared.reply.Status.TheVariants.{Perm, Acces}
+use Rattle.harp_types.specs.Limits.{field_left}
+use Rattle.harp_types.specs.declared.attr.SetAttr.{SetAttr}
+use Rattle.harp_types.specs.declared.cred.Cred.{Cred}
+use Rattle.harp_types.specs.declared.reply.Status.TheVariants.{Perm, Acces}
 use Rattle.file_tree.specs.declared.object.Object.{Object}
 use Rattle.file_tree.specs.Tree.{Tree, Slots, place}
 use Rattle.file_tree.specs.Tries.{Tried, ◌>>=◌, refuse, directory}

@@ -1,6 +1,6 @@
 -- The limits of a tree, and what keeps them.
 use Rattle.std.specs.Prelude.{◌≡◌, ℕ, ◌≤◌, length}
-use Rattle.harp_base.specs.Limits.{object_numbers, tree_blocks}
+use Rattle.harp_types.specs.Limits.{object_numbers, tree_blocks}
 use Rattle.file_tree.specs.Tree.{Tree, place, blocks_at, used_blocks}
 
 -- the limits of a tree

@@ -1,11 +1,11 @@
 //! What holds of every tree and of every book.
 
 ghost use Rattle.std.specs.Prelude.{◌≡◌, ◌<◌, ◌↔◌, ◌+◌, ◌++◌, ◌∷◌, [], ℕ, List, length, slice_index_or, true, false, Ok, Some};
-ghost use Rattle.harp_base.specs.declared.call.Call.{Call};
-ghost use Rattle.harp_base.specs.declared.cred.Cred.{Cred};
-ghost use Rattle.harp_base.specs.declared.reply.Reply.TheVariants.{Refused};
-ghost use Rattle.harp_base.specs.declared.reply.Status.{Status};
-ghost use Rattle.harp_base.specs.Update.{is_update};
+ghost use Rattle.harp_types.specs.declared.call.Call.{Call};
+ghost use Rattle.harp_types.specs.declared.cred.Cred.{Cred};
+ghost use Rattle.harp_types.specs.declared.reply.Reply.TheVariants.{Refused};
+ghost use Rattle.harp_types.specs.declared.reply.Status.{Status};
+ghost use Rattle.harp_types.specs.Update.{is_update};
 ghost use Rattle.file_tree.specs.Tree.{Tree, Slots, first_tree, place, entry, is_directory_at, parent_of};
 ghost use Rattle.file_tree.specs.Tries.{directory, is_some};
 ghost use Rattle.file_tree.specs.Calls.{outcome};

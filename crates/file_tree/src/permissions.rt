@@ -3,7 +3,7 @@
 ghost use Rattle.std.specs.Prelude.{◌≡◌, ◌==◌, bit_and};
 ghost use Rattle.file_tree.specs.Permissions.{class_bits, may, is_given, sets_more, differs, gives_away, may_set, may_give, heeded};
 
-use harp_base::{Cred, FIELD_LEFT, SetAttr, Time};
+use harp_types::{Cred, FIELD_LEFT, SetAttr, Time};
 
 /// The bit that is wanted to read an object.
 pub const TO_READ: u8 = 4;

@@ -1,7 +1,7 @@
 //! A clock in memory, the day's clock, and one that goes back or can't be read.
 
 use crate::{answer, halves};
-use harp_base::ServerId;
+use harp_types::ServerId;
 use node_link::{Clock, ListClock, WallClock, readings_rise};
 use std::alloc::{AllocError, Global};
 use std::time::Duration;

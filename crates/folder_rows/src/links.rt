@@ -4,7 +4,7 @@ ghost use Rattle.std.specs.Prelude.{◌≤◌};
 ghost use Rattle.node_link.specs.Traffic.{last_port};
 
 use crate::{answer, bytes_of, digits_of, done, halves};
-use harp_base::{Bytes, Peer, ServerId};
+use harp_types::{Bytes, Peer, ServerId};
 use node_link::{Datagram, LAST_PORT, Link, MemLink, UdpLink, Waiting};
 use std::alloc::{AllocError, Global};
 use std::io;

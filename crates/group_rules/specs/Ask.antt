@@ -1,10 +1,10 @@
 -- The answer to an ask, and appending.
 use Rattle.std.specs.Prelude.{ℕ, ◌+◌, ◌||◌, ◌==◌, nat_lt, nat_le, List, [], ◌∷◌, length, take, Option, None, Some, max, if◌then◌else◌}
-use Rattle.harp_base.specs.Limits.{last_client}
-use Rattle.harp_base.specs.declared.call.Call.{Call}
-use Rattle.harp_base.specs.declared.cred.Cred.{Cred}
+use Rattle.harp_types.specs.Limits.{last_client}
+use Rattle.harp_types.specs.declared.call.Call.{Call}
+use Rattle.harp_types.specs.declared.cred.Cred.{Cred}
 use Rattle.file_tree.specs.Calls.{outcome}
-use Rattle.harp_base.specs.Update.{is_update}
+use Rattle.harp_types.specs.Update.{is_update}
 use Rattle.file_tree.specs.Book.{Entry, tree_after, last_of, last_stamp}
 use Rattle.group_rules.specs.Limits.{is_active, is_open, limit, room}
 use Rattle.group_rules.specs.Moves.{Appending, Move, Reading, Saying, Sending}

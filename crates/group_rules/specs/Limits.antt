@@ -1,6 +1,6 @@
 -- The limits of the profile, and tests of modes and logs.
 use Rattle.std.specs.Prelude.{ℕ, ◌-◌, ◌^◌, ◌≤◌, ◌||◌, nat_le, Bool, true, false, List, [], ◌∷◌}
-use Rattle.harp_base.specs.Limits.{log_room}
+use Rattle.harp_types.specs.Limits.{log_room}
 use Rattle.group_rules.specs.Places.{Zero, One, Two, Place}
 use Rattle.group_rules.specs.State.{Empty, Follows, Held, Joins, Leads, Live, Log, Lost, Mode, Open, Outside, Pulls, Rests, Role, Waits}
 

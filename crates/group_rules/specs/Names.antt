@@ -1,9 +1,9 @@
 -- Places, views and messages of the machine as the code and its traces name them.
 use Rattle.std.specs.Prelude.{ℕ, ◌+◌, ◌*◌, ◌/◌}
-use Rattle.harp_base.specs.Server.{number_of}
-use Rattle.harp_base.specs.View.{View}
-use Rattle.harp_base.specs.declared.server.ServerId.{ServerId}
-use Rattle.harp_base.specs.declared.server.ServerId.TheVariants as server
+use Rattle.harp_types.specs.Server.{number_of}
+use Rattle.harp_types.specs.View.{View}
+use Rattle.harp_types.specs.declared.server.ServerId.{ServerId}
+use Rattle.harp_types.specs.declared.server.ServerId.TheVariants as server
 use Rattle.group_rules.specs.Places.{Zero, One, Two, Place, coordinator}
 
 abbrev pub place_of : ServerId → Place

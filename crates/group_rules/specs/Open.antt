@@ -1,6 +1,6 @@
 -- Opening a view, and the base of an open leader.
 use Rattle.std.specs.Prelude.{ℕ, ◌+◌, ◌||◌, ◌==◌, nat_le, nat_lt, Bool, List, [], ◌∷◌, ◌++◌, Option, None, Some, min, if◌then◌else◌}
-use Rattle.harp_base.specs.Limits.{clock_skew}
+use Rattle.harp_types.specs.Limits.{clock_skew}
 use Rattle.group_rules.specs.Limits.{is_joining, is_open, is_waits}
 use Rattle.group_rules.specs.Moves.{Basing, Hearing, Move, Opening, Sending, acts}
 use Rattle.group_rules.specs.Places.{Two, Place, all_of, get, is_s01, leader, partner, same}

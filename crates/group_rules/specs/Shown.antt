@@ -1,15 +1,15 @@
 -- How a trace shows a server, and why it refuses an ask.
 use Rattle.std.specs.Prelude.{Bool, option_map}
-use Rattle.harp_base.specs.contracts.state.StateLinePartialEq.TheImpl as state_equality
-use Rattle.harp_base.specs.declared.state.StateLine.{StateLine}
-use Rattle.harp_base.specs.declared.state.Mode.{Mode as ModeShown}
-use Rattle.harp_base.specs.declared.state.Mode.TheVariants as mode
-use Rattle.harp_base.specs.declared.state.Role.{Role as RoleShown}
-use Rattle.harp_base.specs.declared.state.Role.TheVariants as role
-use Rattle.harp_base.specs.declared.state.Held.{Held as HeldShown}
-use Rattle.harp_base.specs.declared.state.Held.TheVariants as held
-use Rattle.trace_lines.specs.declared.line.Cause.{Cause as CauseShown}
-use Rattle.trace_lines.specs.declared.line.Cause.TheVariants as cause
+use Rattle.harp_types.specs.contracts.state.StateLinePartialEq.TheImpl as state_equality
+use Rattle.harp_types.specs.declared.state.StateLine.{StateLine}
+use Rattle.harp_types.specs.declared.state.Mode.{Mode as ModeShown}
+use Rattle.harp_types.specs.declared.state.Mode.TheVariants as mode
+use Rattle.harp_types.specs.declared.state.Role.{Role as RoleShown}
+use Rattle.harp_types.specs.declared.state.Role.TheVariants as role
+use Rattle.harp_types.specs.declared.state.Held.{Held as HeldShown}
+use Rattle.harp_types.specs.declared.state.Held.TheVariants as held
+use Rattle.harp_types.specs.declared.cause.Cause.{Cause as CauseShown}
+use Rattle.harp_types.specs.declared.cause.Cause.TheVariants as cause
 use Rattle.file_tree.specs.Book.{Entry}
 use Rattle.group_rules.specs.Limits.{by_held}
 use Rattle.group_rules.specs.Names.{id_of, view_of}

@@ -1,6 +1,6 @@
 -- What a group is: servers with their durable marks, messages, the pages of its views, the book and the clocks.
 use Rattle.std.specs.Prelude.{ℕ, ◌+◌, Bool, List, length, Option, None, Some}
-use Rattle.harp_base.specs.Limits.{first_promise}
+use Rattle.harp_types.specs.Limits.{first_promise}
 use Rattle.group_rules.specs.Places.{Zero, Pair, Place, S01, Trio}
 
 -- a log, nothing though it was a storer, or nothing because it stands outside

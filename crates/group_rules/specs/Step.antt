@@ -1,8 +1,8 @@
 -- One server's step, and what happens to a group.
 use Rattle.std.specs.Prelude.{◌≤◌, ℕ, zero, suc, ◌+◌, ◌-◌, nat_lt, nat_le, Bool, true, false, List, [], ◌∷◌, length, take, Option, None, Some, slice_get, if◌then◌else◌}
-use Rattle.harp_base.specs.Limits.{clock_skew, first_promise}
-use Rattle.harp_base.specs.declared.call.Call.{Call}
-use Rattle.harp_base.specs.declared.cred.Cred.{Cred}
+use Rattle.harp_types.specs.Limits.{clock_skew, first_promise}
+use Rattle.harp_types.specs.declared.call.Call.{Call}
+use Rattle.harp_types.specs.declared.cred.Cred.{Cred}
 use Rattle.file_tree.specs.Book.{Entry}
 use Rattle.group_rules.specs.Ask.{on_ask}
 use Rattle.group_rules.specs.Disk.{apply, flush, list_tree, on_demote}

@@ -1,11 +1,11 @@
 -- The answer to an ask keeps the facts.
 use Rattle.std.proofs.Common.{◌≡◌, ℕ, ◌+◌, ◌-◌, ◌<◌, ◌≤◌, ◌||◌, Bool, true, false, List, [], ◌∷◌, ◌++◌, length, Option, None, Some, slice_get, take, refl, sym, ap, ◌∙◌, subst, arith, le_refl, nat_lt, nat_le, ◌==◌}
 use Rattle.std.specs.Prelude.{IfSome, MatchBool}
-use Rattle.harp_base.specs.declared.call.Call.{Call}
-use Rattle.harp_base.specs.declared.cred.Cred.{Cred}
+use Rattle.harp_types.specs.declared.call.Call.{Call}
+use Rattle.harp_types.specs.declared.cred.Cred.{Cred}
 use Rattle.file_tree.specs.Tree.{Tree}
 use Rattle.file_tree.specs.Calls.{outcome}
-use Rattle.harp_base.specs.Update.{is_update}
+use Rattle.harp_types.specs.Update.{is_update}
 use Rattle.file_tree.specs.Book.{Entry, last_of, updates, tree_after, MayFollow, IsNextUpdate, IsRead}
 use Rattle.group_safety.proofs.Lists.{get_back}
 use Rattle.group_safety.proofs.Common.{put_same as put_is}

@@ -5,7 +5,7 @@ use Rattle.std.proofs.lemmas.Bool.{cases_Bool}
 use Rattle.std.proofs.lemmas.List.Elements.{filter-append}
 use Rattle.file_tree.specs.Tree.{Tree}
 use Rattle.file_tree.specs.Calls.{outcome}
-use Rattle.harp_base.specs.Update.{is_update}
+use Rattle.harp_types.specs.Update.{is_update}
 use Rattle.file_tree.specs.Book.{Entry, updates, tree_after, MayFollow, MayFollowAll, IsNextUpdate, IsRead}
 use Rattle.file_tree.proofs.BookLaws.{tree_of_updates}
 use Rattle.group_safety.specs.Entered.{UpdatesFrom}

@@ -4,7 +4,7 @@ use Rattle.std.specs.Prelude.{⊤}
 use Rattle.std.proofs.lemmas.Option.{slice_get_within}
 use Rattle.std.proofs.lemmas.List.{length-take, length-drop}
 use Rattle.std.proofs.lemmas.List.Elements.{filter-append}
-use Rattle.harp_base.specs.Update.{is_update}
+use Rattle.harp_types.specs.Update.{is_update}
 use Rattle.file_tree.specs.Book.{Entry, updates, MayFollow, IsBook}
 use Rattle.group_rules.specs.Effects.{NewLog, booted, demoted_by, down, empty_log, lengthened, load_tests, loaded, lost_log, resting, saved_log, saving}
 use Rattle.group_safety.specs.Entered.{AnswerOk, AnswersOk, BodyWithin, Books, IsTidy, ServerWithin, Tidy, UpdatesFrom, Within}

@@ -2,9 +2,9 @@
 use Rattle.std.proofs.Common.{◌≡◌, ℕ, ◌+◌, ◌-◌, ◌/◌, ◌≤◌, ◌||◌, ◌==◌, Bool, true, false, List, [], ◌∷◌, ◌++◌, length, Option, None, Some, take, refl, sym, ap, ◌∙◌, subst, arith, le_trans, le_refl, zero-le, nat_lt, nat_le, if◌then◌else◌, length-append}
 use Rattle.std.specs.Prelude.{⊤}
 use Rattle.std.proofs.lemmas.List.{length-drop, length-take}
-use Rattle.harp_base.specs.declared.call.Call.{Call}
-use Rattle.harp_base.specs.Update.{is_update}
-use Rattle.harp_base.specs.declared.cred.Cred.{Cred}
+use Rattle.harp_types.specs.declared.call.Call.{Call}
+use Rattle.harp_types.specs.Update.{is_update}
+use Rattle.harp_types.specs.declared.cred.Cred.{Cred}
 use Rattle.file_tree.specs.Book.{Entry, last_of}
 use Rattle.group_rules.specs.Ask.{append, new_entry, on_ask, update_moves}
 use Rattle.group_rules.specs.Choose.{choose}

@@ -3,9 +3,9 @@ use Rattle.std.proofs.Common.{◌≡◌, ◌⊎◌, ◌&&◌, ◌==◌, ℕ, suc
 use Rattle.std.specs.Prelude.{IfSome}
 use Rattle.std.proofs.lemmas.Option.{slice_get_within}
 use Rattle.std.proofs.lemmas.List.{length-take-le}
-use Rattle.harp_base.specs.declared.call.Call.{Call}
-use Rattle.harp_base.specs.Update.{is_update}
-use Rattle.harp_base.specs.declared.cred.Cred.{Cred}
+use Rattle.harp_types.specs.declared.call.Call.{Call}
+use Rattle.harp_types.specs.Update.{is_update}
+use Rattle.harp_types.specs.declared.cred.Cred.{Cred}
 use Rattle.file_tree.specs.Book.{Entry, MayFollow, last_next, last_of}
 use Rattle.file_tree.proofs.BookOrder.{next_follows}
 use Rattle.group_rules.specs.Ask.{new_entry}

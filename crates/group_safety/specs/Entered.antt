@@ -1,6 +1,6 @@
 -- The facts on what is entered and answered, and on the limits. They stand on those of the pages and servers.
 use Rattle.std.specs.Prelude.{◌≡◌, ℕ, ◌-◌, ◌/◌, ◌<◌, ◌≤◌, ◌⊎◌, true, List, [], ◌∷◌, ◌++◌, length, Some, slice_get, ⊤}
-use Rattle.harp_base.specs.Update.{is_update}
+use Rattle.harp_types.specs.Update.{is_update}
 use Rattle.file_tree.specs.Book.{Entry, updates, MayFollow, IsBook}
 use Rattle.group_rules.specs.Limits.{IsDelta, limit, room}
 use Rattle.group_rules.specs.Places.{Place, nobody}

@@ -1,7 +1,7 @@
 -- The facts that every step keeps. Each takes only the parts of the group that it speaks of. A comment that begins
 -- with "Further:" marks a fact beyond the named ones, and says what needs it.
 use Rattle.std.specs.Prelude.{◌≡◌, ℕ, ◌+◌, ◌-◌, ◌<◌, ◌≤◌, ◌⊎◌, true, false, List, length, Option, None, Some, slice_get, ⊤}
-use Rattle.harp_base.specs.Limits.{clock_skew}
+use Rattle.harp_types.specs.Limits.{clock_skew}
 use Rattle.group_rules.specs.Form.{fits, wanted}
 use Rattle.group_rules.specs.Places.{IsIn, Two, Place, S01, Trio, coordinator, get, leader, partner, same}
 use Rattle.group_rules.specs.State.{Ack, Beat, Chose, Collects, Demote, Empty, Event, Fetch, Form, Formed, Give, Group, Invite, Join, JoinMade, Live, Log, Message, Open, Outside, Packet, Page, Plan, Pulls, Report, Saved, Server, Waits, top}

@@ -1,7 +1,7 @@
 -- The laws of the group: what every schedule keeps.
 use Rattle.std.specs.Prelude.{◌≡◌, ℕ, zero, suc, ◌+◌, ◌-◌, ◌/◌, ◌<◌, ◌≤◌, ◌⊎◌, true, false, List, [], ◌∷◌, ◌++◌, length, take, drop, None, Some, slice_get, ⊤}
 use Rattle.file_tree.specs.Calls.{outcome}
-use Rattle.harp_base.specs.Update.{is_update}
+use Rattle.harp_types.specs.Update.{is_update}
 use Rattle.file_tree.specs.Book.{Entry, updates, tree_after, IsBook}
 use Rattle.group_safety.specs.Bases.{Bases}
 use Rattle.group_safety.specs.Entered.{AnswersOk, Books, Tidy, Within}

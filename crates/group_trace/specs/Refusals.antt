@@ -1,6 +1,6 @@
 -- Which steps are refused, and why.
 use Rattle.std.specs.Prelude.{ℕ, Bool, true, false, not, ◌&&◌, nat_lt, length, Option, None, Some, if◌then◌else◌}
-use Rattle.harp_base.specs.declared.server.ServerId.{ServerId}
+use Rattle.harp_types.specs.declared.server.ServerId.{ServerId}
 use Rattle.trace_types.specs.declared.step.Step.{Step}
 use Rattle.trace_types.specs.declared.line.LineFault.{LineFault}
 use Rattle.file_tree.specs.Book.{Entry}

@@ -1,13 +1,13 @@
 -- Worked rows of asks: refusals, a repeat, an update acknowledged three times, one taken over.
 use Rattle.std.specs.Prelude.{List, [], ◌∷◌, ◌++◌, None, Some, ◌≡◌, ◌+◌, ◌-◌, ◌<◌, ◌^◌, length}
-use Rattle.harp_base.specs.declared.call.Call.TheVariants as call
-use Rattle.harp_base.specs.declared.cred.TheConstants.{SUPERUSER}
-use Rattle.harp_base.specs.declared.reply.Reply.TheVariants as reply
-use Rattle.harp_base.specs.declared.server.ServerId.TheVariants as server
-use Rattle.harp_base.specs.declared.state.Held.TheVariants as held
-use Rattle.harp_base.specs.declared.state.Mode.TheVariants as mode
-use Rattle.harp_base.specs.declared.state.Role.TheVariants as role
-use Rattle.trace_lines.specs.declared.line.Cause.TheVariants as cause
+use Rattle.harp_types.specs.declared.call.Call.TheVariants as call
+use Rattle.harp_types.specs.declared.cred.TheConstants.{SUPERUSER}
+use Rattle.harp_types.specs.declared.reply.Reply.TheVariants as reply
+use Rattle.harp_types.specs.declared.server.ServerId.TheVariants as server
+use Rattle.harp_types.specs.declared.state.Held.TheVariants as held
+use Rattle.harp_types.specs.declared.state.Mode.TheVariants as mode
+use Rattle.harp_types.specs.declared.state.Role.TheVariants as role
+use Rattle.harp_types.specs.declared.cause.Cause.TheVariants as cause
 use Rattle.trace_types.specs.declared.step.Step.{Step}
 use Rattle.trace_types.specs.declared.step.Step.TheVariants as step
 use Rattle.trace_types.specs.declared.line.Line.{Line}

@@ -1,6 +1,6 @@
 -- How a trace shows a server that may be down, and a message.
 use Rattle.std.specs.Prelude.{Bool, true, false, length, Option, Some, None, if◌then◌else◌}
-use Rattle.harp_base.specs.declared.state.StateLine.{StateLine}
+use Rattle.harp_types.specs.declared.state.StateLine.{StateLine}
 use Rattle.trace_types.specs.declared.line.ShownMessage.{ShownMessage}
 use Rattle.trace_types.specs.declared.line.ShownMessage.TheVariants as shown
 use Rattle.trace_claims.specs.Servers.{Packet as PacketShown}

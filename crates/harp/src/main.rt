@@ -2,7 +2,7 @@
 //! and the exit status.
 #![tactic(auto)]
 
-use harp_base::{ReaderSource, Trio, WriterSink};
+use harp_types::{ReaderSource, Trio, WriterSink};
 use harp_cli::{Exit, harp};
 use node_link::{UdpLink, WallClock};
 use std::io::{BufWriter, Input, Write};

@@ -1,9 +1,11 @@
 -- Times and attributes undo their bytes.
 use Rattle.std.proofs.Common.{◌≡◌, ℕ, List, ◌++◌, Some, refl}
-use Rattle.harp_base.specs.declared.attr.Kind.{Kind}
-use Rattle.harp_base.specs.declared.attr.Kind.TheVariants.{Regular, Directory, Link}
-use Rattle.harp_base.specs.Fields.{Reader, ◌⊗◌, value_with_number}
-use Rattle.harp_base.specs.Attributes.{TimeFits, SetAttrFits, AttrFits, time_at, time_bytes, set_attr_of, set_attr_at, set_attr_bytes, kind_number, kinds, attr_of, attr_at, attr_bytes}
+use Rattle.harp_types.specs.declared.attr.Kind.{Kind}
+use Rattle.harp_types.specs.declared.attr.Kind.TheVariants.{Regular, Directory, Link}
+use Rattle.harp_base.specs.Fields.{Reader, ◌⊗◌}
+use Rattle.harp_types.specs.Numbered.{value_with_number}
+use Rattle.harp_base.specs.Attributes.{TimeFits, SetAttrFits, AttrFits, time_at, time_bytes, set_attr_of, set_attr_at, set_attr_bytes, attr_of, attr_at, attr_bytes}
+use Rattle.harp_types.specs.Kinds.{kind_number, kinds}
 use Rattle.harp_base.proofs.Codec.{IsCodec, u16_codec, u32_codec, tag_codec, row_codec, field_as_codec}
 
 -- a field and one more

@@ -1,9 +1,9 @@
 -- Servers, views and credentials undo their bytes.
 use Rattle.std.proofs.Common.{◌≡◌, ◌^◌, [], ◌∷◌, Some, refl, arith}
-use Rattle.harp_base.specs.declared.server.ServerId.{ServerId}
-use Rattle.harp_base.specs.declared.server.ServerId.TheVariants.{Zero, One, Two}
-use Rattle.harp_base.specs.Server.{number_of}
-use Rattle.harp_base.specs.Fields.{value_with_number}
+use Rattle.harp_types.specs.declared.server.ServerId.{ServerId}
+use Rattle.harp_types.specs.declared.server.ServerId.TheVariants.{Zero, One, Two}
+use Rattle.harp_types.specs.Server.{number_of}
+use Rattle.harp_types.specs.Numbered.{value_with_number}
 use Rattle.harp_base.specs.Names.{servers, server_at, ViewFits, view_bytes, view_at, CredFits, cred_bytes, cred_at}
 use Rattle.harp_base.proofs.Codec.{IsCodec, u32_codec, below_codec, tag_codec, field_as_codec}
 use Rattle.harp_base.proofs.AttributeLaws.{then}

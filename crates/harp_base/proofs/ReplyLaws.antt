@@ -1,13 +1,15 @@
 -- The replies undo their bytes.
 use Rattle.std.proofs.Common.{◌≡◌, ℕ, ◌+◌, ◌≤◌, Bool, true, false, List, [], ◌∷◌, ◌++◌, length, drop, Some, Ok, refl, ap, arith}
-use Rattle.harp_base.specs.declared.reply.Status.{Status}
-use Rattle.harp_base.specs.declared.reply.Status.TheVariants as status
-use Rattle.harp_base.specs.declared.reply.Reply.{Reply}
-use Rattle.harp_base.specs.declared.reply.Reply.TheVariants as reply
+use Rattle.harp_types.specs.declared.reply.Status.{Status}
+use Rattle.harp_types.specs.declared.reply.Status.TheVariants as status
+use Rattle.harp_types.specs.declared.reply.Reply.{Reply}
+use Rattle.harp_types.specs.declared.reply.Reply.TheVariants as reply
 use Rattle.harp_base.specs.declared.reply_form.ReplyForm.{ReplyForm}
 use Rattle.harp_base.specs.declared.reply_form.ReplyForm.TheVariants as form
-use Rattle.harp_base.specs.Fields.{Read, Reader, Spells, field_as, tag_at, value_with_number, bytes_at, counted_bytes}
-use Rattle.harp_base.specs.Replies.{status_number, statuses, flag_number, flags, form_of, form_number, forms, reply_fields_of, reply_bytes, ReplyFits, reply_fields_at, reply_at}
+use Rattle.harp_base.specs.Fields.{Read, Reader, Spells, field_as, tag_at, bytes_at, counted_bytes}
+use Rattle.harp_types.specs.Numbered.{value_with_number}
+use Rattle.harp_types.specs.Statuses.{status_number, statuses}
+use Rattle.harp_base.specs.Replies.{flag_number, flags, form_of, form_number, forms, reply_fields_of, reply_bytes, ReplyFits, reply_fields_at, reply_at}
 use Rattle.harp_base.proofs.Codec.{IsBytes, IsCodec, u32_codec, counted_codec, tag_codec, part_takes, nothing_takes, field_as_again, fields_by_tag_codec}
 use Rattle.harp_base.proofs.AttributeLaws.{then, attr_codec}
 use Rattle.harp_base.proofs.PageLaws.{entries_codec}

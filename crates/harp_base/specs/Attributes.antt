@@ -1,10 +1,10 @@
 -- Times and attributes as bytes.
 use Rattle.std.specs.Prelude.{ℕ, ◌<◌, ◌^◌, List, [], ◌∷◌, ◌++◌}
-use Rattle.harp_base.specs.declared.attr.Time.{Time}
-use Rattle.harp_base.specs.declared.attr.SetAttr.{SetAttr}
-use Rattle.harp_base.specs.declared.attr.Attr.{Attr}
-use Rattle.harp_base.specs.declared.attr.Kind.{Kind}
-use Rattle.harp_base.specs.declared.attr.Kind.TheVariants.{Regular, Directory, Link}
+use Rattle.harp_types.specs.declared.attr.Time.{Time}
+use Rattle.harp_types.specs.declared.attr.SetAttr.{SetAttr}
+use Rattle.harp_types.specs.declared.attr.Attr.{Attr}
+use Rattle.harp_types.specs.declared.attr.Kind.{Kind}
+use Rattle.harp_types.specs.Kinds.{kind_number, kinds}
 use Rattle.harp_base.specs.Fields.{Reader, ◌⊗◌, field_as, tag_at, u16_at, u32_at, u16_bytes, u32_bytes}
 
 -- ---- times
@@ -38,14 +38,6 @@ unfoldable pub set_attr_at : Reader SetAttr
 set_attr_at = field_as set_attr_of (u32_at ⊗ u32_at ⊗ u32_at ⊗ u32_at ⊗ time_at ⊗ time_at)
 
 -- ---- attributes
-
-abbrev pub kind_number : Kind → ℕ
-kind_number Regular = 1
-kind_number Directory = 2
-kind_number Link = 5
-
-abbrev pub kinds : List Kind
-kinds = Regular ∷ Directory ∷ Link ∷ []
 
 abbrev pub AttrFits : Attr → Type 0
 AttrFits a =

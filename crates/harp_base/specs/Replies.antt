@@ -1,39 +1,14 @@
 -- The one spelling of a reply, and reading it.
 use Rattle.std.specs.Prelude.{ℕ, ◌<◌, ◌≤◌, ◌^◌, Bool, true, false, List, [], ◌∷◌, ◌++◌, length, Ok}
-use Rattle.harp_base.specs.declared.reply.Status.{Status}
-use Rattle.harp_base.specs.declared.reply.Status.TheVariants as status
-use Rattle.harp_base.specs.declared.reply.DirEntry.{DirEntry}
-use Rattle.harp_base.specs.declared.reply.Reply.{Reply}
-use Rattle.harp_base.specs.declared.reply.Reply.TheVariants as reply
+use Rattle.harp_types.specs.Statuses.{status_number, statuses}
+use Rattle.harp_types.specs.declared.reply.DirEntry.{DirEntry}
+use Rattle.harp_types.specs.declared.reply.Reply.{Reply}
+use Rattle.harp_types.specs.declared.reply.Reply.TheVariants as reply
 use Rattle.harp_base.specs.declared.reply_form.ReplyForm.{ReplyForm}
 use Rattle.harp_base.specs.declared.reply_form.ReplyForm.TheVariants as form
-use Rattle.harp_base.specs.Limits.{longest_name, longest_path, longest_transfer}
+use Rattle.harp_types.specs.Limits.{longest_name, longest_path, longest_transfer}
 use Rattle.harp_base.specs.Fields.{Reader, ◌⊗◌, field_as, fields_by_tag, tag_at, u16_at, u32_at, bytes_at, many_at, u16_bytes, u32_bytes, counted_bytes, many_bytes, AllFit}
 use Rattle.harp_base.specs.Attributes.{AttrFits, attr_at, attr_bytes}
-
--- ---- statuses
-
--- the status numbers of NFS version 2
-abbrev pub status_number : Status → ℕ
-status_number status.Perm = 1
-status_number status.NoEnt = 2
-status_number status.Io = 5
-status_number status.NxIo = 6
-status_number status.Acces = 13
-status_number status.Exist = 17
-status_number status.NotDir = 20
-status_number status.IsDir = 21
-status_number status.FBig = 27
-status_number status.NoSpc = 28
-status_number status.NameTooLong = 63
-status_number status.NotEmpty = 66
-status_number status.Stale = 70
-
-abbrev pub statuses : List Status
-statuses =
-    status.Perm ∷ status.NoEnt ∷ status.Io ∷ status.NxIo ∷ status.Acces ∷ status.Exist
-    ∷ status.NotDir ∷ status.IsDir
-    ∷ status.FBig ∷ status.NoSpc ∷ status.NameTooLong ∷ status.NotEmpty ∷ status.Stale ∷ []
 
 -- ---- pages
 

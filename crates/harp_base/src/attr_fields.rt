@@ -2,9 +2,10 @@
 
 ghost use Rattle.std.specs.Prelude.{◌≡◌, ◌≤◌, ◌++◌, length, IfOk, OnOk};
 ghost use Rattle.harp_base.specs.Fields.{tag_at};
-ghost use Rattle.harp_base.specs.Attributes.{TimeFits, SetAttrFits, AttrFits, kind_number, kinds, time_at, time_bytes, set_attr_at, set_attr_bytes, attr_at, attr_bytes};
+ghost use Rattle.harp_base.specs.Attributes.{TimeFits, SetAttrFits, AttrFits, time_at, time_bytes, set_attr_at, set_attr_bytes, attr_at, attr_bytes};
+ghost use Rattle.harp_types.specs.Kinds.{kind_number, kinds};
 
-use crate::attr::{Attr, Kind, SetAttr, Time};
+use harp_types::{Attr, Kind, SetAttr, Time};
 use crate::field::{Misread, byte_at, put_u16, put_u32, u16_at, u32_at};
 use std::alloc::AllocError;
 

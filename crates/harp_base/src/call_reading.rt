@@ -1,16 +1,30 @@
 //! Calls that are read.
 
 ghost use Rattle.std.specs.Prelude.{◌≡◌, ◌≤◌, ◌++◌, ℕ, List, length, IfOk, Ok};
-ghost use Rattle.harp_base.specs.declared.call.Call.{Call};
-ghost use Rattle.harp_base.specs.declared.procedure.Procedure.TheVariants as procedure;
-ghost use Rattle.harp_base.specs.Fields.{Gives, Spells, Tells, at_front};
+ghost use Rattle.harp_types.specs.declared.call.Call.{Call};
+ghost use Rattle.harp_types.specs.declared.procedure.Procedure.TheVariants as procedure;
+ghost use Rattle.harp_base.specs.Fields.{Gives, Spells, Tells, at_front, tag_at};
+ghost use Rattle.harp_types.specs.Procedures.{procedure_number, procedures};
 ghost use Rattle.harp_base.specs.Calls.{fields_at, call_at, call_bytes, CallFits};
 
 use crate::attr_fields::set_attr_at;
-use crate::call::Call;
-use crate::field::{FieldFault, Misread, bytes_at, told, u32_at};
-use crate::procedure::{Procedure, procedure_at};
+use harp_types::Call;
+use crate::field::{FieldFault, Misread, byte_at, bytes_at, told, u32_at};
+use harp_types::Procedure;
 use std::alloc::Global;
+
+/// The procedure of the number at a place, and the place after it.
+fn procedure_at(bytes: &[u8], at: usize) -> Result<(Procedure, usize), Misread>
+    requires { at ≤ length bytes.now }
+    ensures step { result ≡ tag_at procedure_number procedures bytes.now at }
+    ensures within { IfOk result (λ x. x.1 ≤ length bytes.now) }
+{
+    let (number, next) = byte_at(bytes, at)?;
+    match Procedure::numbered(number) {
+        Some(procedure) => Ok((procedure, next)),
+        None => Err(Misread::BadTag(at)),
+    }
+}
 
 #[tactic(auto, unfolding(crate::specs::Calls::fields_at))]
 fn get_attr_call(bytes: &[u8], at: usize) -> Result<(Call, usize), Misread>

@@ -2,16 +2,16 @@
 
 ghost use Rattle.std.specs.Prelude.{◌≡◌, ◌<◌, ◌^◌, ◌++◌, OnOk, OnErr, IfOk, true, false};
 ghost use Rattle.harp_base.specs.Fields.{u32_bytes, counted_bytes};
-ghost use Rattle.harp_base.specs.Update.{changes_entries, is_update};
+ghost use Rattle.harp_types.specs.Update.{changes_entries, is_update};
 ghost use Rattle.harp_base.specs.Calls.{fields_of, call_bytes, NameFits, CallFits};
 
 use crate::attr_fields::put_set_attr;
-use crate::bytes::{Bounded, Bytes};
-use crate::call::Call;
+use harp_types::{Bounded, Bytes};
+use harp_types::Call;
 use crate::field::{put_bytes, put_u32};
-use crate::limits::LONGEST_ARGUMENT;
-use crate::procedure::Procedure;
-use crate::update::{changes_entries, is_update};
+use harp_types::LONGEST_ARGUMENT;
+use harp_types::Procedure;
+use harp_types::{changes_entries, is_update};
 use std::alloc::{AllocError, Global};
 
 /// A directory and a name in it.

@@ -1,13 +1,14 @@
 //! The forms of a reply, by their numbers.
 
 ghost use Rattle.std.specs.Prelude.{◌≡◌, ◌≤◌, length, IfOk};
-ghost use Rattle.harp_base.specs.Fields.{value_with_number, tag_at};
+ghost use Rattle.harp_types.specs.Numbered.{value_with_number};
+ghost use Rattle.harp_base.specs.Fields.{tag_at};
 ghost use Rattle.harp_base.specs.Replies.{form_of, form_number, forms};
 
 use crate::field::{Misread, byte_at};
-use crate::reply::Reply;
+use harp_types::Reply;
 
-#[derive(Clone, Copy, Debug, PartialEq, Eq)]
+#[derive(Clone, Copy, PartialEq, Eq)]
 pub(crate) enum ReplyForm {
     Refused,
     Done,

@@ -1,14 +1,15 @@
 //! Replies that are read.
 
 ghost use Rattle.std.specs.Prelude.{◌≡◌, ◌≤◌, ◌<◌, ◌++◌, ℕ, List, length, IfOk, Ok};
-ghost use Rattle.harp_base.specs.declared.reply.Reply.{Reply};
+ghost use Rattle.harp_types.specs.declared.reply.Reply.{Reply};
 ghost use Rattle.harp_base.specs.declared.reply_form.ReplyForm.TheVariants as form;
 ghost use Rattle.harp_base.specs.Fields.{Gives, GivesAs, Spells, Tells, at_front, tag_at, many_at};
-ghost use Rattle.harp_base.specs.Replies.{status_number, statuses, flag_number, flags, entry_at, entries_at, reply_fields_at, reply_at, reply_bytes, ReplyFits};
+ghost use Rattle.harp_types.specs.Statuses.{status_number, statuses};
+ghost use Rattle.harp_base.specs.Replies.{flag_number, flags, entry_at, entries_at, reply_fields_at, reply_at, reply_bytes, ReplyFits};
 
 use crate::attr_fields::attr_at;
 use crate::field::{FieldFault, Misread, byte_at, bytes_at, told, u16_at, u32_at};
-use crate::reply::{DirEntry, Entries, Reply, Status};
+use harp_types::{DirEntry, Entries, Reply, Status};
 use crate::reply_form::{ReplyForm, form_at};
 use std::alloc::Global;
 

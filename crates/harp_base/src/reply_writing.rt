@@ -5,9 +5,9 @@ ghost use Rattle.harp_base.specs.Fields.{many_bytes, AllFit};
 ghost use Rattle.harp_base.specs.Replies.{entry_bytes, entries_bytes, EntryFits, EntriesFit, reply_fields_of, reply_bytes, ReplyFits};
 
 use crate::attr_fields::put_attr;
-use crate::bytes::Bytes;
+use harp_types::Bytes;
 use crate::field::{put_bytes, put_u16, put_u32};
-use crate::reply::{DirEntry, Entries, Reply};
+use harp_types::{DirEntry, Entries, Reply};
 use crate::reply_form::form_number;
 use std::alloc::{AllocError, Global};
 

@@ -1,6 +1,7 @@
 -- Cells and changes undo their bytes.
 use Rattle.std.proofs.Common.{◌≡◌, ℕ, ◌+◌, List, ◌++◌, length, drop, Some, Ok, refl, ap, arith}
-use Rattle.harp_base.specs.Fields.{Read, Reader, Spells, field_as, value_with_number}
+use Rattle.harp_base.specs.Fields.{Read, Reader, Spells, field_as}
+use Rattle.harp_types.specs.Numbered.{value_with_number}
 use Rattle.harp_base.proofs.Codec.{IsBytes, IsCodec, u32_codec, part_takes, nothing_takes, field_as_again, fields_by_tag_codec}
 use Rattle.harp_base.proofs.AttributeLaws.{then}
 use Rattle.harp_cells.specs.declared.cell.Cell.{Cell}

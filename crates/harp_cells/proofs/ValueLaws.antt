@@ -1,10 +1,11 @@
 -- The values of cells undo their bytes.
 use Rattle.std.proofs.Common.{◌≡◌, ℕ, ◌+◌, ◌<◌, ◌≤◌, ◌^◌, Bool, true, false, List, [], ◌∷◌, ◌++◌, length, drop, Some, Ok, refl, arith}
 use Rattle.std.proofs.lemmas.Bool.{ltb-true, lt-ltb}
-use Rattle.harp_base.specs.Fields.{Reader, Spells, byte_at, field_as, value_with_number, bytes_at, counted_bytes}
-use Rattle.harp_base.specs.Attributes.{kind_number, kinds}
-use Rattle.harp_base.specs.declared.attr.Kind.{Kind}
-use Rattle.harp_base.specs.declared.attr.Kind.TheVariants as kind
+use Rattle.harp_base.specs.Fields.{Reader, Spells, byte_at, field_as, bytes_at, counted_bytes}
+use Rattle.harp_types.specs.Numbered.{value_with_number}
+use Rattle.harp_types.specs.Kinds.{kind_number, kinds}
+use Rattle.harp_types.specs.declared.attr.Kind.{Kind}
+use Rattle.harp_types.specs.declared.attr.Kind.TheVariants as kind
 use Rattle.harp_base.proofs.Codec.{IsBytes, IsCodec, byte_codec, u16_codec, u32_codec, u64_codec, below_codec, counted_codec, passing_codec, fitting, tag_codec, part_takes, field_as_again, field_as_codec, fields_by_tag_codec}
 use Rattle.harp_base.proofs.AttributeLaws.{then, time_codec, whole_kind}
 use Rattle.harp_base.proofs.ReplyLaws.{reply_codec}

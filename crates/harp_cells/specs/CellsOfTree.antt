@@ -1,7 +1,7 @@
 -- The cells that stand for a tree and its updates.
 use Rattle.std.specs.Prelude.{◌≡◌, ℕ, ◌-◌, ◌*◌, ◌≤◌, Bool, true, false, ◌==◌, List, [], ◌∷◌, ◌++◌, length, take, drop, replicate, slice_index_or, Option, Some, None, if◌then◌else◌}
-use Rattle.harp_base.specs.Limits.{block_size}
-use Rattle.harp_base.specs.declared.attr.Kind.TheVariants as kind
+use Rattle.harp_types.specs.Limits.{block_size}
+use Rattle.harp_types.specs.declared.attr.Kind.TheVariants as kind
 use Rattle.file_tree.specs.declared.object.Slot.{Slot}
 use Rattle.file_tree.specs.declared.object.Body.TheVariants as body
 use Rattle.file_tree.specs.declared.object.Object.{Object}

@@ -1,8 +1,8 @@
 -- The numbers of kinds of objects.
 use Rattle.std.specs.Prelude.{ℕ, Bool, true, false, Option, None, Some}
-use Rattle.harp_base.specs.declared.attr.Kind.{Kind}
-use Rattle.harp_base.specs.Fields.{value_with_number}
-use Rattle.harp_base.specs.Attributes.{kind_number, kinds}
+use Rattle.harp_types.specs.declared.attr.Kind.{Kind}
+use Rattle.harp_types.specs.Numbered.{value_with_number}
+use Rattle.harp_types.specs.Kinds.{kind_number, kinds}
 
 abbrev pub lacks_kind : Option Kind → Bool
 lacks_kind None = true

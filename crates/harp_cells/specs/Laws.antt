@@ -1,6 +1,6 @@
 -- What the cells of a tree are at their ends.
 use Rattle.std.specs.Prelude.{◌≡◌, ℕ, ◌*◌, ◌≤◌, List, [], ◌++◌, length, Option, None}
-use Rattle.harp_base.specs.Limits.{block_size}
+use Rattle.harp_types.specs.Limits.{block_size}
 use Rattle.file_tree.specs.Book.{Entry}
 use Rattle.file_tree.specs.Tree.{Tree, place, slots_of}
 use Rattle.harp_cells.specs.declared.cell.Cell.{Cell}

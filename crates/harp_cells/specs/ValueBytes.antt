@@ -1,10 +1,11 @@
 -- The values of cells as bytes.
 use Rattle.std.specs.Prelude.{◌≡◌, ℕ, ◌+◌, ◌<◌, ◌≤◌, ◌^◌, Bool, true, false, List, [], ◌∷◌, ◌++◌, length, nat_lt, Ok, Err}
-use Rattle.harp_base.specs.Limits.{longest_name, block_size}
-use Rattle.harp_base.specs.declared.attr.Kind.{Kind}
-use Rattle.harp_base.specs.declared.attr.Time.{Time}
+use Rattle.harp_types.specs.Limits.{longest_name, block_size}
+use Rattle.harp_types.specs.declared.attr.Kind.{Kind}
+use Rattle.harp_types.specs.declared.attr.Time.{Time}
 use Rattle.harp_base.specs.Fields.{Read, Reader, ◌⊗◌, byte_at, field_as, fields_by_tag, passing, tag_at, u16_at, u32_at, u64_at, below_at, bytes_at, u16_bytes, u32_bytes, u64_bytes, counted_bytes}
-use Rattle.harp_base.specs.Attributes.{TimeFits, time_at, time_bytes, kind_number, kinds}
+use Rattle.harp_base.specs.Attributes.{TimeFits, time_at, time_bytes}
+use Rattle.harp_types.specs.Kinds.{kind_number, kinds}
 use Rattle.harp_base.specs.Replies.{ReplyFits, reply_at, reply_bytes}
 use Rattle.harp_cells.specs.Kinds.{is_other_kind}
 use Rattle.harp_cells.specs.declared.value.Inode.{Inode}

@@ -3,13 +3,13 @@
 ghost use Rattle.std.specs.Prelude.{◌≡◌, ◌<◌, ◌≤◌, ◌+◌, ◌^◌, ◌↔◌, length, true, is_some, IfOk, IfSome, IsSome};
 ghost use Rattle.harp_cells.specs.Kinds.{is_other_kind};
 
-use harp_base::Kind;
+use harp_types::Kind;
 use std::alloc::{AllocError, Global};
 use std::marker::Model;
 
 /// A moment in milliseconds of a server's clock, below 2^62 + 2000: a reading is below 2^62, and a
 /// promise runs for 2000 from one on.
-#[derive(Clone, Copy, Debug, PartialEq, Eq, PartialOrd, Ord)]
+#[derive(Clone, Copy, PartialEq, Eq, PartialOrd, Ord)]
 pub struct Moment {
     millis: u64,
 }
@@ -57,7 +57,7 @@ impl Moment {
 }
 
 /// The kind of what is no object that a call makes: a byte that is the number of no `Kind`.
-#[derive(Clone, Copy, Debug, PartialEq, Eq)]
+#[derive(Clone, Copy, PartialEq, Eq)]
 pub struct OtherKind {
     number: u8,
 }
@@ -98,7 +98,7 @@ impl OtherKind {
 }
 
 /// 1 to MOST bytes, as a block or a name.
-#[derive(Debug, Drop)]
+#[derive(Drop)]
 pub struct NonEmpty<const MOST: usize> {
     items: Vec<u8>,
 }

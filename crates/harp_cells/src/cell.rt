@@ -4,7 +4,7 @@ ghost use Rattle.std.specs.Prelude.{◌≡◌};
 ghost use Rattle.harp_cells.specs.Effect.{key, is_cell, is_block_from};
 
 /// A place that holds a value or is absent. Objects and clients are named by their numbers.
-#[derive(Clone, Copy, Debug, PartialEq, Eq, PartialOrd, Ord, Hash)]
+#[derive(Clone, Copy, PartialEq, Eq, PartialOrd, Ord, Hash)]
 pub enum Cell {
     /// What holds of the whole tree.
     Meta,

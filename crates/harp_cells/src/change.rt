@@ -8,7 +8,7 @@ use crate::value::Value;
 use std::alloc::{AllocError, Global};
 
 /// A change of cells, whatever they hold before.
-#[derive(Debug, Drop)]
+#[derive(Drop)]
 pub enum Change {
     /// The cell holds the value.
     Put { cell: Cell, value: Value },

@@ -1,7 +1,8 @@
 //! The forms of values, cells and changes, by their numbers in bytes.
 
 ghost use Rattle.std.specs.Prelude.{◌≡◌, ◌≤◌, length, IfOk};
-ghost use Rattle.harp_base.specs.Fields.{value_with_number, tag_at};
+ghost use Rattle.harp_types.specs.Numbered.{value_with_number};
+ghost use Rattle.harp_base.specs.Fields.{tag_at};
 ghost use Rattle.harp_cells.specs.ValueBytes.{value_form, value_form_number, value_forms};
 ghost use Rattle.harp_cells.specs.CellBytes.{cell_form, cell_form_number, cell_forms, change_form, change_form_number, change_forms};
 
@@ -11,7 +12,7 @@ use crate::value::Value;
 use harp_base::Misread;
 use harp_base::fields::byte_at;
 
-#[derive(Clone, Copy, Debug, PartialEq, Eq)]
+#[derive(Clone, Copy, PartialEq, Eq)]
 pub(crate) enum ValueForm {
     Meta,
     Object,
@@ -22,7 +23,7 @@ pub(crate) enum ValueForm {
     SavedCred,
 }
 
-#[derive(Clone, Copy, Debug, PartialEq, Eq)]
+#[derive(Clone, Copy, PartialEq, Eq)]
 pub(crate) enum CellForm {
     Meta,
     Object,
@@ -32,7 +33,7 @@ pub(crate) enum CellForm {
     Saved,
 }
 
-#[derive(Clone, Copy, Debug, PartialEq, Eq)]
+#[derive(Clone, Copy, PartialEq, Eq)]
 pub(crate) enum ChangeForm {
     Put,
     Erase,

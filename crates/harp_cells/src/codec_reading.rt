@@ -19,7 +19,8 @@ use crate::value::{Inode, UnformedInode, Value};
 use harp_base::fields::{
     below_at, byte_at, bytes_at, kind_at, reply_at, time_at, told, u16_at, u32_at, u64_at,
 };
-use harp_base::{Bounded, FieldFault, Misread};
+use harp_base::{FieldFault, Misread};
+use harp_types::Bounded;
 use std::alloc::Global;
 
 // A moment is below this.

@@ -2,7 +2,7 @@
 
 ghost use Rattle.std.specs.Prelude.{◌≡◌, ◌<◌, ◌≤◌, [], ◌∷◌, length, true, None, Some, IsOk, IsSome, IfNone, IfSome, OnOk, OnErr, Err, if◌then◌else◌};
 ghost use Rattle.std.specs.Option.{option_copied};
-ghost use Rattle.harp_base.specs.Streams.{Rose};
+ghost use Rattle.harp_types.specs.Streams.{Rose};
 ghost use Rattle.harp_cells.specs.declared.cell.Cell.{Cell as CellName};
 ghost use Rattle.harp_cells.specs.declared.cell.Cell.TheVariants as cell;
 ghost use Rattle.harp_cells.specs.declared.change.Change.TheVariants as change;
@@ -19,7 +19,7 @@ use std::marker::Model;
 
 /// A map of cells in memory. A read and a change cost a logarithm of the number of values, and an
 /// erasure of blocks one for each block that goes.
-#[derive(Debug, Drop)]
+#[derive(Drop)]
 pub struct MemCells {
     values: BTreeMap<Key, Value>,
     fetched: Option<Cell>,

@@ -2,7 +2,7 @@
 
 ghost use Rattle.std.specs.Prelude.{◌≡◌, ◌≤◌, ◌+◌, ◌-◌, ◌<◌, ℕ, List, [], Option, None, length, slice_index_or, OnOk, OnErr, Err};
 ghost use Rattle.std.specs.Option.{option_copied};
-ghost use Rattle.harp_base.specs.Streams.{Rose};
+ghost use Rattle.harp_types.specs.Streams.{Rose};
 ghost use Rattle.harp_cells.specs.declared.value.Value.{Value as CellValue};
 ghost use Rattle.harp_cells.specs.declared.change.Change.{Change as CellChange};
 ghost use Rattle.harp_cells.specs.Effect.{Cells, Reads};
@@ -13,7 +13,7 @@ use crate::value::Value;
 use std::alloc::AllocError;
 
 /// Why a cell wasn't read.
-#[derive(Clone, Copy, Debug, PartialEq, Eq)]
+#[derive(Clone, Copy, PartialEq, Eq)]
 pub enum CellFault {
     /// The store under the cells failed.
     StoreFailed,

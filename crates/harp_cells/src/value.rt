@@ -3,7 +3,7 @@
 ghost use Rattle.std.specs.Prelude.{◌≡◌, IfOk};
 
 use crate::bounds::{Moment, NonEmpty, OtherKind};
-use harp_base::{BLOCK_SIZE, Kind, LONGEST_NAME, Reply, Time};
+use harp_types::{BLOCK_SIZE, Kind, LONGEST_NAME, Reply, Time};
 use std::alloc::{AllocError, Global};
 
 // The most bytes of a block.
@@ -17,7 +17,7 @@ pub const LONGEST_OLD_RECORD: usize = 60_000;
 
 /// The attributes of an object. The mode has 12 bits, the parent is 0 of what is no directory, the
 /// size is in bytes, and the slots are those of a directory, free ones too.
-#[derive(Clone, Copy, Debug, PartialEq, Eq)]
+#[derive(Clone, Copy, PartialEq, Eq)]
 pub struct Inode {
     pub kind: Kind,
     pub mode: u16,
@@ -33,7 +33,7 @@ pub struct Inode {
 }
 
 /// The attributes of an object whose kind is none of the three. No call makes such an object.
-#[derive(Clone, Copy, Debug, PartialEq, Eq)]
+#[derive(Clone, Copy, PartialEq, Eq)]
 pub struct UnformedInode {
     pub kind: OtherKind,
     pub mode: u16,
@@ -49,7 +49,7 @@ pub struct UnformedInode {
 }
 
 /// The value of a cell.
-#[derive(Debug, Drop)]
+#[derive(Drop)]
 pub enum Value {
     /// The next object's number, the used blocks of 4096 bytes, and the stamp of the last update.
     Meta {

@@ -1,9 +1,9 @@
 -- How servers end.
 use Rattle.std.proofs.Common.{◌≡◌, ◌∷◌, [], ℕ, List, Option, refl, sym, ap, subst, inl}
-use Rattle.harp_base.specs.declared.server.ServerId.{ServerId}
-use Rattle.harp_base.specs.Trio.{value_of, with_value}
-use Rattle.harp_base.specs.declared.server.ServerId.TheVariants.{Zero, One, Two}
-use Rattle.harp_base.specs.declared.trio.Trio.{Trio}
+use Rattle.harp_types.specs.declared.server.ServerId.{ServerId}
+use Rattle.harp_types.specs.Trio.{value_of, with_value}
+use Rattle.harp_types.specs.declared.server.ServerId.TheVariants.{Zero, One, Two}
+use Rattle.harp_types.specs.declared.trio.Trio.{Trio}
 use Rattle.harp_store.specs.Disk.{Moments}
 use Rattle.harp_store.specs.declared.store.StoreFault.{StoreFault}
 use Rattle.harp_store.specs.declared.store.StoreFault.TheVariants as store

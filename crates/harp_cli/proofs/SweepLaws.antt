@@ -1,7 +1,7 @@
 -- How a sweep ends.
 use Rattle.std.proofs.Common.{◌≡◌, ◌∙◌, ℕ, ◌+◌, List, append-nil, length, ap, sym, subst, Option, Some, None}
 use Rattle.std.proofs.lemmas.List.FromFn.{length-map-range_with_len}
-use Rattle.harp_base.specs.Streams.{GrewByPart}
+use Rattle.harp_types.specs.Streams.{GrewByPart}
 use Rattle.trace_types.specs.declared.step.Step.{Step}
 use Rattle.sweep.specs.Lines.{generated}
 use Rattle.sweep.specs.Runs.{summaries}

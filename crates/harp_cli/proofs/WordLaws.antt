@@ -5,9 +5,9 @@ use Rattle.std.specs.Prelude.{MatchOption, IsSome, IfSome, ◌↔◌, String, co
 use Rattle.std.proofs.lemmas.Fmt.{decimal_injective}
 use Rattle.std.proofs.lemmas.Grind.{common_steps}
 use Rattle.promise.specs.Promise.{IsDelta}
-use Rattle.harp_base.specs.Server.{number_of}
-use Rattle.harp_base.specs.declared.server.ServerId.{ServerId}
-use Rattle.harp_base.specs.declared.server.ServerId.TheVariants.{Zero, One, Two}
+use Rattle.harp_types.specs.Server.{number_of}
+use Rattle.harp_types.specs.declared.server.ServerId.{ServerId}
+use Rattle.harp_types.specs.declared.server.ServerId.TheVariants.{Zero, One, Two}
 use Rattle.harp_cli.specs.declared.loop_words.Loop.{Loop}
 use Rattle.harp_cli.specs.declared.words.Command.{Command}
 use Rattle.harp_cli.specs.declared.words.Command.TheVariants as command

@@ -1,7 +1,7 @@
 -- How a check ends.
 use Rattle.std.specs.Prelude.{◌≡◌, ◌≢◌, ◌⊎◌, ℕ, List, [], Option, Some}
 use Rattle.std.specs.Io.KnownBytes.{Appends}
-use Rattle.harp_base.specs.Streams.{GrewByPart}
+use Rattle.harp_types.specs.Streams.{GrewByPart}
 use Rattle.trace_verdict.specs.Verdicts.{IsRightText, IsVerdictOn}
 use Rattle.trace_verdict.specs.declared.verdict.Verdict.{Verdict}
 use Rattle.trace_verdict.specs.declared.verdict.Verdict.TheVariants as verdict

@@ -1,7 +1,7 @@
 -- How the writing of a generated schedule ends.
 use Rattle.std.specs.Prelude.{ℕ, List, Option}
 use Rattle.std.specs.Io.KnownBytes.{Appends}
-use Rattle.harp_base.specs.Streams.{GrewByPart}
+use Rattle.harp_types.specs.Streams.{GrewByPart}
 use Rattle.sweep.specs.Lines.{generated}
 use Rattle.sweep.specs.Texts.{schedule_text}
 use Rattle.harp_cli.specs.declared.exit.Exit.{Exit}

@@ -1,7 +1,7 @@
 -- How a sweep ends.
 use Rattle.std.specs.Prelude.{ℕ, List, Option}
 use Rattle.std.specs.Io.KnownBytes.{Appends}
-use Rattle.harp_base.specs.Streams.{GrewByPart}
+use Rattle.harp_types.specs.Streams.{GrewByPart}
 use Rattle.trace_types.specs.declared.step.Step.{Step}
 use Rattle.sweep.specs.Runs.{summaries}
 use Rattle.sweep.specs.declared.summary.Summary.{Summary}

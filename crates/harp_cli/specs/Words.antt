@@ -3,10 +3,10 @@ use Rattle.std.specs.Prelude.{◌≡◌, ◌≢◌, ◌⊎◌, ℕ, ◌<◌, ◌
 use Rattle.std.specs.Prelude.{codes, decimal, String, string_bytes, Option, Some, None}
 use Rattle.std.specs.Global.{Global}
 use Rattle.std.specs.Io.KnownBytes.{Appends}
-use Rattle.harp_base.specs.Limits.{first_promise}
-use Rattle.harp_base.specs.Server.{number_of}
-use Rattle.harp_base.specs.Streams.{GrewByPart}
-use Rattle.harp_base.specs.declared.server.ServerId.{ServerId}
+use Rattle.harp_types.specs.Limits.{first_promise}
+use Rattle.harp_types.specs.Server.{number_of}
+use Rattle.harp_types.specs.Streams.{GrewByPart}
+use Rattle.harp_types.specs.declared.server.ServerId.{ServerId}
 use Rattle.node_link.specs.Traffic.{last_port}
 use Rattle.promise.specs.Promise.{IsDelta}
 use Rattle.harp_cli.specs.declared.exit.Exit.{Exit}

@@ -1,11 +1,11 @@
 //! Checking a trace: the verdict on what is read is written as one line.
 
 ghost use Rattle.std.specs.Prelude.{◌≡◌, ◌≢◌, ℕ, List, Some};
-ghost use Rattle.harp_base.specs.Streams.{Rose};
+ghost use Rattle.harp_types.specs.Streams.{Rose};
 ghost use Rattle.harp_cli.specs.Check.{CheckEnds, exit_after};
 
 use crate::exit::Exit;
-use harp_base::{Sink, SinkFault, Source};
+use harp_types::{Sink, SinkFault, Source};
 use line_reader::ReadFault;
 use std::alloc::Global;
 use trace_verdict::{Verdict, judge_text, write_verdict};

@@ -1,11 +1,11 @@
 //! Writing the schedule of a seed.
 
 ghost use Rattle.std.specs.Prelude.{◌≡◌, ◌≢◌};
-ghost use Rattle.harp_base.specs.Streams.{Rose};
+ghost use Rattle.harp_types.specs.Streams.{Rose};
 ghost use Rattle.harp_cli.specs.Gen.{GenEnds};
 
 use crate::exit::Exit;
-use harp_base::{Sink, SinkFault};
+use harp_types::{Sink, SinkFault};
 use std::alloc::Global;
 use sweep::write_schedule;
 

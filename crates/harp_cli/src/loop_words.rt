@@ -1,8 +1,8 @@
 //! The words that say which servers are run, and how.
 
 ghost use Rattle.std.specs.Prelude.{◌≡◌, ℕ, ◌∷◌, MatchOption, codes, decimal};
-ghost use Rattle.harp_base.specs.Server.{number_of as place_number};
-ghost use Rattle.harp_base.specs.declared.server.ServerId.{ServerId as Place};
+ghost use Rattle.harp_types.specs.Server.{number_of as place_number};
+ghost use Rattle.harp_types.specs.declared.server.ServerId.{ServerId as Place};
 ghost use Rattle.promise.specs.Promise.{IsDelta};
 ghost use Rattle.harp_cli.specs.declared.loop_words.Loop.{Loop as Runs};
 ghost use Rattle.harp_cli.specs.declared.words.Command.{Command as Asked};
@@ -10,7 +10,7 @@ ghost use Rattle.harp_cli.specs.Words.{LoopWords, Named, delta_of, delta_words, 
 
 use crate::number::number_within;
 use crate::words::Command;
-use harp_base::ServerId;
+use harp_types::ServerId;
 use node_link::LAST_PORT;
 use promise::Delta;
 
@@ -22,7 +22,7 @@ const MOST_TURNS: u64 = 1_000_000_000;
 
 /// How servers are run: place s has this port plus s, each server takes so many turns, and promises
 /// last so long, where it is told.
-#[derive(Clone, Copy, Debug, PartialEq, Eq)]
+#[derive(Clone, Copy, PartialEq, Eq)]
 pub struct Loop {
     pub port: u16,
     pub turns: u64,

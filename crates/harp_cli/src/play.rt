@@ -1,7 +1,7 @@
 //! Playing a schedule on three servers.
 
 ghost use Rattle.std.specs.Prelude.{◌≡◌, ◌≢◌, ◌⊎◌, ℕ, List, Some};
-ghost use Rattle.harp_base.specs.Streams.{Rose};
+ghost use Rattle.harp_types.specs.Streams.{Rose};
 ghost use Rattle.group_disks.specs.Run.{first_disk_scene};
 ghost use Rattle.schedule_play.specs.Exit.{whole_exit};
 ghost use Rattle.schedule_play.specs.Reading.{reading};
@@ -9,7 +9,7 @@ ghost use Rattle.world.specs.World.{IsWorld};
 ghost use Rattle.harp_cli.specs.Play.{HasPlayed, exit_of_play, sizes};
 
 use crate::exit::Exit;
-use harp_base::{Sink, Source};
+use harp_types::{Sink, Source};
 use std::alloc::Global;
 use world::World;
 

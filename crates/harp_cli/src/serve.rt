@@ -1,7 +1,7 @@
 //! Running servers, and writing what they did.
 
 ghost use Rattle.std.specs.Prelude.{◌≡◌, ◌≤◌, ◌∷◌, [], ◌++◌, Err, IfOk};
-ghost use Rattle.harp_base.specs.Streams.{Rose};
+ghost use Rattle.harp_types.specs.Streams.{Rose};
 ghost use Rattle.node_link.specs.Traffic.{last_port};
 ghost use Rattle.node_loop.specs.Scene.{NoneFell, OneRose, all_places, each, only};
 ghost use Rattle.harp_cli.specs.Exit.{exit_of_loop, exit_of_store};
@@ -9,7 +9,7 @@ ghost use Rattle.harp_cli.specs.Serve.{ServeEnds, WriteEnds, outside, served_lin
 
 use crate::exit::Exit;
 use crate::loop_words::Loop;
-use harp_base::{ServerId, Sink, SinkFault, Trio, write_all};
+use harp_types::{ServerId, Sink, SinkFault, Trio, write_all};
 use harp_store::{Store, StoreFault};
 use node_link::{Clock, Link};
 use node_loop::{LoopFault, Served, serve_one, serve_three};

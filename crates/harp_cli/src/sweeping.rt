@@ -1,11 +1,11 @@
 //! Playing the schedules of many seeds.
 
 ghost use Rattle.std.specs.Prelude.{◌≡◌, ◌+◌, ◌<◌, ◌^◌};
-ghost use Rattle.harp_base.specs.Streams.{Rose};
+ghost use Rattle.harp_types.specs.Streams.{Rose};
 ghost use Rattle.harp_cli.specs.Sweep.{SweepEnds};
 
 use crate::exit::Exit;
-use harp_base::{Sink, SinkFault};
+use harp_types::{Sink, SinkFault};
 use std::alloc::Global;
 use std::thread::Threads;
 use sweep::{Player, sweep_many, write_summaries};

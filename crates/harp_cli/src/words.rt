@@ -1,14 +1,14 @@
 //! The words of a command.
 
 ghost use Rattle.std.specs.Prelude.{◌≡◌, [], MatchOption, codes};
-ghost use Rattle.harp_base.specs.Streams.{Rose};
+ghost use Rattle.harp_types.specs.Streams.{Rose};
 ghost use Rattle.harp_cli.specs.declared.words.Command.{Command as Asked};
 ghost use Rattle.harp_cli.specs.Words.{AsksFor, IsForm, Named, UsageEnds, texts, usage_text};
 
 use crate::exit::Exit;
 use crate::loop_words::{Loop, group_of, node_of};
 use crate::number::number_within;
-use harp_base::{ServerId, Sink, SinkFault, write_all};
+use harp_types::{ServerId, Sink, SinkFault, write_all};
 
 /// The greatest seed of a schedule.
 const LAST_SEED: u64 = 999_999_999_999_999_999;
@@ -20,7 +20,7 @@ const MOST_LINES: u64 = 40_000;
 const MOST_RUNS: u64 = 10_000;
 
 /// What the words of a command ask for.
-#[derive(Clone, Copy, Debug, PartialEq, Eq)]
+#[derive(Clone, Copy, PartialEq, Eq)]
 pub enum Command {
     Play,
     Check,

@@ -1,10 +1,10 @@
 //! What a server keeps on its disk beside the cells.
 
 ghost use Rattle.std.specs.Prelude.{◌≡◌, ◌⊎◌, ◌<◌, ◌≤◌, ◌^◌, ◌↔◌, ℕ, false, true, IsSome, IfSome, IsTrue, Option};
-ghost use Rattle.harp_base.specs.View.{above};
+ghost use Rattle.harp_types.specs.View.{above};
 ghost use Rattle.harp_store.specs.Mark.{IsLongest, IsRing, MarkFields, SavedNumbers, first_mark, first_role};
 
-use harp_base::{LOG_ROOM, Role, ServerId, ViewNo};
+use harp_types::{LOG_ROOM, Role, ServerId, ViewNo};
 use std::marker::Model;
 
 /// How many cells the records of a saved log went round in before the log got longer.
@@ -21,7 +21,7 @@ pub const LONGEST_PROMISE: u32 = 100_000;
 
 /// The numbers of a saved log: the index before its first record, the commit point, the index of
 /// its last record, each below 2^62, and how many cells its records go round in: 16,384 or 32,768.
-#[derive(Clone, Copy, Debug, PartialEq, Eq)]
+#[derive(Clone, Copy, PartialEq, Eq)]
 pub struct Saved {
     base: u64,
     cp: u64,
@@ -113,7 +113,7 @@ impl Saved {
 /// which isn't above it, the server's role there, the index up to which its disk has all updates,
 /// below 2^62, the greatest length of a promise in milliseconds that the disk ever saw, 500 to
 /// 100,000, where the mark isn't an old one, and the numbers of its saved log, where it has one.
-#[derive(Clone, Copy, Debug, PartialEq, Eq)]
+#[derive(Clone, Copy, PartialEq, Eq)]
 pub struct Mark {
     promised: ViewNo,
     accepted: ViewNo,
@@ -125,7 +125,7 @@ pub struct Mark {
 
 impl Model for Mark {
     ghost use Rattle.std.specs.Prelude.{◌<◌, ◌^◌, ◌≡◌, false};
-    ghost use Rattle.harp_base.specs.View.{above};
+    ghost use Rattle.harp_types.specs.View.{above};
     ghost use Rattle.harp_store.specs.Mark.{IsLongest, MarkFields};
 
     ghost Value = { MarkFields };

@@ -8,7 +8,7 @@ use std::marker::Model;
 use std::rc::Rc;
 
 /// A value that its copies share. Contracts see it as the value.
-#[derive(Debug, Drop)]
+#[derive(Drop)]
 pub struct SharedValue {
     value: Rc<Value>,
 }

@@ -8,7 +8,7 @@ use std::alloc::{AllocError, Global};
 
 /// Boxes of values that nothing holds any more, for the values that come. Small blocks that are
 /// freed by the thousand, between others that stay, cost the allocator more the larger a tree is.
-#[derive(Debug, Drop)]
+#[derive(Drop)]
 pub struct Spares {
     boxes: Vec<SharedValue>,
 }

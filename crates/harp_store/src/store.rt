@@ -1,7 +1,7 @@
 //! What a disk is to the layers above.
 
 ghost use Rattle.std.specs.Prelude.{◌≡◌, ◌≤◌, ℕ, Option, Some, None, IfOk, OnOk, OnErr, Err};
-ghost use Rattle.harp_base.specs.Streams.{Rose};
+ghost use Rattle.harp_types.specs.Streams.{Rose};
 ghost use Rattle.harp_cells.specs.Effect.{Reads};
 ghost use Rattle.harp_cells.specs.declared.change.Change.TheVariants.{EraseFrom};
 ghost use Rattle.harp_store.specs.Disk.{Disk, Moments, with_value, without_from, synced_whole, with_mark, after_step, MayHaveMade, cells_told, ReadsMark};
@@ -12,7 +12,7 @@ use harp_cells::{Cell, Value};
 use std::alloc::{AllocError, Global};
 
 /// Why a call of a store gave nothing.
-#[derive(Clone, Copy, Debug, PartialEq, Eq)]
+#[derive(Clone, Copy, PartialEq, Eq)]
 pub enum StoreFault {
     Failed,
     NoMemory,

@@ -7,8 +7,8 @@ use Rattle.group_rules.specs.Limits.{can_have}
 use Rattle.group_rules.specs.Names.{place_of}
 use Rattle.group_rules.specs.Places.{Place, all_of}
 use Rattle.group_rules.specs.State.{Follows, Leads, Lost, Mark, Outside, Role, Saved, Server}
-use Rattle.harp_base.specs.declared.state.Role.{Role as Part}
-use Rattle.harp_base.specs.declared.state.Role.TheVariants as part
+use Rattle.harp_types.specs.declared.state.Role.{Role as Part}
+use Rattle.harp_types.specs.declared.state.Role.TheVariants as part
 use Rattle.idle_log.specs.Kept.{with_kept}
 use Rattle.idle_log.specs.declared.kept.Kept.{Kept}
 use Rattle.volatile_log.specs.Log.{LogValue}

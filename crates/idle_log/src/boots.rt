@@ -13,7 +13,7 @@ ghost use Rattle.idle_log.specs.declared.kept.Kept.TheVariants as kept;
 
 use crate::form::is_witness;
 use crate::kept::Kept;
-use harp_base::{Role, ServerId};
+use harp_types::{Role, ServerId};
 use volatile_log::{EmptyLog, FrozenLog, LostLog};
 
 /// Whether a choice can give a server this role. A boot takes the saved log of no other mark.

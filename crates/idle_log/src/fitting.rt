@@ -12,7 +12,7 @@ ghost use Rattle.idle_log.specs.Pulls.{CanTake, keeps_of};
 
 use crate::form::{Form, is_one, is_witness};
 use crate::kept::Kept;
-use harp_base::{LOG_ROOM, ServerId};
+use harp_types::{LOG_ROOM, ServerId};
 
 /// The greatest index.
 const LIMIT: u64 = (1 << 62) - 1;

@@ -4,11 +4,11 @@ ghost use Rattle.std.specs.Prelude.{◌≡◌};
 ghost use Rattle.group_rules.specs.Names.{place_of};
 ghost use Rattle.group_rules.specs.Places.{is_p2, same};
 ghost use Rattle.group_rules.specs.State.{Plan as Chosen};
-ghost use Rattle.harp_base.specs.View.{View};
+ghost use Rattle.harp_types.specs.View.{View};
 ghost use Rattle.idle_log.specs.Kept.{plan_of};
 ghost use Rattle.view_form.specs.Choice.{plan};
 
-use harp_base::ServerId;
+use harp_types::ServerId;
 use promise::Deadline;
 use view_form::Plan;
 use wire::Storers;
@@ -16,7 +16,7 @@ use wire::Storers;
 /// The choice of a view: its storers, the server whose log it starts with, the indices up to which
 /// records may be dropped and are known to be committed, how many records it starts with, and
 /// until when older promises may run.
-#[derive(Clone, Copy, Debug, PartialEq, Eq)]
+#[derive(Clone, Copy, PartialEq, Eq)]
 pub struct Form {
     pub storers: Storers,
     pub source: ServerId,

@@ -8,7 +8,7 @@ ghost use Rattle.group_rules.specs.State.{Server};
 ghost use Rattle.idle_log.specs.Kept.{ap_in, base_in, cp_in, held_in, top_in, with_kept};
 ghost use Rattle.view_form.specs.Choice.{held_of, report};
 
-use harp_base::{Held, ViewNo};
+use harp_types::{Held, ViewNo};
 use promise::Deadline;
 use view_form::JoinInfo;
 use volatile_log::{EmptyLog, FrozenLog, LostLog};

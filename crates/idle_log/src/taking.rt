@@ -13,7 +13,7 @@ ghost use Rattle.volatile_log.specs.Log.{next, room};
 
 use crate::form::{Form, is_one, is_witness};
 use crate::kept::Kept;
-use harp_base::ServerId;
+use harp_types::ServerId;
 use std::alloc::{AllocError, Global};
 use volatile_log::{ActiveLog, EmptyLog, FrozenLog, LostLog, Staged};
 use witness::promote;

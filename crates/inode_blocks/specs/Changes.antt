@@ -1,7 +1,7 @@
 -- The changes that writing and cutting a file's bytes are.
 use Rattle.std.specs.Prelude.{◌≡◌, ℕ, ◌+◌, ◌-◌, ◌*◌, ◌/◌, ◌%◌, Bool, false, ◌&&◌, ◌==◌, nat_lt, List, [], ◌∷◌, ◌++◌, length, take, drop, map, Option, Some, None, if◌then◌else◌}
 use Rattle.std.specs.List.{range_with_len}
-use Rattle.harp_base.specs.Limits.{block_size}
+use Rattle.harp_types.specs.Limits.{block_size}
 use Rattle.file_tree.specs.Tree.{blocks_of}
 use Rattle.file_tree.specs.Outcome.{written}
 use Rattle.harp_cells.specs.declared.cell.Cell.{Cell}

@@ -1,6 +1,6 @@
 -- The bytes of an object in the cells of its blocks.
 use Rattle.std.specs.Prelude.{◌≡◌, ℕ, ◌+◌, ◌*◌, ◌<◌, ◌≤◌, List, [], length, take, slice_index_or, Option, Some, None}
-use Rattle.harp_base.specs.Limits.{block_size}
+use Rattle.harp_types.specs.Limits.{block_size}
 use Rattle.harp_cells.specs.declared.cell.Cell.TheVariants as cell
 use Rattle.harp_cells.specs.declared.value.Value.{Value}
 use Rattle.harp_cells.specs.declared.value.Value.TheVariants as value

@@ -1,6 +1,6 @@
 -- What holds of the bytes in the cells of a tree.
 use Rattle.std.specs.Prelude.{◌≡◌, ℕ, ◌≤◌, true, false, List, [], ◌∷◌, length, replicate}
-use Rattle.harp_base.specs.Limits.{block_size}
+use Rattle.harp_types.specs.Limits.{block_size}
 use Rattle.file_tree.specs.Tree.{Tree, place}
 use Rattle.harp_cells.specs.declared.cell.Cell.{Cell}
 use Rattle.harp_cells.specs.declared.cell.Cell.TheVariants as cell

@@ -2,12 +2,12 @@
 
 ghost use Rattle.std.specs.Prelude.{◌≡◌, ◌≤◌, ◌+◌, ◌-◌, ◌<◌, ◌^◌, ◌++◌, length, take, drop, max, IfOk, OnOk};
 ghost use Rattle.std.specs.Option.{option_copied};
-ghost use Rattle.harp_base.specs.Limits.{block_size};
+ghost use Rattle.harp_types.specs.Limits.{block_size};
 ghost use Rattle.file_tree.specs.Tree.{blocks_of};
 ghost use Rattle.file_tree.specs.Outcome.{resized, written};
 ghost use Rattle.inode_blocks.specs.Holds.{stored};
 
-use harp_base::BLOCK_SIZE;
+use harp_types::BLOCK_SIZE;
 use harp_cells::Value;
 use std::alloc::{AllocError, Global};
 

@@ -1,7 +1,7 @@
 //! Changes that are appended to a list.
 
 ghost use Rattle.std.specs.Prelude.{◌≡◌, ◌≤◌, ◌++◌, ◌∷◌, [], length, OnOk, OnErr, Err, MatchResult};
-ghost use Rattle.harp_base.specs.Limits.{block_size};
+ghost use Rattle.harp_types.specs.Limits.{block_size};
 ghost use Rattle.inode_blocks.specs.Changes.{put};
 
 use harp_cells::{Cell, CellFault, Change, NonEmpty, Value};

@@ -2,8 +2,8 @@
 
 ghost use Rattle.std.specs.Prelude.{◌≡◌, ◌≤◌, ◌<◌, ◌^◌, ◌-◌, ◌++◌, ◌∷◌, [], ℕ, List, Option, length, Some, Err, IfOk, IfSome, OnOk, OnErr};
 ghost use Rattle.std.specs.Option.{option_map};
-ghost use Rattle.harp_base.specs.Limits.{block_size};
-ghost use Rattle.harp_base.specs.Streams.{Rose};
+ghost use Rattle.harp_types.specs.Limits.{block_size};
+ghost use Rattle.harp_types.specs.Streams.{Rose};
 ghost use Rattle.file_tree.specs.Outcome.{resized};
 ghost use Rattle.harp_cells.specs.Effect.{Cells};
 ghost use Rattle.inode_blocks.specs.Holds.{HoldsBytes};
@@ -11,7 +11,7 @@ ghost use Rattle.inode_blocks.specs.Changes.{BeginsWith, LeadTo, added, cuts, er
 
 use crate::block::{blocks_of, stored};
 use crate::changes::{append, append_put};
-use harp_base::BLOCK_SIZE;
+use harp_types::BLOCK_SIZE;
 use harp_cells::{Cell, CellFault, CellRead, Change};
 use std::alloc::Global;
 

@@ -1,14 +1,14 @@
 //! Reading a file's bytes.
 
 ghost use Rattle.std.specs.Prelude.{◌≡◌, ◌≤◌, ◌+◌, ◌-◌, ◌++◌, ℕ, List, length, take, drop, min, Some, Err, IfOk, OnOk};
-ghost use Rattle.harp_base.specs.Limits.{block_size};
-ghost use Rattle.harp_base.specs.Streams.{Rose};
+ghost use Rattle.harp_types.specs.Limits.{block_size};
+ghost use Rattle.harp_types.specs.Streams.{Rose};
 ghost use Rattle.file_tree.specs.Outcome.{resized};
 ghost use Rattle.harp_cells.specs.Effect.{Cells};
 ghost use Rattle.inode_blocks.specs.Holds.{stored, HoldsBytes};
 
 use crate::block::{append_part, stored};
-use harp_base::{BLOCK_SIZE, Bytes};
+use harp_types::{BLOCK_SIZE, Bytes};
 use harp_cells::{Cell, CellFault, CellRead};
 use std::alloc::Global;
 

@@ -1,8 +1,8 @@
 //! Writing a file's bytes.
 
 ghost use Rattle.std.specs.Prelude.{◌≡◌, ◌≤◌, ◌<◌, ◌+◌, ◌-◌, ◌*◌, ◌/◌, ◌==◌, ◌^◌, ◌++◌, if◌then◌else◌, ℕ, List, length, map, Some, Err, IfOk, OnOk};
-ghost use Rattle.harp_base.specs.Limits.{block_size};
-ghost use Rattle.harp_base.specs.Streams.{Rose};
+ghost use Rattle.harp_types.specs.Limits.{block_size};
+ghost use Rattle.harp_types.specs.Streams.{Rose};
 ghost use Rattle.file_tree.specs.Tree.{blocks_of};
 ghost use Rattle.file_tree.specs.Outcome.{written};
 ghost use Rattle.harp_cells.specs.Effect.{Cells};
@@ -11,7 +11,7 @@ ghost use Rattle.inode_blocks.specs.Changes.{BeginsWith, LeadTo, added, block_pu
 
 use crate::block::{blocks_of, part, stored, written};
 use crate::changes::append_put;
-use harp_base::BLOCK_SIZE;
+use harp_types::BLOCK_SIZE;
 use harp_cells::{Cell, CellFault, CellRead, Change};
 use std::alloc::Global;
 

@@ -1,7 +1,7 @@
 -- How a list of slots grows, where it is free, and where it is empty.
 use Rattle.std.proofs.Common.{◌≡◌, ℕ, zero, suc, ◌+◌, ◌<◌, Bool, List, [], ◌∷◌}
 use Rattle.std.proofs.Common.{true, get_or, set, Some, None, refl, ap, ◌∙◌, arith}
-use Rattle.harp_base.specs.declared.reply.DirEntry.{DirEntry}
+use Rattle.harp_types.specs.declared.reply.DirEntry.{DirEntry}
 use Rattle.file_tree.specs.Tree.{Slots, free_from, with_entry}
 use Rattle.file_tree.specs.Outcome.{entries_from, page_of, has_no_entry}
 use Rattle.inode_dirs.specs.Laws.{EntryGrows, FreedIsFree, EmptyIsLast, EmptyHoldsNone}

@@ -1,6 +1,6 @@
 -- Pages of a directory.
 use Rattle.std.specs.Prelude.{ℕ, Bool, List, [], ◌∷◌, ◌++◌, Option, Some, None}
-use Rattle.harp_base.specs.declared.reply.DirEntry.{DirEntry}
+use Rattle.harp_types.specs.declared.reply.DirEntry.{DirEntry}
 use Rattle.file_tree.specs.Tree.{Slots}
 use Rattle.file_tree.specs.Outcome.{entries_from, page_of}
 

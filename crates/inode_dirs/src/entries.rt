@@ -1,7 +1,7 @@
 //! Entries by their names, and free slots.
 
 ghost use Rattle.std.specs.Prelude.{◌≡◌, ◌<◌, ◌≤◌, IfOk, IfSome, Err};
-ghost use Rattle.harp_base.specs.Streams.{Rose};
+ghost use Rattle.harp_types.specs.Streams.{Rose};
 ghost use Rattle.file_tree.specs.Tree.{Slots, entry, free_from};
 ghost use Rattle.inode_dirs.specs.Slots.{TellsSlots};
 

@@ -2,29 +2,29 @@
 
 ghost use Rattle.std.specs.Prelude.{◌≡◌, ◌≤◌, ◌<◌, ◌+◌, ◌*◌, ◌∷◌, ◌++◌, ◌^◌, List, length, replicate, min, false};
 ghost use Rattle.std.specs.Prelude.{IfOk, Err, if◌then◌else◌};
-ghost use Rattle.harp_base.specs.Limits.{longest_transfer};
-ghost use Rattle.harp_base.specs.Streams.{Rose};
-ghost use Rattle.harp_base.specs.declared.reply.DirEntry.{DirEntry as Listed};
+ghost use Rattle.harp_types.specs.Limits.{longest_transfer};
+ghost use Rattle.harp_types.specs.Streams.{Rose};
+ghost use Rattle.harp_types.specs.declared.reply.DirEntry.{DirEntry as Listed};
 ghost use Rattle.file_tree.specs.Tree.{Slots};
 ghost use Rattle.file_tree.specs.Outcome.{entry_size, entries_from, page_of};
 ghost use Rattle.inode_dirs.specs.Slots.{TellsSlots};
 ghost use Rattle.inode_dirs.specs.Pages.{entries_under, entry_list, page_after};
 
 use crate::slot::entry_of_slot;
-use harp_base::{Bounded, DirEntry, LONGEST_TRANSFER};
+use harp_types::{Bounded, DirEntry, LONGEST_TRANSFER};
 use harp_cells::{CellFault, CellRead};
 use std::alloc::{AllocError, Global};
 
 /// A page of a directory: entries in the order of their cookies, and whether none is left after
 /// them.
-#[derive(Debug, Drop)]
+#[derive(Drop)]
 pub struct DirPage {
     pub entries: Vec<DirEntry>,
     pub eof: bool,
 }
 
 // A page that is being filled with entries above a cookie, and the bytes that are left on it.
-#[derive(Debug, Drop)]
+#[derive(Drop)]
 struct Filling {
     entries: Vec<DirEntry>,
     above: u32,

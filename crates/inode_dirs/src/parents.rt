@@ -1,7 +1,7 @@
 //! The way up from a directory.
 
 ghost use Rattle.std.specs.Prelude.{◌≡◌, ◌≤◌, IfOk, Err, Some, length, true};
-ghost use Rattle.harp_base.specs.Streams.{Rose};
+ghost use Rattle.harp_types.specs.Streams.{Rose};
 ghost use Rattle.file_tree.specs.Tree.{Tree, place, is_directory_at, parent_of};
 ghost use Rattle.file_tree.specs.Rename.{is_above};
 ghost use Rattle.file_tree.specs.Sound.{IsSound};

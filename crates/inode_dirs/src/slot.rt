@@ -1,13 +1,13 @@
 //! One slot of a directory.
 
 ghost use Rattle.std.specs.Prelude.{◌≡◌, ◌≤◌, ◌<◌, ◌+◌, ◌^◌, Option, Some, IfOk, Err, not, is_some};
-ghost use Rattle.harp_base.specs.Streams.{Rose};
+ghost use Rattle.harp_types.specs.Streams.{Rose};
 ghost use Rattle.file_tree.specs.declared.object.Slot.{Slot};
 ghost use Rattle.file_tree.specs.Outcome.{entry_at};
 ghost use Rattle.inode_dirs.specs.Slots.{TellsSlot, slot_of, object_named};
 ghost use Rattle.inode_dirs.specs.Pages.{entry_list};
 
-use harp_base::{Bounded, DirEntry};
+use harp_types::{Bounded, DirEntry};
 use harp_cells::{Cell, CellFault, CellRead, Value};
 use std::alloc::{AllocError, Global};
 

@@ -2,12 +2,12 @@
 
 ghost use Rattle.std.specs.Prelude.{◌≡◌, ◌≢◌, ◌≤◌, ◌<◌, ℕ, List, [], ◌∷◌, ◌++◌, length, IfOk, OnOk, OnErr, Err};
 ghost use Rattle.std.specs.Io.KnownBytes.{Keeps};
-ghost use Rattle.harp_base.specs.Streams.{Rose};
+ghost use Rattle.harp_types.specs.Streams.{Rose};
 ghost use Rattle.line_reader.specs.Lines.{Feedless};
 ghost use Rattle.line_reader.specs.Reading.{text_left, GivesKnown, IsShort};
 
 use crate::chunk::Chunk;
-use harp_base::{Failed, Source};
+use harp_types::{Failed, Source};
 use std::alloc::{AllocError, AllocFailed, Global};
 use std::marker::Model;
 use std::mem;
@@ -16,7 +16,7 @@ use std::mem;
 const MOST: usize = 20_000;
 
 /// What comes next in a text.
-#[derive(Debug, Drop)]
+#[derive(Drop)]
 pub enum Next {
     /// A line, without its line feed.
     Line(Vec<u8>),
@@ -27,7 +27,7 @@ pub enum Next {
 }
 
 /// Why nothing was read.
-#[derive(Clone, Copy, Debug, PartialEq, Eq)]
+#[derive(Clone, Copy, PartialEq, Eq)]
 pub enum ReadFault {
     Failed,
     NoMemory,

@@ -8,7 +8,7 @@ ghost use Rattle.volatile_log.specs.Log.{next};
 use crate::logs::{active, record, served};
 use crate::words::{Answer, server};
 use event_record::Index;
-use harp_base::{Held, Role, ServerId, ViewNo};
+use harp_types::{Held, Role, ServerId, ViewNo};
 use harp_cells::ChangeLog;
 use idle_log::{Form, Kept, can_have};
 use promise::Deadline;

@@ -4,7 +4,7 @@ ghost use Rattle.std.specs.Prelude.{◌≡◌, IfSome};
 
 use crate::words::Answer;
 use event_record::{Changes, Index, Moment, Record, RecordFields};
-use harp_base::{Bounded, Call, Reply, SUPERUSER, ServerId, ViewNo};
+use harp_types::{Bounded, Call, Reply, SUPERUSER, ServerId, ViewNo};
 use harp_cells::ChangeLog;
 use idle_log::serve_active;
 use std::alloc::Global;

@@ -1,7 +1,7 @@
 //! The words of promises and of a view's choice. Moments are milliseconds of a clock.
 
 use crate::words::{Answer, number_of, server};
-use harp_base::{Held, ServerId, Trio, ViewNo};
+use harp_types::{Held, ServerId, Trio, ViewNo};
 use idle_log::Form;
 use promise::{Deadline, Delta, Grant, Horizon, may_open};
 use view_form::{Collector, JoinInfo, Plan, choose};

@@ -1,6 +1,6 @@
 //! Words, and what comes of them.
 
-use harp_base::ServerId;
+use harp_types::ServerId;
 
 /// What came of a word.
 #[derive(Clone, Copy)]

@@ -1,19 +1,19 @@
 -- What the cells of objects stand for.
 use Rattle.std.proofs.Common.{◌≤◌, min, take, drop, List, take_all, subst, ◌≡◌, ℕ, ◌==◌, true, false, cond, length, Option, Some, None, Ok, Err, refl, sym, ap, ◌∙◌, inl, inr}
 use Rattle.std.proofs.lemmas.Bool.{cases_eq, cases_Bool, ne_eqb}
-use Rattle.harp_base.specs.declared.attr.Kind.TheVariants as kind
+use Rattle.harp_types.specs.declared.attr.Kind.TheVariants as kind
 use Rattle.file_tree.specs.declared.object.Body.{Body}
 use Rattle.file_tree.specs.declared.object.Body.TheVariants.{Regular, Directory, Link}
 use Rattle.file_tree.specs.declared.object.Object.{Object}
-use Rattle.harp_base.specs.declared.cred.Cred.{Cred}
-use Rattle.harp_base.specs.declared.reply.Status.TheVariants.{Stale}
+use Rattle.harp_types.specs.declared.cred.Cred.{Cred}
+use Rattle.harp_types.specs.declared.reply.Status.TheVariants.{Stale}
 use Rattle.file_tree.specs.Tree.{Tree, place, is_directory_at, attr_at, attr_zero, attr_of_place, used_blocks, size_of, kind_of}
 use Rattle.file_tree.specs.Tries.{live, some_or, bytes_in, text_in}
 use Rattle.file_tree.specs.Permissions.{reading, may, may_at, allowed}
 use Rattle.file_tree.specs.Outcome.{read, read_link}
 use Rattle.file_tree.specs.Sound.{IsSound, IsSoundBody, IsSoundObject}
-use Rattle.harp_base.specs.declared.attr.Attr.{Attr}
-use Rattle.harp_base.specs.declared.reply.Reply.TheVariants.{Bytes, Path}
+use Rattle.harp_types.specs.declared.attr.Attr.{Attr}
+use Rattle.harp_types.specs.declared.reply.Reply.TheVariants.{Bytes, Path}
 use Rattle.harp_cells.specs.declared.value.Inode.{Inode}
 use Rattle.harp_cells.specs.declared.value.Value.{Value}
 use Rattle.harp_cells.specs.declared.cell.Cell.TheVariants as cell

@@ -2,20 +2,20 @@
 use Rattle.std.proofs.Common.{◌≡◌, ℕ, ◌+◌, ◌-◌, ◌*◌, ◌%◌, ◌<◌, ◌≤◌, ◌==◌, Bool, true, false, cond, List, [], ◌∷◌, ◌++◌, length, get_or, append_assoc, Option, Some, None, Ok, refl, sym, ap, ◌∙◌, subst, arith, inl, inr}
 use Rattle.std.proofs.lemmas.Bool.{cases_eq, cases_lt, eq-eqb, cond_both}
 use Rattle.std.proofs.lemmas.List.{length_push, get_or_past, get_or_push}
-use Rattle.harp_base.specs.declared.attr.Attr.{Attr}
-use Rattle.harp_base.specs.declared.attr.Kind.TheVariants as kind
-use Rattle.harp_base.specs.declared.attr.SetAttr.{SetAttr}
-use Rattle.harp_base.specs.declared.attr.Time.{Time}
-use Rattle.harp_base.specs.declared.call.Call.TheVariants as call
-use Rattle.harp_base.specs.declared.cred.Cred.{Cred}
-use Rattle.harp_base.specs.declared.reply.Reply.TheVariants.{Node}
+use Rattle.harp_types.specs.declared.attr.Attr.{Attr}
+use Rattle.harp_types.specs.declared.attr.Kind.TheVariants as kind
+use Rattle.harp_types.specs.declared.attr.SetAttr.{SetAttr}
+use Rattle.harp_types.specs.declared.attr.Time.{Time}
+use Rattle.harp_types.specs.declared.call.Call.TheVariants as call
+use Rattle.harp_types.specs.declared.cred.Cred.{Cred}
+use Rattle.harp_types.specs.declared.reply.Reply.TheVariants.{Node}
 use Rattle.file_tree.specs.declared.object.Body.{Body}
 use Rattle.file_tree.specs.declared.object.Body.TheVariants as body
 use Rattle.file_tree.specs.declared.object.Object.{Object}
 use Rattle.file_tree.specs.declared.object.Slot.{Slot}
 use Rattle.file_tree.specs.Tree.{Tree, Slots, place, slots_of, slots_within, with_entry, free_from, blocks_of, used_blocks, size_of, names_in, names_at, names_of, is_directory, is_directory_at, links_of, parent_of, kind_of, attr_at}
 use Rattle.file_tree.specs.Permissions.{searched, may_make}
-use Rattle.harp_base.specs.Limits.{field_left}
+use Rattle.harp_types.specs.Limits.{field_left}
 use Rattle.file_tree.specs.Outcome.{room_for, reslotted, with_object, made, given_mode, free_name, make_dir}
 use Rattle.file_tree.specs.Sound.{IsSound, IsSoundObject}
 use Rattle.file_tree.proofs.Kept.{place_within, place_changed, place_push, used_push}

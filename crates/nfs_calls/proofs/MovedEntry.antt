@@ -2,7 +2,7 @@
 use Rattle.std.proofs.Common.{◌≡◌, ℕ, zero, suc, ◌+◌, ◌*◌, ◌-◌, ◌<◌, ◌≤◌, ◌==◌, ◌&&◌, true, false, cond, List, [], ◌∷◌, ◌++◌, length, get_or, set, Some, None, refl, sym, ap, ◌∙◌, subst, arith, inl, inr}
 use Rattle.std.proofs.lemmas.Bool.{cases_eq, cases_lt, cases_Bool, eq-eqb, ne_eqb, or_left, both_ways}
 use Rattle.std.proofs.lemmas.List.{length-set, length-append, get_or-set_same, get_or-set_other, get_or_push, get_or_append_left}
-use Rattle.harp_base.specs.declared.attr.Time.{Time}
+use Rattle.harp_types.specs.declared.attr.Time.{Time}
 use Rattle.file_tree.specs.declared.object.Slot.{Slot}
 use Rattle.file_tree.specs.declared.object.Body.{Body}
 use Rattle.file_tree.specs.declared.object.Body.TheVariants.{Directory}

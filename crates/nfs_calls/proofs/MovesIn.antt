@@ -1,10 +1,10 @@
 -- An entry that moves to a new slot.
 use Rattle.std.proofs.Common.{◌≡◌, ℕ, ◌+◌, ◌*◌, List, [], ◌∷◌, ◌++◌, length, set, Some, None, Ok, refl, sym, ap, ◌∙◌, arith}
 use Rattle.std.proofs.lemmas.List.{length-set}
-use Rattle.harp_base.specs.declared.attr.Time.{Time}
-use Rattle.harp_base.specs.declared.call.Call.TheVariants as call
-use Rattle.harp_base.specs.declared.reply.Reply.{Reply}
-use Rattle.harp_base.specs.declared.reply.Reply.TheVariants.{Done}
+use Rattle.harp_types.specs.declared.attr.Time.{Time}
+use Rattle.harp_types.specs.declared.call.Call.TheVariants as call
+use Rattle.harp_types.specs.declared.reply.Reply.{Reply}
+use Rattle.harp_types.specs.declared.reply.Reply.TheVariants.{Done}
 use Rattle.file_tree.specs.declared.object.Slot.{Slot}
 use Rattle.file_tree.specs.declared.object.Body.{Body}
 use Rattle.file_tree.specs.declared.object.Body.TheVariants.{Directory}

@@ -3,22 +3,22 @@ use Rattle.std.proofs.Common.{◌≡◌, ℕ, ◌+◌, ◌*◌, ltb, Bool, true,
 use Rattle.std.specs.Prelude.{not, IsErr, IsErrAnd}
 use Rattle.std.proofs.lemmas.Bool.{ltb-false}
 use Rattle.std.proofs.lemmas.List.{length-replicate}
-use Rattle.harp_base.specs.declared.attr.Attr.{Attr}
-use Rattle.harp_base.specs.declared.attr.Kind.TheVariants as kind
-use Rattle.harp_base.specs.declared.attr.SetAttr.{SetAttr}
-use Rattle.harp_base.specs.declared.attr.Time.{Time}
-use Rattle.harp_base.specs.declared.call.Call.TheVariants as call
-use Rattle.harp_base.specs.declared.cred.Cred.{Cred}
-use Rattle.harp_base.specs.declared.reply.Reply.{Reply}
-use Rattle.harp_base.specs.declared.reply.Reply.TheVariants.{Done, Node}
-use Rattle.harp_base.specs.declared.reply.Status.{Status}
-use Rattle.harp_base.specs.declared.reply.Status.TheVariants.{Exist}
+use Rattle.harp_types.specs.declared.attr.Attr.{Attr}
+use Rattle.harp_types.specs.declared.attr.Kind.TheVariants as kind
+use Rattle.harp_types.specs.declared.attr.SetAttr.{SetAttr}
+use Rattle.harp_types.specs.declared.attr.Time.{Time}
+use Rattle.harp_types.specs.declared.call.Call.TheVariants as call
+use Rattle.harp_types.specs.declared.cred.Cred.{Cred}
+use Rattle.harp_types.specs.declared.reply.Reply.{Reply}
+use Rattle.harp_types.specs.declared.reply.Reply.TheVariants.{Done, Node}
+use Rattle.harp_types.specs.declared.reply.Status.{Status}
+use Rattle.harp_types.specs.declared.reply.Status.TheVariants.{Exist}
 use Rattle.file_tree.specs.declared.object.Body.TheVariants as body
 use Rattle.file_tree.specs.Tree.{Tree, attr_at, place, slots_of, entry, blocks_of, used_blocks}
 use Rattle.file_tree.specs.Tries.{◌>>=◌, Tried, refuse, entry_name}
 use Rattle.file_tree.specs.Permissions.{searched, may_make, heeded}
 use Rattle.file_tree.specs.Outcome.{given, set_fields, has_entry, room_for, made, make_link, create, create_again, create_new, is_regular}
-use Rattle.harp_base.specs.Limits.{largest_file}
+use Rattle.harp_types.specs.Limits.{largest_file}
 use Rattle.file_tree.proofs.SlotLaws.{no_entry, none_named}
 use Rattle.harp_cells.specs.Effect.{Cells}
 use Rattle.harp_cells.specs.declared.change.Change.{Change}

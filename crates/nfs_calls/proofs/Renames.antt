@@ -1,10 +1,10 @@
 -- The steps of a rename.
 use Rattle.std.proofs.Common.{◌≡◌, ℕ, ◌&&◌, Bool, true, false, List, length, Option, Ok, Err, Result, refl, subst}
 use Rattle.std.specs.Prelude.{IfOk}
-use Rattle.harp_base.specs.declared.attr.Time.{Time}
-use Rattle.harp_base.specs.declared.call.Call.TheVariants as call
-use Rattle.harp_base.specs.declared.cred.Cred.{Cred}
-use Rattle.harp_base.specs.declared.reply.Status.TheVariants.{Perm}
+use Rattle.harp_types.specs.declared.attr.Time.{Time}
+use Rattle.harp_types.specs.declared.call.Call.TheVariants as call
+use Rattle.harp_types.specs.declared.cred.Cred.{Cred}
+use Rattle.harp_types.specs.declared.reply.Status.TheVariants.{Perm}
 use Rattle.file_tree.specs.Tree.{Tree, place, slots_of, slots_within, entry, is_directory_at}
 use Rattle.file_tree.specs.Tries.{slots_in, is_dots, check_name}
 use Rattle.file_tree.specs.Permissions.{searching, allowed}

@@ -1,12 +1,12 @@
 -- What room a new object finds, and the blocks that are used behind it.
 use Rattle.std.proofs.Common.{◌≡◌, ℕ, ◌+◌, ◌-◌, ◌*◌, ◌≤◌, ltb, leb, Bool, true, false, List, [], ◌++◌, length, Ok, refl, sym, ap, ◌∙◌}
 use Rattle.std.proofs.lemmas.Bool.{ltb-false}
-use Rattle.harp_base.specs.declared.reply.Status.{Status}
-use Rattle.harp_base.specs.declared.reply.Status.TheVariants.{NoSpc}
+use Rattle.harp_types.specs.declared.reply.Status.{Status}
+use Rattle.harp_types.specs.declared.reply.Status.TheVariants.{NoSpc}
 use Rattle.file_tree.specs.declared.object.Slot.{Slot}
 use Rattle.file_tree.specs.Tree.{Tree, Slots, place, slots_of, with_entry, blocks_of, blocks_at, used_blocks}
 use Rattle.file_tree.specs.Tries.{◌>>=◌, refuse, Tried}
-use Rattle.harp_base.specs.Limits.{object_numbers}
+use Rattle.harp_types.specs.Limits.{object_numbers}
 use Rattle.file_tree.specs.Outcome.{room_for}
 use Rattle.harp_cells.specs.declared.change.Change.{Change}
 use Rattle.harp_cells.specs.declared.value.Inode.{Inode}

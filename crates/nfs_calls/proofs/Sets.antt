@@ -3,7 +3,7 @@ use Rattle.std.proofs.Common.{◌≡◌, ℕ, ◌+◌, ◌<◌, ◌≤◌, ◌==
 use Rattle.std.proofs.lemmas.Bool.{cases_eq, ne_eqb}
 use Rattle.std.proofs.lemmas.List.{length-set, get_or-set_same, get_or-set_other}
 use Rattle.std.proofs.lemmas.List.Sums.{sum_by-set}
-use Rattle.harp_base.specs.declared.attr.Time.{Time}
+use Rattle.harp_types.specs.declared.attr.Time.{Time}
 use Rattle.file_tree.specs.declared.object.Object.{Object}
 use Rattle.file_tree.specs.Tree.{Tree, place, blocks_at, used_blocks, names_at, names_of, is_directory_at}
 use Rattle.file_tree.specs.Outcome.{change, set_ctime, lost_entry}

@@ -4,13 +4,13 @@ use Rattle.std.specs.List.{list_all}
 use Rattle.std.proofs.lemmas.Bool.{cond_both}
 use Rattle.std.proofs.lemmas.List.FromFn.{length-range_with_len}
 use Rattle.std.proofs.lemmas.List.Sums.{count_by-le-length}
-use Rattle.harp_base.specs.declared.attr.Attr.{Attr}
-use Rattle.harp_base.specs.declared.attr.Kind.TheVariants as kind
-use Rattle.harp_base.specs.declared.attr.Time.{Time}
-use Rattle.harp_base.specs.declared.call.Call.TheVariants as call
-use Rattle.harp_base.specs.declared.cred.Cred.{Cred}
-use Rattle.harp_base.specs.declared.reply.Reply.TheVariants.{Attr as AttrReply}
-use Rattle.harp_base.specs.declared.reply.Status.TheVariants.{NoSpc}
+use Rattle.harp_types.specs.declared.attr.Attr.{Attr}
+use Rattle.harp_types.specs.declared.attr.Kind.TheVariants as kind
+use Rattle.harp_types.specs.declared.attr.Time.{Time}
+use Rattle.harp_types.specs.declared.call.Call.TheVariants as call
+use Rattle.harp_types.specs.declared.cred.Cred.{Cred}
+use Rattle.harp_types.specs.declared.reply.Reply.TheVariants.{Attr as AttrReply}
+use Rattle.harp_types.specs.declared.reply.Status.TheVariants.{NoSpc}
 use Rattle.harp_cells.specs.declared.cell.Cell.{Cell}
 use Rattle.harp_cells.specs.declared.cell.Cell.TheVariants as cell
 use Rattle.harp_cells.specs.declared.change.Change.{Change}
@@ -21,7 +21,7 @@ use Rattle.file_tree.specs.Tree.{Tree, place, blocks_at, blocks_of, used_blocks,
 use Rattle.file_tree.specs.Tries.{◌>>=◌, refuse, bytes_in}
 use Rattle.file_tree.specs.Permissions.{writing, allowed}
 use Rattle.file_tree.specs.Outcome.{change, rewritten, write, written}
-use Rattle.harp_base.specs.Limits.{largest_file}
+use Rattle.harp_types.specs.Limits.{largest_file}
 use Rattle.file_tree.proofs.FileBytes.{length-written}
 use Rattle.file_tree.proofs.Kept.{place_changed}
 use Rattle.file_tree.proofs.TryLaws.{bytes_are}

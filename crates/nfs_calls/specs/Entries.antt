@@ -1,8 +1,8 @@
 -- What stored attributes become where entries go.
 use Rattle.std.specs.Prelude.{◌≡◌, ℕ, ◌-◌, Bool, true, false, ◌||◌, ◌&&◌, not, ◌==◌, nat_le, List, [], ◌∷◌, ◌++◌, Some, if◌then◌else◌}
-use Rattle.harp_base.specs.declared.attr.Kind.{Kind}
-use Rattle.harp_base.specs.declared.attr.Kind.TheVariants as kind
-use Rattle.harp_base.specs.declared.attr.Time.{Time}
+use Rattle.harp_types.specs.declared.attr.Kind.{Kind}
+use Rattle.harp_types.specs.declared.attr.Kind.TheVariants as kind
+use Rattle.harp_types.specs.declared.attr.Time.{Time}
 use Rattle.file_tree.specs.Tree.{Tree, time_zero, place, slots_of, blocks_of, entry, names_at}
 use Rattle.file_tree.specs.Sound.{IsSound}
 use Rattle.harp_cells.specs.declared.value.Inode.{Inode}

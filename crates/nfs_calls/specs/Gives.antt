@@ -1,6 +1,6 @@
 -- What a function over cells gives.
 use Rattle.std.specs.Prelude.{◌≡◌, Result, Ok, Err}
-use Rattle.harp_base.specs.declared.reply.Status.{Status}
+use Rattle.harp_types.specs.declared.reply.Status.{Status}
 use Rattle.file_tree.specs.Tries.{Tried}
 use Rattle.nfs_calls.specs.declared.error.CallError.{CallError}
 use Rattle.nfs_calls.specs.declared.error.CallError.TheVariants as error

@@ -1,10 +1,10 @@
 -- What changes where an entry moves, by the attributes that are stored.
 use Rattle.std.specs.Prelude.{◌≡◌, ℕ, ◌-◌, Bool, false, ◌&&◌, ◌==◌, List, [], ◌∷◌, length, Option, Some, Ok, if◌then◌else◌}
-use Rattle.harp_base.specs.declared.attr.Time.{Time}
-use Rattle.harp_base.specs.declared.cred.Cred.{Cred}
-use Rattle.harp_base.specs.declared.reply.Reply.TheVariants.{Done}
-use Rattle.harp_base.specs.declared.reply.Status.{Status}
-use Rattle.harp_base.specs.declared.reply.Status.TheVariants.{Perm, NoEnt, NotDir, IsDir}
+use Rattle.harp_types.specs.declared.attr.Time.{Time}
+use Rattle.harp_types.specs.declared.cred.Cred.{Cred}
+use Rattle.harp_types.specs.declared.reply.Reply.TheVariants.{Done}
+use Rattle.harp_types.specs.declared.reply.Status.{Status}
+use Rattle.harp_types.specs.declared.reply.Status.TheVariants.{Perm, NoEnt, NotDir, IsDir}
 use Rattle.file_tree.specs.Tree.{Tree, place, slots_of, entry, is_directory_at}
 use Rattle.file_tree.specs.Tries.{◌>>=◌, refuse, some_or, entry_name}
 use Rattle.file_tree.specs.Permissions.{writing, allowed}

@@ -1,7 +1,7 @@
 -- What an update plans.
 use Rattle.std.specs.Prelude.{List, length, Ok}
-use Rattle.harp_base.specs.declared.call.Call.{Call}
-use Rattle.harp_base.specs.declared.reply.Reply.{Reply}
+use Rattle.harp_types.specs.declared.call.Call.{Call}
+use Rattle.harp_types.specs.declared.reply.Reply.{Reply}
 use Rattle.file_tree.specs.Tree.{Tree, used_blocks}
 use Rattle.file_tree.specs.Tries.{◌>>=◌, Tried}
 use Rattle.file_tree.specs.Calls.{settled}

@@ -1,9 +1,9 @@
 -- The blocks that a tree uses, by the sizes that are stored.
 use Rattle.std.specs.Prelude.{ℕ, ◌+◌, ◌-◌, ◌==◌, nat_lt, min, Ok, if◌then◌else◌}
-use Rattle.harp_base.specs.declared.reply.Status.TheVariants.{NoSpc}
+use Rattle.harp_types.specs.declared.reply.Status.TheVariants.{NoSpc}
 use Rattle.file_tree.specs.Tree.{blocks_of}
 use Rattle.file_tree.specs.Tries.{◌>>=◌, refuse, Tried}
-use Rattle.harp_base.specs.Limits.{field_left, tree_blocks}
+use Rattle.harp_types.specs.Limits.{field_left, tree_blocks}
 use Rattle.file_tree.specs.Outcome.{given}
 
 -- a number as far as 32 bits hold it

@@ -12,8 +12,8 @@ use Rattle.group_rules.specs.Names.{number_of_view, place_of}
 use Rattle.group_rules.specs.Open.{on_formed}
 use Rattle.group_rules.specs.Places.{Place, Trio, all_of, get, leader, nobody, partner, same, with_at}
 use Rattle.group_rules.specs.State.{Follows, Formed, Leads, Message, Plan, Role, Server}
-use Rattle.harp_base.specs.View.{View}
-use Rattle.harp_base.specs.declared.server.ServerId.{ServerId}
+use Rattle.harp_types.specs.View.{View}
+use Rattle.harp_types.specs.declared.server.ServerId.{ServerId}
 use Rattle.harp_store.specs.Disk.{MayHaveMade, Moments, after_step, with_mark}
 use Rattle.harp_store.specs.Mark.{MarkFields}
 use Rattle.idle_log.specs.Kept.{plan_of}

@@ -10,7 +10,7 @@ use Rattle.group_rules.specs.Names.{number_of_view, place_of}
 use Rattle.group_rules.specs.Places.{Pair, Place, all_of, partner, same}
 use Rattle.group_rules.specs.State.{Fetch, Server, no_plan}
 use Rattle.group_rules.specs.Tick.{again, again_tests}
-use Rattle.harp_base.specs.declared.server.ServerId.{ServerId}
+use Rattle.harp_types.specs.declared.server.ServerId.{ServerId}
 use Rattle.harp_store.specs.Mark.{MarkFields}
 use Rattle.idle_log.specs.Kept.{plan_of}
 use Rattle.idle_log.specs.declared.form.Form.{Form}

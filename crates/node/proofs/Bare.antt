@@ -17,8 +17,8 @@ use Rattle.group_rules.specs.Replicate.{ack_tests, answers, is_in_view}
 use Rattle.group_rules.specs.Said.{sends_said}
 use Rattle.group_rules.specs.State.{Ack, Beat, Chose, Collects, Demote, Duty, Event, Fetch, Form, Formed, Give, Invite, Join, Message, NoDuty, Plan, Report, Server}
 use Rattle.group_rules.specs.Step.{Comes, on_message, rule}
-use Rattle.harp_base.specs.Limits.{clock_skew}
-use Rattle.harp_base.specs.declared.peer.Peer.{Peer}
+use Rattle.harp_types.specs.Limits.{clock_skew}
+use Rattle.harp_types.specs.declared.peer.Peer.{Peer}
 use Rattle.node_outputs.specs.Makes.{with_moves}
 use Rattle.node_outputs.specs.Messages.{as_heard, heard}
 use Rattle.node_outputs.specs.Records.{carried, records_sent}

@@ -9,10 +9,10 @@ use Rattle.group_rules.specs.Limits.{can_have, is_log, is_outside}
 use Rattle.group_rules.specs.Names.{place_of}
 use Rattle.group_rules.specs.Places.{Place, all_of, is_p2}
 use Rattle.group_rules.specs.State.{Empty, Held, Log, Lost, Mark, Saved, Server, longest_of}
-use Rattle.harp_base.specs.declared.server.ServerId.{ServerId}
-use Rattle.harp_base.specs.declared.server.ServerId.TheVariants as id
-use Rattle.harp_base.specs.declared.state.Role.{Role as Part}
-use Rattle.harp_base.specs.declared.state.Role.TheVariants as part
+use Rattle.harp_types.specs.declared.server.ServerId.{ServerId}
+use Rattle.harp_types.specs.declared.server.ServerId.TheVariants as id
+use Rattle.harp_types.specs.declared.state.Role.{Role as Part}
+use Rattle.harp_types.specs.declared.state.Role.TheVariants as part
 use Rattle.harp_cells.specs.Effect.{Cells}
 use Rattle.harp_store.specs.Disk.{Moments, after_step, cells_told, reads}
 use Rattle.harp_store.specs.Mark.{MarkFields, SavedNumbers, first_mark}

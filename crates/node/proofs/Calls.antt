@@ -10,7 +10,7 @@ use Rattle.group_rules.specs.Open.{and_then, base_tests, rebase}
 use Rattle.group_rules.specs.Places.{Place, all_of, others}
 use Rattle.group_rules.specs.Said.{answered_by, answers_said, refusals_said, refused_by}
 use Rattle.group_rules.specs.State.{Message, Server}
-use Rattle.harp_base.specs.declared.peer.Peer.{Peer}
+use Rattle.harp_types.specs.declared.peer.Peer.{Peer}
 use Rattle.node.specs.Step.{Steps}
 use Rattle.node_outputs.specs.Makes.{IsMute, Makes, with_moves}
 use Rattle.node_outputs.specs.Said.{Said, answered, in_turn, nothing, refused, said}

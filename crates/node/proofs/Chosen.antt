@@ -6,7 +6,7 @@ use Rattle.group_rules.specs.Moves.{Collecting, Move}
 use Rattle.group_rules.specs.Names.{place_of}
 use Rattle.group_rules.specs.Places.{Trio}
 use Rattle.group_rules.specs.State.{Collects, Plan, Report, Server}
-use Rattle.harp_base.specs.declared.server.ServerId.{ServerId}
+use Rattle.harp_types.specs.declared.server.ServerId.{ServerId}
 use Rattle.harp_store.specs.Disk.{Moments}
 use Rattle.harp_store.specs.Mark.{MarkFields}
 use Rattle.node.proofs.Collects.{Chooses, a_choice, no_choice}

@@ -11,12 +11,12 @@ use Rattle.group_rules.specs.Moves.{Choosing, Collecting, Move, Sending}
 use Rattle.group_rules.specs.Names.{id_of, number_of_view, place_of, view_of}
 use Rattle.group_rules.specs.Places.{Pair, Place, Trio, all_of, leader, other_storers, partner, place, same, with_at}
 use Rattle.group_rules.specs.State.{Chose, Collects, Form, Message, Plan, Report, Server}
-use Rattle.harp_base.specs.Server.{number_of}
-use Rattle.harp_base.specs.Trio.{with_value}
-use Rattle.harp_base.specs.View.{View}
-use Rattle.harp_base.specs.declared.server.ServerId.{ServerId}
-use Rattle.harp_base.specs.declared.server.ServerId.TheVariants as id
-use Rattle.harp_base.specs.declared.trio.Trio.{Trio as Each}
+use Rattle.harp_types.specs.Server.{number_of}
+use Rattle.harp_types.specs.Trio.{with_value}
+use Rattle.harp_types.specs.View.{View}
+use Rattle.harp_types.specs.declared.server.ServerId.{ServerId}
+use Rattle.harp_types.specs.declared.server.ServerId.TheVariants as id
+use Rattle.harp_types.specs.declared.trio.Trio.{Trio as Each}
 use Rattle.harp_store.specs.Disk.{Moments, after_step, with_mark}
 use Rattle.harp_store.specs.Mark.{MarkFields}
 use Rattle.node.proofs.Accepts.{silent_telling}

@@ -12,9 +12,9 @@ use Rattle.group_rules.specs.Moves.{Demoting, Move}
 use Rattle.group_rules.specs.Names.{number_of_view, place_of, view_of}
 use Rattle.group_rules.specs.Places.{Zero, Place, all_of, is_p2, same}
 use Rattle.group_rules.specs.State.{Empty, Held, Plan, Server}
-use Rattle.harp_base.specs.View.{View, above}
-use Rattle.harp_base.specs.declared.server.ServerId.{ServerId}
-use Rattle.harp_base.specs.declared.state.Role.TheVariants as part
+use Rattle.harp_types.specs.View.{View, above}
+use Rattle.harp_types.specs.declared.server.ServerId.{ServerId}
+use Rattle.harp_types.specs.declared.state.Role.TheVariants as part
 use Rattle.harp_store.specs.Disk.{MayHaveMade, Moments, after_step, with_mark}
 use Rattle.harp_store.specs.Mark.{MarkFields}
 use Rattle.idle_log.specs.Kept.{IsPlaced, cp_in, held_in, with_kept}

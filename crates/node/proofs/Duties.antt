@@ -5,9 +5,9 @@ use Rattle.file_tree.specs.Book.{Entry}
 use Rattle.group_rules.specs.Names.{number_of_view}
 use Rattle.group_rules.specs.Places.{Zero, One, Two}
 use Rattle.group_rules.specs.Tick.{duties, invite_again}
-use Rattle.harp_base.specs.View.{View}
-use Rattle.harp_base.specs.declared.server.ServerId.{ServerId}
-use Rattle.harp_base.specs.declared.trio.Trio.{Trio as Each}
+use Rattle.harp_types.specs.View.{View}
+use Rattle.harp_types.specs.declared.server.ServerId.{ServerId}
+use Rattle.harp_types.specs.declared.trio.Trio.{Trio as Each}
 use Rattle.harp_store.specs.Mark.{MarkFields}
 use Rattle.node.proofs.Sent.{sending, sent_both, sent_duties, sent_made}
 use Rattle.node.specs.Node.{NodeValue, server, value}

@@ -9,7 +9,7 @@ use Rattle.group_rules.specs.Moves.{Move}
 use Rattle.group_rules.specs.Places.{Place, all_of}
 use Rattle.group_rules.specs.Serving.{gives, on_fetch, serving_accepted, serving_joined}
 use Rattle.group_rules.specs.State.{Give, Server, top}
-use Rattle.harp_base.specs.declared.server.ServerId.{ServerId}
+use Rattle.harp_types.specs.declared.server.ServerId.{ServerId}
 use Rattle.harp_store.specs.Mark.{MarkFields}
 use Rattle.idle_log.specs.Gives.{GivesFound, given_moves}
 use Rattle.idle_log.specs.Kept.{log_in, with_kept}

@@ -11,7 +11,7 @@ use Rattle.group_rules.specs.Moves.{Move, Pulling, Sending}
 use Rattle.group_rules.specs.Places.{Place, all_of, is_in, same}
 use Rattle.group_rules.specs.State.{Fetch, Plan, Pulls, Server}
 use Rattle.group_rules.specs.Names.{place_of}
-use Rattle.harp_base.specs.declared.server.ServerId.{ServerId}
+use Rattle.harp_types.specs.declared.server.ServerId.{ServerId}
 use Rattle.harp_store.specs.Mark.{MarkFields}
 use Rattle.idle_log.specs.Kept.{plan_of, with_kept}
 use Rattle.idle_log.specs.declared.form.Form.{Form}

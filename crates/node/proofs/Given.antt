@@ -13,7 +13,7 @@ use Rattle.group_rules.specs.Moves.{Move, Sending, Staging}
 use Rattle.group_rules.specs.Names.{number_of_view}
 use Rattle.group_rules.specs.Places.{Place, all_of}
 use Rattle.group_rules.specs.State.{Fetch, Server}
-use Rattle.harp_base.specs.declared.server.ServerId.{ServerId}
+use Rattle.harp_types.specs.declared.server.ServerId.{ServerId}
 use Rattle.harp_store.specs.Mark.{MarkFields}
 use Rattle.idle_log.specs.Kept.{plan_of}
 use Rattle.idle_log.specs.declared.form.Form.{Form}

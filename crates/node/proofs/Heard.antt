@@ -8,10 +8,10 @@ use Rattle.group_rules.specs.Names.{number_of_view, place_of}
 use Rattle.group_rules.specs.Places.{Place}
 use Rattle.group_rules.specs.State.{Fetch, Form, Join, Message, Server, top}
 use Rattle.group_rules.specs.Step.{Comes, rule}
-use Rattle.harp_base.specs.View.{View}
-use Rattle.harp_base.specs.declared.peer.Peer.{Peer}
-use Rattle.harp_base.specs.declared.server.ServerId.{ServerId}
-use Rattle.harp_base.specs.declared.state.Held.{Held as Had}
+use Rattle.harp_types.specs.View.{View}
+use Rattle.harp_types.specs.declared.peer.Peer.{Peer}
+use Rattle.harp_types.specs.declared.server.ServerId.{ServerId}
+use Rattle.harp_types.specs.declared.state.Held.{Held as Had}
 use Rattle.harp_store.specs.Disk.{Moments}
 use Rattle.harp_store.specs.Mark.{MarkFields}
 use Rattle.idle_log.specs.Kept.{plan_of}

@@ -10,9 +10,9 @@ use Rattle.group_rules.specs.Places.{Zero, One, Two, Pair, Place, S01, S02, S12,
 use Rattle.group_rules.specs.Replicate.{ack_tests, is_in_view, on_ack, on_event}
 use Rattle.group_rules.specs.State.{Ack, Server, no_plan, top}
 use Rattle.group_rules.specs.Tick.{beats}
-use Rattle.harp_base.specs.View.{View}
-use Rattle.harp_base.specs.declared.peer.Peer.{Peer}
-use Rattle.harp_base.specs.declared.server.ServerId.{ServerId}
+use Rattle.harp_types.specs.View.{View}
+use Rattle.harp_types.specs.declared.peer.Peer.{Peer}
+use Rattle.harp_types.specs.declared.server.ServerId.{ServerId}
 use Rattle.harp_store.specs.Mark.{MarkFields}
 use Rattle.idle_log.specs.Kept.{plan_of}
 use Rattle.idle_log.specs.declared.form.Form.{Form}

@@ -6,7 +6,7 @@ use Rattle.group_rules.specs.Limits.{is_joins, is_pulls}
 use Rattle.group_rules.specs.Places.{Place, all_of}
 use Rattle.group_rules.specs.State.{Mode, Plan, Server}
 use Rattle.group_rules.proofs.Tests.{if_not}
-use Rattle.harp_base.specs.declared.server.ServerId.{ServerId}
+use Rattle.harp_types.specs.declared.server.ServerId.{ServerId}
 use Rattle.harp_store.specs.Mark.{MarkFields}
 use Rattle.idle_log.specs.declared.form.Form.{Form}
 use Rattle.promise.specs.Promise.{HorizonValue}

@@ -11,9 +11,9 @@ use Rattle.group_rules.specs.Places.{Two, Place, all_of, get, is_s01, partner}
 use Rattle.group_rules.specs.Replicate.{ack_tests, answers, on_ack}
 use Rattle.group_rules.specs.State.{Beat, Demote, Plan, Server, top}
 use Rattle.group_rules.specs.Tick.{beats, events, unacknowledged}
-use Rattle.harp_base.specs.Limits.{clock_skew}
-use Rattle.harp_base.specs.declared.peer.Peer.{Peer}
-use Rattle.harp_base.specs.declared.server.ServerId.{ServerId}
+use Rattle.harp_types.specs.Limits.{clock_skew}
+use Rattle.harp_types.specs.declared.peer.Peer.{Peer}
+use Rattle.harp_types.specs.declared.server.ServerId.{ServerId}
 use Rattle.harp_store.specs.Mark.{MarkFields}
 use Rattle.idle_log.specs.Kept.{AtBase, plan_of}
 use Rattle.idle_log.specs.declared.form.Form.{Form}

@@ -6,7 +6,7 @@ use Rattle.group_rules.specs.Open.{base_tests, rebase}
 use Rattle.group_rules.specs.Moves.{Appending, Applying, Basing, Committing, Heeding, Hearing, Move, Noting, Opening, Reading, Saying, Sending, act, acts}
 use Rattle.group_rules.specs.Places.{Place, all_of, leader}
 use Rattle.group_rules.specs.State.{Plan, Server}
-use Rattle.harp_base.specs.declared.server.ServerId.{ServerId}
+use Rattle.harp_types.specs.declared.server.ServerId.{ServerId}
 use Rattle.harp_store.specs.Mark.{MarkFields}
 use Rattle.idle_log.specs.Kept.{plan_of}
 use Rattle.idle_log.specs.declared.form.Form.{Form}

@@ -11,7 +11,7 @@ use Rattle.group_rules.specs.Open.{on_formed}
 use Rattle.group_rules.specs.Places.{Zero, One, Two, Place, all_of, partner, same}
 use Rattle.group_rules.specs.Replicate.{is_in_view}
 use Rattle.group_rules.specs.State.{Server}
-use Rattle.harp_base.specs.declared.server.ServerId.{ServerId}
+use Rattle.harp_types.specs.declared.server.ServerId.{ServerId}
 use Rattle.harp_store.specs.Mark.{MarkFields}
 use Rattle.idle_log.specs.Kept.{plan_of}
 use Rattle.idle_log.specs.declared.form.Form.{Form}

@@ -9,7 +9,7 @@ use Rattle.group_rules.specs.Open.{and_then, base_tests, open_heard, open_moves,
 use Rattle.group_rules.specs.Places.{Place, Two, all_of, get, is_s01, partner}
 use Rattle.group_rules.specs.State.{Beat, Demote, Message, Server, top}
 use Rattle.group_rules.specs.Step.{on_message}
-use Rattle.harp_base.specs.Limits.{clock_skew}
+use Rattle.harp_types.specs.Limits.{clock_skew}
 use Rattle.harp_store.specs.Disk.{Moments, after_step, with_mark}
 use Rattle.harp_store.specs.Mark.{MarkFields}
 use Rattle.node.specs.Disk.{MayLeave, disk_after, marked, marked_by, write_mark, writes_mark}

@@ -11,7 +11,7 @@ use Rattle.group_rules.specs.Names.{place_of}
 use Rattle.group_rules.specs.Places.{Place, is_p2}
 use Rattle.group_rules.specs.State.{Empty, Held, Log, Lost, Mark, Saved, Server, mark_of}
 use Rattle.group_rules.specs.Step.{saves}
-use Rattle.harp_base.specs.declared.server.ServerId.{ServerId}
+use Rattle.harp_types.specs.declared.server.ServerId.{ServerId}
 use Rattle.harp_store.specs.Mark.{MarkFields, SavedNumbers}
 use Rattle.idle_log.specs.Kept.{ap_in as kept_ap, base_in as kept_base, cp_in as kept_cp, held_in as kept_held, items_in as kept_items}
 use Rattle.idle_log.specs.declared.kept.Kept.{Kept}

@@ -12,8 +12,8 @@ use Rattle.group_rules.specs.Names.{number_of_view}
 use Rattle.group_rules.specs.State.{Chose, Collects, Duty, Fetch, Message, NoDuty, Report, Server}
 use Rattle.group_rules.specs.Tick.{again, again_tests, duties, duty_tests, invite_again}
 use Rattle.group_rules.specs.Limits.{is_pulls}
-use Rattle.harp_base.specs.View.{View}
-use Rattle.harp_base.specs.declared.peer.Peer.{Peer}
+use Rattle.harp_types.specs.View.{View}
+use Rattle.harp_types.specs.declared.peer.Peer.{Peer}
 use Rattle.node.proofs.Calls.{AreSilent, mute}
 use Rattle.node_outputs.specs.Makes.{IsMute, Makes, with_moves}
 use Rattle.node_outputs.specs.Messages.{as_heard}

@@ -1,6 +1,6 @@
 -- A node as a server of the machine.
 use Rattle.std.proofs.Common.{refl}
-use Rattle.harp_base.specs.declared.server.ServerId.{ServerId}
+use Rattle.harp_types.specs.declared.server.ServerId.{ServerId}
 use Rattle.harp_store.specs.Mark.{MarkFields}
 use Rattle.node.specs.Node.{IsServer, value}
 use Rattle.node.specs.declared.state.State.{State}

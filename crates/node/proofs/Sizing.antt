@@ -9,7 +9,7 @@ use Rattle.file_tree.specs.Book.{Entry}
 use Rattle.group_rules.specs.Names.{view_of}
 use Rattle.harp_base.specs.Fields.{u32_bytes, u64_bytes}
 use Rattle.harp_base.specs.Names.{cred_bytes, view_bytes}
-use Rattle.harp_base.specs.View.{View}
+use Rattle.harp_types.specs.View.{View}
 use Rattle.harp_cells.specs.declared.change.Change.{Change}
 use Rattle.idle_log.specs.LogLaws.{Sized}
 use Rattle.tree_log.specs.Records.{record_of}

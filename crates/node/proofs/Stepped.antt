@@ -9,7 +9,7 @@ use Rattle.group_rules.specs.Places.{Place, partner}
 use Rattle.group_rules.specs.State.{Server}
 use Rattle.group_rules.specs.Step.{Input, rule}
 use Rattle.group_rules.specs.Tick.{again, beats, duties, events, tick, unacknowledged}
-use Rattle.harp_base.specs.declared.peer.Peer.{Peer}
+use Rattle.harp_types.specs.declared.peer.Peer.{Peer}
 use Rattle.node.specs.Disk.{write_mark}
 use Rattle.node.specs.Step.{Steps}
 use Rattle.node.specs.Taking.{ruled, stepped}

@@ -17,8 +17,8 @@ use Rattle.group_rules.specs.Open.{base_tests, rebase}
 use Rattle.group_rules.specs.Places.{Place, Trio, all_of, other_storers, partner, same}
 use Rattle.group_rules.specs.Replicate.{ack_tests, answers, is_in_view, on_ack, on_event}
 use Rattle.group_rules.specs.State.{Ack, Chose, Form, Plan, Report, Role, Server, top}
-use Rattle.harp_base.specs.declared.peer.Peer.{Peer}
-use Rattle.harp_base.specs.declared.server.ServerId.{ServerId}
+use Rattle.harp_types.specs.declared.peer.Peer.{Peer}
+use Rattle.harp_types.specs.declared.server.ServerId.{ServerId}
 use Rattle.harp_store.specs.Mark.{MarkFields}
 use Rattle.idle_log.specs.Kept.{log_in, plan_of}
 use Rattle.idle_log.specs.Pulls.{adopted_records}
@@ -37,7 +37,7 @@ use Rattle.node.specs.declared.state.State.{State}
 use Rattle.node.specs.declared.state.State.TheVariants as state
 use Rattle.node.specs.declared.state.Task.{Task}
 use Rattle.node.specs.declared.state.Task.TheVariants as task
-use Rattle.harp_base.specs.View.{View}
+use Rattle.harp_types.specs.View.{View}
 use Rattle.promise.specs.Promise.{HorizonValue}
 use Rattle.std.specs.Prelude.{Option}
 use Rattle.replica.proofs.Follows.{same_place}

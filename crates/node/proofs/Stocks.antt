@@ -12,8 +12,8 @@ use Rattle.group_rules.specs.Replicate.{answers}
 use Rattle.group_rules.specs.Serving.{gives, held_tests, on_fetch, serving_accepted, serving_joined}
 use Rattle.group_rules.specs.State.{Message, Server, top}
 use Rattle.group_rules.specs.Step.{Comes, on_message, rule}
-use Rattle.harp_base.specs.Limits.{clock_skew}
-use Rattle.harp_base.specs.declared.peer.Peer.{Peer}
+use Rattle.harp_types.specs.Limits.{clock_skew}
+use Rattle.harp_types.specs.declared.peer.Peer.{Peer}
 use Rattle.node.specs.Stock.{Stock, Stocks, stock_after, stock_by}
 use Rattle.node.proofs.Sent.{AreSent}
 use Rattle.std.specs.Prelude.{nat_le}

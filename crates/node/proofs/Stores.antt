@@ -11,7 +11,7 @@ use Rattle.group_rules.specs.Moves.{Applying, Flushing, Saying}
 use Rattle.group_rules.specs.Names.{place_of}
 use Rattle.group_rules.specs.Places.{Zero, Place, is_p2}
 use Rattle.group_rules.specs.State.{Lists, NoDuty, Server, no_plan}
-use Rattle.harp_base.specs.declared.server.ServerId.{ServerId}
+use Rattle.harp_types.specs.declared.server.ServerId.{ServerId}
 use Rattle.harp_cells.specs.declared.change.Change.{Change}
 use Rattle.harp_store.specs.Disk.{AfterPart, Moments, after_changes}
 use Rattle.harp_store.specs.Mark.{MarkFields}

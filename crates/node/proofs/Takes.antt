@@ -8,8 +8,8 @@ use Rattle.group_rules.specs.Moves.{Hearing, Move, acts}
 use Rattle.group_rules.specs.Open.{and_then, formed_tests, on_formed, open_heard, open_moves, open_tests, try_open}
 use Rattle.group_rules.specs.Places.{Place, all_of, get, is_s01, partner}
 use Rattle.group_rules.specs.State.{Server}
-use Rattle.harp_base.specs.Limits.{clock_skew}
-use Rattle.harp_base.specs.declared.peer.Peer.{Peer}
+use Rattle.harp_types.specs.Limits.{clock_skew}
+use Rattle.harp_types.specs.declared.peer.Peer.{Peer}
 use Rattle.node.proofs.Calls.{AreSilent, mute}
 use Rattle.node.proofs.Heeds.{leaves}
 use Rattle.node_outputs.specs.Makes.{IsMute, Makes, with_moves}

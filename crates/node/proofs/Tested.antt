@@ -13,9 +13,9 @@ use Rattle.group_rules.specs.Names.{id_of, number_of_view, place_of}
 use Rattle.group_rules.specs.Places.{Zero, One, Two, Place, all_of, coordinator, leader, partner, same}
 use Rattle.group_rules.specs.Replicate.{is_in_view}
 use Rattle.group_rules.specs.State.{Form as SendsForm, Plan, Server, top}
-use Rattle.harp_base.specs.Limits.{log_room}
-use Rattle.harp_base.specs.View.{View}
-use Rattle.harp_base.specs.declared.server.ServerId.{ServerId}
+use Rattle.harp_types.specs.Limits.{log_room}
+use Rattle.harp_types.specs.View.{View}
+use Rattle.harp_types.specs.declared.server.ServerId.{ServerId}
 use Rattle.harp_store.specs.Mark.{MarkFields}
 use Rattle.idle_log.specs.Kept.{plan_of, with_kept}
 use Rattle.idle_log.specs.declared.form.Form.{Form}

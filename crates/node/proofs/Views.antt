@@ -5,10 +5,10 @@ use Rattle.std.proofs.lemmas.Bool.{eqb-false, eqb-true, le-ltb, lt-ltb, ltb-fals
 use Rattle.group_rules.specs.Limits.{limit}
 use Rattle.group_rules.specs.Names.{number_of_view, place_of}
 use Rattle.group_rules.specs.Places.{next_view, number}
-use Rattle.harp_base.specs.Server.{number_of}
-use Rattle.harp_base.specs.View.{View, above}
-use Rattle.harp_base.specs.declared.server.ServerId.{ServerId}
-use Rattle.harp_base.specs.declared.server.ServerId.TheVariants as server
+use Rattle.harp_types.specs.Server.{number_of}
+use Rattle.harp_types.specs.View.{View, above}
+use Rattle.harp_types.specs.declared.server.ServerId.{ServerId}
+use Rattle.harp_types.specs.declared.server.ServerId.TheVariants as server
 
 small : (s : ServerId) → number_of s ≤ 2
 small server.Zero = omega arith

@@ -16,12 +16,12 @@ use Rattle.group_rules.specs.Places.{Place, all_of, leader, partner, same}
 use Rattle.group_rules.specs.State.{Answers, BadClient, Demote, Event, LogFull, Message, NoPromise, NotLeader, NotYetOpen, Old, Server, top}
 use Rattle.group_rules.specs.Step.{Input as Begins, rule}
 use Rattle.group_rules.specs.Tick.{beats, tick}
-use Rattle.harp_base.specs.Limits.{last_client}
-use Rattle.harp_base.specs.Update.{is_update}
-use Rattle.harp_base.specs.declared.call.Call.{Call}
-use Rattle.harp_base.specs.declared.cred.Cred.{Cred}
-use Rattle.harp_base.specs.declared.peer.Peer.{Peer}
-use Rattle.harp_base.specs.declared.server.ServerId.{ServerId}
+use Rattle.harp_types.specs.Limits.{last_client}
+use Rattle.harp_types.specs.Update.{is_update}
+use Rattle.harp_types.specs.declared.call.Call.{Call}
+use Rattle.harp_types.specs.declared.cred.Cred.{Cred}
+use Rattle.harp_types.specs.declared.peer.Peer.{Peer}
+use Rattle.harp_types.specs.declared.server.ServerId.{ServerId}
 use Rattle.harp_store.specs.Disk.{Moments}
 use Rattle.harp_store.specs.Mark.{MarkFields}
 use Rattle.idle_log.proofs.Giving.{part_stands}

@@ -6,10 +6,10 @@ use Rattle.group_rules.specs.Limits.{is_open}
 use Rattle.group_rules.specs.Moves.{Move}
 use Rattle.group_rules.specs.Places.{Place}
 use Rattle.group_rules.specs.State.{BadClient, Cause, NotLeader, Role}
-use Rattle.harp_base.specs.Limits.{last_client}
-use Rattle.harp_base.specs.Update.{is_update}
-use Rattle.harp_base.specs.declared.call.Call.{Call}
-use Rattle.harp_base.specs.declared.peer.Peer.{Peer}
+use Rattle.harp_types.specs.Limits.{last_client}
+use Rattle.harp_types.specs.Update.{is_update}
+use Rattle.harp_types.specs.declared.call.Call.{Call}
+use Rattle.harp_types.specs.declared.peer.Peer.{Peer}
 use Rattle.harp_store.specs.Disk.{Moments}
 use Rattle.node.specs.Node.{NodeValue, server}
 use Rattle.node.specs.Stored.{log_of}

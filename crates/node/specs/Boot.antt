@@ -7,7 +7,7 @@ use Rattle.group_rules.specs.Limits.{is_log}
 use Rattle.group_rules.specs.Names.{place_of}
 use Rattle.group_rules.specs.Places.{Place, is_p2}
 use Rattle.group_rules.specs.State.{Mark, Server, longest_of}
-use Rattle.harp_base.specs.declared.server.ServerId.{ServerId}
+use Rattle.harp_types.specs.declared.server.ServerId.{ServerId}
 use Rattle.harp_cells.specs.Effect.{Cells}
 use Rattle.harp_store.specs.Disk.{Disk, Moments, after_step, with_mark}
 use Rattle.harp_store.specs.Mark.{MarkFields, first_mark}

@@ -4,8 +4,8 @@ use Rattle.file_tree.specs.Book.{Entry}
 use Rattle.group_rules.specs.Effects.{demoted}
 use Rattle.group_rules.specs.Moves.{Demoting}
 use Rattle.group_rules.specs.Names.{number_of_view}
-use Rattle.harp_base.specs.View.{View}
-use Rattle.harp_base.specs.declared.server.ServerId.{ServerId}
+use Rattle.harp_types.specs.View.{View}
+use Rattle.harp_types.specs.declared.server.ServerId.{ServerId}
 use Rattle.harp_store.specs.Mark.{MarkFields}
 use Rattle.node.specs.Disk.{marked}
 use Rattle.node.specs.Node.{server, value}

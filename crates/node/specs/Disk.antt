@@ -4,9 +4,9 @@ use Rattle.file_tree.specs.Book.{Entry}
 use Rattle.group_rules.specs.Moves.{Accepting, Demoting, Joining, Move}
 use Rattle.group_rules.specs.Names.{id_of, number_of_view, view_of}
 use Rattle.group_rules.specs.State.{Follows, Leads, Outside, Role}
-use Rattle.harp_base.specs.View.{View}
-use Rattle.harp_base.specs.declared.state.Role.{Role as Part}
-use Rattle.harp_base.specs.declared.state.Role.TheVariants as part
+use Rattle.harp_types.specs.View.{View}
+use Rattle.harp_types.specs.declared.state.Role.{Role as Part}
+use Rattle.harp_types.specs.declared.state.Role.TheVariants as part
 use Rattle.harp_cells.specs.declared.reads.CellFault.{CellFault}
 use Rattle.harp_cells.specs.declared.reads.CellFault.TheVariants as cell
 use Rattle.harp_store.specs.Disk.{Moments, after_step, with_mark}

@@ -8,7 +8,7 @@ use Rattle.group_rules.specs.Moves.{Move, Sending}
 use Rattle.group_rules.specs.Names.{number_of_view, place_of}
 use Rattle.group_rules.specs.Places.{Place, Trio, leader, nobody, partner, same, with_at}
 use Rattle.group_rules.specs.State.{Formed, Joins, Plan, Pulls, Role, Server, no_plan}
-use Rattle.harp_base.specs.declared.server.ServerId.{ServerId}
+use Rattle.harp_types.specs.declared.server.ServerId.{ServerId}
 use Rattle.harp_store.specs.Mark.{MarkFields}
 use Rattle.idle_log.specs.Kept.{plan_of, with_kept}
 use Rattle.idle_log.specs.declared.form.Form.{Form}

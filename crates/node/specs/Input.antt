@@ -4,7 +4,7 @@ use Rattle.event_record.specs.declared.record.RecordFields.{RecordFields}
 use Rattle.file_tree.specs.Book.{Entry}
 use Rattle.group_rules.specs.State.{top}
 use Rattle.group_rules.specs.Step.{Apply, Ask, Does, Flush, Input as Begins, ListTree, Suspect, Tick}
-use Rattle.harp_base.specs.declared.peer.Peer.{Peer}
+use Rattle.harp_types.specs.declared.peer.Peer.{Peer}
 use Rattle.harp_store.specs.Disk.{Moments}
 use Rattle.node.specs.Asking.{reads_tree}
 use Rattle.node.specs.Node.{NodeValue}

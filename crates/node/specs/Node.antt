@@ -7,8 +7,8 @@ use Rattle.group_rules.specs.Effects.{down}
 use Rattle.group_rules.specs.Names.{number_of_view, place_of}
 use Rattle.group_rules.specs.Places.{Place}
 use Rattle.group_rules.specs.State.{Mark, Saved, Server, mark_of}
-use Rattle.harp_base.specs.declared.peer.Peer.{Peer}
-use Rattle.harp_base.specs.declared.server.ServerId.{ServerId}
+use Rattle.harp_types.specs.declared.peer.Peer.{Peer}
+use Rattle.harp_types.specs.declared.server.ServerId.{ServerId}
 use Rattle.harp_store.specs.Mark.{MarkFields, SavedNumbers}
 use Rattle.idle_log.specs.Kept.{with_kept}
 use Rattle.idle_log.specs.declared.kept.Kept.{Kept}

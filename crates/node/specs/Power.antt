@@ -3,7 +3,7 @@ use Rattle.std.specs.Prelude.{◌≡◌, Bool, List, [], Option, Some, option_ma
 use Rattle.file_tree.specs.Book.{Entry}
 use Rattle.group_rules.specs.State.{Mark, Saved, top}
 use Rattle.group_rules.specs.Step.{saves}
-use Rattle.harp_base.specs.Limits.{log_room}
+use Rattle.harp_types.specs.Limits.{log_room}
 use Rattle.harp_store.specs.Disk.{AtEachMoment, Moments, Now, after_changes, after_step, synced_whole, with_mark}
 use Rattle.harp_store.specs.Mark.{MarkFields}
 use Rattle.node.specs.Node.{NodeValue, mark_with, saved_with}

@@ -7,11 +7,11 @@ use Rattle.file_tree.specs.Book.{Entry}
 use Rattle.group_rules.specs.Names.{number_of_view, place_of}
 use Rattle.group_rules.specs.Places.{Place, Trio, get, is_in, leader, nobody, partner, same}
 use Rattle.group_rules.specs.State.{Chose, Collects, Duty, Follows, Held, Joins, Leads, Log, Lost, Mode, NoDuty, Outside, Plan, Pulls, Report, Rests, Role, no_plan, no_report}
-use Rattle.harp_base.specs.declared.peer.Peer.{Peer}
-use Rattle.harp_base.specs.declared.server.ServerId.{ServerId}
-use Rattle.harp_base.specs.declared.state.Role.{Role as Part}
-use Rattle.harp_base.specs.declared.state.Role.TheVariants as part
-use Rattle.harp_base.specs.declared.trio.Trio.{Trio as Each}
+use Rattle.harp_types.specs.declared.peer.Peer.{Peer}
+use Rattle.harp_types.specs.declared.server.ServerId.{ServerId}
+use Rattle.harp_types.specs.declared.state.Role.{Role as Part}
+use Rattle.harp_types.specs.declared.state.Role.TheVariants as part
+use Rattle.harp_types.specs.declared.trio.Trio.{Trio as Each}
 use Rattle.harp_store.specs.Mark.{MarkFields}
 use Rattle.idle_log.specs.Kept.{AtBase, IsPlaced, ap_in as kept_ap, base_in as kept_base, cp_in as kept_cp, held_in as kept_held, items_in as kept_items, lb_in, log_in, plan_of}
 use Rattle.idle_log.specs.Pulls.{CanTake, IsFor}

@@ -4,7 +4,7 @@ use Rattle.file_tree.specs.Book.{Entry}
 use Rattle.group_rules.specs.Moves.{Move, acts}
 use Rattle.group_rules.specs.Places.{Place}
 use Rattle.group_rules.specs.State.{Server}
-use Rattle.harp_base.specs.declared.peer.Peer.{Peer}
+use Rattle.harp_types.specs.declared.peer.Peer.{Peer}
 use Rattle.harp_store.specs.Disk.{Moments}
 use Rattle.idle_log.specs.Gives.{StandIn}
 use Rattle.node.specs.Input.{came, peers_of}

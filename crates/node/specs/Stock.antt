@@ -6,7 +6,7 @@ use Rattle.group_rules.specs.Moves.{Accepting, Appending, Basing, Committing, De
 use Rattle.group_rules.specs.Names.{view_of}
 use Rattle.group_rules.specs.Places.{Place}
 use Rattle.group_rules.specs.State.{Server}
-use Rattle.harp_base.specs.declared.peer.Peer.{Peer}
+use Rattle.harp_types.specs.declared.peer.Peer.{Peer}
 use Rattle.idle_log.specs.Kept.{log_in}
 use Rattle.idle_log.specs.Pulls.{adopted_records}
 use Rattle.idle_log.specs.declared.kept.Kept.{Kept}

@@ -6,7 +6,7 @@ use Rattle.group_rules.specs.Names.{place_of}
 use Rattle.group_rules.specs.Places.{Place}
 use Rattle.group_rules.specs.State.{Fetch, Message, Server, top}
 use Rattle.group_rules.specs.Step.{Comes, Input, rule, step}
-use Rattle.harp_base.specs.declared.server.ServerId.{ServerId}
+use Rattle.harp_types.specs.declared.server.ServerId.{ServerId}
 use Rattle.node.specs.Node.{NodeValue}
 use Rattle.node.specs.Serving.{IsSized}
 use Rattle.node_outputs.specs.Messages.{heard}

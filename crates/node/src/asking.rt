@@ -6,7 +6,7 @@ ghost use Rattle.file_tree.specs.Book.{Entry};
 ghost use Rattle.group_rules.specs.Ask.{hint_of, on_ask};
 ghost use Rattle.group_rules.specs.Names.{id_of, place_of};
 ghost use Rattle.group_rules.specs.Shown.{cause_of};
-ghost use Rattle.harp_base.specs.Streams.{Rose};
+ghost use Rattle.harp_types.specs.Streams.{Rose};
 ghost use Rattle.harp_store.specs.Disk.{cells_told};
 ghost use Rattle.node.specs.Asking.{Asked, cause_away, reads_tree};
 ghost use Rattle.node.specs.Node.{server};
@@ -19,11 +19,11 @@ ghost use Rattle.tree_log.specs.Reading.{HoldsTree};
 use crate::fault::NodeFault;
 use crate::node::Node;
 use crate::state::State;
-use harp_base::{Call, LAST_CLIENT, Role, ServerId};
+use harp_types::{Call, LAST_CLIENT, Role, ServerId};
 use harp_store::Store;
 use node_outputs::{Asker, Outputs};
 use std::alloc::{AllocError, Global};
-use trace_lines::Cause;
+use harp_types::Cause;
 
 impl Node {
     /// Deals with a client's call, by the client's own number of it. The open leader of a view

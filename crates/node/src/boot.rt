@@ -7,7 +7,7 @@ ghost use Rattle.group_rules.specs.Effects.{booted, rested};
 ghost use Rattle.group_rules.specs.Limits.{is_log};
 ghost use Rattle.group_rules.specs.Names.{place_of};
 ghost use Rattle.group_rules.specs.State.{longest_of};
-ghost use Rattle.harp_base.specs.Streams.{Rose};
+ghost use Rattle.harp_types.specs.Streams.{Rose};
 ghost use Rattle.harp_cells.specs.Effect.{Cells};
 ghost use Rattle.harp_store.specs.Disk.{AtEachMoment, Moments, cells_told, reads};
 ghost use Rattle.idle_log.specs.Boots.{rests};
@@ -19,7 +19,7 @@ ghost use Rattle.power_save.specs.Saved.{IsNotSaved};
 
 use crate::fault::NodeFault;
 use crate::node::Node;
-use harp_base::ServerId;
+use harp_types::ServerId;
 use harp_store::{Mark, Store};
 use idle_log::{Kept, can_have};
 use power_save::{SaveFault, SeenRecords, load};

@@ -7,7 +7,7 @@ use harp_store::StoreFault;
 use std::alloc::AllocError;
 
 /// Why a step fails. The server is halted then.
-#[derive(Clone, Copy, Debug, PartialEq, Eq)]
+#[derive(Clone, Copy, PartialEq, Eq)]
 pub enum NodeFault {
     /// A call of the store failed.
     StoreFailed,

@@ -8,7 +8,7 @@ ghost use Rattle.file_tree.specs.Book.{Entry};
 ghost use Rattle.fuzzy_cells.specs.History.{History};
 ghost use Rattle.applier.specs.FuzzyDisk.{IsFuzzyByMark, IsFuzzyDisk};
 ghost use Rattle.group_rules.specs.Disk.{flush};
-ghost use Rattle.harp_base.specs.Streams.{Rose};
+ghost use Rattle.harp_types.specs.Streams.{Rose};
 ghost use Rattle.harp_store.specs.Disk.{AtEachMoment, Moments, cells_told};
 ghost use Rattle.harp_store.specs.declared.store.StoreFault.TheVariants.{Failed};
 ghost use Rattle.node.specs.Active.{is_active};

@@ -17,7 +17,7 @@ use crate::node::Node;
 use crate::same::is_view;
 use crate::state::State;
 use event_record::Record;
-use harp_base::ViewNo;
+use harp_types::ViewNo;
 use node_outputs::Outputs;
 use std::alloc::AllocError;
 

@@ -14,7 +14,7 @@ ghost use Rattle.node.specs.State.{heard_of};
 
 use crate::node::Node;
 use crate::state::{Joining, State};
-use harp_base::{ServerId, ViewNo};
+use harp_types::{ServerId, ViewNo};
 
 impl Node {
     /// A Formed of another server, which is the partner with an LB within the start where this

@@ -4,11 +4,11 @@ ghost use Rattle.std.specs.Prelude.{◌≡◌, is_some};
 ghost use Rattle.node.specs.Input.{input_of};
 ghost use Rattle.node_outputs.specs.Messages.{heard};
 
-use harp_base::{Call, Cred, Peer, ServerId};
+use harp_types::{Call, Cred, Peer, ServerId};
 use wire::Message;
 
 /// What a server is given.
-#[derive(Debug, Drop)]
+#[derive(Drop)]
 pub enum Input {
     /// Its time has come to send again what may be lost.
     Tick,

@@ -14,7 +14,7 @@ ghost use Rattle.node_outputs.specs.Makes.{Makes};
 use crate::node::Node;
 use crate::same::is_view;
 use crate::state::State;
-use harp_base::ViewNo;
+use harp_types::ViewNo;
 use node_outputs::Outputs;
 use promise::Deadline;
 use std::alloc::{AllocError, Global};

@@ -5,7 +5,7 @@ ghost use Rattle.node_outputs.specs.Records.{carried, records_sent};
 ghost use Rattle.node.specs.Stock.{Stocks, stock, IsFetch};
 ghost use Rattle.std.specs.Prelude.{◌≡◌, ◌<◌, ◌≤◌, ◌^◌, List, ℕ, Err, OnErr, OnOk, false, ◌++◌};
 ghost use Rattle.file_tree.specs.Book.{Entry};
-ghost use Rattle.harp_base.specs.Streams.{Rose};
+ghost use Rattle.harp_types.specs.Streams.{Rose};
 ghost use Rattle.node.specs.Cached.{IsCachedAs};
 ghost use Rattle.node.specs.Disk.{MayLeave, disk_after, marked_by};
 ghost use Rattle.node.specs.Node.{server};
@@ -14,7 +14,7 @@ ghost use Rattle.node_outputs.specs.Makes.{Makes};
 
 use crate::fault::NodeFault;
 use crate::node::Node;
-use harp_base::ServerId;
+use harp_types::ServerId;
 use harp_store::Store;
 use idle_log::Form;
 use node_outputs::Outputs;

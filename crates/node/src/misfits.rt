@@ -15,7 +15,7 @@ ghost use Rattle.view_form.specs.Choice.{report};
 use crate::node::Node;
 use crate::same::{is_one, is_view};
 use crate::state::State;
-use harp_base::{ServerId, ViewNo};
+use harp_types::{ServerId, ViewNo};
 use idle_log::{Form, follow, is_within};
 use view_form::JoinInfo;
 use wire::Records;

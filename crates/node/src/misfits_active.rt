@@ -15,7 +15,7 @@ use crate::node::Node;
 use crate::same::{is_one, is_view};
 use crate::state::State;
 use event_record::Record;
-use harp_base::{LOG_ROOM, ServerId, ViewNo};
+use harp_types::{LOG_ROOM, ServerId, ViewNo};
 use promise::Deadline;
 
 impl Node {

@@ -8,7 +8,7 @@ ghost use Rattle.node.specs.State.{IsKept};
 ghost use Rattle.node.specs.Stock.{stock, stock_kept};
 
 use crate::state::{State, Task};
-use harp_base::ServerId;
+use harp_types::ServerId;
 use harp_store::Mark;
 use idle_log::Kept;
 use promise::Horizon;

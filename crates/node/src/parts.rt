@@ -12,7 +12,7 @@ ghost use Rattle.idle_log.specs.Kept.{held_in, plan_of};
 use crate::node::Node;
 use crate::same::is_view;
 use crate::state::State;
-use harp_base::ViewNo;
+use harp_types::ViewNo;
 use idle_log::{Form, Kept};
 
 impl Node {

@@ -5,7 +5,7 @@ ghost use Rattle.group_rules.specs.Limits.{limit};
 ghost use Rattle.group_rules.specs.Names.{number_of_view, place_of};
 ghost use Rattle.group_rules.specs.Places.{next_view, others};
 
-use harp_base::{ServerId, ViewNo};
+use harp_types::{ServerId, ViewNo};
 
 /// The next view of this coordinator, where there is one.
 pub(crate) fn next_view(promised: ViewNo, me: ServerId) -> Option<ViewNo>

@@ -4,7 +4,7 @@ ghost use Rattle.std.specs.Prelude.{◌≡◌, ◌↔◌, ◌≤◌, List, ℕ, 
 ghost use Rattle.file_tree.specs.Book.{Entry};
 ghost use Rattle.group_rules.specs.Moves.{Saving, act};
 ghost use Rattle.group_rules.specs.State.{mark_of};
-ghost use Rattle.harp_base.specs.Streams.{Rose};
+ghost use Rattle.harp_types.specs.Streams.{Rose};
 ghost use Rattle.harp_store.specs.Disk.{AtEachMoment, Moments, Now, after_changes, after_step, synced_whole, with_mark};
 ghost use Rattle.node.specs.Node.{server};
 ghost use Rattle.node.specs.Power.{IsSavedBy, SavesAtOnce, mark_left, saves_log};

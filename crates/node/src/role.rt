@@ -3,7 +3,7 @@
 ghost use Rattle.std.specs.Prelude.{◌≡◌};
 
 use crate::node::Node;
-use harp_base::Role;
+use harp_types::Role;
 
 impl Node {
     /// Its role in the view that it accepted.

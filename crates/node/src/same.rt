@@ -4,7 +4,7 @@ ghost use Rattle.std.specs.Prelude.{◌≡◌, ◌==◌};
 ghost use Rattle.group_rules.specs.Names.{number_of_view, place_of};
 ghost use Rattle.group_rules.specs.Places.{is_p2, same};
 
-use harp_base::{ServerId, ViewNo};
+use harp_types::{ServerId, ViewNo};
 
 /// Whether two servers are one.
 pub(crate) fn is_one(a: ServerId, b: ServerId) -> bool

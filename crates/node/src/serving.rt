@@ -16,7 +16,7 @@ ghost use Rattle.node_outputs.specs.Makes.{Makes};
 use crate::node::Node;
 use crate::same::is_view;
 use crate::state::State;
-use harp_base::{ServerId, ViewNo};
+use harp_types::{ServerId, ViewNo};
 use idle_log::serve_active;
 use node_outputs::Outputs;
 use std::alloc::{AllocError, Global};

@@ -10,7 +10,7 @@ ghost use Rattle.node.specs.State.{duty_of};
 
 use crate::node::Node;
 use crate::state::{State, Task};
-use harp_base::{Mode, StateLine};
+use harp_types::{Mode, StateLine};
 use idle_log::Kept;
 
 impl Node {

@@ -1,6 +1,6 @@
 //! What a server is doing, and its part as a coordinator.
 
-use harp_base::{Trio, ViewNo};
+use harp_types::{Trio, ViewNo};
 use idle_log::{Form, Kept};
 use replica::{Leader, Partner};
 use view_form::{Collector, JoinInfo};
@@ -19,7 +19,7 @@ pub(crate) enum Task {
 
 /// What a server that joined its promised view in this boot told, and the LB of the last Formed of
 /// each server.
-#[derive(Clone, Copy, Debug, PartialEq, Eq)]
+#[derive(Clone, Copy, PartialEq, Eq)]
 pub(crate) struct Joining {
     pub(crate) told: JoinInfo,
     pub(crate) formed: Trio<Option<u64>>,

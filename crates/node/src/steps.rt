@@ -6,7 +6,7 @@ ghost use Rattle.event_record.specs.declared.record.RecordFields.{RecordFields};
 ghost use Rattle.file_tree.specs.Book.{Entry};
 ghost use Rattle.group_rules.specs.Moves.{acts};
 ghost use Rattle.group_rules.specs.Open.{rebase};
-ghost use Rattle.harp_base.specs.Streams.{Rose};
+ghost use Rattle.harp_types.specs.Streams.{Rose};
 ghost use Rattle.harp_store.specs.Disk.{cells_told};
 ghost use Rattle.idle_log.specs.Gives.{StandIn};
 ghost use Rattle.node.specs.Input.{FillsInput, FillsSized, came, input_of, peers_of};

@@ -16,7 +16,7 @@ ghost use Rattle.node_outputs.specs.Makes.{Makes};
 
 use crate::node::Node;
 use event_record::Record;
-use harp_base::{ServerId, ViewNo};
+use harp_types::{ServerId, ViewNo};
 use node_outputs::Outputs;
 use promise::Deadline;
 use std::alloc::{AllocError, Global};

@@ -8,7 +8,7 @@ ghost use Rattle.file_tree.specs.Book.{Entry};
 ghost use Rattle.group_rules.specs.Names.{number_of_view, place_of};
 ghost use Rattle.group_rules.specs.State.{Demote, Form as SendsForm, Formed, Give, Invite, Join};
 ghost use Rattle.group_rules.specs.Step.{Comes, rule};
-ghost use Rattle.harp_base.specs.Streams.{Rose};
+ghost use Rattle.harp_types.specs.Streams.{Rose};
 ghost use Rattle.idle_log.specs.Kept.{plan_of};
 ghost use Rattle.node.specs.Cached.{IsCachedAs};
 ghost use Rattle.node.specs.Disk.{MayLeave, disk_after, marked_by};
@@ -19,7 +19,7 @@ ghost use Rattle.view_form.specs.Choice.{report};
 
 use crate::fault::NodeFault;
 use crate::node::Node;
-use harp_base::{ServerId, ViewNo};
+use harp_types::{ServerId, ViewNo};
 use harp_store::Store;
 use idle_log::Form;
 use node_outputs::Outputs;

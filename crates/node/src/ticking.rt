@@ -23,7 +23,7 @@ ghost use Rattle.view_form.specs.Choice.{report};
 use crate::node::Node;
 use crate::same::{is_one, is_view};
 use crate::state::{State, Task};
-use harp_base::{ServerId, ViewNo};
+use harp_types::{ServerId, ViewNo};
 use idle_log::Form;
 use node_outputs::Outputs;
 use std::alloc::{AllocError, Global};

@@ -1,8 +1,8 @@
 -- A link in memory.
 use Rattle.std.specs.Prelude.{List, Option, Some, None, filter_map}
-use Rattle.harp_base.specs.Memory.{Failing}
-use Rattle.harp_base.specs.declared.server.ServerId.{ServerId}
-use Rattle.harp_base.specs.declared.server.ServerId.TheVariants.{Zero, One, Two}
+use Rattle.harp_types.specs.Memory.{Failing}
+use Rattle.harp_types.specs.declared.server.ServerId.{ServerId}
+use Rattle.harp_types.specs.declared.server.ServerId.TheVariants.{Zero, One, Two}
 use Rattle.node_link.specs.Traffic.{Traffic}
 use Rattle.node_link.specs.declared.link.Datagram.{Datagram}
 use Rattle.node_link.specs.declared.link.Waiting.{Waiting}

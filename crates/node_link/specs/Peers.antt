@@ -1,9 +1,9 @@
 -- Peers as addresses: the places of a group have three ports in a row, at 127.0.0.1.
 use Rattle.std.specs.Prelude.{◌≡◌, ℕ, ◌+◌}
-use Rattle.harp_base.specs.Server.{number_of}
-use Rattle.harp_base.specs.declared.server.ServerId.{ServerId}
-use Rattle.harp_base.specs.declared.peer.Peer.{Peer}
-use Rattle.harp_base.specs.declared.peer.Peer.TheVariants.{Server, Other}
+use Rattle.harp_types.specs.Server.{number_of}
+use Rattle.harp_types.specs.declared.server.ServerId.{ServerId}
+use Rattle.harp_types.specs.declared.peer.Peer.{Peer}
+use Rattle.harp_types.specs.declared.peer.Peer.TheVariants.{Server, Other}
 
 -- 127.0.0.1 as a number
 abbrev pub localhost : ℕ

@@ -1,8 +1,8 @@
 -- The datagrams that a link took, sent and has left, and what its calls make of them.
 use Rattle.std.specs.Prelude.{◌≡◌, ℕ, List, [], ◌∷◌, ◌++◌, drop, Option, Some, None}
-use Rattle.harp_base.specs.Trio.{value_of, with_value}
-use Rattle.harp_base.specs.declared.trio.Trio.{Trio}
-use Rattle.harp_base.specs.declared.server.ServerId.{ServerId}
+use Rattle.harp_types.specs.Trio.{value_of, with_value}
+use Rattle.harp_types.specs.declared.trio.Trio.{Trio}
+use Rattle.harp_types.specs.declared.server.ServerId.{ServerId}
 use Rattle.node_link.specs.declared.link.Datagram.{Datagram}
 use Rattle.node_link.specs.declared.link.TakenDatagram.{TakenDatagram}
 use Rattle.node_link.specs.declared.link.SentDatagram.{SentDatagram}

@@ -1,14 +1,14 @@
 //! What time it is.
 
 ghost use Rattle.std.specs.Prelude.{◌≤◌, ◌<◌, ◌^◌, ℕ, List, Option};
-ghost use Rattle.harp_base.specs.declared.server.ServerId.{ServerId as Place};
+ghost use Rattle.harp_types.specs.declared.server.ServerId.{ServerId as Place};
 ghost use Rattle.node_link.specs.declared.clock.Reading.{Reading as Read};
 ghost use Rattle.node_link.specs.Readings.{MayTell};
 
-use harp_base::ServerId;
+use harp_types::ServerId;
 
 /// What a clock gave at a place, in milliseconds.
-#[derive(Clone, Copy, Debug, PartialEq, Eq)]
+#[derive(Clone, Copy, PartialEq, Eq)]
 pub struct Reading {
     pub place: ServerId,
     pub millis: u64,

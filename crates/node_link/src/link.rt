@@ -1,17 +1,17 @@
 //! Where datagrams come from and go to.
 
 ghost use Rattle.std.specs.Prelude.{◌≡◌, ◌≤◌, ℕ, Option, IfOk, OnOk, OnErr, Err};
-ghost use Rattle.harp_base.specs.Streams.{Rose};
+ghost use Rattle.harp_types.specs.Streams.{Rose};
 ghost use Rattle.node_link.specs.Traffic.{Traffic, TakesNext, last_port, with_sent_told};
 
-use harp_base::{Bytes, Failed, Peer, ServerId};
+use harp_types::{Bytes, Failed, Peer, ServerId};
 use std::alloc::{AllocError, Global};
 
 /// The greatest port of a link, which leaves a port for each of the three places.
 pub const LAST_PORT: u16 = 65_533;
 
 /// A datagram that came from a peer.
-#[derive(Debug, Drop)]
+#[derive(Drop)]
 pub struct Datagram {
     pub from: Peer,
     pub bytes: Bytes,
@@ -30,14 +30,14 @@ impl Datagram {
 }
 
 /// A datagram that was taken at a place.
-#[derive(Debug, Drop)]
+#[derive(Drop)]
 pub struct TakenDatagram {
     pub place: ServerId,
     pub datagram: Datagram,
 }
 
 /// A datagram that was sent from a place to a peer.
-#[derive(Debug, Drop)]
+#[derive(Drop)]
 pub struct SentDatagram {
     pub place: ServerId,
     pub to: Peer,
@@ -45,14 +45,14 @@ pub struct SentDatagram {
 }
 
 /// A datagram, and the place that it waits for.
-#[derive(Debug, Drop)]
+#[derive(Drop)]
 pub struct Waiting {
     pub place: ServerId,
     pub datagram: Datagram,
 }
 
 /// Why a link did nothing.
-#[derive(Clone, Copy, Debug, PartialEq, Eq)]
+#[derive(Clone, Copy, PartialEq, Eq)]
 pub enum LinkFault {
     Failed,
     NoMemory,

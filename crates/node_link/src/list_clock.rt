@@ -2,11 +2,11 @@
 
 ghost use Rattle.std.specs.Prelude.{◌≡◌, ◌≤◌, ◌<◌, ◌^◌, ◌++◌, [], ◌∷◌, drop, true, Some, None};
 ghost use Rattle.std.specs.Option.{option_copied};
-ghost use Rattle.harp_base.specs.declared.server.ServerId.{ServerId as Place};
+ghost use Rattle.harp_types.specs.declared.server.ServerId.{ServerId as Place};
 ghost use Rattle.node_link.specs.Readings.{MayTell, next_reading, rises_from};
 
 use crate::clock::{Clock, Reading};
-use harp_base::ServerId;
+use harp_types::ServerId;
 use std::alloc::Global;
 use std::marker::Model;
 
@@ -26,7 +26,7 @@ pub fn readings_rise(readings: &[u64]) -> bool
 
 /// A clock that gives the readings of a list, all places from the same one. Behind its end the last
 /// reading is repeated; without any it is 0.
-#[derive(Debug, Drop)]
+#[derive(Drop)]
 pub struct ListClock {
     readings: Vec<u64>,
     at: usize,

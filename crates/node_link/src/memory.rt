@@ -1,22 +1,22 @@
 //! A link in memory, some of whose calls fail.
 
 ghost use Rattle.std.specs.Prelude.{◌≡◌, ◌≤◌, [], ◌↔◌, Some, IfOk, OnOk, OnErr, IsErr, Err};
-ghost use Rattle.harp_base.specs.Streams.{Rose};
-ghost use Rattle.harp_base.specs.Memory.{FailsNext, before_calls, after_fault, after_success};
-ghost use Rattle.harp_base.specs.Trio.{value_of};
-ghost use Rattle.harp_base.specs.declared.server.ServerId.{ServerId as Place};
+ghost use Rattle.harp_types.specs.Streams.{Rose};
+ghost use Rattle.harp_types.specs.Memory.{FailsNext, before_calls, after_fault, after_success};
+ghost use Rattle.harp_types.specs.Trio.{value_of};
+ghost use Rattle.harp_types.specs.declared.server.ServerId.{ServerId as Place};
 ghost use Rattle.node_link.specs.Traffic.{TakesNext, next_at, with_sent, without_next};
 ghost use Rattle.node_link.specs.Memory.{waiting_at};
 
 use crate::link::{Datagram, Link, LinkFault, SentDatagram, TakenDatagram, Waiting};
 use crate::queues::Queues;
-use harp_base::{Bytes, Failed, FailingCalls, Peer, ServerId};
+use harp_types::{Bytes, Failed, FailingCalls, Peer, ServerId};
 use std::alloc::{AllocError, Global};
 use std::marker::Model;
 
 /// A link that gives the datagrams of a list, and keeps what is sent over it. Nothing that is sent
 /// is received again.
-#[derive(Debug, Drop)]
+#[derive(Drop)]
 pub struct MemLink {
     left: Queues,
     taken: Vec<TakenDatagram>,

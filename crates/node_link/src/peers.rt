@@ -4,7 +4,7 @@ ghost use Rattle.std.specs.Prelude.{◌≡◌, ◌≤◌};
 ghost use Rattle.node_link.specs.Peers.{IsPeerAt, address_of};
 ghost use Rattle.node_link.specs.Traffic.{last_port};
 
-use harp_base::{Peer, ServerId};
+use harp_types::{Peer, ServerId};
 
 /// 127.0.0.1, where the places of a group are.
 const LOCALHOST: u32 = 0x7f00_0001;

@@ -2,19 +2,19 @@
 
 ghost use Rattle.std.specs.Prelude.{◌≡◌, ◌++◌, [], ◌∷◌, drop, IfOk, OnOk};
 ghost use Rattle.std.specs.Option.{option_copied};
-ghost use Rattle.harp_base.specs.Trio.{value_of, with_value};
-ghost use Rattle.harp_base.specs.declared.server.ServerId.{ServerId as Place};
+ghost use Rattle.harp_types.specs.Trio.{value_of, with_value};
+ghost use Rattle.harp_types.specs.declared.server.ServerId.{ServerId as Place};
 ghost use Rattle.node_link.specs.Traffic.{first};
 ghost use Rattle.node_link.specs.Memory.{waiting_at};
 
 use crate::link::{Datagram, Waiting};
-use harp_base::ServerId;
+use harp_types::ServerId;
 use std::alloc::{AllocError, Global};
 use std::collections::VecDeque;
 use std::marker::Model;
 
 /// A queue of datagrams for each place.
-#[derive(Debug, Drop)]
+#[derive(Drop)]
 pub struct Queues {
     zero: VecDeque<Datagram>,
     one: VecDeque<Datagram>,
@@ -23,7 +23,7 @@ pub struct Queues {
 
 impl Model for Queues {
     ghost use Rattle.std.specs.Prelude.{List};
-    ghost use Rattle.harp_base.specs.declared.trio.Trio.{Trio};
+    ghost use Rattle.harp_types.specs.declared.trio.Trio.{Trio};
     ghost use Rattle.node_link.specs.declared.link.Datagram.{Datagram};
 
     ghost Value = { Trio (List Datagram) };

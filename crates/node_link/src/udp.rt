@@ -1,12 +1,12 @@
 //! Datagrams over UDP.
 
 ghost use Rattle.std.specs.Prelude.{◌≡◌, ◌≤◌, ◌<◌, ◌+◌, ℕ, None, OnErr, IfSome, Err};
-ghost use Rattle.harp_base.specs.Streams.{Rose};
+ghost use Rattle.harp_types.specs.Streams.{Rose};
 ghost use Rattle.node_link.specs.Traffic.{last_port};
 
 use crate::link::{Datagram, Link, LinkFault};
 use crate::peers::{address_of, peer_at};
-use harp_base::{Bytes, Failed, Peer, ServerId, Trio};
+use harp_types::{Bytes, Failed, Peer, ServerId, Trio};
 use std::alloc::Global;
 use std::io::ErrorKind;
 use std::net::{Ipv4Addr, Net, SocketAddr, SocketAddrV4, UdpSocket};

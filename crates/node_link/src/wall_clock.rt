@@ -1,11 +1,11 @@
 //! The day's clock.
 
 ghost use Rattle.std.specs.Prelude.{◌≡◌, ◌≤◌, ◌<◌, ◌^◌, None, IfSome};
-ghost use Rattle.harp_base.specs.declared.server.ServerId.{ServerId as Place};
+ghost use Rattle.harp_types.specs.declared.server.ServerId.{ServerId as Place};
 ghost use Rattle.node_link.specs.Readings.{MayTell};
 
 use crate::clock::Clock;
-use harp_base::ServerId;
+use harp_types::ServerId;
 use std::time;
 use std::time::SystemTime;
 

@@ -1,9 +1,9 @@
 -- Servers in a scene.
 use Rattle.std.proofs.Common.{◌≡◌, ℕ, zero, suc, ◌+◌, List, [], ◌∷◌, ◌++◌, Option, None, ap, arith, inl, inr, refl, subst, sym}
-use Rattle.harp_base.specs.Trio.{value_of}
-use Rattle.harp_base.specs.declared.server.ServerId.{ServerId}
-use Rattle.harp_base.specs.declared.trio.Trio.{Trio}
-use Rattle.harp_base.specs.declared.server.ServerId.TheVariants.{Zero, One, Two}
+use Rattle.harp_types.specs.Trio.{value_of}
+use Rattle.harp_types.specs.declared.server.ServerId.{ServerId}
+use Rattle.harp_types.specs.declared.trio.Trio.{Trio}
+use Rattle.harp_types.specs.declared.server.ServerId.TheVariants.{Zero, One, Two}
 use Rattle.harp_store.specs.Disk.{Moments}
 use Rattle.node_link.specs.Traffic.{Traffic}
 use Rattle.node_link.specs.declared.clock.Reading.{Reading}

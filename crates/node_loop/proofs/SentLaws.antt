@@ -1,6 +1,6 @@
 -- A receive sends nothing.
 use Rattle.std.proofs.Common.{◌≡◌, Option, Some, None, ap}
-use Rattle.harp_base.specs.declared.server.ServerId.{ServerId}
+use Rattle.harp_types.specs.declared.server.ServerId.{ServerId}
 use Rattle.node_link.specs.Traffic.{Traffic, TakesNext}
 use Rattle.node_link.specs.declared.link.Datagram.{Datagram}
 use Rattle.node_loop.specs.Turn.{sent_of}

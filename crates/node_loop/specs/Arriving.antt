@@ -1,7 +1,7 @@
 -- What a datagram gives to a server.
 use Rattle.std.specs.Prelude.{◌≡◌, ◌⊎◌, ℕ, List, Option, Some, None}
-use Rattle.harp_base.specs.declared.peer.Peer.{Peer}
-use Rattle.harp_base.specs.declared.peer.Peer.TheVariants.{Server, Other}
+use Rattle.harp_types.specs.declared.peer.Peer.{Peer}
+use Rattle.harp_types.specs.declared.peer.Peer.TheVariants.{Server, Other}
 use Rattle.node_link.specs.declared.link.Datagram.{Datagram}
 use Rattle.wire.specs.Messages.{MessageFits, message_bytes}
 use Rattle.wire.specs.declared.message.Message.{Message}

@@ -1,8 +1,8 @@
 -- The datagrams that a step of a server sends.
 use Rattle.std.specs.Prelude.{List, ◌++◌, map}
-use Rattle.harp_base.specs.declared.peer.Peer.{Peer}
-use Rattle.harp_base.specs.declared.peer.Peer.TheVariants.{Server}
-use Rattle.harp_base.specs.declared.server.ServerId.{ServerId}
+use Rattle.harp_types.specs.declared.peer.Peer.{Peer}
+use Rattle.harp_types.specs.declared.peer.Peer.TheVariants.{Server}
+use Rattle.harp_types.specs.declared.server.ServerId.{ServerId}
 use Rattle.node_link.specs.declared.link.SentDatagram.{SentDatagram}
 use Rattle.node_outputs.specs.declared.outputs.Answered.{Answered}
 use Rattle.node_outputs.specs.declared.outputs.Outputs.{Outputs}

@@ -1,8 +1,8 @@
 -- THE NODE RUN: what servers are given and send, turn by turn, from their boots on.
 use Rattle.std.specs.Prelude.{◌≡◌, ◌⊎◌, ℕ, zero, suc, List, [], ◌++◌, Option}
-use Rattle.harp_base.specs.Trio.{value_of}
-use Rattle.harp_base.specs.declared.server.ServerId.{ServerId}
-use Rattle.harp_base.specs.declared.trio.Trio.{Trio}
+use Rattle.harp_types.specs.Trio.{value_of}
+use Rattle.harp_types.specs.declared.server.ServerId.{ServerId}
+use Rattle.harp_types.specs.declared.trio.Trio.{Trio}
 use Rattle.harp_store.specs.Disk.{Moments}
 use Rattle.node.specs.Node.{NodeValue}
 use Rattle.node.specs.declared.input.Input.{Input}

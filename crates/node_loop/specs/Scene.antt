@@ -1,12 +1,12 @@
 -- Servers that run, what they share, and what each counts.
 use Rattle.std.specs.Prelude.{◌≡◌, ◌≤◌, ℕ, ◌+◌, ◌-◌, ◌^◌, min, false, List, [], ◌∷◌, ◌++◌, length, Option, None, Some}
 use Rattle.cell_cache.specs.Entries.{AreOf}
-use Rattle.harp_base.specs.Memory.{raised}
-use Rattle.harp_base.specs.Streams.{Rose}
-use Rattle.harp_base.specs.Trio.{value_of, with_value}
-use Rattle.harp_base.specs.declared.server.ServerId.{ServerId}
-use Rattle.harp_base.specs.declared.server.ServerId.TheVariants.{Zero, One, Two}
-use Rattle.harp_base.specs.declared.trio.Trio.{Trio}
+use Rattle.harp_types.specs.Memory.{raised}
+use Rattle.harp_types.specs.Streams.{Rose}
+use Rattle.harp_types.specs.Trio.{value_of, with_value}
+use Rattle.harp_types.specs.declared.server.ServerId.{ServerId}
+use Rattle.harp_types.specs.declared.server.ServerId.TheVariants.{Zero, One, Two}
+use Rattle.harp_types.specs.declared.trio.Trio.{Trio}
 use Rattle.harp_store.specs.Disk.{Moments, cells_told}
 use Rattle.node.specs.Node.{NodeValue}
 use Rattle.node_link.specs.Traffic.{Traffic}

@@ -3,7 +3,7 @@ use Rattle.std.specs.Prelude.{◌≡◌, ℕ, false, List, [], Option, Some}
 use Rattle.file_tree.specs.Book.{Entry}
 use Rattle.group_rules.specs.Effects.{booted}
 use Rattle.group_rules.specs.Names.{place_of}
-use Rattle.harp_base.specs.declared.server.ServerId.{ServerId}
+use Rattle.harp_types.specs.declared.server.ServerId.{ServerId}
 use Rattle.harp_store.specs.Disk.{Moments, reads}
 use Rattle.node.specs.Boot.{HasBase, HoldSaved, after_boot, boot_mark, booted_without, mark_before}
 use Rattle.node.specs.Input.{FillsInput, input_of}

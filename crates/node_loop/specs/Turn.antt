@@ -1,8 +1,8 @@
 -- One turn at a place: what it gives to the server, of the readings of the clock and the datagram
 -- that came.
 use Rattle.std.specs.Prelude.{◌≡◌, ℕ, Bool, true, false, List, [], ◌∷◌, ◌++◌, nat_le, Option, Some, None}
-use Rattle.harp_base.specs.declared.server.ServerId.{ServerId}
-use Rattle.harp_base.specs.declared.state.Role.{Role}
+use Rattle.harp_types.specs.declared.server.ServerId.{ServerId}
+use Rattle.harp_types.specs.declared.state.Role.{Role}
 use Rattle.node_link.specs.Traffic.{Traffic, TakesNext}
 use Rattle.node_link.specs.declared.link.Datagram.{Datagram}
 use Rattle.node_link.specs.declared.link.SentDatagram.{SentDatagram}

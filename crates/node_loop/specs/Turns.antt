@@ -1,11 +1,11 @@
 -- The turns of a running server: when it ticks, what it is given then, and how quiet it is.
 use Rattle.std.specs.Prelude.{ℕ, ◌+◌, ◌%◌, ◌==◌, ◌&&◌, Bool, true, false, List, [], ◌∷◌, ◌++◌, nat_le, if◌then◌else◌}
-use Rattle.harp_base.specs.Memory.{raised}
-use Rattle.harp_base.specs.Server.{number_of}
-use Rattle.harp_base.specs.declared.server.ServerId.{ServerId}
-use Rattle.harp_base.specs.declared.server.ServerId.TheVariants.{Zero, One, Two}
-use Rattle.harp_base.specs.declared.state.Role.{Role}
-use Rattle.harp_base.specs.declared.state.Role.TheVariants.{Leads, Follows, Outside}
+use Rattle.harp_types.specs.Memory.{raised}
+use Rattle.harp_types.specs.Server.{number_of}
+use Rattle.harp_types.specs.declared.server.ServerId.{ServerId}
+use Rattle.harp_types.specs.declared.server.ServerId.TheVariants.{Zero, One, Two}
+use Rattle.harp_types.specs.declared.state.Role.{Role}
+use Rattle.harp_types.specs.declared.state.Role.TheVariants.{Leads, Follows, Outside}
 use Rattle.node_link.specs.declared.link.LinkFault.{LinkFault}
 use Rattle.node_link.specs.declared.link.LinkFault.TheVariants as link
 use Rattle.node_loop.specs.declared.fault.LoopFault.{LoopFault}

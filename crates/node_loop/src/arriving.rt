@@ -3,7 +3,7 @@
 ghost use Rattle.std.specs.Prelude.{◌≡◌, IfOk};
 ghost use Rattle.node_loop.specs.Arriving.{Arrives, from_server, input_of};
 
-use harp_base::Peer;
+use harp_types::Peer;
 use node::Input;
 use node_link::Datagram;
 use std::alloc::{AllocError, Global};

@@ -1,11 +1,11 @@
 //! Opening places of a link.
 
 ghost use Rattle.std.specs.Prelude.{◌≡◌, ◌≤◌, Err};
-ghost use Rattle.harp_base.specs.Streams.{Rose};
+ghost use Rattle.harp_types.specs.Streams.{Rose};
 ghost use Rattle.node_link.specs.Traffic.{last_port};
 
 use crate::fault::LoopFault;
-use harp_base::ServerId;
+use harp_types::ServerId;
 use node_link::Link;
 
 /// Opens a place.

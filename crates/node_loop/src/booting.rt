@@ -1,14 +1,14 @@
 //! Booting a server at its place.
 
 ghost use Rattle.std.specs.Prelude.{◌≡◌, ◌≤◌, IfOk, Err};
-ghost use Rattle.harp_base.specs.Streams.{Rose};
+ghost use Rattle.harp_types.specs.Streams.{Rose};
 ghost use Rattle.node_loop.specs.Run.{IsBooted};
 ghost use Rattle.node_loop.specs.Scene.{IsUp};
 
 use crate::fault::LoopFault;
 use crate::pace::Pace;
 use crate::running::Running;
-use harp_base::ServerId;
+use harp_types::ServerId;
 use harp_store::Store;
 use node::{Node, NodeFault};
 use node_link::Clock;

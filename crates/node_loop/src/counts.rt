@@ -1,14 +1,14 @@
 //! What a loop counts.
 
 ghost use Rattle.std.specs.Prelude.{◌≡◌};
-ghost use Rattle.harp_base.specs.Memory.{raised};
+ghost use Rattle.harp_types.specs.Memory.{raised};
 ghost use Rattle.node_loop.specs.Scene.{taken_after};
 
 use node_link::Datagram;
 
 /// The datagrams that were taken, dropped ones too, and those that were sent. Each is counted up to
 /// 2^64 - 1.
-#[derive(Clone, Copy, Debug, PartialEq, Eq)]
+#[derive(Clone, Copy, PartialEq, Eq)]
 pub struct Counts {
     pub taken: u64,
     pub sent: u64,
@@ -16,7 +16,7 @@ pub struct Counts {
 
 /// What a loop did: its turns, the datagrams that it took, dropped ones too, and those that it
 /// sent, each counted up to 2^64 - 1.
-#[derive(Clone, Copy, Debug, PartialEq, Eq)]
+#[derive(Clone, Copy, PartialEq, Eq)]
 pub struct Served {
     pub turns: u64,
     pub taken: u64,

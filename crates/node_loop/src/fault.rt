@@ -7,7 +7,7 @@ use node_link::LinkFault;
 use std::alloc::AllocError;
 
 /// Why a loop ended before its turns.
-#[derive(Clone, Copy, Debug, PartialEq, Eq)]
+#[derive(Clone, Copy, PartialEq, Eq)]
 pub enum LoopFault {
     /// A disk failed.
     StoreFailed,

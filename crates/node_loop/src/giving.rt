@@ -1,7 +1,7 @@
 //! Giving inputs to a server, and sending what goes out.
 
 ghost use Rattle.std.specs.Prelude.{◌≡◌, ◌≤◌, ◌<◌, ◌^◌, OnErr, OnOk, Err};
-ghost use Rattle.harp_base.specs.Streams.{Rose};
+ghost use Rattle.harp_types.specs.Streams.{Rose};
 ghost use Rattle.node_loop.specs.Chain.{Chain, Stops};
 ghost use Rattle.node_loop.specs.Run.{IsGiven, IsGivenInPart, SendsInPart};
 ghost use Rattle.node_loop.specs.Scene.{IsUp, sent_after, with_all_sent, work};
@@ -10,7 +10,7 @@ ghost use Rattle.node_loop.specs.Turn.{sent_of};
 use crate::counts::Counts;
 use crate::fault::{LoopFault, of_link};
 use crate::outgoing::datagrams_of;
-use harp_base::ServerId;
+use harp_types::ServerId;
 use harp_store::Store;
 use node::{Input, Node, NodeFault};
 use node_link::{Link, SentDatagram};

@@ -3,7 +3,7 @@
 ghost use Rattle.std.specs.Prelude.{◌≡◌, ◌++◌, ◌∷◌, [], map, IfOk, OnOk};
 ghost use Rattle.node_loop.specs.Outgoing.{answer_sent, datagram, datagrams, message_sent, refusal_sent};
 
-use harp_base::{Peer, ServerId};
+use harp_types::{Peer, ServerId};
 use node_link::SentDatagram;
 use node_outputs::{Answered, Outputs, Refused, Sent};
 use std::alloc::{AllocError, Global};

@@ -4,7 +4,7 @@ ghost use Rattle.std.specs.Prelude.{◌≡◌, ◌<◌, ◌^◌, ◌∷◌, ◌+
 ghost use Rattle.node_loop.specs.Turns.{after_input, after_tick, first_pace, given_if, is_of_other, is_other, may_suspect, patience, tick_inputs};
 ghost use Rattle.node.specs.declared.input.Input.TheVariants.{Apply, Flush, Suspect, Tick};
 
-use harp_base::{Role, ServerId};
+use harp_types::{Role, ServerId};
 use node::Input;
 use std::alloc::{AllocError, Global};
 use std::marker::Model;
@@ -21,7 +21,7 @@ const TICKS_TO_FLUSH: u64 = 5;
 /// What is kept of a server between its turns: when it ticks next, its ticks so far, and how many
 /// of them it was quiet, since it heard the other storer of its view or suspected last. Each is
 /// counted up to 2^64 - 1.
-#[derive(Clone, Copy, Debug, PartialEq, Eq)]
+#[derive(Clone, Copy, PartialEq, Eq)]
 pub struct Pace {
     due: u64,
     ticks: u64,

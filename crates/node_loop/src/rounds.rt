@@ -1,7 +1,7 @@
 //! The turns of servers.
 
 ghost use Rattle.std.specs.Prelude.{◌≡◌, ◌≤◌, ◌∷◌, [], OnErr, OnOk, Err};
-ghost use Rattle.harp_base.specs.Streams.{Rose};
+ghost use Rattle.harp_types.specs.Streams.{Rose};
 ghost use Rattle.node_loop.specs.Chain.{Chain, Stops};
 ghost use Rattle.node_loop.specs.Run.{IsTurnInPart, Turns, TurnsAt, TurnsAtInPart, rounds};
 ghost use Rattle.node_loop.specs.Scene.{AreUp, IsUp, NoneFell, OneRose, all_places, alone, each};
@@ -14,7 +14,7 @@ use crate::giving::give_all;
 use crate::running::Running;
 use crate::turn::take_turn;
 use crate::turned::Turned;
-use harp_base::{ServerId, Trio};
+use harp_types::{ServerId, Trio};
 use harp_store::Store;
 use node_link::{Clock, Link};
 use std::alloc::Global;

@@ -1,7 +1,7 @@
 //! Running servers over a link, disks and a clock.
 
 ghost use Rattle.std.specs.Prelude.{◌≡◌, ◌≤◌, ◌∷◌, [], Option, IfOk, OnErr, Err};
-ghost use Rattle.harp_base.specs.Streams.{Rose};
+ghost use Rattle.harp_types.specs.Streams.{Rose};
 ghost use Rattle.node_link.specs.Traffic.{Traffic, last_port};
 ghost use Rattle.node_loop.specs.Chain.{Chain};
 ghost use Rattle.node_loop.specs.Run.{BootsAt, IsCutOff, IsRun};
@@ -15,7 +15,7 @@ use crate::counts::{Counts, Served};
 use crate::fault::LoopFault;
 use crate::rounds::{turns_alone, turns_together};
 use crate::running::Running;
-use harp_base::{ServerId, Trio};
+use harp_types::{ServerId, Trio};
 use harp_store::Store;
 use node_link::{Clock, Link};
 use promise::Delta;

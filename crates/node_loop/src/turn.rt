@@ -1,15 +1,15 @@
 //! One turn at a place.
 
 ghost use Rattle.std.specs.Prelude.{◌≡◌, ◌≤◌, ◌<◌, ◌^◌, IfOk, OnErr, Err};
-ghost use Rattle.harp_base.specs.Streams.{Rose};
-ghost use Rattle.harp_base.specs.declared.server.ServerId.{ServerId as Place};
+ghost use Rattle.harp_types.specs.Streams.{Rose};
+ghost use Rattle.harp_types.specs.declared.server.ServerId.{ServerId as Place};
 ghost use Rattle.node_loop.specs.Turn.{Comes, IsTurn, LinkTurns, MayTellAll, readings_of, sent_of};
 
 use crate::arriving::arrived;
 use crate::fault::{LoopFault, of_link};
 use crate::pace::Pace;
 use crate::turned::Turned;
-use harp_base::{Role, ServerId};
+use harp_types::{Role, ServerId};
 use node::Input;
 use node_link::{Clock, Datagram, Link};
 use std::alloc::{AllocError, Global};

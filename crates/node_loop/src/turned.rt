@@ -5,7 +5,7 @@ use node_link::Datagram;
 
 /// A turn at a place: the reading of the clock that it began with, the datagram that it took, the
 /// last reading, and what it gives to the server at that reading, in order.
-#[derive(Debug, Drop)]
+#[derive(Drop)]
 pub struct Turned {
     pub began: u64,
     pub taken: Option<Datagram>,

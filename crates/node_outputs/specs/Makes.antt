@@ -1,6 +1,6 @@
 -- A call makes moves of the group's machine.
 use Rattle.std.specs.Prelude.{◌≡◌, ℕ, List, [], ◌++◌, map}
-use Rattle.harp_base.specs.declared.peer.Peer.{Peer}
+use Rattle.harp_types.specs.declared.peer.Peer.{Peer}
 use Rattle.file_tree.specs.Book.{Entry}
 use Rattle.group_rules.specs.Moves.{Move, acts}
 use Rattle.group_rules.specs.Places.{Place}

@@ -1,7 +1,7 @@
 -- Messages of the code as those of the group's machine.
 use Rattle.std.specs.Prelude.{map, Option, None, Some}
-use Rattle.harp_base.specs.declared.state.Held.{Held as HeldTold}
-use Rattle.harp_base.specs.declared.state.Held.TheVariants as held
+use Rattle.harp_types.specs.declared.state.Held.{Held as HeldTold}
+use Rattle.harp_types.specs.declared.state.Held.TheVariants as held
 use Rattle.event_record.specs.Record.{entry_of}
 use Rattle.file_tree.specs.Book.{Entry}
 use Rattle.group_rules.specs.Names.{number_of_view, place_of}

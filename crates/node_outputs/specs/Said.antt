@@ -1,7 +1,7 @@
 -- What calls give to others, and what the moves of a step say.
 use Rattle.std.specs.Prelude.{ℕ, List, [], ◌∷◌, map, Option, None, Some, option_map, if◌then◌else◌}
 use Rattle.std.specs.List.{flat_map}
-use Rattle.harp_base.specs.declared.peer.Peer.{Peer}
+use Rattle.harp_types.specs.declared.peer.Peer.{Peer}
 use Rattle.file_tree.specs.Book.{Entry}
 use Rattle.group_rules.specs.Moves.{Appending, Choosing, Move, Opening, Saying, act}
 use Rattle.group_rules.specs.Names.{number_of_view, place_of}
@@ -9,7 +9,7 @@ use Rattle.group_rules.specs.Places.{Place}
 use Rattle.group_rules.specs.Said.{Answer, Refusal, answers_said, refusals_said}
 use Rattle.group_rules.specs.Shown.{cause_of}
 use Rattle.group_rules.specs.State.{Answers, Lists, Message, Refuses, Say, Server}
-use Rattle.trace_lines.specs.declared.line.BookEntry.{BookEntry}
+use Rattle.harp_types.specs.declared.book.BookEntry.{BookEntry}
 use Rattle.tree_listing.specs.declared.listing.Listing.{Listing}
 use Rattle.node_outputs.specs.Messages.{heard}
 use Rattle.node_outputs.specs.declared.outputs.Answered.{Answered}

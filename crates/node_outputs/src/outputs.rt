@@ -6,14 +6,14 @@ ghost use Rattle.node_outputs.specs.Messages.{heard};
 ghost use Rattle.node_outputs.specs.Records.{carried, records_sent};
 ghost use Rattle.node_outputs.specs.Said.{entered, nothing, said};
 
-use harp_base::{Call, Cred, Peer, Reply, ServerId, ViewNo};
+use harp_types::{Call, Cred, Peer, Reply, ServerId, ViewNo};
 use std::alloc::{AllocError, Global};
-use trace_lines::{BookEntry, Cause};
+use harp_types::{BookEntry, Cause};
 use tree_listing::Listing;
 use wire::Message;
 
 /// An answer to an ask.
-#[derive(Debug, Drop)]
+#[derive(Drop)]
 pub struct Answered {
     /// Who asked.
     pub peer: Peer,
@@ -28,14 +28,14 @@ pub struct Answered {
 }
 
 /// A read that was asked.
-#[derive(Debug, Drop)]
+#[derive(Drop)]
 pub struct AskedRead {
     pub cred: Cred,
     pub call: Call,
 }
 
 /// An ask that is refused.
-#[derive(Clone, Copy, Debug, PartialEq, Eq)]
+#[derive(Clone, Copy, PartialEq, Eq)]
 pub struct Refused {
     /// Who asked.
     pub peer: Peer,
@@ -46,14 +46,14 @@ pub struct Refused {
 }
 
 /// A message to another server.
-#[derive(Debug, Drop)]
+#[derive(Drop)]
 pub struct Sent {
     pub to: ServerId,
     pub message: Message,
 }
 
 /// A view that was chosen, and the view that it starts from.
-#[derive(Clone, Copy, Debug, PartialEq, Eq)]
+#[derive(Clone, Copy, PartialEq, Eq)]
 pub struct Chosen {
     pub view: ViewNo,
     pub from: ViewNo,
@@ -69,7 +69,7 @@ pub struct Asker {
 }
 
 /// What calls gave, each list in its order.
-#[derive(Debug, Drop)]
+#[derive(Drop)]
 pub struct Outputs {
     /// The updates that came within CP at an open leader, by their indices.
     pub committed: Vec<BookEntry>,

@@ -12,7 +12,7 @@ mod disk;
 mod server;
 
 use crate::server::{Server, input_of};
-use harp_base::ServerId;
+use harp_types::ServerId;
 use harp_cells::Cell;
 use harp_store::{Pick, Store, StoreFault};
 use node::{Input, NodeFault};

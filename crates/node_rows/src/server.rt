@@ -1,7 +1,7 @@
 //! One server over its disk.
 
 use crate::disk::Disk;
-use harp_base::{Peer, ServerId};
+use harp_types::{Peer, ServerId};
 use harp_store::MemStore;
 use node::{Input, Node, NodeFault};
 use node_outputs::Outputs;

@@ -1,6 +1,6 @@
 -- What a function of the plain program gives.
 use Rattle.std.specs.Prelude.{◌≡◌, ℕ, ◌<◌, List, length, slice_index_or, Result, Ok, Err}
-use Rattle.harp_base.specs.declared.reply.Reply.{Reply}
+use Rattle.harp_types.specs.declared.reply.Reply.{Reply}
 use Rattle.plain_tree.specs.declared.error.TreeError.{TreeError}
 use Rattle.plain_tree.specs.declared.error.TreeError.TheVariants as error
 use Rattle.file_tree.specs.Tree.{Tree, holder_from}

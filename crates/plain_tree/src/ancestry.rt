@@ -1,7 +1,7 @@
 //! The way up from a directory, in time linear in the tree: one pass finds every holder.
 
 ghost use Rattle.std.specs.Prelude.{◌≡◌, ◌<◌, ◌≤◌, ◌==◌, ◌&&◌, ℕ, IfOk, length, slice_index_or, if◌then◌else◌};
-ghost use Rattle.harp_base.specs.Limits.{object_numbers};
+ghost use Rattle.harp_types.specs.Limits.{object_numbers};
 ghost use Rattle.plain_tree.specs.Plain.{AreHolders};
 ghost use Rattle.file_tree.specs.Tree.{place, names_it, names_in, is_directory_at, parent_of};
 ghost use Rattle.file_tree.specs.Rename.{is_above};

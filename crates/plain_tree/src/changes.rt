@@ -1,14 +1,14 @@
 //! Changes of a tree. What can want memory is done first, and the tree is changed last.
 
 ghost use Rattle.std.specs.Prelude.{◌≡◌, ◌<◌, ◌≤◌, ◌+◌, ◌*◌, ◌++◌, ◌∷◌, [], IfOk, OnOk, OnErr, length, Some, None, Option, IsSome, IsTrue};
-ghost use Rattle.harp_base.specs.Limits.{object_numbers, slot_size, tree_blocks};
+ghost use Rattle.harp_types.specs.Limits.{object_numbers, slot_size, tree_blocks};
 ghost use Rattle.file_tree.specs.Within.{IsWithinLimits, SameBlocks};
 ghost use Rattle.file_tree.specs.Tree.{place, with_entry, size_of, blocks_at, blocks_of, used_blocks};
 ghost use Rattle.file_tree.specs.Outcome.{change, reslotted, rewritten, set_ctime, slot_changed, slot_replaced, lost_entry, with_object};
 
 use crate::computed::{free_place, names_of};
 use file_tree::{Body, Object, Slot, Slots};
-use harp_base::{Bytes, Time};
+use harp_types::{Bytes, Time};
 use std::alloc::{AllocError, Global};
 
 /// Equal slots.

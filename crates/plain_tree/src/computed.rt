@@ -1,14 +1,14 @@
 //! What is computed from the objects.
 
 ghost use Rattle.std.specs.Prelude.{◌≡◌, ◌<◌, ◌≤◌, ◌^◌, IfOk, length, Some, Option, None, IsTrue, ◌↔◌, unwrap_or, IfSome};
-ghost use Rattle.harp_base.specs.Limits.{object_numbers, slot_size, tree_blocks};
+ghost use Rattle.harp_types.specs.Limits.{object_numbers, slot_size, tree_blocks};
 ghost use Rattle.std.specs.Option.{option_copied};
 ghost use Rattle.std.specs.Prelude.{◌+◌, ◌*◌, ◌/◌, count_by};
 ghost use Rattle.file_tree.specs.Within.{IsWithinLimits};
 ghost use Rattle.file_tree.specs.Tree.{place, slots_within, slots_of, is_directory, is_directory_at, kind_of, size_of, blocks_of, blocks_at, used_blocks, names_it, names_in, names_at, names_of, is_subdirectory, links_of, holder_from, parent_of, attr_of, attr_at, entry_from, free_from};
 
 use file_tree::{Body, Object, Slot};
-use harp_base::{Attr, BLOCK_SIZE, Kind, SLOT_SIZE, Time};
+use harp_types::{Attr, BLOCK_SIZE, Kind, SLOT_SIZE, Time};
 
 const TIME_ZERO: Time = Time {
     seconds: 0,

@@ -1,7 +1,7 @@
 //! The calls that add and remove entries.
 
 ghost use Rattle.std.specs.Prelude.{◌≡◌, ◌<◌, ◌≤◌, ◌*◌, [], length, IfOk};
-ghost use Rattle.harp_base.specs.Limits.{longest_name};
+ghost use Rattle.harp_types.specs.Limits.{longest_name};
 ghost use Rattle.file_tree.specs.Within.{IsWithinLimits};
 ghost use Rattle.plain_tree.specs.Plain.{Does, DoesStep};
 ghost use Rattle.file_tree.specs.Tree.{place, slots_of, used_blocks, blocks_of};
@@ -16,7 +16,7 @@ use crate::permissions::{allowed, may_make, searched};
 use crate::rename::has_no_entry;
 use crate::tries::{doomed, entry_name, free_name, has_entry, live, refuse, room, room_for};
 use file_tree::{Body, Object, Slot, Slots, TO_WRITE};
-use harp_base::{Bounded, Cred, LONGEST_PATH, Reply, SLOT_SIZE, SetAttr, Status, Time};
+use harp_types::{Bounded, Cred, LONGEST_PATH, Reply, SLOT_SIZE, SetAttr, Status, Time};
 use std::alloc::Global;
 
 /// A directory with a further entry, where it has room.

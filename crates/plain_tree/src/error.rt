@@ -3,11 +3,11 @@
 ghost use Rattle.std.specs.Prelude.{◌≡◌};
 ghost use Rattle.plain_tree.specs.declared.error.TreeError.TheVariants.{NoMemory};
 
-use harp_base::Status;
+use harp_types::Status;
 use std::alloc::{AllocError, AllocFailed};
 
 /// Want of memory, or the status that a call is refused with.
-#[derive(Debug, Drop)]
+#[derive(Drop)]
 pub enum TreeError {
     NoMemory,
     Status(Status),

@@ -1,7 +1,7 @@
 //! Attributes that are set.
 
 ghost use Rattle.std.specs.Prelude.{◌≡◌, ◌<◌, ◌≤◌, ◌+◌, length, IfOk, IfSome, Option};
-ghost use Rattle.harp_base.specs.Limits.{tree_blocks};
+ghost use Rattle.harp_types.specs.Limits.{tree_blocks};
 ghost use Rattle.file_tree.specs.Within.{IsWithinLimits};
 ghost use Rattle.plain_tree.specs.Plain.{DoesStep, Gives};
 ghost use Rattle.file_tree.specs.Tree.{used_blocks, blocks_at, blocks_of, size_of, place};
@@ -12,7 +12,7 @@ use crate::files::resized;
 use crate::permissions::allowed;
 use crate::tries::{bytes_in, live, refuse, room};
 use file_tree::{Body, Object, TO_WRITE, may_set};
-use harp_base::{Bytes, Cred, FIELD_LEFT, LARGEST_FILE, SetAttr, Status, Time};
+use harp_types::{Bytes, Cred, FIELD_LEFT, LARGEST_FILE, SetAttr, Status, Time};
 use std::alloc::Global;
 
 /// A field of SETATTR: 4294967295 leaves the old value (RFC 1094, section 2.3.6).

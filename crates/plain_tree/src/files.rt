@@ -3,7 +3,7 @@
 ghost use Rattle.std.specs.Prelude.{◌≡◌, ◌<◌, ◌≤◌, ◌+◌, ◌-◌, ◌^◌, ◌++◌, IfOk, length, replicate, take, drop, max};
 ghost use Rattle.file_tree.specs.Outcome.{resized, written};
 
-use harp_base::Bytes;
+use harp_types::Bytes;
 use std::alloc::{AllocError, Global};
 
 fn zeros(alloc: Global, count: usize) -> Result<Vec<u8>, AllocError>

@@ -1,7 +1,7 @@
 //! Pages of a directory.
 
 ghost use Rattle.std.specs.Prelude.{◌≡◌, ◌<◌, ◌≤◌, ◌^◌, ◌++◌, replicate, length, IfOk, OnOk};
-ghost use Rattle.harp_base.specs.Limits.{longest_transfer, object_numbers};
+ghost use Rattle.harp_types.specs.Limits.{longest_transfer, object_numbers};
 ghost use Rattle.file_tree.specs.Within.{IsWithinLimits};
 ghost use Rattle.plain_tree.specs.Plain.{Gives};
 ghost use Rattle.file_tree.specs.Outcome.{entry_at, entries_of, entry_size, page_of, read_dir};
@@ -11,7 +11,7 @@ use crate::error::TreeError;
 use crate::permissions::allowed;
 use crate::tries::directory;
 use file_tree::{Object, Slot, TO_READ};
-use harp_base::{Bounded, Cred, DirEntry, Entries, LONGEST_TRANSFER, Reply};
+use harp_types::{Bounded, Cred, DirEntry, Entries, LONGEST_TRANSFER, Reply};
 use std::alloc::{AllocError, Global};
 
 fn dots(alloc: Global, fileid: u32, count: usize) -> Result<DirEntry, AllocError>

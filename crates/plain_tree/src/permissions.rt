@@ -1,7 +1,7 @@
 //! What a caller may do with objects of a tree.
 
 ghost use Rattle.std.specs.Prelude.{◌≡◌, ◌<◌, ◌≤◌, ◌*◌, length, IfOk};
-ghost use Rattle.harp_base.specs.Limits.{slot_size, tree_blocks};
+ghost use Rattle.harp_types.specs.Limits.{slot_size, tree_blocks};
 ghost use Rattle.plain_tree.specs.Plain.{Gives};
 ghost use Rattle.file_tree.specs.Tree.{place, used_blocks, blocks_of};
 ghost use Rattle.file_tree.specs.Permissions.{may_at, allowed, searched, may_make};
@@ -10,7 +10,7 @@ use crate::computed::place;
 use crate::error::TreeError;
 use crate::tries::{directory, refuse};
 use file_tree::{Object, Slot, TO_SEARCH, TO_WRITE, may, may_give};
-use harp_base::{Cred, SetAttr, Status};
+use harp_types::{Cred, SetAttr, Status};
 
 fn may_at(tree: &[Option<Object>], cred: Cred, number: u32, want: u8) -> bool
     ensures { result ≡ may_at cred (place tree.now number) want }

@@ -1,8 +1,8 @@
 //! A tree as a plain list of objects, and its outcomes.
 
 ghost use Rattle.std.specs.Prelude.{◌≡◌, IfOk, OnErr, true, false};
-ghost use Rattle.harp_base.specs.declared.attr.Time.{Time};
-ghost use Rattle.harp_base.specs.Update.{changes_entries, is_update};
+ghost use Rattle.harp_types.specs.declared.attr.Time.{Time};
+ghost use Rattle.harp_types.specs.Update.{changes_entries, is_update};
 ghost use Rattle.file_tree.specs.Within.{IsWithinLimits};
 ghost use Rattle.plain_tree.specs.Plain.{Does, Gives};
 ghost use Rattle.file_tree.specs.Tree.{first_tree};
@@ -15,7 +15,7 @@ use crate::reads::{get_attr, lookup, read, read_link, stat_fs};
 use crate::rename::rename;
 use crate::writes::{create, set_attr, write};
 use file_tree::{Body, Object, Slots};
-use harp_base::{Call, Cred, Reply, Time, changes_entries, is_update, time_of};
+use harp_types::{Call, Cred, Reply, Time, changes_entries, is_update, time_of};
 use std::alloc::{AllocError, Global};
 use std::marker::Model;
 

@@ -12,7 +12,7 @@ use crate::files::part;
 use crate::permissions::{allowed, searched};
 use crate::tries::{bytes_in, live, resolve, text_in};
 use file_tree::{Object, TO_READ};
-use harp_base::{BLOCK_SIZE, Bounded, Cred, LONGEST_TRANSFER, Reply, TREE_BLOCKS};
+use harp_types::{BLOCK_SIZE, Bounded, Cred, LONGEST_TRANSFER, Reply, TREE_BLOCKS};
 use std::alloc::Global;
 
 /// GETATTR (RFC 1094, section 2.2.2).

@@ -1,12 +1,12 @@
 //! Renaming.
 
 ghost use Rattle.std.specs.Prelude.{◌≡◌, ◌<◌, ◌≤◌, ◌*◌, ◌+◌, length, IfOk, IfErr, OnOk, OnErr, Option};
-ghost use Rattle.harp_base.specs.Limits.{longest_name, tree_blocks};
+ghost use Rattle.harp_types.specs.Limits.{longest_name, tree_blocks};
 ghost use Rattle.plain_tree.specs.declared.error.TreeError.TheVariants.{NoMemory};
 ghost use Rattle.file_tree.specs.Within.{IsWithinLimits};
 ghost use Rattle.plain_tree.specs.Plain.{Does, DoesStep, Gives};
 ghost use Rattle.file_tree.specs.Tree.{used_blocks, place, slots_of, entry};
-ghost use Rattle.harp_base.specs.declared.reply.Status.TheVariants.{NoEnt};
+ghost use Rattle.harp_types.specs.declared.reply.Status.TheVariants.{NoEnt};
 ghost use Rattle.file_tree.specs.Tries.{some_or};
 ghost use Rattle.file_tree.specs.Outcome.{has_no_entry};
 ghost use Rattle.file_tree.specs.Rename.{check_target, freed, moved_in, moved_over, moved_to, rename};
@@ -18,7 +18,7 @@ use crate::error::TreeError;
 use crate::permissions::allowed;
 use crate::tries::{check_name, is_dots, live, refuse, room, slots_in};
 use file_tree::{Object, Slot, TO_SEARCH, TO_WRITE};
-use harp_base::{Bounded, Cred, Reply, SLOT_SIZE, Status, Time};
+use harp_types::{Bounded, Cred, Reply, SLOT_SIZE, Status, Time};
 use std::alloc::{AllocError, Global};
 
 pub fn has_no_entry(slots: &[Option<Slot>]) -> bool

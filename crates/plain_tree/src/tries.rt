@@ -1,7 +1,7 @@
 //! The steps that a call is made of.
 
 ghost use Rattle.std.specs.Prelude.{◌≡◌, ◌<◌, ◌≤◌, ◌||◌, ◌==◌, [], ◌∷◌, ◌+◌, ◌*◌, false, IfOk, length, Some, Option, None, nat_lt};
-ghost use Rattle.harp_base.specs.Limits.{longest_name, object_numbers, slot_size, tree_blocks};
+ghost use Rattle.harp_types.specs.Limits.{longest_name, object_numbers, slot_size, tree_blocks};
 ghost use Rattle.std.specs.List.{list_any};
 ghost use Rattle.file_tree.specs.declared.object.Body.TheVariants.{Regular, Directory};
 ghost use Rattle.file_tree.specs.Within.{IsWithinLimits};
@@ -14,9 +14,7 @@ use crate::changes::with_entry;
 use crate::computed::{blocks_of, blocks_placed, entry, parent_of, place, used_blocks};
 use crate::error::TreeError;
 use file_tree::{Body, Object, Slot, Slots};
-use harp_base::{
-    Bounded, LONGEST_NAME, LONGEST_PATH, OBJECT_NUMBERS, SLOT_SIZE, Status, TREE_BLOCKS,
-};
+use harp_types::{Bounded, LONGEST_NAME, LONGEST_PATH, OBJECT_NUMBERS, SLOT_SIZE, Status, TREE_BLOCKS};
 use std::alloc::Global;
 
 /// A refusal, where its cause holds.

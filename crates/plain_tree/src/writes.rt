@@ -1,7 +1,7 @@
 //! The calls that change a file.
 
 ghost use Rattle.std.specs.Prelude.{◌≡◌, ◌<◌, ◌≤◌, length, replicate, IfOk};
-ghost use Rattle.harp_base.specs.Limits.{longest_name};
+ghost use Rattle.harp_types.specs.Limits.{longest_name};
 ghost use Rattle.file_tree.specs.declared.object.Body.TheVariants.{Regular};
 ghost use Rattle.file_tree.specs.Within.{IsWithinLimits};
 ghost use Rattle.plain_tree.specs.Plain.{Does};
@@ -16,7 +16,7 @@ use crate::files::written;
 use crate::permissions::{allowed, may_make, searched};
 use crate::tries::{bytes_in, entry_name, live, refuse, room, room_for};
 use file_tree::{Body, Object, TO_WRITE, heeded};
-use harp_base::{Bytes, Cred, LARGEST_FILE, Reply, SetAttr, Status, Time};
+use harp_types::{Bytes, Cred, LARGEST_FILE, Reply, SetAttr, Status, Time};
 use std::alloc::{AllocError, Global};
 
 /// WRITE (RFC 1094, section 2.2.9): a gap is filled with zeros, and no bytes change nothing.

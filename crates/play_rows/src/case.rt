@@ -1,7 +1,7 @@
 //! Cases, as lines tell them.
 
 use crate::given::Given;
-use harp_base::Bytes;
+use harp_types::Bytes;
 use std::alloc::{AllocError, Global};
 use std::str;
 

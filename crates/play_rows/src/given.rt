@@ -1,7 +1,7 @@
 //! What a command is run over besides its text: which calls fail, which datagrams wait, and what
 //! the clock reads.
 
-use harp_base::{Bytes, Peer, ServerId, Trio};
+use harp_types::{Bytes, Peer, ServerId, Trio};
 use harp_store::{MemStore, Store};
 use node_link::{Datagram, Waiting};
 use std::alloc::{AllocError, Global};

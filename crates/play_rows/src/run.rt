@@ -2,7 +2,7 @@
 
 use crate::case::Case;
 use crate::given::Given;
-use harp_base::{Bytes, MemSink, MemSource, Peer, Trio};
+use harp_types::{Bytes, MemSink, MemSource, Peer, Trio};
 use harp_cli::harp;
 use harp_store::MemStore;
 use node_link::{ListClock, MemLink, SentDatagram, readings_rise};

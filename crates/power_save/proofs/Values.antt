@@ -3,7 +3,7 @@ use Rattle.std.proofs.Common.{◌≡◌, ℕ, ◌≤◌, List, [], ◌∷◌, �
 use Rattle.harp_base.specs.Fields.{Read, Spells, Tells, u32_bytes}
 use Rattle.harp_base.specs.declared.field.FieldFault.{FieldFault}
 use Rattle.harp_base.specs.Names.{cred_bytes}
-use Rattle.harp_base.specs.declared.cred.Cred.{Cred}
+use Rattle.harp_types.specs.declared.cred.Cred.{Cred}
 use Rattle.harp_cells.specs.declared.value.Value.{Value}
 use Rattle.harp_cells.specs.declared.value.Value.TheVariants as value
 use Rattle.event_record.specs.declared.record.RecordFields.{RecordFields}

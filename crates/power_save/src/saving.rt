@@ -2,7 +2,7 @@
 
 ghost use Rattle.std.specs.Prelude.{◌≡◌, ◌≤◌, ◌+◌, ◌<◌, ◌^◌, length, slice_index_or, Option, Some, None, IfOk, OnOk, OnErr, Err};
 ghost use Rattle.event_record.specs.Bytes.{RecordFits};
-ghost use Rattle.harp_base.specs.Streams.{Rose};
+ghost use Rattle.harp_types.specs.Streams.{Rose};
 ghost use Rattle.harp_store.specs.Disk.{AfterPart, AtEachMoment, Moments, MayHaveMade, Now, after_changes, after_step, changed_by, synced_whole, with_mark};
 ghost use Rattle.power_save.specs.declared.fault.SaveFault.TheVariants.{StoreFailed, NotSaved};
 ghost use Rattle.power_save.specs.Entries.{HasSaved, saved_entries};

@@ -11,7 +11,7 @@ use std::marker::Model;
 const PLACES: usize = 64;
 
 /// A record that was read, and its bytes. Contracts see it as the record.
-#[derive(Debug, Drop)]
+#[derive(Drop)]
 struct Seen {
     bytes: Vec<u8>,
     read: Record,
@@ -62,7 +62,7 @@ fn are_same(some: &[u8], others: &[u8]) -> bool
 
 /// Records that were read, with their bytes. Where the bytes of one come again, it is shared and
 /// not read anew. No result depends on what is kept in mind.
-#[derive(Debug, Drop)]
+#[derive(Drop)]
 pub struct SeenRecords {
     places: Vec<Option<Seen>>,
 }

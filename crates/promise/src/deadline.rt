@@ -6,7 +6,7 @@ use std::marker::Model;
 
 /// The end of a promise on the clocks, in milliseconds below 2^62 + 100,000: a reading is below
 /// 2^62, and a promise lasts for at most 100,000 from one on.
-#[derive(Clone, Copy, Debug, PartialEq, Eq, PartialOrd, Ord)]
+#[derive(Clone, Copy, PartialEq, Eq, PartialOrd, Ord)]
 pub struct Deadline {
     millis: u64,
 }

@@ -1,14 +1,14 @@
 //! How long promises last.
 
 ghost use Rattle.std.specs.Prelude.{◌≡◌, ◌↔◌, max, IfSome, IsSome};
-ghost use Rattle.harp_base.specs.Limits.{first_promise};
+ghost use Rattle.harp_types.specs.Limits.{first_promise};
 ghost use Rattle.promise.specs.Promise.{IsDelta};
 
-use harp_base::FIRST_PROMISE;
+use harp_types::FIRST_PROMISE;
 use std::marker::Model;
 
 /// How many milliseconds a promise lasts, from 500 to 100,000.
-#[derive(Clone, Copy, Debug, PartialEq, Eq, PartialOrd, Ord)]
+#[derive(Clone, Copy, PartialEq, Eq, PartialOrd, Ord)]
 pub struct Delta {
     millis: u32,
 }

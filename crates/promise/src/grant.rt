@@ -6,7 +6,7 @@ use crate::deadline::Deadline;
 use std::marker::Model;
 
 /// The end of the latest promise that a leader's partner gave in its view; 0 before the first.
-#[derive(Debug, Drop)]
+#[derive(Drop)]
 pub struct Grant {
     until: Deadline,
 }

@@ -1,17 +1,17 @@
 //! What a server promised.
 
 ghost use Rattle.std.specs.Prelude.{◌≡◌, ◌+◌, ◌<◌, ◌≤◌, ◌^◌, max, nat_le};
-ghost use Rattle.harp_base.specs.Limits.{clock_skew};
+ghost use Rattle.harp_types.specs.Limits.{clock_skew};
 
 use crate::deadline::Deadline;
 use crate::delta::Delta;
-use harp_base::CLOCK_SKEW;
+use harp_types::CLOCK_SKEW;
 use std::marker::Model;
 
 /// Up to when the promises of a server may run, and how long those of its boot last. The server
 /// tells the horizon with each join, so that a new view opens only once all promises that its
 /// servers gave in older ones are over. It never falls.
-#[derive(Debug, Drop)]
+#[derive(Drop)]
 pub struct Horizon {
     until: Deadline,
     delta: Delta,

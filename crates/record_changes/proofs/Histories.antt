@@ -3,12 +3,12 @@ use Rattle.std.proofs.Common.{◌≡◌, ℕ, zero, suc, ◌-◌, ◌*◌, ◌/�
 use Rattle.std.proofs.lemmas.List.{take_all}
 use Rattle.std.proofs.lemmas.List.Sums.{fold-append}
 use mathlib.Core.Path.{fun_ext}
-use Rattle.harp_base.specs.declared.call.Call.{Call}
-use Rattle.harp_base.specs.declared.call.Call.TheVariants as call
-use Rattle.harp_base.specs.Update.{is_update}
-use Rattle.harp_base.specs.Time.{time_of}
+use Rattle.harp_types.specs.declared.call.Call.{Call}
+use Rattle.harp_types.specs.declared.call.Call.TheVariants as call
+use Rattle.harp_types.specs.Update.{is_update}
+use Rattle.harp_types.specs.Time.{time_of}
 use Rattle.file_tree.specs.Tree.{Tree}
-use Rattle.harp_base.specs.Limits.{field_left}
+use Rattle.harp_types.specs.Limits.{field_left}
 use Rattle.file_tree.specs.Outcome.{Outcome, written}
 use Rattle.file_tree.specs.Calls.{answered, outcome}
 use Rattle.file_tree.specs.Book.{Entry, last_of, last_stamp, tree_after, tree_next}

@@ -3,13 +3,13 @@ use Rattle.std.proofs.Common.{◌≡◌, ℕ, ◌*◌, ◌/◌, ◌%◌, ◌≤�
 use Rattle.std.specs.Prelude.{map}
 use Rattle.std.specs.List.{list_all}
 use Rattle.std.proofs.lemmas.Bool.{and_parts, cond_both, eq-eqb, eqb-true, ltb-true}
-use Rattle.harp_base.specs.declared.call.Call.{Call}
-use Rattle.harp_base.specs.declared.cred.Cred.{Cred}
-use Rattle.harp_base.specs.declared.call.Call.TheVariants as call
-use Rattle.harp_base.specs.Time.{time_of}
+use Rattle.harp_types.specs.declared.call.Call.{Call}
+use Rattle.harp_types.specs.declared.cred.Cred.{Cred}
+use Rattle.harp_types.specs.declared.call.Call.TheVariants as call
+use Rattle.harp_types.specs.Time.{time_of}
 use Rattle.file_tree.specs.Tree.{Tree, blocks_of, place, slots_of, used_blocks, free_from}
 use Rattle.file_tree.specs.declared.object.Object.{Object as FileObject}
-use Rattle.harp_base.specs.Limits.{field_left}
+use Rattle.harp_types.specs.Limits.{field_left}
 use Rattle.file_tree.specs.Outcome.{Outcome}
 use Rattle.file_tree.specs.Rename.{freed}
 use Rattle.file_tree.specs.Calls.{answered, outcome, settled}

@@ -16,11 +16,11 @@ use Rattle.group_rules.specs.Names.{view_of}
 use Rattle.group_rules.specs.Places.{Place, partner}
 use Rattle.group_rules.specs.Shown.{cause_of}
 use Rattle.group_rules.specs.State.{Answers, Cause, Event, top}
-use Rattle.harp_base.specs.Update.{is_update}
-use Rattle.harp_base.specs.declared.call.Call.{Call}
-use Rattle.harp_base.specs.declared.cred.Cred.{Cred}
-use Rattle.harp_base.specs.declared.peer.Peer.{Peer}
-use Rattle.harp_base.specs.declared.reply.Reply.{Reply}
+use Rattle.harp_types.specs.Update.{is_update}
+use Rattle.harp_types.specs.declared.call.Call.{Call}
+use Rattle.harp_types.specs.declared.cred.Cred.{Cred}
+use Rattle.harp_types.specs.declared.peer.Peer.{Peer}
+use Rattle.harp_types.specs.declared.reply.Reply.{Reply}
 use Rattle.harp_store.specs.Disk.{Moments}
 use Rattle.tree_log.specs.Records.{record_of}
 use Rattle.node_outputs.specs.Makes.{Makes}

@@ -13,11 +13,11 @@ use Rattle.group_rules.specs.Limits.{is_active, limit, room}
 use Rattle.group_rules.specs.Moves.{Appending, Reading, Saying, Sending}
 use Rattle.group_rules.specs.Places.{Place, all_of, partner, same}
 use Rattle.group_rules.specs.State.{Answers, BadClient, Event, LogFull, NoPromise, NotYetOpen, Old, Server, top}
-use Rattle.harp_base.specs.Limits.{last_client}
-use Rattle.harp_base.specs.Update.{is_update}
-use Rattle.harp_base.specs.declared.call.Call.{Call}
-use Rattle.harp_base.specs.declared.cred.Cred.{Cred}
-use Rattle.harp_base.specs.declared.reply.Reply.{Reply}
+use Rattle.harp_types.specs.Limits.{last_client}
+use Rattle.harp_types.specs.Update.{is_update}
+use Rattle.harp_types.specs.declared.call.Call.{Call}
+use Rattle.harp_types.specs.declared.cred.Cred.{Cred}
+use Rattle.harp_types.specs.declared.reply.Reply.{Reply}
 use Rattle.replica.proofs.Follows.{same_place}
 use Rattle.replica.proofs.Lists.{entries_length}
 use Rattle.replica.specs.Asking.{reads_tree}

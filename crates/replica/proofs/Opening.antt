@@ -1,7 +1,7 @@
 -- When a leader opens its view.
 use Rattle.std.proofs.Common.{◌≡◌, ℕ, ◌+◌, Bool, true, false, [], ◌∷◌, Option, Some, None, refl, ap, ◌∙◌, subst, if◌then◌else◌}
 use Rattle.std.specs.Prelude.{nat_le}
-use Rattle.harp_base.specs.Limits.{clock_skew}
+use Rattle.harp_types.specs.Limits.{clock_skew}
 use Rattle.group_rules.specs.Limits.{is_open, is_waits}
 use Rattle.group_rules.specs.Open.{open_heard, open_moves, try_open}
 use Rattle.group_rules.specs.Places.{Zero, One, Two, Place, all_of, get, partner, same}

@@ -4,7 +4,7 @@ use Rattle.std.specs.Prelude.{◌==◌, drop, OnOk, Result, Ok, Err}
 use Rattle.std.proofs.lemmas.List.{append-nil, drop-append-le, length-drop}
 use Rattle.event_record.specs.declared.record.RecordFields.{RecordFields}
 use Rattle.file_tree.specs.Book.{Entry}
-use Rattle.harp_base.specs.Update.{is_update}
+use Rattle.harp_types.specs.Update.{is_update}
 use Rattle.harp_store.specs.Disk.{Moments}
 use Rattle.tree_log.specs.Reading.{HoldsTree, IsNextRecord}
 use Rattle.tree_log.proofs.Holding.{committed_holds}

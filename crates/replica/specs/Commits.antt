@@ -1,6 +1,6 @@
 -- A leader's commits, one after the other.
 use Rattle.std.specs.Prelude.{◌≡◌, ℕ, ◌+◌, ◌-◌, List, [], ◌∷◌, ◌++◌, take, drop, max, true, false, Option, None, Some}
-use Rattle.harp_base.specs.declared.peer.Peer.{Peer}
+use Rattle.harp_types.specs.declared.peer.Peer.{Peer}
 use Rattle.file_tree.specs.Book.{Entry}
 use Rattle.group_rules.specs.Replicate.{answers}
 use Rattle.group_rules.specs.Places.{Two, Place}

@@ -1,6 +1,6 @@
 -- The leader of a view as a server of the group's machine.
 use Rattle.std.specs.Prelude.{◌≡◌, ℕ, ◌+◌, ◌≤◌, Bool, true, false, List, [], length, map, Option, None, Some, if◌then◌else◌}
-use Rattle.harp_base.specs.declared.peer.Peer.{Peer}
+use Rattle.harp_types.specs.declared.peer.Peer.{Peer}
 use Rattle.cell_cache.specs.Entries.{Entries}
 use Rattle.event_record.specs.Record.{entry_of}
 use Rattle.file_tree.specs.Book.{Entry}

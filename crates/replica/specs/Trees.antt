@@ -2,7 +2,7 @@
 use Rattle.std.specs.Prelude.{◌≡◌, ℕ, ◌+◌, ◌≤◌, true, List, [], ◌∷◌, ◌++◌, Option}
 use Rattle.event_record.specs.declared.record.RecordFields.{RecordFields}
 use Rattle.file_tree.specs.Book.{Entry}
-use Rattle.harp_base.specs.Update.{is_update}
+use Rattle.harp_types.specs.Update.{is_update}
 use Rattle.harp_store.specs.Disk.{Moments}
 use Rattle.tree_log.specs.Reading.{HoldsTree, IsNextRecord}
 use Rattle.volatile_log.specs.Log.{LogValue, top}

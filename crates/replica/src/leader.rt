@@ -18,7 +18,7 @@ mod reads;
 mod storing;
 mod ticks;
 
-use harp_base::{LOG_ROOM, Peer, ServerId, ViewNo};
+use harp_types::{LOG_ROOM, Peer, ServerId, ViewNo};
 use promise::{Deadline, Grant};
 use std::alloc::Global;
 use std::collections::VecDeque;
@@ -27,7 +27,7 @@ use tree_log::TreeLog;
 use volatile_log::{ActiveLog, FrozenLog};
 
 /// Who is the partner of a leader.
-#[derive(Clone, Copy, Debug, PartialEq, Eq)]
+#[derive(Clone, Copy, PartialEq, Eq)]
 pub(crate) enum Beside {
     /// Server 1, of server 0.
     DataServer,

@@ -21,7 +21,7 @@ mod listing;
 mod storing;
 
 use event_record::Record;
-use harp_base::{ServerId, ViewNo};
+use harp_types::{ServerId, ViewNo};
 use node_outputs::Outputs;
 use promise::Horizon;
 use std::alloc::{AllocError, Global};
@@ -31,7 +31,7 @@ use volatile_log::{ActiveLog, FrozenLog};
 use wire::Message;
 
 /// Who leads a partner.
-#[derive(Clone, Copy, Debug, PartialEq, Eq)]
+#[derive(Clone, Copy, PartialEq, Eq)]
 pub(crate) enum Ahead {
     /// Server 0, of server 1 or 2.
     Zero,

@@ -11,9 +11,9 @@ ghost use Rattle.replica.specs.Leading.{entries};
 ghost use Rattle.volatile_log.specs.Log.{top};
 
 use event_record::Record;
-use harp_base::ViewNo;
+use harp_types::ViewNo;
 use std::alloc::{AllocError, Global};
-use trace_lines::BookEntry;
+use harp_types::BookEntry;
 use volatile_log::ActiveLog;
 use wire::Message;
 

@@ -2,7 +2,7 @@
 use Rattle.std.proofs.Common.{◌≡◌, ℕ, ◌+◌, List, [], ◌∷◌, ◌++◌, refl, sym, ap, ◌∙◌, subst, Option, Some, None, Result, Ok, Err}
 use Rattle.std.specs.Prelude.{IfOk, MatchResult}
 use Rattle.std.specs.Io.KnownBytes.{Appends, Keeps}
-use Rattle.harp_base.specs.Streams.{GrewByPart}
+use Rattle.harp_types.specs.Streams.{GrewByPart}
 use Rattle.line_reader.specs.Lines.{Feedless, lines_of}
 use Rattle.line_reader.specs.Reading.{text_left}
 use Rattle.group_trace.specs.Run.{run, run_lines}

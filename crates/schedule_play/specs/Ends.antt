@@ -1,7 +1,7 @@
 -- How a play ends. `stands` is the world that it leaves, by the scenes at which it stands.
 use Rattle.std.specs.Prelude.{◌≡◌, ◌≢◌, ◌⊎◌, ℕ, List, [], ◌∷◌, ◌++◌, take, Option, Some, None}
 use Rattle.std.specs.Io.KnownBytes.{Appends}
-use Rattle.harp_base.specs.Streams.{GrewByPart}
+use Rattle.harp_types.specs.Streams.{GrewByPart}
 use Rattle.line_reader.specs.Lines.{Feedless, lines_of}
 use Rattle.trace_types.specs.declared.step.Step.{Step}
 use Rattle.trace_claims.specs.Trace.{Trace}

@@ -1,7 +1,7 @@
 -- Which exits there are for what stops a play.
 use Rattle.std.specs.Prelude.{ℕ, Option, Some, None}
-use Rattle.harp_base.specs.declared.streams.SinkFault.{SinkFault}
-use Rattle.harp_base.specs.declared.streams.SinkFault.TheVariants as sink
+use Rattle.harp_types.specs.declared.streams.SinkFault.{SinkFault}
+use Rattle.harp_types.specs.declared.streams.SinkFault.TheVariants as sink
 use Rattle.trace_types.specs.declared.line.LineFault.{LineFault}
 use Rattle.schedule_play.specs.declared.exit.Exit.{Exit}
 use Rattle.schedule_play.specs.declared.exit.Exit.TheVariants as exit

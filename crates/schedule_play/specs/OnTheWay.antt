@@ -1,8 +1,8 @@
 -- Where a play stands on its way through what is read.
 use Rattle.std.specs.Prelude.{◌≡◌, ◌≢◌, ℕ, ◌+◌, ◌<◌, ◌^◌, ◌*◌, List, ◌++◌, length, Option, Some, None}
 use Rattle.std.specs.Io.KnownBytes.{Appends}
-use Rattle.harp_base.specs.Streams.{GrewByPart}
-use Rattle.harp_base.specs.declared.server.ServerId.{ServerId}
+use Rattle.harp_types.specs.Streams.{GrewByPart}
+use Rattle.harp_types.specs.declared.server.ServerId.{ServerId}
 use Rattle.trace_types.specs.declared.step.Step.{Step}
 use Rattle.line_reader.specs.Lines.{lines_of}
 use Rattle.group_rules.specs.Places.{Trio}

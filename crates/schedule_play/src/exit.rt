@@ -3,11 +3,11 @@
 ghost use Rattle.std.specs.Prelude.{◌≡◌, MatchResult};
 ghost use Rattle.schedule_play.specs.Exit.{exit_of};
 
-use harp_base::SinkFault;
+use harp_types::SinkFault;
 use std::alloc::AllocError;
 
 /// How a play ended.
-#[derive(Clone, Copy, Debug, PartialEq, Eq)]
+#[derive(Clone, Copy, PartialEq, Eq)]
 pub enum Exit {
     /// The schedule was read to its end, and no line was refused.
     Done,
@@ -22,7 +22,7 @@ pub enum Exit {
 }
 
 /// Why a play stops before its last line is written.
-#[derive(Clone, Copy, Debug, PartialEq, Eq)]
+#[derive(Clone, Copy, PartialEq, Eq)]
 pub enum Stop {
     SourceFailed,
     SinkFailed,

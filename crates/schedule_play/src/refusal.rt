@@ -6,7 +6,7 @@ ghost use Rattle.schedule_play.specs.Stage.{fault_of};
 use trace_types::LineFault;
 
 /// Why a world doesn't take a step.
-#[derive(Clone, Copy, Debug, PartialEq, Eq)]
+#[derive(Clone, Copy, PartialEq, Eq)]
 pub enum Refusal {
     /// No packet has the number.
     NoPacket,

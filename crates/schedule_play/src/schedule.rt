@@ -3,7 +3,7 @@
 
 ghost use Rattle.std.specs.Prelude.{◌≡◌, ◌≢◌, ◌⊎◌, ◌<◌, ◌≤◌, ◌+◌, ℕ, List, Option, length, IfOk};
 ghost use Rattle.std.specs.Prelude.{MatchResult, Some, Ok, Err};
-ghost use Rattle.harp_base.specs.Streams.{Rose};
+ghost use Rattle.harp_types.specs.Streams.{Rose};
 ghost use Rattle.line_reader.specs.Reading.{text_left};
 ghost use Rattle.disk_laws.specs.Laws.{DiskRunIsRight};
 ghost use Rattle.group_disks.specs.Calls.{measures_of};
@@ -28,7 +28,7 @@ use crate::stage::Stage;
 use crate::step::take_step;
 use crate::text::Room;
 use crate::turn::{Turn, end, refuse};
-use harp_base::{Sink, Source};
+use harp_types::{Sink, Source};
 use line_reader::{LineReader, Next, ReadFault};
 use schedule_text::{TextFault, read_step};
 use std::alloc::Global;

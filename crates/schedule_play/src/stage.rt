@@ -9,7 +9,7 @@ ghost use Rattle.group_trace.specs.Run.{is_elementary};
 ghost use Rattle.schedule_play.specs.Stage.{AreReadings, IsReached, IsRefused, IsTaken, clocks_after};
 
 use crate::refusal::Refusal;
-use harp_base::ServerId;
+use harp_types::ServerId;
 use std::alloc::Global;
 use trace_types::{Line, Step};
 

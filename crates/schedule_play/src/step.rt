@@ -2,7 +2,7 @@
 
 ghost use Rattle.std.specs.Prelude.{◌≡◌, ◌≤◌, ◌∷◌, ℕ, List, [], Option, Some, MatchResult, true};
 ghost use Rattle.std.specs.Prelude.{Ok, Err};
-ghost use Rattle.harp_base.specs.Streams.{Rose};
+ghost use Rattle.harp_types.specs.Streams.{Rose};
 ghost use Rattle.text_spelling.specs.Steps.{step_text};
 ghost use Rattle.trace_types.specs.declared.step.Step.TheVariants as steps;
 ghost use Rattle.group_disks.specs.Calls.{measures_of};
@@ -18,7 +18,7 @@ use crate::exit::Stop;
 use crate::stage::Stage;
 use crate::text::{Room, begin_with_delivery, begin_with_line, write_with_lines};
 use crate::turn::{Turn, refuse};
-use harp_base::{ServerId, Sink};
+use harp_types::{ServerId, Sink};
 use std::alloc::Global;
 use trace_types::{Line, Step};
 

@@ -2,13 +2,13 @@
 
 ghost use Rattle.std.specs.Prelude.{◌≡◌, ◌≤◌, ◌∷◌, [], ◌++◌, OnOk, OnErr, Err};
 ghost use Rattle.std.specs.Io.KnownBytes.{Appends};
-ghost use Rattle.harp_base.specs.Streams.{GrewByPart, Rose};
+ghost use Rattle.harp_types.specs.Streams.{GrewByPart, Rose};
 ghost use Rattle.text_spelling.specs.Steps.{step_text};
 ghost use Rattle.trace_types.specs.declared.step.Step.TheVariants as steps;
 ghost use Rattle.schedule_play.specs.Trace.{trace_text};
 
 use crate::exit::Stop;
-use harp_base::{Sink, write_all};
+use harp_types::{Sink, write_all};
 use std::alloc::{AllocError, Global};
 use text_writer::append_line;
 use trace_types::{Line, Step};

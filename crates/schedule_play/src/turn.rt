@@ -3,7 +3,7 @@
 ghost use Rattle.std.specs.Prelude.{◌≡◌, ◌≤◌, ℕ, List, [], ◌∷◌, Option, None, IfOk, OnOk, OnErr};
 ghost use Rattle.std.specs.Prelude.{MatchResult, Err};
 ghost use Rattle.std.specs.Io.KnownBytes.{Appends};
-ghost use Rattle.harp_base.specs.Streams.{GrewByPart, Rose};
+ghost use Rattle.harp_types.specs.Streams.{GrewByPart, Rose};
 ghost use Rattle.schedule_play.specs.Ends.{EndsWhole};
 ghost use Rattle.schedule_play.specs.OnTheWay.{HasCome, StopGives};
 ghost use Rattle.schedule_play.specs.Reading.{Reading, all_read};
@@ -12,12 +12,12 @@ ghost use Rattle.schedule_play.specs.Trace.{trace_text};
 use crate::exit::Stop;
 use crate::stage::Stage;
 use crate::text::write_last;
-use harp_base::Sink;
+use harp_types::Sink;
 use std::alloc::Global;
 use trace_types::{Line, LineFault};
 
 /// What a line led to.
-#[derive(Clone, Copy, Debug, PartialEq, Eq)]
+#[derive(Clone, Copy, PartialEq, Eq)]
 pub enum Turn {
     /// The next line is to be read.
     GoesOn,

@@ -2,11 +2,11 @@
 use Rattle.std.proofs.Common.{◌≡◌, ℕ, ◌+◌, ◌^◌, ◌<◌, Bool, List, ◌++◌, length, drop, Ok, refl, sym, ap, subst, ◌∙◌, append_assoc, arith}
 use Rattle.std.specs.Prelude.{decimal}
 use Rattle.std.proofs.lemmas.List.{length-append}
-use Rattle.harp_base.specs.Calls.{procedure_of, procedure_name, procedure_named}
-use Rattle.harp_base.specs.declared.call.Call.{Call}
-use Rattle.harp_base.specs.declared.call.Call.TheVariants as call
-use Rattle.harp_base.specs.declared.procedure.Procedure.{Procedure}
-use Rattle.harp_base.specs.declared.procedure.Procedure.TheVariants as procedure
+use Rattle.harp_types.specs.Procedures.{procedure_of, procedure_name, procedure_named}
+use Rattle.harp_types.specs.declared.call.Call.{Call}
+use Rattle.harp_types.specs.declared.call.Call.TheVariants as call
+use Rattle.harp_types.specs.declared.procedure.Procedure.{Procedure}
+use Rattle.harp_types.specs.declared.procedure.Procedure.TheVariants as procedure
 use Rattle.text_spelling.specs.Text.{spaced, hex_text, fields_text, call_text}
 use Rattle.text_spelling.specs.Fits.{AreBytes, CallFits}
 use Rattle.text_fields.specs.Fields.{Read, ◌>>=◌, EndsWord, word_at, spaced_at}

@@ -8,9 +8,9 @@ use Rattle.std.proofs.lemmas.List.{take-append-drop, drop-drop}
 use Rattle.std.proofs.lemmas.List.Sums.{take_while-cons}
 use Rattle.std.proofs.lemmas.List.Folds.{length-prefix_len}
 use Rattle.std.proofs.lemmas.Slice.Eq.{bytes_eq-Decides}
-use Rattle.harp_base.specs.Calls.{procedures, procedure_name, procedure_named}
-use Rattle.harp_base.specs.declared.procedure.Procedure.{Procedure}
-use Rattle.harp_base.specs.declared.procedure.Procedure.TheVariants as procedure
+use Rattle.harp_types.specs.Procedures.{procedures, procedure_name, procedure_named}
+use Rattle.harp_types.specs.declared.procedure.Procedure.{Procedure}
+use Rattle.harp_types.specs.declared.procedure.Procedure.TheVariants as procedure
 use Rattle.text_fields.specs.declared.fault.TextFault.TheVariants.{Grammar}
 use Rattle.text_fields.specs.Fields.{Read, EndsWord, not_space, word_at}
 use Rattle.text_fields.specs.Words.{farthest, named_at}

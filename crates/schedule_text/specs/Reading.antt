@@ -2,16 +2,16 @@
 use Rattle.std.specs.Prelude.{ℕ, zero, suc, ◌+◌, ◌==◌, Bool, true, false, ◌||◌, ◌&&◌, nat_eq, nat_le, nat_lt, List, [], ◌∷◌, length, map, drop, slice_index, codes, Option, Some, None, Result, Ok, Err, if◌then◌else◌}
 use Rattle.std.specs.List.{starts_with}
 use Rattle.std.specs.Str.{bytes_eq}
-use Rattle.harp_base.specs.Calls.{procedure_name, procedure_named, procedures}
-use Rattle.harp_base.specs.Server.{number_of}
-use Rattle.harp_base.specs.declared.server.ServerId.{ServerId}
-use Rattle.harp_base.specs.declared.attr.SetAttr.{SetAttr}
-use Rattle.harp_base.specs.declared.call.Call.{Call}
-use Rattle.harp_base.specs.declared.call.Call.TheVariants as call
-use Rattle.harp_base.specs.declared.cred.Cred.{Cred}
-use Rattle.harp_base.specs.declared.cred.TheConstants.{SUPERUSER}
-use Rattle.harp_base.specs.declared.procedure.Procedure.{Procedure}
-use Rattle.harp_base.specs.declared.procedure.Procedure.TheVariants as procedure
+use Rattle.harp_types.specs.Procedures.{procedure_name, procedure_named, procedures}
+use Rattle.harp_types.specs.Server.{number_of}
+use Rattle.harp_types.specs.declared.server.ServerId.{ServerId}
+use Rattle.harp_types.specs.declared.attr.SetAttr.{SetAttr}
+use Rattle.harp_types.specs.declared.call.Call.{Call}
+use Rattle.harp_types.specs.declared.call.Call.TheVariants as call
+use Rattle.harp_types.specs.declared.cred.Cred.{Cred}
+use Rattle.harp_types.specs.declared.cred.TheConstants.{SUPERUSER}
+use Rattle.harp_types.specs.declared.procedure.Procedure.{Procedure}
+use Rattle.harp_types.specs.declared.procedure.Procedure.TheVariants as procedure
 use Rattle.trace_types.specs.declared.pick.Pick.{Pick}
 use Rattle.trace_types.specs.declared.pick.Pick.TheVariants as pick
 use Rattle.trace_types.specs.declared.step.Step.{Step}

@@ -8,7 +8,7 @@ ghost use Rattle.schedule_text.specs.declared.form.Form.TheVariants as forms;
 
 use crate::call::call_at;
 use crate::field::{spaced_count_at, spaced_server_at, spaced_u32_at};
-use harp_base::{Call, Cred, SUPERUSER, ServerId};
+use harp_types::{Call, Cred, SUPERUSER, ServerId};
 use std::alloc::Global;
 use text_fields::{TextFault, space_at, u32_at};
 use text_spelling::is_implied;

@@ -1,7 +1,7 @@
 //! Calls that are read, behind their names.
 
 ghost use Rattle.std.specs.Prelude.{◌≡◌, ◌+◌, ◌≤◌, ◌<◌, ◌^◌, length};
-ghost use Rattle.harp_base.specs.declared.procedure.Procedure.TheVariants as procedure;
+ghost use Rattle.harp_types.specs.declared.procedure.Procedure.TheVariants as procedure;
 ghost use Rattle.text_fields.specs.Fields.{Gives};
 ghost use Rattle.schedule_text.specs.Reading.{fields_at, call_names, asked_names, call_at};
 ghost use Rattle.text_fields.specs.Words.{farthest};
@@ -9,7 +9,7 @@ ghost use Rattle.text_fields.specs.Words.{farthest};
 use crate::field::{
     entry_at, numbers_at, spaced_attr_at, spaced_bytes_at, spaced_name_at, spaced_u32_at,
 };
-use harp_base::{Call, Procedure};
+use harp_types::{Call, Procedure};
 use std::alloc::Global;
 use text_fields::{TextFault, farther, word_at};
 

@@ -4,7 +4,7 @@ ghost use Rattle.std.specs.Prelude.{◌≡◌, ◌≤◌, length, IfOk};
 ghost use Rattle.text_fields.specs.Fields.{Gives};
 ghost use Rattle.schedule_text.specs.Reading.{end_at, spaced_server_at, spaced_count_at, spaced_u32_at, spaced_name_at, spaced_bytes_at, spaced_attr_at, numbers_at, entry_at};
 
-use harp_base::{Bounded, ServerId, SetAttr};
+use harp_types::{Bounded, ServerId, SetAttr};
 use std::alloc::Global;
 use text_fields::{TextFault, count_at, hex_at, server_at, set_attr_at, space_at, u32_at};
 

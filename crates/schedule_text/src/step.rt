@@ -9,7 +9,7 @@ use crate::ask::ask_at;
 use crate::field::{spaced_count_at, spaced_server_at};
 use crate::form::Form;
 use crate::pick::spaced_pick_at;
-use harp_base::ServerId;
+use harp_types::ServerId;
 use std::alloc::Global;
 use text_fields::{
     TextFault, all_hex_at, farther, number_at, peek, ranged_at, server_at, space_at, word_at,

@@ -4,7 +4,7 @@ use harp_cells::{Cell, Value};
 use harp_store::Mark;
 
 /// A call that would have changed a store.
-#[derive(Debug, Drop)]
+#[derive(Drop)]
 pub enum Attempt {
     Put { cell: Cell, value: Value },
     Erase { cell: Cell },

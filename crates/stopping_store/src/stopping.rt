@@ -1,7 +1,7 @@
 //! A store that stops after so many calls that change it.
 
 ghost use Rattle.std.specs.Prelude.{◌≡◌, ◌+◌, ◌≤◌, [], Err, None, Some, is_some, length, true};
-ghost use Rattle.harp_base.specs.Streams.{Rose};
+ghost use Rattle.harp_types.specs.Streams.{Rose};
 ghost use Rattle.harp_store.specs.Disk.{then_disk};
 ghost use Rattle.harp_store.specs.Memory.{crashed_by, without_past};
 ghost use Rattle.stopping_store.specs.Stopping.{made, stop_moment};

@@ -9,7 +9,7 @@ use crate::attempt::Attempt;
 use harp_store::MemStore;
 
 /// A store in memory of which no call fails, unless memory runs out.
-#[derive(Debug, Drop)]
+#[derive(Drop)]
 pub struct SoundStore {
     pub(crate) store: MemStore,
     ghost sound: { IsSound store.failing },
@@ -17,7 +17,7 @@ pub struct SoundStore {
 
 /// A store in memory with a stop: so many calls that change it pass, and then every call fails. It
 /// knows the call that failed first.
-#[derive(Debug, Drop)]
+#[derive(Drop)]
 pub struct StoppingStore {
     pub(crate) store: MemStore,
     /// How many calls that change it pass still.

@@ -1,10 +1,11 @@
 -- The fields of a mark's file undo their bytes.
 use Rattle.std.proofs.Common.{◌≡◌, ℕ, ◌+◌, ◌<◌, ◌^◌, Bool, true, false, List, ◌++◌, length, drop, Option, Some, None, Ok, refl, ap, arith}
 use Rattle.std.specs.Prelude.{is_some}
-use Rattle.harp_base.specs.Fields.{Read, Reader, Spells, value_with_number, u32_at, u32_bytes}
-use Rattle.harp_base.specs.declared.server.ServerId.TheVariants.{Zero, One, Two}
-use Rattle.harp_base.specs.declared.state.Role.{Role}
-use Rattle.harp_base.specs.declared.state.Role.TheVariants.{Leads, Follows, Outside}
+use Rattle.harp_base.specs.Fields.{Read, Reader, Spells, u32_at, u32_bytes}
+use Rattle.harp_types.specs.Numbered.{value_with_number}
+use Rattle.harp_types.specs.declared.server.ServerId.TheVariants.{Zero, One, Two}
+use Rattle.harp_types.specs.declared.state.Role.{Role}
+use Rattle.harp_types.specs.declared.state.Role.TheVariants.{Leads, Follows, Outside}
 use Rattle.harp_base.proofs.Codec.{IsBytes, IsCodec, u32_codec, below_codec, tag_codec, part_takes, nothing_takes, field_as_again, field_as_codec, fields_by_tag_codec}
 use Rattle.harp_base.proofs.AttributeLaws.{then}
 use Rattle.harp_base.proofs.NameLaws.{view_codec}

@@ -1,11 +1,11 @@
 -- The file of the mark: its bytes, and those of old marks, which end before the last two fields.
 use Rattle.std.specs.Prelude.{◌≡◌, ◌⊎◌, ℕ, ◌<◌, ◌^◌, ◌==◌, if◌then◌else◌, length, Bool, true, false, List, [], ◌∷◌, ◌++◌, Option, Some, None, is_some, Ok, Err}
-use Rattle.harp_base.specs.View.{above}
+use Rattle.harp_types.specs.View.{above}
 use Rattle.harp_base.specs.Fields.{Read, Reader, ◌⊗◌, field_as, fields_by_tag, tag_at, u32_at, below_at, u32_bytes, u64_bytes}
 use Rattle.harp_base.specs.Names.{ViewFits, view_bytes, view_at}
-use Rattle.harp_base.specs.declared.server.ServerId.TheVariants.{Zero, One, Two}
-use Rattle.harp_base.specs.declared.state.Role.{Role}
-use Rattle.harp_base.specs.declared.state.Role.TheVariants.{Leads, Follows, Outside}
+use Rattle.harp_types.specs.declared.server.ServerId.TheVariants.{Zero, One, Two}
+use Rattle.harp_types.specs.declared.state.Role.{Role}
+use Rattle.harp_types.specs.declared.state.Role.TheVariants.{Leads, Follows, Outside}
 use Rattle.harp_store.specs.Mark.{IsLongest, IsRing, MarkFields, SavedNumbers, old_ring}
 use Rattle.store_folder.specs.declared.mark_fields.Numbers.{Numbers}
 use Rattle.store_folder.specs.declared.mark_fields.FirstFields.{FirstFields}

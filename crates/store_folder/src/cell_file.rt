@@ -5,7 +5,8 @@ ghost use Rattle.harp_cells.specs.declared.value.Value.{Value as Held};
 ghost use Rattle.harp_cells.specs.ValueBytes.{ValueFits, value_bytes};
 ghost use Rattle.store_folder.specs.CellFile.{ReadsFile, whole_file};
 
-use harp_base::{Bytes, FieldFault};
+use harp_base::FieldFault;
+use harp_types::Bytes;
 use harp_cells::{Value, read_value, write_value};
 use harp_store::StoreFault;
 use std::alloc::{AllocError, Global};

@@ -1,9 +1,9 @@
 //! The fields of a mark's file.
 
-use harp_base::{Role, ViewNo};
+use harp_types::{Role, ViewNo};
 
 /// The numbers of a saved log, each below 2^62.
-#[derive(Clone, Copy, Debug, PartialEq, Eq)]
+#[derive(Clone, Copy, PartialEq, Eq)]
 pub struct Numbers {
     pub base: u64,
     pub cp: u64,
@@ -11,7 +11,7 @@ pub struct Numbers {
 }
 
 /// The fields that the file of each mark has.
-#[derive(Clone, Copy, Debug, PartialEq, Eq)]
+#[derive(Clone, Copy, PartialEq, Eq)]
 pub struct FirstFields {
     pub promised: ViewNo,
     pub accepted: ViewNo,
@@ -21,7 +21,7 @@ pub struct FirstFields {
 }
 
 /// The fields behind them, which the file of an old mark lacks.
-#[derive(Clone, Copy, Debug, PartialEq, Eq)]
+#[derive(Clone, Copy, PartialEq, Eq)]
 pub struct LastFields {
     pub longest: Option<u32>,
     pub ring: Option<u32>,

@@ -8,7 +8,8 @@ ghost use Rattle.store_folder.specs.MarkFile.{FirstFit, IsMarkFile, LastFit, Mar
 
 use crate::mark_fields::{FirstFields, LastFields, Numbers};
 use harp_base::fields::{below_at, byte_at, put_u32, put_u64, put_view, u32_at, view_at};
-use harp_base::{Misread, Role, ServerId};
+use harp_base::Misread;
+use harp_types::{Role, ServerId};
 use harp_store::{Mark, OLD_RING, Saved};
 use std::alloc::{AllocError, Global};
 

@@ -1,7 +1,7 @@
 //! The store over a folder.
 
 ghost use Rattle.std.specs.Prelude.{◌≡◌, ◌⊎◌, ◌≤◌, [], Err, None, Some, IfOk, OnOk, OnErr};
-ghost use Rattle.harp_base.specs.Streams.{Rose};
+ghost use Rattle.harp_types.specs.Streams.{Rose};
 ghost use Rattle.harp_cells.specs.declared.change.Change.TheVariants as change;
 ghost use Rattle.store_folder.specs.Sync.{SyncsAll, SyncsSome, WritesMark};
 ghost use Rattle.store_folder.specs.Unsynced.{GainsBlock, HasBlocks, IsAlike, IsChanged, IsNothing, ReadsMade, made_of};

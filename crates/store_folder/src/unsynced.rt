@@ -16,7 +16,7 @@ use std::marker::Model;
 
 /// The changes since the last sync, and which blocks the disk has. A call costs a logarithm of the
 /// number of changes, and an erasure of blocks one for each block that was put since.
-#[derive(Debug, Drop)]
+#[derive(Drop)]
 pub struct Unsynced {
     // What was put and not erased since.
     values: MemCells,

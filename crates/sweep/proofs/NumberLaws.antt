@@ -5,9 +5,9 @@ use Rattle.sweep.specs.declared.line_kind.LineKind.{LineKind}
 use Rattle.sweep.specs.declared.line_kind.LineKind.TheVariants as kind
 use Rattle.sweep.specs.declared.line_kind.ServerLine.{ServerLine}
 use Rattle.sweep.specs.declared.line_kind.ServerLine.TheVariants as line
-use Rattle.harp_base.specs.declared.server.ServerId.{ServerId}
-use Rattle.harp_base.specs.declared.server.ServerId.TheVariants.{Zero, One}
-use Rattle.harp_base.specs.Trio.{value_of}
+use Rattle.harp_types.specs.declared.server.ServerId.{ServerId}
+use Rattle.harp_types.specs.declared.server.ServerId.TheVariants.{Zero, One}
+use Rattle.harp_types.specs.Trio.{value_of}
 use Rattle.sweep.specs.Draws.{below}
 use Rattle.sweep.specs.Lines.{Made, AreUpTo, ask_at, ask, boot, fail, advance, pump_two, server_of, line_at, line_at_any, line_kind, line_of_kind, next_line, with_draws}
 

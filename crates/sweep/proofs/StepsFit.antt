@@ -2,9 +2,9 @@
 use Rattle.std.proofs.Common.{ℕ, zero, suc, ◌+◌, ◌<◌, ◌^◌, ◌==◌, ◌&&◌, not, Bool, true, false, List, [], ◌∷◌, get_or, slice_index, All, if◌then◌else◌, inl, lit<, lit≤, arith}
 use Rattle.std.proofs.Math.Nat.{mod-lt}
 use Rattle.std.proofs.lemmas.List.Elements.{All-cons, All-append}
-use Rattle.harp_base.specs.Trio.{value_of}
-use Rattle.harp_base.specs.declared.server.ServerId.{ServerId}
-use Rattle.harp_base.specs.declared.server.ServerId.TheVariants.{Zero, One, Two}
+use Rattle.harp_types.specs.Trio.{value_of}
+use Rattle.harp_types.specs.declared.server.ServerId.{ServerId}
+use Rattle.harp_types.specs.declared.server.ServerId.TheVariants.{Zero, One, Two}
 use Rattle.text_spelling.specs.Fits.{AreBytes, SetAttrFits, CallFits, PairFits}
 use Rattle.text_spelling.specs.StepFits.{StepFits}
 use Rattle.trace_types.specs.declared.pick.Pick.TheVariants as pick

@@ -1,10 +1,10 @@
 -- The calls that are drawn.
 use Rattle.std.specs.Prelude.{ℕ, ◌+◌, ◌==◌, List, [], ◌∷◌, if◌then◌else◌}
-use Rattle.harp_base.specs.Limits.{field_left}
-use Rattle.harp_base.specs.declared.attr.SetAttr.{SetAttr}
-use Rattle.harp_base.specs.declared.attr.Time.{Time}
-use Rattle.harp_base.specs.declared.call.Call.{Call}
-use Rattle.harp_base.specs.declared.call.Call.TheVariants as call
+use Rattle.harp_types.specs.Limits.{field_left}
+use Rattle.harp_types.specs.declared.attr.SetAttr.{SetAttr}
+use Rattle.harp_types.specs.declared.attr.Time.{Time}
+use Rattle.harp_types.specs.declared.call.Call.{Call}
+use Rattle.harp_types.specs.declared.call.Call.TheVariants as call
 use Rattle.sweep.specs.declared.calls.EntryCall.{EntryCall}
 use Rattle.sweep.specs.declared.calls.EntryCall.TheVariants as of
 use Rattle.sweep.specs.declared.calls.CallKind.{CallKind}

@@ -1,9 +1,9 @@
 -- The schedule of a seed: the lines that open a view, and then lines that are drawn.
 use Rattle.std.specs.Prelude.{ℕ, zero, suc, ◌+◌, ◌≤◌, ◌==◌, ◌&&◌, not, Bool, true, false, List, [], ◌∷◌, ◌++◌, slice_index, slice_set, nat_lt, Some, None, if◌then◌else◌}
-use Rattle.harp_base.specs.Trio.{value_of, with_value}
-use Rattle.harp_base.specs.declared.cred.Cred.{Cred}
-use Rattle.harp_base.specs.declared.server.ServerId.{ServerId}
-use Rattle.harp_base.specs.declared.server.ServerId.TheVariants.{Zero, One, Two}
+use Rattle.harp_types.specs.Trio.{value_of, with_value}
+use Rattle.harp_types.specs.declared.cred.Cred.{Cred}
+use Rattle.harp_types.specs.declared.server.ServerId.{ServerId}
+use Rattle.harp_types.specs.declared.server.ServerId.TheVariants.{Zero, One, Two}
 use Rattle.trace_types.specs.declared.pick.Pick.TheVariants as pick
 use Rattle.trace_types.specs.declared.step.Step.{Step}
 use Rattle.trace_types.specs.declared.step.Step.TheVariants as step

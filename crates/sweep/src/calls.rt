@@ -5,13 +5,13 @@ ghost use Rattle.sweep.specs.Calls.{handle, name, entry, with_mode, call_kind, c
 ghost use Rattle.sweep.specs.Calls.{rename, call_of_kind, any_call};
 
 use crate::draws::Draws;
-use harp_base::{Bounded, Call, FIELD_LEFT, LONGEST_ARGUMENT, SetAttr, Time};
+use harp_types::{Bounded, Call, FIELD_LEFT, LONGEST_ARGUMENT, SetAttr, Time};
 use std::alloc::{AllocError, Global};
 
 type Name = Bounded<LONGEST_ARGUMENT>;
 
 /// The calls of one entry of a directory.
-#[derive(Clone, Copy, Debug, PartialEq, Eq)]
+#[derive(Clone, Copy, PartialEq, Eq)]
 pub enum EntryCall {
     Create,
     MkDir,
@@ -20,7 +20,7 @@ pub enum EntryCall {
 }
 
 /// The calls of which one is drawn.
-#[derive(Clone, Copy, Debug, PartialEq, Eq)]
+#[derive(Clone, Copy, PartialEq, Eq)]
 pub enum CallKind {
     OfEntry(EntryCall),
     Write,

@@ -8,7 +8,7 @@ ghost use Rattle.sweep.specs.Lines.{line_of_kind, next_line};
 use crate::calls::any_call;
 use crate::draws::Draws;
 use crate::line_kind::{LineKind, ServerLine};
-use harp_base::{SUPERUSER, ServerId, Trio};
+use harp_types::{SUPERUSER, ServerId, Trio};
 use std::alloc::{AllocError, Global};
 use trace_types::{Bits, Pick, Step};
 

@@ -4,7 +4,7 @@ ghost use Rattle.std.specs.Prelude.{◌≡◌, IfOk};
 ghost use Rattle.sweep.specs.Lines.{opening, generated};
 
 use crate::generator::Generator;
-use harp_base::ServerId;
+use harp_types::ServerId;
 use std::alloc::{AllocError, Global};
 use trace_types::Step;
 

@@ -2,12 +2,12 @@
 
 ghost use Rattle.std.specs.Prelude.{◌≡◌, ◌≤◌, IfOk, OnOk, OnErr, Err};
 ghost use Rattle.std.specs.Io.KnownBytes.{Appends};
-ghost use Rattle.harp_base.specs.Streams.{GrewByPart, Rose};
+ghost use Rattle.harp_types.specs.Streams.{GrewByPart, Rose};
 ghost use Rattle.sweep.specs.Lines.{generated};
 ghost use Rattle.sweep.specs.Texts.{schedule_text};
 
 use crate::generate;
-use harp_base::{Bytes, Sink, SinkFault, write_all};
+use harp_types::{Bytes, Sink, SinkFault, write_all};
 use std::alloc::{AllocError, Global};
 use text_writer::write_step;
 use trace_types::Step;

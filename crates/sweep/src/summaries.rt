@@ -2,19 +2,19 @@
 
 ghost use Rattle.std.specs.Prelude.{◌≡◌, ◌≤◌, ◌<◌, ◌+◌, ◌^◌, ◌++◌, ◌∷◌, codes, decimal, length, IfOk, OnOk, OnErr, Err};
 ghost use Rattle.std.specs.Io.KnownBytes.{Appends};
-ghost use Rattle.harp_base.specs.Streams.{GrewByPart, Rose};
+ghost use Rattle.harp_types.specs.Streams.{GrewByPart, Rose};
 ghost use Rattle.text_spelling.specs.Text.{spaced};
 ghost use Rattle.sweep.specs.Texts.{count_of, word_of, counted, run_text, runs_text, total};
 ghost use Rattle.sweep.specs.Texts.{sum_text, summaries_text};
 
 use crate::Summary;
-use harp_base::{Sink, SinkFault, write_all};
+use harp_types::{Sink, SinkFault, write_all};
 use itoa::Buffer;
 use std::alloc::{AllocError, Global};
 use text_writer::{put_named, put_number};
 
 /// The counts of a run.
-#[derive(Clone, Copy, Debug, PartialEq, Eq)]
+#[derive(Clone, Copy, PartialEq, Eq)]
 pub enum Count {
     Entered,
     Answered,

@@ -2,7 +2,7 @@
 
 /// Counts of a run's lines: those of calls that entered history, of answers and of refusals, and
 /// how often a server opened its view.
-#[derive(Clone, Copy, Debug, PartialEq, Eq)]
+#[derive(Clone, Copy, PartialEq, Eq)]
 pub struct Summary {
     pub entered: u64,
     pub answered: u64,

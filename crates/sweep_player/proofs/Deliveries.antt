@@ -1,6 +1,6 @@
 -- The deliveries of a pump, one after the other.
 use Rattle.std.proofs.Common.{◌≡◌, ℕ, zero, suc, ◌-◌, ◌+◌, ◌<◌, ◌≤◌, arith, List, [], ◌∷◌, refl, ap, ◌∙◌, Option, Some, None}
-use Rattle.harp_base.specs.declared.server.ServerId.{ServerId}
+use Rattle.harp_types.specs.declared.server.ServerId.{ServerId}
 use Rattle.trace_types.specs.declared.step.Step.{Step}
 use Rattle.trace_types.specs.declared.step.Step.TheVariants as step
 use Rattle.group_trace.specs.Pump.{deliveries, due, most_deliveries}

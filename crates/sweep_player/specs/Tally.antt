@@ -1,8 +1,8 @@
 -- What is kept of the lines so far.
 use Rattle.std.specs.Prelude.{◌≡◌, Bool, false, not, ◌&&◌}
-use Rattle.harp_base.specs.Trio.{value_of, with_value}
-use Rattle.harp_base.specs.declared.server.ServerId.{ServerId}
-use Rattle.harp_base.specs.declared.trio.Trio.{Trio}
+use Rattle.harp_types.specs.Trio.{value_of, with_value}
+use Rattle.harp_types.specs.declared.server.ServerId.{ServerId}
+use Rattle.harp_types.specs.declared.trio.Trio.{Trio}
 use Rattle.trace_types.specs.declared.line.Line.{Line}
 use Rattle.trace_types.specs.declared.line.Line.TheVariants as line
 use Rattle.trace_claims.specs.Servers.{is_open}

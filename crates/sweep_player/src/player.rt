@@ -7,7 +7,7 @@ use trace_types::Step;
 use world::World;
 
 /// Plays each list of steps in a new world of three servers.
-#[derive(Clone, Copy, Debug, PartialEq, Eq)]
+#[derive(Clone, Copy, PartialEq, Eq)]
 pub struct GroupPlayer;
 
 impl Player for GroupPlayer {

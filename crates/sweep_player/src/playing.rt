@@ -14,7 +14,7 @@ ghost use Rattle.sweep_player.specs.Reading.{given_as, moves_within, summary_of_
 
 use crate::copies::copy_of;
 use crate::tally::Tally;
-use harp_base::ServerId;
+use harp_types::ServerId;
 use schedule_play::Stage;
 use std::alloc::{AllocError, Global};
 use sweep::Summary;
@@ -33,7 +33,7 @@ const MOST_MILLIS: u64 = 1_000_000_000;
 const MOST_DELIVERIES: u64 = 1 << 40;
 
 /// What a step led to.
-#[derive(Clone, Copy, Debug, PartialEq, Eq)]
+#[derive(Clone, Copy, PartialEq, Eq)]
 pub enum Turn {
     /// The next step is to be taken.
     GoesOn,

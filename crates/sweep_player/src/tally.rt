@@ -5,13 +5,13 @@ ghost use Rattle.trace_claims.specs.Trace.{Trace};
 ghost use Rattle.sweep_player.specs.Counts.{is_answered, is_entered, is_refused, one_if};
 ghost use Rattle.sweep_player.specs.Tally.{IsTallyOf, opens, open_after};
 
-use harp_base::{Mode, ServerId, Trio};
+use harp_types::{Mode, ServerId, Trio};
 use std::alloc::{AllocError, Global};
 use sweep::Summary;
 use trace_types::Line;
 
 /// What the lines so far came to.
-#[derive(Clone, Copy, Debug, PartialEq, Eq)]
+#[derive(Clone, Copy, PartialEq, Eq)]
 pub struct Tally {
     summary: Summary,
     /// Whether the last line of each server told that it is open.

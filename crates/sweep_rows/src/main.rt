@@ -12,7 +12,7 @@ mod players;
 mod sweeps;
 
 use crate::sweeps::swept;
-use harp_base::{Sink, WriterSink, write_all};
+use harp_types::{Sink, WriterSink, write_all};
 use std::alloc::{AllocError, Global};
 use std::io::{self, BufRead, BufReader};
 use std::thread::Threads;

@@ -27,7 +27,7 @@ impl Player for Steps {
 }
 
 /// The kinds of steps that are counted.
-#[derive(Clone, Copy, Debug, PartialEq, Eq)]
+#[derive(Clone, Copy, PartialEq, Eq)]
 pub(crate) enum Kind {
     Ask,
     Pump,

@@ -4,10 +4,10 @@ use Rattle.std.specs.Prelude.{◌==◌, decimal, codes, if◌then◌else◌}
 use Rattle.std.proofs.lemmas.Bool.{cases_eq, eqb-true, eq-eqb, ne_eqb, and_parts}
 use Rattle.std.proofs.lemmas.List.{length-append}
 use Rattle.std.proofs.lemmas.Fmt.{decimal_digit}
-use Rattle.harp_base.specs.Server.{number_of}
-use Rattle.harp_base.specs.declared.server.ServerId.{ServerId}
-use Rattle.harp_base.specs.declared.server.ServerId.TheVariants as servers
-use Rattle.harp_base.specs.declared.attr.Time.{Time}
+use Rattle.harp_types.specs.Server.{number_of}
+use Rattle.harp_types.specs.declared.server.ServerId.{ServerId}
+use Rattle.harp_types.specs.declared.server.ServerId.TheVariants as servers
+use Rattle.harp_types.specs.declared.attr.Time.{Time}
 use Rattle.text_fields.specs.declared.fault.TextFault.TheVariants.{Grammar}
 use Rattle.text_spelling.specs.Text.{left, is_left_time, octal, time_text, number_field, mode_field, time_field}
 use Rattle.text_spelling.specs.Fits.{TimeFits}

@@ -6,7 +6,7 @@ ghost use Rattle.text_fields.specs.declared.fault.TextFault.TheVariants.{NoMemor
 use std::alloc::{AllocError, AllocFailed};
 
 /// Why a line of a schedule gives no step.
-#[derive(Debug, Drop)]
+#[derive(Drop)]
 pub enum TextFault {
     /// No step is spelled so: at this byte, counted from 0, none goes on.
     Grammar(usize),

@@ -6,7 +6,7 @@ ghost use Rattle.text_fields.specs.Fields.{Gives, number_field_at, mode_field_at
 
 use crate::fault::TextFault;
 use crate::number::{number_at, peek, u32_at};
-use harp_base::{SetAttr, Time};
+use harp_types::{SetAttr, Time};
 use text_spelling::{LEFT, is_left_time};
 
 /// Seconds and microseconds, not both of them left.

@@ -5,7 +5,7 @@ ghost use Rattle.text_fields.specs.Fields.{Gives, hex_value, pair_at, pairs_from
 
 use crate::fault::TextFault;
 use crate::number::peek;
-use harp_base::Bounded;
+use harp_types::Bounded;
 use std::alloc::{AllocError, Global};
 
 /// The value of a lower-case hexadecimal digit.

@@ -5,7 +5,7 @@ ghost use Rattle.std.specs.List.{prefix_len, take_while};
 ghost use Rattle.text_fields.specs.Fields.{Gives, space_at, not_space, word_at, longer, number_from, number_at, u32_at, count_at, server_of, server_at};
 
 use crate::fault::TextFault;
-use harp_base::ServerId;
+use harp_types::ServerId;
 
 /// The byte at a place, or 0 past the end.
 pub fn peek(bytes: &[u8], at: usize) -> u8

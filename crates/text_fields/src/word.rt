@@ -8,7 +8,7 @@ ghost use Rattle.text_fields.specs.Words.{farther, ranged_at, all_hex_at};
 use crate::fault::TextFault;
 use crate::name::{is_odd_at, pairs_from};
 use crate::number::{number_at, peek};
-use harp_base::Bytes;
+use harp_types::Bytes;
 use std::alloc::Global;
 
 /// How many bytes two words have in common from their fronts on.

@@ -1,18 +1,18 @@
 -- The one spelling of what a trace shows of causes, views and states.
 use Rattle.std.specs.Prelude.{ℕ, ◌≢◌, List, ◌∷◌, ◌++◌, Option, Some, None, codes, decimal}
 use Rattle.std.specs.List.{AllByRecursion}
-use Rattle.harp_base.specs.Server.{number_of}
-use Rattle.harp_base.specs.View.{View}
-use Rattle.harp_base.specs.declared.server.ServerId.{ServerId}
-use Rattle.harp_base.specs.declared.state.Mode.{Mode}
-use Rattle.harp_base.specs.declared.state.Mode.TheVariants as mode
-use Rattle.harp_base.specs.declared.state.Role.{Role}
-use Rattle.harp_base.specs.declared.state.Role.TheVariants as role
-use Rattle.harp_base.specs.declared.state.Held.{Held}
-use Rattle.harp_base.specs.declared.state.Held.TheVariants as held
-use Rattle.harp_base.specs.declared.state.StateLine.{StateLine}
-use Rattle.trace_lines.specs.declared.line.Cause.{Cause}
-use Rattle.trace_lines.specs.declared.line.Cause.TheVariants as cause
+use Rattle.harp_types.specs.Server.{number_of}
+use Rattle.harp_types.specs.View.{View}
+use Rattle.harp_types.specs.declared.server.ServerId.{ServerId}
+use Rattle.harp_types.specs.declared.state.Mode.{Mode}
+use Rattle.harp_types.specs.declared.state.Mode.TheVariants as mode
+use Rattle.harp_types.specs.declared.state.Role.{Role}
+use Rattle.harp_types.specs.declared.state.Role.TheVariants as role
+use Rattle.harp_types.specs.declared.state.Held.{Held}
+use Rattle.harp_types.specs.declared.state.Held.TheVariants as held
+use Rattle.harp_types.specs.declared.state.StateLine.{StateLine}
+use Rattle.harp_types.specs.declared.cause.Cause.{Cause}
+use Rattle.harp_types.specs.declared.cause.Cause.TheVariants as cause
 use Rattle.text_spelling.specs.Text.{spaced}
 
 -- the server that leads, or a dash for none

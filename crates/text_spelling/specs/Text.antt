@@ -3,22 +3,22 @@ use Rattle.std.specs.Prelude.{ℕ, ◌==◌, Bool, ◌&&◌, ◌||◌, not, true
 use Rattle.std.specs.List.{flat_map}
 use Rattle.std.specs.Fmt.{digits}
 use Rattle.hex.specs.Hex.{encode_lower}
-use Rattle.harp_base.specs.Calls.{procedure_of, procedure_name}
-use Rattle.harp_base.specs.Server.{number_of}
-use Rattle.harp_base.specs.declared.server.ServerId.{ServerId}
-use Rattle.harp_base.specs.declared.attr.Time.{Time}
-use Rattle.harp_base.specs.declared.attr.SetAttr.{SetAttr}
-use Rattle.harp_base.specs.declared.attr.Attr.{Attr}
-use Rattle.harp_base.specs.declared.attr.Kind.{Kind}
-use Rattle.harp_base.specs.declared.attr.Kind.TheVariants as kind
-use Rattle.harp_base.specs.declared.call.Call.{Call}
-use Rattle.harp_base.specs.declared.call.Call.TheVariants as call
-use Rattle.harp_base.specs.declared.cred.Cred.{Cred}
-use Rattle.harp_base.specs.declared.reply.DirEntry.{DirEntry}
-use Rattle.harp_base.specs.declared.reply.Status.{Status}
-use Rattle.harp_base.specs.declared.reply.Status.TheVariants as status
-use Rattle.harp_base.specs.declared.reply.Reply.{Reply}
-use Rattle.harp_base.specs.declared.reply.Reply.TheVariants as reply
+use Rattle.harp_types.specs.Procedures.{procedure_of, procedure_name}
+use Rattle.harp_types.specs.Server.{number_of}
+use Rattle.harp_types.specs.declared.server.ServerId.{ServerId}
+use Rattle.harp_types.specs.declared.attr.Time.{Time}
+use Rattle.harp_types.specs.declared.attr.SetAttr.{SetAttr}
+use Rattle.harp_types.specs.declared.attr.Attr.{Attr}
+use Rattle.harp_types.specs.declared.attr.Kind.{Kind}
+use Rattle.harp_types.specs.declared.attr.Kind.TheVariants as kind
+use Rattle.harp_types.specs.declared.call.Call.{Call}
+use Rattle.harp_types.specs.declared.call.Call.TheVariants as call
+use Rattle.harp_types.specs.declared.cred.Cred.{Cred}
+use Rattle.harp_types.specs.declared.reply.DirEntry.{DirEntry}
+use Rattle.harp_types.specs.declared.reply.Status.{Status}
+use Rattle.harp_types.specs.declared.reply.Status.TheVariants as status
+use Rattle.harp_types.specs.declared.reply.Reply.{Reply}
+use Rattle.harp_types.specs.declared.reply.Reply.TheVariants as reply
 
 -- a word behind a space
 abbrev pub spaced : List ℕ → List ℕ

@@ -1,6 +1,6 @@
 -- The one spelling of each line of a trace, without its line end.
 use Rattle.std.specs.Prelude.{ℕ, List, ◌++◌, codes, decimal}
-use Rattle.harp_base.specs.Server.{number_of}
+use Rattle.harp_types.specs.Server.{number_of}
 use Rattle.trace_types.specs.declared.line.BookEntry.{BookEntry}
 use Rattle.trace_types.specs.declared.line.LineFault.{LineFault}
 use Rattle.trace_types.specs.declared.line.LineFault.TheVariants as fault

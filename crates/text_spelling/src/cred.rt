@@ -3,7 +3,7 @@
 ghost use Rattle.std.specs.Prelude.{◌≡◌};
 ghost use Rattle.text_spelling.specs.Text.{is_implied};
 
-use harp_base::Cred;
+use harp_types::Cred;
 
 /// Whether a call that tells no credential is made under this one: user 0 and group 0.
 pub fn is_implied(cred: Cred) -> bool

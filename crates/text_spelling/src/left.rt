@@ -3,7 +3,7 @@
 ghost use Rattle.std.specs.Prelude.{◌≡◌};
 ghost use Rattle.text_spelling.specs.Text.{is_left_time};
 
-use harp_base::Time;
+use harp_types::Time;
 
 /// The value that leaves a field of SETATTR.
 pub const LEFT: u32 = 4294967295;

@@ -5,27 +5,27 @@ use Rattle.std.specs.List.{AllByRecursion, flat_map}
 use Rattle.std.specs.Fmt.{digit_glyph, digits_onto, digits}
 use Rattle.std.proofs.lemmas.Bool.{eqb-false, or_parts}
 use Rattle.hex.specs.Hex.{encode_lower, encode_with, lower_digits}
-use Rattle.harp_base.specs.Calls.{procedure_of, procedure_name}
-use Rattle.harp_base.specs.Server.{number_of}
-use Rattle.harp_base.specs.View.{View}
-use Rattle.harp_base.specs.declared.state.Mode.{Mode}
-use Rattle.harp_base.specs.declared.state.Mode.TheVariants as mode
-use Rattle.harp_base.specs.declared.state.Role.{Role}
-use Rattle.harp_base.specs.declared.state.Role.TheVariants as role
-use Rattle.harp_base.specs.declared.state.Held.{Held}
-use Rattle.harp_base.specs.declared.state.Held.TheVariants as held
-use Rattle.harp_base.specs.declared.state.StateLine.{StateLine}
-use Rattle.harp_base.specs.declared.attr.Time.{Time}
-use Rattle.harp_base.specs.declared.attr.SetAttr.{SetAttr}
-use Rattle.harp_base.specs.declared.attr.Attr.{Attr}
-use Rattle.harp_base.specs.declared.call.Call.{Call}
-use Rattle.harp_base.specs.declared.call.Call.TheVariants as call
-use Rattle.harp_base.specs.declared.procedure.Procedure.{Procedure}
-use Rattle.harp_base.specs.declared.procedure.Procedure.TheVariants as procedure
-use Rattle.harp_base.specs.declared.cred.Cred.{Cred}
-use Rattle.harp_base.specs.declared.reply.DirEntry.{DirEntry}
-use Rattle.harp_base.specs.declared.reply.Reply.{Reply}
-use Rattle.harp_base.specs.declared.reply.Reply.TheVariants as reply
+use Rattle.harp_types.specs.Procedures.{procedure_of, procedure_name}
+use Rattle.harp_types.specs.Server.{number_of}
+use Rattle.harp_types.specs.View.{View}
+use Rattle.harp_types.specs.declared.state.Mode.{Mode}
+use Rattle.harp_types.specs.declared.state.Mode.TheVariants as mode
+use Rattle.harp_types.specs.declared.state.Role.{Role}
+use Rattle.harp_types.specs.declared.state.Role.TheVariants as role
+use Rattle.harp_types.specs.declared.state.Held.{Held}
+use Rattle.harp_types.specs.declared.state.Held.TheVariants as held
+use Rattle.harp_types.specs.declared.state.StateLine.{StateLine}
+use Rattle.harp_types.specs.declared.attr.Time.{Time}
+use Rattle.harp_types.specs.declared.attr.SetAttr.{SetAttr}
+use Rattle.harp_types.specs.declared.attr.Attr.{Attr}
+use Rattle.harp_types.specs.declared.call.Call.{Call}
+use Rattle.harp_types.specs.declared.call.Call.TheVariants as call
+use Rattle.harp_types.specs.declared.procedure.Procedure.{Procedure}
+use Rattle.harp_types.specs.declared.procedure.Procedure.TheVariants as procedure
+use Rattle.harp_types.specs.declared.cred.Cred.{Cred}
+use Rattle.harp_types.specs.declared.reply.DirEntry.{DirEntry}
+use Rattle.harp_types.specs.declared.reply.Reply.{Reply}
+use Rattle.harp_types.specs.declared.reply.Reply.TheVariants as reply
 use Rattle.text_spelling.specs.Text.{left, is_left_time, hex_text, octal, time_text, number_field, mode_field, time_field, later, mtime_on, atime_on, size_on, gid_on, uid_on, set_attr_text, fields_text, call_text, kind_number, status_number, attr_owner, attr_extent, attr_times, attr_text, entry_text, page_end, reply_text, spaced, comma, is_implied, told_text, cred_text}
 use Rattle.text_spelling.specs.Lines.{IsOneLine, view_text, mode_text, role_text, held_text, state_text}
 

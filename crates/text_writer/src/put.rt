@@ -1,11 +1,11 @@
 //! The pieces of a text, put at the end of what is written.
 
 ghost use Rattle.std.specs.Prelude.{◌≡◌, ◌++◌, ◌∷◌, [], codes, decimal, OnOk};
-ghost use Rattle.harp_base.specs.Server.{number_of};
+ghost use Rattle.harp_types.specs.Server.{number_of};
 ghost use Rattle.text_spelling.specs.Text.{spaced, cred_text, octal};
 
 use crate::decimals::{DIGITS, MARKED, push_behind, push_decimal};
-use harp_base::{Cred, ServerId};
+use harp_types::{Cred, ServerId};
 use std::alloc::AllocError;
 use text_spelling::is_implied;
 

@@ -1,7 +1,7 @@
 //! Lines of traces that are written.
 
 ghost use Rattle.std.specs.Prelude.{◌≡◌, ◌++◌, ◌∷◌, [], codes, decimal, OnOk};
-ghost use Rattle.harp_base.specs.Server.{number_of};
+ghost use Rattle.harp_types.specs.Server.{number_of};
 ghost use Rattle.text_spelling.specs.Text.{spaced, hex_text, attr_text, call_text, cred_text, reply_text};
 ghost use Rattle.text_spelling.specs.Lines.{hint_text, cause_text, state_text};
 ghost use Rattle.text_spelling.specs.Steps.{server_text, step_text};
@@ -14,7 +14,7 @@ use crate::{
     put_at, put_attr, put_call, put_client, put_cred, put_name, put_named, put_number, put_reply,
     put_server, put_state, put_three,
 };
-use harp_base::{Attr, Bounded, Reply, ServerId};
+use harp_types::{Attr, Bounded, Reply, ServerId};
 use std::alloc::{AllocError, Global};
 use trace_types::{BookEntry, Cause, Line, LineFault, ShownMessage, Step};
 

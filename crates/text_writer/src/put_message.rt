@@ -1,7 +1,7 @@
 //! Messages that are written.
 
 ghost use Rattle.std.specs.Prelude.{◌≡◌, ◌++◌, ◌∷◌, [], codes, decimal, OnOk};
-ghost use Rattle.harp_base.specs.Server.{number_of};
+ghost use Rattle.harp_types.specs.Server.{number_of};
 ghost use Rattle.text_spelling.specs.Text.{spaced};
 ghost use Rattle.text_spelling.specs.Lines.{view_text, held_text};
 ghost use Rattle.text_spelling.specs.Steps.{server_text};
@@ -9,7 +9,7 @@ ghost use Rattle.text_spelling.specs.TraceLines.{message_text};
 ghost use Rattle.trace_types.specs.declared.line.ShownMessage.TheVariants as messages;
 
 use crate::{put_held, put_in_view, put_number, put_server, put_three, put_view};
-use harp_base::{Held, ServerId, ViewNo};
+use harp_types::{Held, ServerId, ViewNo};
 use std::alloc::AllocError;
 use trace_types::ShownMessage;
 

@@ -1,12 +1,12 @@
 //! Steps that are written.
 
 ghost use Rattle.std.specs.Prelude.{◌≡◌, ◌++◌, ◌∷◌, [], codes, decimal, OnOk, Bool, map, if◌then◌else◌};
-ghost use Rattle.harp_base.specs.Server.{number_of};
+ghost use Rattle.harp_types.specs.Server.{number_of};
 ghost use Rattle.text_spelling.specs.Text.{spaced, hex_text, call_text, cred_text, ask_head, pair_text, among_text};
 ghost use Rattle.text_spelling.specs.Steps.{server_text, bits_text, pick_text, step_text};
 
 use crate::{put_at, put_call, put_client, put_cred, put_decimal, put_name, put_named, put_number};
-use harp_base::ServerId;
+use harp_types::ServerId;
 use std::alloc::{AllocError, Global};
 use trace_types::{Pick, Step};
 

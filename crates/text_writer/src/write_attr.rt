@@ -5,7 +5,7 @@ ghost use Rattle.text_spelling.specs.Text.{comma, octal, time_text, left, is_lef
 
 use crate::decimals::{DIGITS, MARKED, push_behind, push_decimal};
 use crate::put::{put_behind, put_decimal, put_octal};
-use harp_base::{Attr, Kind, SetAttr, Time};
+use harp_types::{Attr, Kind, SetAttr, Time};
 use std::alloc::AllocError;
 use text_spelling::{LEFT, is_left_time};
 

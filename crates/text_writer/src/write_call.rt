@@ -1,13 +1,13 @@
 //! Calls that are written.
 
 ghost use Rattle.std.specs.Prelude.{◌≡◌, ◌++◌, ◌∷◌, [], codes, decimal, OnOk};
-ghost use Rattle.harp_base.specs.Calls.{procedure_of, procedure_name};
+ghost use Rattle.harp_types.specs.Procedures.{procedure_of, procedure_name};
 ghost use Rattle.text_spelling.specs.Text.{spaced, hex_text, set_attr_text, fields_text, call_text};
 
 use crate::digits::put_name;
 use crate::put::{put_number, put_three};
 use crate::write_attr::put_set_attr;
-use harp_base::{Bounded, Call, Procedure, SetAttr};
+use harp_types::{Bounded, Call, Procedure, SetAttr};
 use std::alloc::{AllocError, Global};
 
 /// A handle, an offset, a count or a cookie, behind a space.

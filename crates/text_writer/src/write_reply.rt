@@ -2,13 +2,13 @@
 
 ghost use Rattle.std.specs.Prelude.{◌≡◌, ◌++◌, ◌∷◌, [], codes, decimal, OnOk};
 ghost use Rattle.std.specs.List.{flat_map};
-ghost use Rattle.harp_base.specs.declared.reply.Reply.TheVariants as replies;
+ghost use Rattle.harp_types.specs.declared.reply.Reply.TheVariants as replies;
 ghost use Rattle.text_spelling.specs.Text.{spaced, hex_text, status_number, entry_text, page_end, reply_text};
 
 use crate::digits::{put_hex, put_name};
 use crate::put::{put_behind, put_named, put_number, put_three};
 use crate::write_attr::put_attr;
-use harp_base::{DirEntry, Reply, Status};
+use harp_types::{DirEntry, Reply, Status};
 use std::alloc::{AllocError, Global};
 
 fn status_number(status: Status) -> u64

@@ -1,13 +1,13 @@
 //! Views and states that are written.
 
 ghost use Rattle.std.specs.Prelude.{◌≡◌, ◌++◌, ◌∷◌, [], codes, decimal, OnOk};
-ghost use Rattle.harp_base.specs.Server.{number_of};
+ghost use Rattle.harp_types.specs.Server.{number_of};
 ghost use Rattle.text_spelling.specs.Text.{spaced};
 ghost use Rattle.text_spelling.specs.Lines.{view_text, mode_text, role_text, held_text, state_text};
 
 use crate::decimals::{MARKED, push_behind};
 use crate::put::put_server;
-use harp_base::{Held, Mode, Role, StateLine, ViewNo};
+use harp_types::{Held, Mode, Role, StateLine, ViewNo};
 use std::alloc::AllocError;
 
 /// A view's count and coordinator, behind a space.

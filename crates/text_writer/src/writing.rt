@@ -9,7 +9,7 @@ ghost use Rattle.trace_types.specs.declared.line.Line.{Line};
 
 use crate::put_line::put_line;
 use crate::put_step::put_step;
-use harp_base::Bytes;
+use harp_types::Bytes;
 use std::alloc::{AllocError, Global};
 use trace_types::{Line, Step};
 

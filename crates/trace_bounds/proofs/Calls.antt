@@ -1,14 +1,14 @@
 -- Each call that a schedule can spell leaves a tree that fits, and shows it.
 use Rattle.std.proofs.Common.{◌≡◌, ℕ, ◌<◌, ◌^◌, ◌==◌, ◌&&◌, not, ltb, List, [], length, replicate, Option, Some, None, Ok, Err, refl, subst, arith}
 use Rattle.harp_base.specs.Attributes.{TimeFits}
-use Rattle.harp_base.specs.Limits.{largest_file}
-use Rattle.harp_base.specs.Time.{time_of}
-use Rattle.harp_base.specs.declared.attr.SetAttr.{SetAttr}
-use Rattle.harp_base.specs.declared.attr.Time.{Time}
-use Rattle.harp_base.specs.declared.call.Call.{Call}
-use Rattle.harp_base.specs.declared.call.Call.TheVariants as call
-use Rattle.harp_base.specs.declared.cred.Cred.{Cred}
-use Rattle.harp_base.specs.declared.reply.Status.TheVariants.{Exist, FBig, IsDir, NameTooLong, NoEnt, NotDir, NotEmpty, Perm}
+use Rattle.harp_types.specs.Limits.{largest_file}
+use Rattle.harp_types.specs.Time.{time_of}
+use Rattle.harp_types.specs.declared.attr.SetAttr.{SetAttr}
+use Rattle.harp_types.specs.declared.attr.Time.{Time}
+use Rattle.harp_types.specs.declared.call.Call.{Call}
+use Rattle.harp_types.specs.declared.call.Call.TheVariants as call
+use Rattle.harp_types.specs.declared.cred.Cred.{Cred}
+use Rattle.harp_types.specs.declared.reply.Status.TheVariants.{Exist, FBig, IsDir, NameTooLong, NoEnt, NotDir, NotEmpty, Perm}
 use Rattle.text_spelling.specs.Fits.{CallFits, CredFits}
 use Rattle.std.specs.List.{AllByRecursion}
 use Rattle.file_tree.specs.declared.object.Body.TheVariants.{Directory, Link, Regular}

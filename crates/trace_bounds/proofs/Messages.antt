@@ -1,7 +1,7 @@
 -- What a group within its bounds shows of its messages and its servers fits.
 use Rattle.std.proofs.Common.{◌≡◌, ℕ, ◌+◌, ◌-◌, ◌/◌, ◌<◌, ◌≤◌, ◌^◌, true, List, length, Some, refl, sym, ap, subst, arith}
 use Rattle.std.proofs.lemmas.Option.{slice_get_within}
-use Rattle.harp_base.specs.Server.{number_of}
+use Rattle.harp_types.specs.Server.{number_of}
 use Rattle.file_tree.specs.Book.{Entry}
 use Rattle.group_rules.specs.Limits.{room}
 use Rattle.group_rules.specs.Names.{id_of, view_of}

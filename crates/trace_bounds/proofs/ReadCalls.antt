@@ -2,12 +2,12 @@
 use Rattle.std.proofs.Common.{◌≡◌, ℕ, ◌+◌, ◌<◌, ◌^◌, ◌==◌, max, min, not, ltb, List, length, drop, Some, None, Ok, Err, refl, subst, arith}
 use Rattle.std.proofs.lemmas.List.{length-take}
 use Rattle.harp_base.specs.Attributes.{TimeFits}
-use Rattle.harp_base.specs.Limits.{field_left, largest_file}
-use Rattle.harp_base.specs.declared.attr.SetAttr.{SetAttr}
-use Rattle.harp_base.specs.declared.attr.Time.{Time}
-use Rattle.harp_base.specs.declared.cred.Cred.{Cred}
-use Rattle.harp_base.specs.declared.reply.Reply.{Reply}
-use Rattle.harp_base.specs.declared.reply.Status.TheVariants.{FBig, NoEnt, Perm}
+use Rattle.harp_types.specs.Limits.{field_left, largest_file}
+use Rattle.harp_types.specs.declared.attr.SetAttr.{SetAttr}
+use Rattle.harp_types.specs.declared.attr.Time.{Time}
+use Rattle.harp_types.specs.declared.cred.Cred.{Cred}
+use Rattle.harp_types.specs.declared.reply.Reply.{Reply}
+use Rattle.harp_types.specs.declared.reply.Status.TheVariants.{FBig, NoEnt, Perm}
 use Rattle.text_spelling.specs.Fits.{AreBytes, SetAttrFits}
 use Rattle.std.specs.List.{AllByRecursion}
 use Rattle.file_tree.specs.declared.object.Body.{Body}

@@ -1,9 +1,9 @@
 -- The moves of each rule.
 use Rattle.std.proofs.Common.{◌≡◌, ℕ, ◌+◌, ◌-◌, ◌/◌, ◌<◌, ◌≤◌, ◌||◌, ◌==◌, Bool, true, false, List, [], ◌∷◌, ◌++◌, length, take, drop, Option, Some, None, refl, subst, arith, nat_le, nat_lt, if◌then◌else◌, le_refl}
 use Rattle.std.proofs.lemmas.List.{length-drop, length-take}
-use Rattle.harp_base.specs.declared.call.Call.{Call}
-use Rattle.harp_base.specs.declared.cred.Cred.{Cred}
-use Rattle.harp_base.specs.Update.{is_update}
+use Rattle.harp_types.specs.declared.call.Call.{Call}
+use Rattle.harp_types.specs.declared.cred.Cred.{Cred}
+use Rattle.harp_types.specs.Update.{is_update}
 use Rattle.file_tree.specs.Book.{Entry, last_of}
 use Rattle.group_rules.specs.Ask.{append, new_entry, on_ask, update_moves}
 use Rattle.group_rules.specs.Choose.{choice_of, choose, greatest, horizon_of, pair_of, plan_of, source_of}

@@ -4,11 +4,11 @@ use Rattle.std.specs.List.{AllByRecursion}
 use Rattle.std.proofs.lemmas.List.{length-drop}
 use Rattle.std.proofs.lemmas.Option.{slice_get_within}
 use Rattle.harp_base.specs.Fields.{AllFit}
-use Rattle.harp_base.specs.Update.{is_update}
-use Rattle.harp_base.specs.declared.reply.DirEntry.{DirEntry}
-use Rattle.harp_base.specs.declared.reply.Reply.{Reply}
-use Rattle.harp_base.specs.declared.reply.Reply.TheVariants as reply
-use Rattle.harp_base.specs.declared.state.StateLine.{StateLine}
+use Rattle.harp_types.specs.Update.{is_update}
+use Rattle.harp_types.specs.declared.reply.DirEntry.{DirEntry}
+use Rattle.harp_types.specs.declared.reply.Reply.{Reply}
+use Rattle.harp_types.specs.declared.reply.Reply.TheVariants as reply
+use Rattle.harp_types.specs.declared.state.StateLine.{StateLine}
 use Rattle.trace_types.specs.declared.line.Line.{Line}
 use Rattle.trace_types.specs.declared.line.Line.TheVariants as line
 use Rattle.trace_claims.proofs.Places.{all-append}

@@ -4,10 +4,10 @@ use Rattle.std.specs.Prelude.{nat_le}
 use Rattle.std.specs.List.{AllByRecursion}
 use Rattle.std.proofs.lemmas.Bool.{cond_both, leb-true}
 use Rattle.harp_base.specs.Attributes.{AttrFits}
-use Rattle.harp_base.specs.declared.attr.Attr.{Attr}
-use Rattle.harp_base.specs.declared.reply.DirEntry.{DirEntry}
-use Rattle.harp_base.specs.declared.reply.Reply.{Reply}
-use Rattle.harp_base.specs.declared.reply.Reply.TheVariants as reply
+use Rattle.harp_types.specs.declared.attr.Attr.{Attr}
+use Rattle.harp_types.specs.declared.reply.DirEntry.{DirEntry}
+use Rattle.harp_types.specs.declared.reply.Reply.{Reply}
+use Rattle.harp_types.specs.declared.reply.Reply.TheVariants as reply
 use Rattle.file_tree.specs.declared.object.Body.{Body}
 use Rattle.file_tree.specs.declared.object.Body.TheVariants.{Regular, Directory, Link}
 use Rattle.file_tree.specs.declared.object.Object.{Object}

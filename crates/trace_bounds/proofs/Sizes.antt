@@ -7,7 +7,7 @@ use Rattle.std.proofs.lemmas.List.Sums.{sum_by-append}
 use Rattle.std.proofs.lemmas.Option.{same_Some}
 use Rattle.harp_base.specs.Fields.{many_bytes, u16_bytes, u64_bytes}
 use Rattle.harp_base.specs.Names.{view_bytes}
-use Rattle.harp_base.specs.View.{View}
+use Rattle.harp_types.specs.View.{View}
 use Rattle.event_record.specs.declared.record.RecordFields.{RecordFields}
 use Rattle.event_record.specs.Bytes.{record_bytes}
 use Rattle.volatile_log.specs.Log.{top}

@@ -1,6 +1,6 @@
 -- The trees of lists that are within bounds fit, and so do the replies of a book.
 use Rattle.std.proofs.Common.{◌≡◌, ℕ, ◌<◌, ◌≤◌, List, [], ◌∷◌, ◌++◌, fold, sym, subst, arith}
-use Rattle.harp_base.specs.declared.reply.Reply.{Reply}
+use Rattle.harp_types.specs.declared.reply.Reply.{Reply}
 use Rattle.file_tree.specs.Book.{Entry, MayFollowAll, tree_after, tree_next}
 use Rattle.file_tree.specs.Calls.{outcome}
 use Rattle.file_tree.specs.Sound.{IsSound}

@@ -5,10 +5,10 @@ use Rattle.std.specs.List.{sum_by}
 use Rattle.std.proofs.lemmas.List.{length-take}
 use Rattle.std.proofs.lemmas.List.Concat.{flat_map-append}
 use Rattle.std.proofs.lemmas.List.Sums.{sum_by-append}
-use Rattle.harp_base.specs.Limits.{last_client}
-use Rattle.harp_base.specs.Update.{is_update}
-use Rattle.harp_base.specs.declared.call.Call.{Call}
-use Rattle.harp_base.specs.declared.cred.Cred.{Cred}
+use Rattle.harp_types.specs.Limits.{last_client}
+use Rattle.harp_types.specs.Update.{is_update}
+use Rattle.harp_types.specs.declared.call.Call.{Call}
+use Rattle.harp_types.specs.declared.cred.Cred.{Cred}
 use Rattle.file_tree.specs.Book.{Entry, last_of}
 use Rattle.group_rules.specs.Ask.{append, hint_of, new_entry, on_ask, read_entry, read_moves, refuse, update_moves}
 use Rattle.group_rules.specs.Choose.{choose}

@@ -1,8 +1,8 @@
 -- How far the moves of a step go: which views they take up, how long promises they carry over, which
 -- entries they append, read or refuse, and what they send.
 use Rattle.std.specs.Prelude.{◌≡◌, ℕ, ◌+◌, ◌/◌, ◌<◌, ◌≤◌, ◌^◌, max, List, [], ◌∷◌, length, Option, Some, ⊤}
-use Rattle.harp_base.specs.declared.call.Call.{Call}
-use Rattle.harp_base.specs.declared.cred.Cred.{Cred}
+use Rattle.harp_types.specs.declared.call.Call.{Call}
+use Rattle.harp_types.specs.declared.cred.Cred.{Cred}
 use Rattle.text_spelling.specs.Fits.{CallFits, CredFits}
 use Rattle.file_tree.specs.Book.{Entry, last_stamp}
 use Rattle.group_rules.specs.Moves.{Appending, Choosing, Demoting, Joining, Move, Reading, Saying, Sending, act}

@@ -15,9 +15,9 @@ use Rattle.std.proofs.lemmas.List.Elements.{Contains-push, Contains-push_cases, 
 use Rattle.harp_base.specs.Calls.{CallFits, call_at}
 use Rattle.harp_base.specs.Fields.{◌⊗◌, u32_at, u64_at}
 use Rattle.harp_base.specs.Names.{CredFits, cred_at}
-use Rattle.harp_base.specs.declared.call.Call.{Call}
-use Rattle.harp_base.specs.declared.cred.Cred.{Cred}
-use Rattle.harp_base.specs.declared.server.ServerId.{ServerId}
+use Rattle.harp_types.specs.declared.call.Call.{Call}
+use Rattle.harp_types.specs.declared.cred.Cred.{Cred}
+use Rattle.harp_types.specs.declared.server.ServerId.{ServerId}
 use Rattle.harp_base.proofs.AttributeLaws.{then}
 use Rattle.harp_base.proofs.CallLaws.{call_codec}
 use Rattle.harp_base.proofs.Codec.{u32_codec, u64_codec}

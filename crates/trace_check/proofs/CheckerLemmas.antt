@@ -4,14 +4,14 @@ use Rattle.std.specs.Prelude.{◌↔◌, ◌⊎◌}
 use Rattle.std.specs.Bool.{if◌then◌else◌}
 use Rattle.std.specs.Option.{option_map}
 use Rattle.std.proofs.lemmas.List.{length-append}
-use Rattle.harp_base.specs.Update.{is_update}
-use Rattle.harp_base.specs.View.{View}
-use Rattle.harp_base.specs.declared.call.Call.{Call}
-use Rattle.harp_base.specs.declared.cred.Cred.{Cred}
-use Rattle.harp_base.specs.declared.reply.Reply.{Reply}
-use Rattle.harp_base.specs.declared.server.ServerId.{ServerId}
-use Rattle.harp_base.specs.declared.state.Role.TheVariants as role
-use Rattle.harp_base.specs.declared.state.StateLine.{StateLine}
+use Rattle.harp_types.specs.Update.{is_update}
+use Rattle.harp_types.specs.View.{View}
+use Rattle.harp_types.specs.declared.call.Call.{Call}
+use Rattle.harp_types.specs.declared.cred.Cred.{Cred}
+use Rattle.harp_types.specs.declared.reply.Reply.{Reply}
+use Rattle.harp_types.specs.declared.server.ServerId.{ServerId}
+use Rattle.harp_types.specs.declared.state.Role.TheVariants as role
+use Rattle.harp_types.specs.declared.state.StateLine.{StateLine}
 use Rattle.file_tree.specs.Book.{tree_after}
 use Rattle.file_tree.specs.Calls.{outcome}
 use Rattle.file_tree.specs.Tree.{Tree}

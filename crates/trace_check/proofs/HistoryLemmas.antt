@@ -6,10 +6,10 @@ use Rattle.std.specs.Option.{option_map}
 use Rattle.std.proofs.lemmas.Bool.{lt-ltb, ltb-true}
 use Rattle.std.proofs.lemmas.List.Elements.{All-contains, All-contains_itself, All-filter, filter_passes, Contains-append_cases, Contains-append_left, Contains-append_right, Contains-push, Contains-push_cases}
 use Rattle.std.proofs.lemmas.List.{get_or-map, get_or_default, length-map}
-use Rattle.harp_base.specs.declared.reply.Reply.{Reply}
-use Rattle.harp_base.specs.declared.call.Call.TheVariants.{Null}
-use Rattle.harp_base.specs.declared.reply.Reply.TheVariants.{Done}
-use Rattle.harp_base.specs.Update.{is_update}
+use Rattle.harp_types.specs.declared.reply.Reply.{Reply}
+use Rattle.harp_types.specs.declared.call.Call.TheVariants.{Null}
+use Rattle.harp_types.specs.declared.reply.Reply.TheVariants.{Done}
+use Rattle.harp_types.specs.Update.{is_update}
 use Rattle.file_tree.specs.Book.{Entry, IsBook, IsNextUpdate, IsRead, last_of, last_stamp, tree_after, updates}
 use Rattle.file_tree.specs.Calls.{outcome}
 use Rattle.file_tree.proofs.BookOrder.{book_numbered, follows_next, next_follows}

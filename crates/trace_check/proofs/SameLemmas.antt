@@ -5,8 +5,8 @@ use Rattle.std.specs.Cmp.Lexicographic.{pointwise}
 use Rattle.std.proofs.lemmas.Bool.Decides.{Decides-eqb}
 use Rattle.std.proofs.lemmas.Slice.Eq.{slice_eq-Decides}
 use Rattle.std.proofs.lemmas.List.{append-nil}
-use Rattle.harp_base.specs.declared.call.Call.{Call}
-use Rattle.harp_base.specs.declared.reply.Reply.{Reply}
+use Rattle.harp_types.specs.declared.call.Call.{Call}
+use Rattle.harp_types.specs.declared.reply.Reply.{Reply}
 use Rattle.harp_base.specs.Calls.{CallFits, call_at, call_bytes}
 use Rattle.harp_base.specs.Fields.{Reader}
 use Rattle.harp_base.specs.Replies.{ReplyFits, reply_at, reply_bytes}

@@ -6,9 +6,9 @@ use Rattle.std.specs.Cmp.Lexicographic.{slice_cmp}
 use Rattle.harp_base.specs.Calls.{CallFits, call_bytes}
 use Rattle.harp_base.specs.Fields.{u32_bytes, u64_bytes}
 use Rattle.harp_base.specs.Names.{CredFits, cred_bytes}
-use Rattle.harp_base.specs.declared.call.Call.{Call}
-use Rattle.harp_base.specs.declared.cred.Cred.{Cred}
-use Rattle.harp_base.specs.declared.server.ServerId.{ServerId}
+use Rattle.harp_types.specs.declared.call.Call.{Call}
+use Rattle.harp_types.specs.declared.cred.Cred.{Cred}
+use Rattle.harp_types.specs.declared.server.ServerId.{ServerId}
 use Rattle.trace_types.specs.declared.step.Step.TheVariants as step
 use Rattle.trace_types.specs.declared.line.Line.{Line}
 use Rattle.trace_types.specs.declared.line.Line.TheVariants as line

@@ -1,6 +1,6 @@
 -- What a line of a trace may break.
 use Rattle.std.specs.Prelude.{◌≡◌, ℕ, ◌+◌, ◌<◌, length, MatchBool, Option, Some, None}
-use Rattle.harp_base.specs.Update.{is_update}
+use Rattle.harp_types.specs.Update.{is_update}
 use Rattle.file_tree.specs.Book.{IsNextUpdate, IsRead, tree_after, updates}
 use Rattle.file_tree.specs.Calls.{outcome}
 use Rattle.trace_types.specs.declared.line.BookEntry.{BookEntry}

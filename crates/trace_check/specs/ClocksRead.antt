@@ -1,7 +1,7 @@
 -- What is kept of clocks.
 use Rattle.std.specs.Prelude.{◌≡◌, ℕ, ◌+◌, ◌-◌, ◌^◌, min}
-use Rattle.harp_base.specs.Trio.{value_of}
-use Rattle.harp_base.specs.declared.server.ServerId.{ServerId}
+use Rattle.harp_types.specs.Trio.{value_of}
+use Rattle.harp_types.specs.declared.server.ServerId.{ServerId}
 use Rattle.trace_claims.specs.Trace.{Trace}
 use Rattle.trace_claims.specs.Servers.{clock_after}
 use Rattle.trace_check.specs.declared.clocks.Clocks.{Clocks}

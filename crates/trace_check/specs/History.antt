@@ -1,8 +1,8 @@
 -- What is kept of the entered calls.
 use Rattle.std.specs.Prelude.{◌≡◌, ℕ, true, List, length, map, Contains}
 use Rattle.std.specs.Option.{option_map}
-use Rattle.harp_base.specs.declared.reply.Reply.{Reply}
-use Rattle.harp_base.specs.Update.{is_update}
+use Rattle.harp_types.specs.declared.reply.Reply.{Reply}
+use Rattle.harp_types.specs.Update.{is_update}
 use Rattle.file_tree.specs.Book.{Entry, last_of, last_stamp, updates}
 use Rattle.trace_check.specs.Marks.{mark_at}
 use Rattle.trace_check.specs.declared.history.History.{History}

@@ -3,8 +3,8 @@ use Rattle.std.specs.Prelude.{◌≡◌, ◌↔◌, ℕ, ◌+◌, ◌==◌, Opti
 use Rattle.std.specs.BTreeMap.{get}
 use Rattle.std.specs.Option.{option_map}
 use Rattle.std.specs.Ordering.{nat_cmp}
-use Rattle.harp_base.specs.View.{View}
-use Rattle.harp_base.specs.declared.server.ServerId.{ServerId}
+use Rattle.harp_types.specs.View.{View}
+use Rattle.harp_types.specs.declared.server.ServerId.{ServerId}
 use Rattle.trace_types.specs.declared.line.ShownMessage.{ShownMessage}
 use Rattle.trace_types.specs.declared.line.ShownMessage.TheVariants as shown
 use Rattle.trace_claims.specs.Trace.{Trace}

@@ -1,6 +1,6 @@
 -- What is kept of the step that is under way.
 use Rattle.std.specs.Prelude.{◌≡◌, Option, Some, None, [], ◌∷◌, if◌then◌else◌}
-use Rattle.harp_base.specs.Update.{is_update}
+use Rattle.harp_types.specs.Update.{is_update}
 use Rattle.trace_types.specs.declared.line.BookEntry.{BookEntry}
 use Rattle.trace_types.specs.declared.line.Line.{Line}
 use Rattle.trace_types.specs.declared.line.Line.TheVariants as line

@@ -8,7 +8,7 @@ ghost use Rattle.trace_claims.specs.Faithful.{WasAsked};
 ghost use Rattle.trace_check.specs.Asks.{ask_bytes, AreAsksOf, AskFits, IsAdded, TellsAsk};
 
 use harp_base::fields::{put_call, put_cred, put_u32, put_u64};
-use harp_base::{Call, Cred};
+use harp_types::{Call, Cred};
 use std::alloc::{AllocError, Global};
 use std::collections::BTreeSet;
 use trace_types::{BookEntry, Line, Step};

@@ -6,7 +6,7 @@ ghost use Rattle.trace_claims.specs.Trace.{Trace};
 ghost use Rattle.trace_check.specs.Breaches.{IsAccepted, Keeps, IsFirst};
 
 /// What a line breaks. Of several the first counts, in the order in which they stand here.
-#[derive(Clone, Copy, Debug, PartialEq, Eq)]
+#[derive(Clone, Copy, PartialEq, Eq)]
 pub enum Breach {
     /// The reply of an entered call isn't the outcome on the tree of the entries before.
     Book,

@@ -25,7 +25,7 @@ use crate::network::Network;
 use crate::same::same_reply;
 use crate::servers::Servers;
 use crate::under_way::UnderWay;
-use harp_base::{Reply, Role, ServerId};
+use harp_types::{Reply, Role, ServerId};
 use plain_tree::PlainTree;
 use std::alloc::{AllocError, Global};
 use trace_types::{BookEntry, Line};

@@ -1,16 +1,16 @@
 //! The clocks of the servers.
 
 ghost use Rattle.std.specs.Prelude.{◌≡◌, ◌≤◌, ◌++◌, ◌∷◌, []};
-ghost use Rattle.harp_base.specs.Trio.{value_of, with_value};
+ghost use Rattle.harp_types.specs.Trio.{value_of, with_value};
 ghost use Rattle.trace_claims.specs.Trace.{Trace};
 ghost use Rattle.trace_check.specs.ClocksRead.{last_moment, AreClocksOf, IsAdvanced};
 
 use crate::readings::{ClockTold, clock_told};
-use harp_base::{ServerId, Trio};
+use harp_types::{ServerId, Trio};
 use trace_types::Line;
 
 /// What each clock reads, in milliseconds; a clock that would pass 2^64 - 1 stays there.
-#[derive(Debug, Drop)]
+#[derive(Drop)]
 pub struct Clocks {
     readings: Trio<u64>,
 }

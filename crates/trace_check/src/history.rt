@@ -1,19 +1,19 @@
 //! The entered calls, without the tree.
 
 ghost use Rattle.std.specs.Prelude.{◌≡◌, List, true, ◌↔◌, ◌<◌, ◌^◌, ◌++◌, ◌∷◌, [], length, IsTrue, IfOk, OnOk, MatchBool};
-ghost use Rattle.harp_base.specs.Update.{is_update};
+ghost use Rattle.harp_types.specs.Update.{is_update};
 ghost use Rattle.file_tree.specs.Book.{Entry, IsBook, IsNextUpdate, IsRead, updates};
 ghost use Rattle.trace_claims.specs.Trace.{Trace, entries, entry_of};
 ghost use Rattle.trace_check.specs.History.{IsHistoryOf, HasReply};
 
 use crate::marks::Marks;
 use crate::same::same_reply;
-use harp_base::{Reply, is_update};
+use harp_types::{Reply, is_update};
 use std::alloc::{AllocError, Global};
 use trace_types::{BookEntry, Line};
 
 /// Whose update was entered, and its reply.
-#[derive(Debug, Drop)]
+#[derive(Drop)]
 pub struct Kept {
     client: u32,
     number: u64,
@@ -21,7 +21,7 @@ pub struct Kept {
 }
 
 /// What the entered calls say of the next one.
-#[derive(Debug, Drop)]
+#[derive(Drop)]
 pub struct History {
     /// How many calls are entered.
     entered: u64,

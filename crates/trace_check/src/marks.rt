@@ -11,7 +11,7 @@ use std::marker::Model;
 pub type Key = (u64, u64, u64, u64);
 
 /// A number for each of some keys.
-#[derive(Debug, Drop)]
+#[derive(Drop)]
 pub struct Marks {
     numbers: BTreeMap<Key, u64>,
 }

@@ -9,14 +9,14 @@ ghost use Rattle.trace_check.specs.Network.{AcksDelivered, IsNetworkOf, IsSent, 
 
 use crate::marks::{Key, Marks};
 use crate::readings::{PacketTold, packet_told};
-use harp_base::{ServerId, ViewNo};
+use harp_types::{ServerId, ViewNo};
 use std::alloc::{AllocError, Global};
 use std::collections::BTreeMap;
 use trace_types::{Line, ShownMessage};
 
 /// An acknowledgement: between which servers and in which view, its top and the moment that it
 /// promises.
-#[derive(Clone, Copy, Debug)]
+#[derive(Clone, Copy)]
 pub struct SentAck {
     key: Key,
     top: u64,
@@ -24,7 +24,7 @@ pub struct SentAck {
 }
 
 /// The packets by number, and what delivered acknowledgements tell.
-#[derive(Debug, Drop)]
+#[derive(Drop)]
 pub struct Network {
     /// What the first packet of each number acknowledges, if anything.
     sent: BTreeMap<u64, Option<SentAck>>,

@@ -5,11 +5,11 @@ ghost use Rattle.trace_types.specs.declared.line.Line.TheVariants as line;
 ghost use Rattle.trace_claims.specs.Trace.{is_last};
 ghost use Rattle.trace_check.specs.Readings.{begins_step, clock_told, packet_told, state_told};
 
-use harp_base::{ServerId, StateLine};
+use harp_types::{ServerId, StateLine};
 use trace_types::{Line, ShownMessage, Step};
 
 /// What a line tells of packets.
-#[derive(Clone, Copy, Debug)]
+#[derive(Clone, Copy)]
 pub enum PacketTold {
     /// A packet with this number is sent.
     Sent {
@@ -25,7 +25,7 @@ pub enum PacketTold {
 }
 
 /// What a line tells of clocks.
-#[derive(Clone, Copy, Debug)]
+#[derive(Clone, Copy)]
 pub enum ClockTold {
     /// The clock of this server is set, in milliseconds.
     Set { server: ServerId, reading: u64 },

@@ -2,7 +2,8 @@
 
 ghost use Rattle.std.specs.Prelude.{◌≡◌, ◌↔◌, IfOk, IsTrue};
 
-use harp_base::{Bytes, Call, Reply, write_call, write_reply};
+use harp_base::{write_call, write_reply};
+use harp_types::{Bytes, Call, Reply};
 use std::alloc::{AllocError, Global};
 
 /// Whether the two are one reply, by their one spelling.

@@ -1,7 +1,7 @@
 //! The states that servers have shown.
 
 ghost use Rattle.std.specs.Prelude.{◌≡◌, ◌↔◌, ◌++◌, ◌∷◌, [], IsTrue, MatchBool, OnOk, Some, None};
-ghost use Rattle.harp_base.specs.Trio.{value_of, with_value};
+ghost use Rattle.harp_types.specs.Trio.{value_of, with_value};
 ghost use Rattle.trace_claims.specs.Servers.{is_open, state_at_rest};
 ghost use Rattle.trace_claims.specs.Trace.{Trace};
 ghost use Rattle.trace_check.specs.Keys.{place_key};
@@ -10,12 +10,12 @@ ghost use Rattle.trace_check.specs.ServersSeen.{AreServersOf, ShowsState};
 
 use crate::marks::{Key, Marks};
 use crate::readings::state_told;
-use harp_base::{Held, Mode, Role, ServerId, StateLine, Trio, ViewNo};
+use harp_types::{Held, Mode, Role, ServerId, StateLine, Trio, ViewNo};
 use std::alloc::{AllocError, Global};
 use trace_types::Line;
 
 /// The last state of each server, and what each has shown in each view.
-#[derive(Debug, Drop)]
+#[derive(Drop)]
 pub struct Servers {
     last: Trio<Option<StateLine>>,
     /// The greatest top that a server has shown in a view.

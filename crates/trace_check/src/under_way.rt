@@ -1,19 +1,19 @@
 //! The step that is under way, and the line before.
 
 ghost use Rattle.std.specs.Prelude.{◌≡◌, ◌↔◌, ◌++◌, ◌∷◌, [], is_some, IsTrue, IfOk, OnOk, Some};
-ghost use Rattle.harp_base.specs.declared.call.Call.{Call as CallValue};
-ghost use Rattle.harp_base.specs.declared.cred.Cred.{Cred as CredValue};
+ghost use Rattle.harp_types.specs.declared.call.Call.{Call as CallValue};
+ghost use Rattle.harp_types.specs.declared.cred.Cred.{Cred as CredValue};
 ghost use Rattle.trace_claims.specs.Faithful.{IsReadReply};
 ghost use Rattle.trace_claims.specs.Trace.{Trace};
 ghost use Rattle.trace_check.specs.UnderWay.{entry_told, reading_of, reading_told, IsUnderWay};
 
 use crate::same::{same_call, same_reply};
-use harp_base::{Call, Cred, Reply, is_update};
+use harp_types::{Call, Cred, Reply, is_update};
 use std::alloc::{AllocError, Global};
 use trace_types::{BookEntry, Line, Step};
 
 /// A read that is asked for, and by whom.
-#[derive(Debug, Drop)]
+#[derive(Drop)]
 pub struct Reading {
     cred: Cred,
     call: Call,
@@ -21,7 +21,7 @@ pub struct Reading {
 
 /// The read that the step asks for, where it asks for one, and the entry of the line before, where
 /// that entered one.
-#[derive(Debug, Drop)]
+#[derive(Drop)]
 pub struct UnderWay {
     reading: Option<Reading>,
     entered: Option<BookEntry>,

@@ -1,11 +1,11 @@
 -- Updates are answered once the partner acknowledged them, and in the step that completes it.
 use Rattle.std.specs.Prelude.{◌≡◌, ℕ, zero, suc, ◌+◌, ◌-◌, ◌<◌, ◌≤◌, ◌⊎◌, Bool, false, not, List, [], ◌∷◌, Option, Some}
-use Rattle.harp_base.specs.View.{View}
-use Rattle.harp_base.specs.Update.{is_update}
-use Rattle.harp_base.specs.declared.server.ServerId.{ServerId}
-use Rattle.harp_base.specs.declared.state.Mode.TheVariants as mode
-use Rattle.harp_base.specs.declared.state.StateLine.{StateLine}
-use Rattle.harp_base.specs.declared.state.Role.TheVariants as role
+use Rattle.harp_types.specs.View.{View}
+use Rattle.harp_types.specs.Update.{is_update}
+use Rattle.harp_types.specs.declared.server.ServerId.{ServerId}
+use Rattle.harp_types.specs.declared.state.Mode.TheVariants as mode
+use Rattle.harp_types.specs.declared.state.StateLine.{StateLine}
+use Rattle.harp_types.specs.declared.state.Role.TheVariants as role
 use Rattle.trace_types.specs.declared.step.Step.{Step}
 use Rattle.trace_types.specs.declared.step.Step.TheVariants as step
 use Rattle.trace_types.specs.declared.line.Line.{Line}

@@ -1,11 +1,11 @@
 -- An answered update stands in every later view.
 use Rattle.std.specs.Prelude.{◌≡◌, ℕ, ◌≤◌, true, false, [], Some}
 use Rattle.std.specs.List.{AllByRecursion}
-use Rattle.harp_base.specs.View.{View, above}
-use Rattle.harp_base.specs.declared.server.ServerId.{ServerId}
-use Rattle.harp_base.specs.declared.state.Held.TheVariants as held
-use Rattle.harp_base.specs.declared.state.Mode.TheVariants as mode
-use Rattle.harp_base.specs.declared.state.StateLine.{StateLine}
+use Rattle.harp_types.specs.View.{View, above}
+use Rattle.harp_types.specs.declared.server.ServerId.{ServerId}
+use Rattle.harp_types.specs.declared.state.Held.TheVariants as held
+use Rattle.harp_types.specs.declared.state.Mode.TheVariants as mode
+use Rattle.harp_types.specs.declared.state.StateLine.{StateLine}
 use Rattle.trace_types.specs.declared.line.Line.{Line}
 use Rattle.trace_types.specs.declared.line.Line.TheVariants as line
 use Rattle.trace_claims.specs.Acknowledged.{answers_read}

@@ -1,16 +1,16 @@
 -- What a trace says of its servers, and of the packets between them.
 use Rattle.std.specs.Prelude.{◌≡◌, ℕ, ◌+◌, ◌≤◌, ◌<◌, Bool, true, false, ◌&&◌, ◌==◌, [], ◌∷◌, ◌++◌, Option, Some, None, fold, if◌then◌else◌}
-use Rattle.harp_base.specs.Server.{number_of}
-use Rattle.harp_base.specs.View.{View}
-use Rattle.harp_base.specs.declared.server.ServerId.{ServerId}
-use Rattle.harp_base.specs.declared.server.ServerId.TheVariants as server
-use Rattle.harp_base.specs.declared.state.StateLine.{StateLine}
-use Rattle.harp_base.specs.declared.state.Mode.{Mode}
-use Rattle.harp_base.specs.declared.state.Mode.TheVariants as mode
-use Rattle.harp_base.specs.declared.state.Role.{Role}
-use Rattle.harp_base.specs.declared.state.Role.TheVariants as role
-use Rattle.harp_base.specs.declared.state.Held.{Held}
-use Rattle.harp_base.specs.declared.state.Held.TheVariants as held
+use Rattle.harp_types.specs.Server.{number_of}
+use Rattle.harp_types.specs.View.{View}
+use Rattle.harp_types.specs.declared.server.ServerId.{ServerId}
+use Rattle.harp_types.specs.declared.server.ServerId.TheVariants as server
+use Rattle.harp_types.specs.declared.state.StateLine.{StateLine}
+use Rattle.harp_types.specs.declared.state.Mode.{Mode}
+use Rattle.harp_types.specs.declared.state.Mode.TheVariants as mode
+use Rattle.harp_types.specs.declared.state.Role.{Role}
+use Rattle.harp_types.specs.declared.state.Role.TheVariants as role
+use Rattle.harp_types.specs.declared.state.Held.{Held}
+use Rattle.harp_types.specs.declared.state.Held.TheVariants as held
 use Rattle.trace_types.specs.declared.step.Step.TheVariants as step
 use Rattle.trace_types.specs.declared.line.ShownMessage.{ShownMessage}
 use Rattle.trace_types.specs.declared.line.ShownMessage.TheVariants as shown

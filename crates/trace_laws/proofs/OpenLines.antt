@@ -2,13 +2,13 @@
 use Rattle.std.proofs.Common.{◌≡◌, ℕ, ◌==◌, ◌≤◌, ◌&&◌, Bool, true, false, List, [], ◌∷◌, ◌++◌, Option, Some, None, refl, sym, ap, ◌∙◌, subst, inl, inr, true≢false, if◌then◌else◌}
 use Rattle.std.specs.List.{AllByRecursion}
 use Rattle.std.proofs.lemmas.Bool.{eqb-true, eq-eqb}
-use Rattle.harp_base.specs.Server.{number_of}
-use Rattle.harp_base.specs.View.{View}
-use Rattle.harp_base.specs.declared.server.ServerId.{ServerId}
-use Rattle.harp_base.specs.declared.server.ServerId.TheVariants as server
-use Rattle.harp_base.specs.declared.state.Held.TheVariants as held
-use Rattle.harp_base.specs.declared.state.Mode.TheVariants as mode
-use Rattle.harp_base.specs.declared.state.StateLine.{StateLine}
+use Rattle.harp_types.specs.Server.{number_of}
+use Rattle.harp_types.specs.View.{View}
+use Rattle.harp_types.specs.declared.server.ServerId.{ServerId}
+use Rattle.harp_types.specs.declared.server.ServerId.TheVariants as server
+use Rattle.harp_types.specs.declared.state.Held.TheVariants as held
+use Rattle.harp_types.specs.declared.state.Mode.TheVariants as mode
+use Rattle.harp_types.specs.declared.state.StateLine.{StateLine}
 use Rattle.trace_types.specs.declared.step.Step.{Step}
 use Rattle.trace_types.specs.declared.line.Line.{Line}
 use Rattle.trace_types.specs.declared.line.Line.TheVariants as line

@@ -1,19 +1,19 @@
 -- State lines: when two states are one, and what the last state line says.
 use Rattle.std.proofs.Common.{rules, ◌==◌, ◌≡◌, ℕ, ◌≤◌, ◌⊎◌, Bool, true, false, [], ◌∷◌, ◌++◌, Option, Some, None, refl, sym, ap, ◌∙◌, inl, inr, fold, if◌then◌else◌, append_assoc, le_trans, true≢false, ◌&&◌}
 use Rattle.std.proofs.lemmas.Bool.{cases_Bool, eqb-true}
-use Rattle.harp_base.specs.contracts.server.ViewNoPartialEq.TheImpl as view_equality
-use Rattle.harp_base.specs.contracts.state.HeldPartialEq.TheImpl as held_equality
-use Rattle.harp_base.specs.contracts.state.ModePartialEq.TheImpl as mode_equality
-use Rattle.harp_base.specs.contracts.state.RolePartialEq.TheImpl as role_equality
+use Rattle.harp_types.specs.contracts.server.ViewNoPartialEq.TheImpl as view_equality
+use Rattle.harp_types.specs.contracts.state.HeldPartialEq.TheImpl as held_equality
+use Rattle.harp_types.specs.contracts.state.ModePartialEq.TheImpl as mode_equality
+use Rattle.harp_types.specs.contracts.state.RolePartialEq.TheImpl as role_equality
 use Rattle.group_rules.proofs.Tests.{is_eq', left, right}
-use Rattle.harp_base.specs.Server.{number_of}
-use Rattle.harp_base.specs.View.{View}
-use Rattle.harp_base.specs.declared.server.ServerId.{ServerId}
-use Rattle.harp_base.specs.declared.server.ServerId.TheVariants as server
-use Rattle.harp_base.specs.declared.state.StateLine.{StateLine}
-use Rattle.harp_base.specs.declared.state.Mode.{Mode}
-use Rattle.harp_base.specs.declared.state.Role.{Role}
-use Rattle.harp_base.specs.declared.state.Held.{Held}
+use Rattle.harp_types.specs.Server.{number_of}
+use Rattle.harp_types.specs.View.{View}
+use Rattle.harp_types.specs.declared.server.ServerId.{ServerId}
+use Rattle.harp_types.specs.declared.server.ServerId.TheVariants as server
+use Rattle.harp_types.specs.declared.state.StateLine.{StateLine}
+use Rattle.harp_types.specs.declared.state.Mode.{Mode}
+use Rattle.harp_types.specs.declared.state.Role.{Role}
+use Rattle.harp_types.specs.declared.state.Held.{Held}
 use Rattle.trace_types.specs.declared.line.Line.{Line}
 use Rattle.trace_types.specs.declared.line.Line.TheVariants as line
 use Rattle.trace_claims.specs.Servers.{HasShown, first_open, first_state, first_view, last_state, later_state, opens, same_server}

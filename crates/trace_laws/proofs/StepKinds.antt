@@ -2,9 +2,9 @@
 use Rattle.std.proofs.Common.{◌≡◌, ℕ, ◌+◌, ◌-◌, ◌/◌, ◌||◌, arith, ◌==◌, true, List, [], ◌∷◌, ◌++◌, append-nil, length, take, drop, Option, Some, None, refl, ap, subst, nat_lt, nat_le, if◌then◌else◌}
 use Rattle.std.specs.List.{AllByRecursion}
 use Rattle.std.proofs.lemmas.List.{length-take}
-use Rattle.harp_base.specs.declared.call.Call.{Call}
-use Rattle.harp_base.specs.declared.cred.Cred.{Cred}
-use Rattle.harp_base.specs.Update.{is_update}
+use Rattle.harp_types.specs.declared.call.Call.{Call}
+use Rattle.harp_types.specs.declared.cred.Cred.{Cred}
+use Rattle.harp_types.specs.Update.{is_update}
 use Rattle.file_tree.specs.Book.{Entry, last_of}
 use Rattle.group_rules.specs.Ask.{append, hint_of, new_entry, on_ask, read_entry, refuse, update_moves}
 use Rattle.group_rules.specs.Choose.{choose}

@@ -1,8 +1,8 @@
 -- Views as the machine numbers them, and as a trace shows them.
 use Rattle.std.proofs.Common.{◌≡◌, ℕ, zero, suc, ◌/◌, ◌%◌, ◌<◌, ◌==◌, Bool, true, false, refl, sym, ap, ◌∙◌, arith, nat_lt, if◌then◌else◌}
 use Rattle.std.proofs.lemmas.Bool.{eqb-true}
-use Rattle.harp_base.specs.Server.{number_of}
-use Rattle.harp_base.specs.View.{above}
+use Rattle.harp_types.specs.Server.{number_of}
+use Rattle.harp_types.specs.View.{above}
 use Rattle.trace_claims.specs.Servers.{first_view}
 use Rattle.group_rules.specs.Names.{id_of, number_of_view, view_of}
 use Rattle.group_rules.specs.Places.{place}

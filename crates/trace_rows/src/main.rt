@@ -4,7 +4,7 @@
 //! aren't the same bytes.
 #![tactic(auto)]
 
-use harp_base::Bytes;
+use harp_types::Bytes;
 use schedule_text::read_step;
 use std::alloc::{AllocError, Global};
 use std::io::{self, BufRead, BufReader};

@@ -4,10 +4,10 @@ use Rattle.std.specs.Prelude.{decimal}
 use Rattle.std.proofs.lemmas.Bool.{eqb-true}
 use Rattle.std.proofs.lemmas.Fmt.{decimal_digit}
 use Rattle.harp_base.specs.Attributes.{AttrFits, TimeFits}
-use Rattle.harp_base.specs.declared.attr.Time.{Time}
-use Rattle.harp_base.specs.declared.attr.Kind.{Kind}
-use Rattle.harp_base.specs.declared.attr.Kind.TheVariants as kind
-use Rattle.harp_base.specs.declared.attr.Attr.{Attr}
+use Rattle.harp_types.specs.declared.attr.Time.{Time}
+use Rattle.harp_types.specs.declared.attr.Kind.{Kind}
+use Rattle.harp_types.specs.declared.attr.Kind.TheVariants as kind
+use Rattle.harp_types.specs.declared.attr.Attr.{Attr}
 use Rattle.text_spelling.specs.Text.{spaced, comma, kind_number, octal, time_text, attr_owner, attr_extent, attr_times, attr_text}
 use Rattle.text_spelling.specs.Lines.{view_text}
 use Rattle.text_fields.specs.declared.fault.TextFault.TheVariants.{Grammar}

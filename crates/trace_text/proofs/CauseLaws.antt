@@ -3,11 +3,11 @@ use Rattle.std.proofs.Common.{◌≡◌, ℕ, ◌+◌, ◌<◌, Bool, true, cond
 use Rattle.std.specs.Prelude.{map}
 use Rattle.std.proofs.lemmas.Bool.{eq-eqb, ne_eqb}
 use Rattle.std.proofs.lemmas.Fmt.{decimal_digit}
-use Rattle.harp_base.specs.Server.{number_of}
-use Rattle.harp_base.specs.declared.server.ServerId.{ServerId}
-use Rattle.harp_base.specs.declared.server.ServerId.TheVariants as servers
-use Rattle.trace_lines.specs.declared.line.Cause.{Cause}
-use Rattle.trace_lines.specs.declared.line.Cause.TheVariants as cause
+use Rattle.harp_types.specs.Server.{number_of}
+use Rattle.harp_types.specs.declared.server.ServerId.{ServerId}
+use Rattle.harp_types.specs.declared.server.ServerId.TheVariants as servers
+use Rattle.harp_types.specs.declared.cause.Cause.{Cause}
+use Rattle.harp_types.specs.declared.cause.Cause.TheVariants as cause
 use Rattle.text_spelling.specs.Text.{spaced}
 use Rattle.text_spelling.specs.Lines.{hint_text, cause_text}
 use Rattle.text_fields.specs.Fields.{Read, EndsWord, spaced_at, server_at}

@@ -5,7 +5,7 @@ use Rattle.std.specs.List.{flat_map}
 use Rattle.std.proofs.lemmas.Bool.{le-leb}
 use Rattle.std.proofs.lemmas.List.{length-append}
 use Rattle.harp_base.specs.Fields.{AllFit}
-use Rattle.harp_base.specs.declared.reply.DirEntry.{DirEntry}
+use Rattle.harp_types.specs.declared.reply.DirEntry.{DirEntry}
 use Rattle.text_spelling.specs.Text.{spaced, hex_text, entry_text, page_end}
 use Rattle.text_fields.specs.Fields.{Read, ◌>>=◌, EndsWord, spaced_at}
 use Rattle.text_fields.proofs.Places.{Spells, Spells-then, head_at, drop_past, bind_ok, ok_is, read_of}

@@ -3,11 +3,11 @@ use Rattle.std.proofs.Common.{◌≡◌, ℕ, ◌+◌, ◌<◌, ◌≤◌, Bool,
 use Rattle.std.specs.Prelude.{decimal, codes, map}
 use Rattle.std.proofs.lemmas.Bool.{ltb-true, lt-ltb}
 use Rattle.std.proofs.lemmas.List.{length-append}
-use Rattle.harp_base.specs.Server.{number_of}
-use Rattle.harp_base.specs.declared.server.ServerId.{ServerId}
-use Rattle.harp_base.specs.declared.server.ServerId.TheVariants as servers
-use Rattle.harp_base.specs.declared.state.Held.{Held}
-use Rattle.harp_base.specs.declared.state.Held.TheVariants as held
+use Rattle.harp_types.specs.Server.{number_of}
+use Rattle.harp_types.specs.declared.server.ServerId.{ServerId}
+use Rattle.harp_types.specs.declared.server.ServerId.TheVariants as servers
+use Rattle.harp_types.specs.declared.state.Held.{Held}
+use Rattle.harp_types.specs.declared.state.Held.TheVariants as held
 use Rattle.trace_types.specs.declared.line.ShownMessage.{ShownMessage}
 use Rattle.trace_types.specs.declared.line.ShownMessage.TheVariants as message
 use Rattle.text_spelling.specs.Text.{spaced}

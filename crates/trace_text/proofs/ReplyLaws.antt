@@ -2,11 +2,11 @@
 use Rattle.std.proofs.Common.{◌≡◌, ℕ, ◌+◌, ◌*◌, ◌<◌, true, List, [], ◌∷◌, ◌++◌, length, drop, Some, Ok, refl, ap, subst, ◌∙◌, arith}
 use Rattle.std.specs.Prelude.{decimal, codes, map}
 use Rattle.std.proofs.lemmas.Fmt.{decimal_digit}
-use Rattle.harp_base.specs.Replies.{statuses}
-use Rattle.harp_base.specs.declared.reply.Status.{Status}
-use Rattle.harp_base.specs.declared.reply.Status.TheVariants as status
-use Rattle.harp_base.specs.declared.reply.Reply.{Reply}
-use Rattle.harp_base.specs.declared.reply.Reply.TheVariants as reply
+use Rattle.harp_types.specs.Statuses.{statuses}
+use Rattle.harp_types.specs.declared.reply.Status.{Status}
+use Rattle.harp_types.specs.declared.reply.Status.TheVariants as status
+use Rattle.harp_types.specs.declared.reply.Reply.{Reply}
+use Rattle.harp_types.specs.declared.reply.Reply.TheVariants as reply
 use Rattle.text_spelling.specs.Text.{spaced, hex_text, status_number, attr_text, reply_text}
 use Rattle.text_spelling.specs.Fits.{AreBytes}
 use Rattle.text_fields.specs.Fields.{EndsWord, spaced_at, hex_at}

@@ -1,13 +1,13 @@
 -- Lines of traces that have a spelling.
 use Rattle.std.specs.Prelude.{ℕ, ◌<◌, ◌≤◌, ◌^◌, List, length}
-use Rattle.harp_base.specs.View.{View}
-use Rattle.harp_base.specs.Server.{number_of}
+use Rattle.harp_types.specs.View.{View}
+use Rattle.harp_types.specs.Server.{number_of}
 use Rattle.harp_base.specs.Attributes.{AttrFits}
 use Rattle.harp_base.specs.Fields.{AllFit}
-use Rattle.harp_base.specs.declared.reply.DirEntry.{DirEntry}
-use Rattle.harp_base.specs.declared.reply.Reply.{Reply}
-use Rattle.harp_base.specs.declared.reply.Reply.TheVariants as reply
-use Rattle.harp_base.specs.declared.state.StateLine.{StateLine}
+use Rattle.harp_types.specs.declared.reply.DirEntry.{DirEntry}
+use Rattle.harp_types.specs.declared.reply.Reply.{Reply}
+use Rattle.harp_types.specs.declared.reply.Reply.TheVariants as reply
+use Rattle.harp_types.specs.declared.state.StateLine.{StateLine}
 use Rattle.trace_types.specs.declared.step.Step.{Step}
 use Rattle.trace_types.specs.declared.step.Step.TheVariants as step
 use Rattle.trace_types.specs.declared.line.BookEntry.{BookEntry}

@@ -6,7 +6,7 @@ ghost use Rattle.trace_text.specs.declared.cause_form.CauseForm.TheVariants as c
 ghost use Rattle.trace_text.specs.Replies.{hint_at, cause_fields_at, cause_at};
 
 use crate::cause_form::{CauseForm, form_at};
-use harp_base::ServerId;
+use harp_types::ServerId;
 use text_fields::{TextFault, peek, server_at, space_at};
 use trace_types::Cause;
 

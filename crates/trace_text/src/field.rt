@@ -7,7 +7,7 @@ ghost use Rattle.text_fields.specs.Fields.{Gives, spaced_at, hex_at};
 ghost use Rattle.text_fields.specs.Words.{farthest};
 ghost use Rattle.trace_text.specs.Fields.{sign_at, value_named, view_at, spaced_view_at, helds, held_at, some_hex_at};
 
-use harp_base::{Bounded, Held, ViewNo};
+use harp_types::{Bounded, Held, ViewNo};
 use std::alloc::Global;
 use text_fields::{TextFault, farther, hex_at, number_at, peek, server_at, space_at, word_at};
 

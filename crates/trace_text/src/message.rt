@@ -7,7 +7,7 @@ ghost use Rattle.trace_text.specs.Messages.{storers_at, spaced_index_at, three_a
 
 use crate::field::{spaced_held_at, spaced_view_at};
 use crate::message_form::{MessageForm, form_at};
-use harp_base::ServerId;
+use harp_types::ServerId;
 use schedule_text::{spaced_count_at, spaced_server_at, spaced_u32_at};
 use text_fields::{TextFault, ranged_at, space_at};
 use trace_types::ShownMessage;

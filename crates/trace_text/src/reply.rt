@@ -9,7 +9,7 @@ ghost use Rattle.trace_text.specs.Replies.{entry_at, entries_at, page_end_at, re
 use crate::attr::spaced_attr_at;
 use crate::field::{sign_at, spaced_hex_at};
 use crate::reply_form::{ReplyForm, form_at, page_end_at, status_at};
-use harp_base::{DirEntry, Entries, Reply};
+use harp_types::{DirEntry, Entries, Reply};
 use schedule_text::spaced_u32_at;
 use std::alloc::Global;
 use text_fields::{TextFault, hex_at, peek, space_at, u32_at};

@@ -2,14 +2,14 @@
 
 ghost use Rattle.std.specs.Prelude.{◌≡◌, ◌≤◌, ◌+◌, length, find, map, codes, IfOk};
 ghost use Rattle.std.specs.Str.{bytes_eq};
-ghost use Rattle.harp_base.specs.Replies.{statuses};
+ghost use Rattle.harp_types.specs.Statuses.{statuses};
 ghost use Rattle.text_spelling.specs.Text.{page_end};
 ghost use Rattle.text_fields.specs.Fields.{Gives};
 ghost use Rattle.text_fields.specs.Words.{farthest};
 ghost use Rattle.trace_text.specs.Fields.{value_named, name_at};
 ghost use Rattle.trace_text.specs.Replies.{status_word, status_at, page_ends, page_end_at, reply_name, reply_forms};
 
-use harp_base::Status;
+use harp_types::Status;
 use text_fields::{TextFault, farther, word_at};
 
 /// What the first word of a reply tells of it.

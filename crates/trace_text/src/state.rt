@@ -9,7 +9,7 @@ ghost use Rattle.trace_text.specs.Reading.{mode_word, modes, mode_at, role_name,
 
 use crate::field::{sign_at, spaced_held_at, spaced_view_at};
 use crate::message::three_at;
-use harp_base::{Mode, Role, ServerId, StateLine};
+use harp_types::{Mode, Role, ServerId, StateLine};
 use schedule_text::{spaced_count_at, spaced_server_at};
 use text_fields::{TextFault, farther, space_at, word_at};
 use trace_types::Line;

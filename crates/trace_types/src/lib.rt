@@ -8,4 +8,4 @@ mod step;
 pub use line::{BookEntry, Line, LineFault, ShownMessage};
 pub use pick::{Bits, Pick};
 pub use step::Step;
-pub use trace_lines::Cause;
+pub use harp_types::Cause;

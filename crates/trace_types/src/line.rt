@@ -3,12 +3,12 @@
 ghost use Rattle.std.specs.Prelude.{◌≡◌, IfOk};
 
 use crate::step::Step;
-use harp_base::{Attr, Bounded, Call, Cred, Held, Reply, ServerId, StateLine, ViewNo};
+use harp_types::{Attr, Bounded, Call, Cred, Held, Reply, ServerId, StateLine, ViewNo};
 use std::alloc::{AllocError, Global};
-use trace_lines::Cause;
+use harp_types::Cause;
 
 /// A call that stands in the book, with its reply. A read has the index 0 and the stamp 0.
-#[derive(Debug, Drop)]
+#[derive(Drop)]
 pub struct BookEntry {
     /// The place among the updates, from 1.
     pub index: u64,
@@ -41,7 +41,7 @@ impl BookEntry {
 }
 
 /// What a trace shows of a message from one server to another.
-#[derive(Clone, Copy, Debug, PartialEq, Eq)]
+#[derive(Clone, Copy, PartialEq, Eq)]
 pub enum ShownMessage {
     Invite {
         view: ViewNo,
@@ -112,7 +112,7 @@ pub enum ShownMessage {
 }
 
 /// Why a line of a schedule ends the run.
-#[derive(Clone, Copy, Debug, PartialEq, Eq)]
+#[derive(Clone, Copy, PartialEq, Eq)]
 pub enum LineFault {
     /// No step is spelled so.
     Grammar,
@@ -137,7 +137,7 @@ pub enum LineFault {
 }
 
 /// One line of a trace.
-#[derive(Debug, Drop)]
+#[derive(Drop)]
 pub enum Line {
     /// A step begins. The lines up to the next event line are what it gave.
     Event {

@@ -5,7 +5,7 @@ ghost use Rattle.std.specs.Prelude.{◌≡◌, ◌≤◌, ◌↔◌, length, IfS
 use std::marker::Model;
 
 /// From 1 to 64 bits.
-#[derive(Debug, Drop)]
+#[derive(Drop)]
 pub struct Bits {
     items: Vec<bool>,
 }
@@ -43,7 +43,7 @@ impl Bits {
 }
 
 /// The changes that a crash keeps of those that weren't synced.
-#[derive(Debug, Drop)]
+#[derive(Drop)]
 pub enum Pick {
     All,
     None,

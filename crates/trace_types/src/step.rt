@@ -1,10 +1,10 @@
 //! What a line of a schedule asks for.
 
 use crate::pick::Pick;
-use harp_base::{Bytes, Call, Cred, ServerId};
+use harp_types::{Bytes, Call, Cred, ServerId};
 
 /// One step of a schedule.
-#[derive(Debug, Drop)]
+#[derive(Drop)]
 pub enum Step {
     /// A client asks a server. `number` rises from one update of the client to its next.
     Ask {

@@ -1,7 +1,7 @@
 //! Judging a text, line by line.
 
 ghost use Rattle.std.specs.Prelude.{◌≡◌, ◌≢◌, ℕ, ◌+◌, ◌<◌, ◌≤◌, ◌^◌, ◌↔◌, List, [], ◌∷◌, length, Err, IfOk, IsTrue, Ok, None, Some};
-ghost use Rattle.harp_base.specs.Streams.{Rose};
+ghost use Rattle.harp_types.specs.Streams.{Rose};
 ghost use Rattle.line_reader.specs.Lines.{lines_of};
 ghost use Rattle.line_reader.specs.Reading.{text_left};
 ghost use Rattle.trace_text.specs.Grammar.{IsTraceLine};
@@ -12,7 +12,7 @@ ghost use Rattle.trace_verdict.specs.Places.{CanFollow};
 ghost use Rattle.trace_verdict.specs.Verdicts.{IsRightText, IsVerdictOn};
 
 use crate::verdict::{Unread, Verdict};
-use harp_base::Source;
+use harp_types::Source;
 use line_reader::{LineReader, Next, ReadFault};
 use std::alloc::{AllocError, Global};
 use text_fields::TextFault;

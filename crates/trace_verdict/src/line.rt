@@ -2,12 +2,12 @@
 
 ghost use Rattle.std.specs.Prelude.{◌≡◌, ◌≤◌, ◌++◌, IfOk, OnOk, OnErr, Err};
 ghost use Rattle.std.specs.Io.KnownBytes.{Appends};
-ghost use Rattle.harp_base.specs.Streams.{GrewByPart, Rose};
+ghost use Rattle.harp_types.specs.Streams.{GrewByPart, Rose};
 ghost use Rattle.trace_verdict.specs.Texts.{breach_word, found_text, unread_word, verdict_line};
 ghost use Rattle.trace_verdict.specs.Texts.{verdict_text};
 
 use crate::{Unread, Verdict};
-use harp_base::{Sink, SinkFault, write_all};
+use harp_types::{Sink, SinkFault, write_all};
 use std::alloc::{AllocError, Global};
 use text_writer::put_named;
 use trace_check::Breach;

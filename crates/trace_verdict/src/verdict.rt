@@ -3,7 +3,7 @@
 use trace_check::Breach;
 
 /// What is found of the text of a trace. Lines are numbered from 1.
-#[derive(Clone, Copy, Debug, PartialEq, Eq)]
+#[derive(Clone, Copy, PartialEq, Eq)]
 pub enum Verdict {
     /// It is the text of a closed trace that breaks nothing.
     Yes,
@@ -14,7 +14,7 @@ pub enum Verdict {
 }
 
 /// Why no trace is read at a line.
-#[derive(Clone, Copy, Debug, PartialEq, Eq)]
+#[derive(Clone, Copy, PartialEq, Eq)]
 pub enum Unread {
     /// It is no line of a trace, or none that may stand there: a line behind the last one, a first
     /// one that begins no step, an `end` with another number of entered lines.

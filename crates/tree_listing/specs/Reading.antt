@@ -1,7 +1,7 @@
 -- What the cells of a whole tree and of an object stand for.
 use Rattle.std.specs.Prelude.{ℕ, ◌==◌, List, [], ◌∷◌, Option, Some, None, if◌then◌else◌}
-use Rattle.harp_base.specs.declared.attr.Attr.{Attr}
-use Rattle.harp_base.specs.declared.attr.Kind.TheVariants as kind
+use Rattle.harp_types.specs.declared.attr.Attr.{Attr}
+use Rattle.harp_types.specs.declared.attr.Kind.TheVariants as kind
 use Rattle.file_tree.specs.declared.object.Object.{Object}
 use Rattle.file_tree.specs.Tree.{Tree, blocks_of, place, time_zero}
 use Rattle.harp_cells.specs.declared.value.Inode.{Inode}

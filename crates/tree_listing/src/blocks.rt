@@ -2,8 +2,8 @@
 
 ghost use Rattle.std.specs.Prelude.{◌≡◌, ◌≤◌, ◌++◌, ℕ, List, length, take, Some, Err, IfOk, OnOk};
 ghost use Rattle.std.specs.Option.{option_copied};
-ghost use Rattle.harp_base.specs.Limits.{block_size};
-ghost use Rattle.harp_base.specs.Streams.{Rose};
+ghost use Rattle.harp_types.specs.Limits.{block_size};
+ghost use Rattle.harp_types.specs.Streams.{Rose};
 ghost use Rattle.file_tree.specs.Outcome.{resized};
 ghost use Rattle.harp_cells.specs.declared.cell.Cell.TheVariants as cell;
 ghost use Rattle.harp_cells.specs.Effect.{Cells};
@@ -13,7 +13,7 @@ ghost use Rattle.tree_listing.specs.Reading.{at_most_one};
 
 use crate::inode::blocks_of;
 use crate::listing::{ListedBlock, Row};
-use harp_base::{BLOCK_SIZE, Bounded};
+use harp_types::{BLOCK_SIZE, Bounded};
 use harp_cells::{Cell, CellFault, CellRead, Value};
 use std::alloc::{AllocError, Global};
 

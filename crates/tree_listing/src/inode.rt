@@ -1,12 +1,12 @@
 //! What is read in the cells of the whole tree and of an object.
 
 ghost use Rattle.std.specs.Prelude.{◌≡◌, ◌≤◌, length, Some, Err, IfOk};
-ghost use Rattle.harp_base.specs.Streams.{Rose};
+ghost use Rattle.harp_types.specs.Streams.{Rose};
 ghost use Rattle.cell_changes.specs.TreeCells.{TreeCells};
 ghost use Rattle.file_tree.specs.Tree.{blocks_of};
 ghost use Rattle.tree_listing.specs.Reading.{attr_by, first_root_inode, inode_found, inode_placed, next_found};
 
-use harp_base::{Attr, BLOCK_SIZE, Kind, Time};
+use harp_types::{Attr, BLOCK_SIZE, Kind, Time};
 use harp_cells::{Cell, CellFault, CellRead, Inode, Value};
 
 fn next_in(value: &Value) -> u32

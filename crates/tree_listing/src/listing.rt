@@ -2,7 +2,7 @@
 
 ghost use Rattle.std.specs.Prelude.{◌≡◌, ◌++◌, ◌∷◌, [], OnErr, OnOk};
 
-use harp_base::{Attr, BLOCK_SIZE, Bounded, LONGEST_NAME, LONGEST_PATH};
+use harp_types::{Attr, BLOCK_SIZE, Bounded, LONGEST_NAME, LONGEST_PATH};
 use std::alloc::{AllocError, Global};
 use std::marker::Model;
 
@@ -10,7 +10,7 @@ use std::marker::Model;
 const BLOCK_BYTES: usize = BLOCK_SIZE as usize;
 
 /// Values in a row, which contracts see as a list.
-#[derive(Debug, Drop)]
+#[derive(Drop)]
 pub struct Row<T> {
     items: Vec<T>,
 }
@@ -59,7 +59,7 @@ impl<T: Drop> Row<T> {
 }
 
 /// The tree of a server after its first `cp` updates.
-#[derive(Debug, Drop)]
+#[derive(Drop)]
 pub struct Listing {
     pub cp: u64,
     /// The live objects, by number.
@@ -67,7 +67,7 @@ pub struct Listing {
 }
 
 /// An object and its parts: the slots of a directory, the blocks of a file, the text of a link.
-#[derive(Debug, Drop)]
+#[derive(Drop)]
 pub struct Listed {
     pub attr: Attr,
     pub slots: Row<ListedSlot>,
@@ -76,7 +76,7 @@ pub struct Listed {
 }
 
 /// A used slot of a directory.
-#[derive(Debug, Drop)]
+#[derive(Drop)]
 pub struct ListedSlot {
     /// The place in the directory, from 0.
     pub slot: u32,
@@ -86,7 +86,7 @@ pub struct ListedSlot {
 }
 
 /// A block of a file with another byte than 0. The last block of a file goes up to the file's end.
-#[derive(Debug, Drop)]
+#[derive(Drop)]
 pub struct ListedBlock {
     /// The place in the file, from 0.
     pub block: u32,

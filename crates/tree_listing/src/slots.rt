@@ -1,7 +1,7 @@
 //! The used slots of a directory.
 
 ghost use Rattle.std.specs.Prelude.{◌≡◌, ◌≤◌, ◌++◌, Option, Some, Err, IfOk, OnOk};
-ghost use Rattle.harp_base.specs.Streams.{Rose};
+ghost use Rattle.harp_types.specs.Streams.{Rose};
 ghost use Rattle.file_tree.specs.declared.object.Slot.{Slot};
 ghost use Rattle.file_tree.specs.Tree.{Slots};
 ghost use Rattle.inode_dirs.specs.Slots.{TellsSlot, TellsSlots, slot_of};
@@ -9,7 +9,7 @@ ghost use Rattle.tree_listing.specs.Listing.{slot_listed, slots_listed};
 ghost use Rattle.tree_listing.specs.Reading.{at_most_one};
 
 use crate::listing::{ListedSlot, Row};
-use harp_base::Bounded;
+use harp_types::Bounded;
 use harp_cells::{Cell, CellFault, CellRead, Value};
 use std::alloc::{AllocError, Global};
 

@@ -1,7 +1,7 @@
 //! The objects of a tree, each with its parts.
 
 ghost use Rattle.std.specs.Prelude.{◌≡◌, ◌≤◌, ◌++◌, Option, Some, Err, IfOk, OnOk};
-ghost use Rattle.harp_base.specs.Streams.{Rose};
+ghost use Rattle.harp_types.specs.Streams.{Rose};
 ghost use Rattle.file_tree.specs.declared.object.Object.{Object};
 ghost use Rattle.file_tree.specs.Tree.{place};
 ghost use Rattle.harp_cells.specs.CellsOfTree.{inode_of};
@@ -12,7 +12,7 @@ use crate::blocks::list_blocks;
 use crate::inode::{attr_by, inode_at, next_number};
 use crate::listing::{Listed, ListedBlock, Row};
 use crate::slots::list_slots;
-use harp_base::{Bounded, Kind, LONGEST_PATH};
+use harp_types::{Bounded, Kind, LONGEST_PATH};
 use harp_cells::{CellFault, CellRead, Inode};
 use inode_blocks::read_bytes;
 use std::alloc::Global;

@@ -6,7 +6,7 @@ use Rattle.event_record.specs.declared.record.RecordFields.{RecordFields as Reco
 use Rattle.event_record.specs.Record.{entry_of}
 use Rattle.file_tree.specs.Book.{Entry, last_stamp, tree_after}
 use Rattle.file_tree.specs.Tree.{Tree}
-use Rattle.harp_base.specs.Update.{is_update}
+use Rattle.harp_types.specs.Update.{is_update}
 use Rattle.file_tree.proofs.SoundLaws.{book_sound}
 use Rattle.harp_cells.specs.declared.cell.Cell.{Cell}
 use Rattle.harp_cells.specs.declared.cell.Cell.TheVariants as cell

@@ -1,8 +1,8 @@
 -- How long the fields of a record are.
 use Rattle.std.proofs.Common.{◌≡◌, ℕ, ◌+◌, List, length, refl, arith, length-append}
-use Rattle.harp_base.specs.declared.attr.Attr.{Attr}
-use Rattle.harp_base.specs.declared.attr.SetAttr.{SetAttr}
-use Rattle.harp_base.specs.declared.cred.Cred.{Cred}
+use Rattle.harp_types.specs.declared.attr.Attr.{Attr}
+use Rattle.harp_types.specs.declared.attr.SetAttr.{SetAttr}
+use Rattle.harp_types.specs.declared.cred.Cred.{Cred}
 use Rattle.harp_base.specs.Attributes.{attr_bytes, set_attr_bytes, time_bytes}
 use Rattle.harp_base.specs.Fields.{counted_bytes, u16_bytes, u32_bytes, u64_bytes}
 use Rattle.harp_base.specs.Names.{cred_bytes, view_bytes}

@@ -1,10 +1,10 @@
 -- A record that is planned over the cells after entries is the record of its entry.
 use Rattle.std.proofs.Common.{◌≡◌, ℕ, List, [], ◌∷◌, ◌++◌, length, refl, ap, ◌∙◌, subst, le_refl}
 use Rattle.std.proofs.lemmas.List.{take_all}
-use Rattle.harp_base.specs.declared.call.Call.{Call}
-use Rattle.harp_base.specs.declared.cred.Cred.{Cred}
-use Rattle.harp_base.specs.declared.reply.Reply.{Reply}
-use Rattle.harp_base.specs.View.{View}
+use Rattle.harp_types.specs.declared.call.Call.{Call}
+use Rattle.harp_types.specs.declared.cred.Cred.{Cred}
+use Rattle.harp_types.specs.declared.reply.Reply.{Reply}
+use Rattle.harp_types.specs.View.{View}
 use Rattle.file_tree.specs.Book.{Entry, last_stamp, tree_after}
 use Rattle.file_tree.specs.Calls.{outcome}
 use Rattle.file_tree.proofs.SoundLaws.{book_sound}

@@ -1,10 +1,10 @@
 -- The stamp of the last update, and a new record.
 use Rattle.std.specs.Prelude.{ℕ, ◌+◌, List, length, max, Option, None, Some}
-use Rattle.harp_base.specs.declared.call.Call.{Call}
-use Rattle.harp_base.specs.declared.cred.Cred.{Cred}
+use Rattle.harp_types.specs.declared.call.Call.{Call}
+use Rattle.harp_types.specs.declared.cred.Cred.{Cred}
 use Rattle.event_record.specs.declared.record.RecordFields.{RecordFields as Record}
 use Rattle.file_tree.specs.Book.{Entry, last_stamp}
-use Rattle.harp_base.specs.View.{View}
+use Rattle.harp_types.specs.View.{View}
 use Rattle.harp_cells.specs.declared.value.Value.{Value}
 use Rattle.harp_cells.specs.declared.value.Value.TheVariants as value
 use Rattle.tree_log.specs.Records.{entry_after, record_of}

@@ -1,6 +1,6 @@
 -- What holds of the records of entries.
 use Rattle.std.specs.Prelude.{◌≡◌, List, [], ◌∷◌, ◌++◌}
-use Rattle.harp_base.specs.View.{View}
+use Rattle.harp_types.specs.View.{View}
 use Rattle.file_tree.specs.Book.{Entry}
 use Rattle.event_record.specs.Record.{entry_of}
 use Rattle.record_changes.specs.Records.{history_of}

@@ -1,8 +1,8 @@
 -- The record of an entry, as a function of the entries before it.
 use Rattle.std.specs.Prelude.{ℕ, List, length}
-use Rattle.harp_base.specs.declared.call.Call.{Call}
-use Rattle.harp_base.specs.declared.cred.Cred.{Cred}
-use Rattle.harp_base.specs.View.{View}
+use Rattle.harp_types.specs.declared.call.Call.{Call}
+use Rattle.harp_types.specs.declared.cred.Cred.{Cred}
+use Rattle.harp_types.specs.View.{View}
 use Rattle.file_tree.specs.Book.{Entry, tree_after}
 use Rattle.file_tree.specs.Calls.{outcome}
 use Rattle.harp_cells.specs.Effect.{Cells}

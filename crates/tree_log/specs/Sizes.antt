@@ -2,8 +2,8 @@
 use Rattle.std.specs.Prelude.{◌≡◌, ◌≤◌, ℕ, true, List, [], ◌∷◌, ◌++◌, length}
 use Rattle.harp_base.specs.Calls.{call_bytes}
 use Rattle.harp_base.specs.Fields.{AllFit}
-use Rattle.harp_base.specs.Limits.{block_size, longest_name}
-use Rattle.harp_base.specs.Update.{is_update}
+use Rattle.harp_types.specs.Limits.{block_size, longest_name}
+use Rattle.harp_types.specs.Update.{is_update}
 use Rattle.harp_cells.specs.declared.cell.Cell.TheVariants as cell
 use Rattle.harp_cells.specs.declared.value.Value.{Value}
 use Rattle.harp_cells.specs.declared.value.Value.TheVariants as value

@@ -7,7 +7,7 @@ ghost use Rattle.cell_cache.specs.Entries.{AreOf};
 ghost use Rattle.file_tree.specs.Book.{Entry};
 ghost use Rattle.fuzzy_cells.specs.History.{AllSetOnce, History};
 ghost use Rattle.applier.specs.FuzzyDisk.{AreRecordsOf, IsFuzzyByMark, IsFuzzyDisk};
-ghost use Rattle.harp_base.specs.Streams.{Rose};
+ghost use Rattle.harp_types.specs.Streams.{Rose};
 ghost use Rattle.harp_store.specs.declared.store.StoreFault.TheVariants.{Failed};
 ghost use Rattle.harp_store.specs.Disk.{AtEachMoment, Moments, Now, cells_told};
 ghost use Rattle.tree_log.specs.Applying.{AreLeftBy, applied_by, changes_by};

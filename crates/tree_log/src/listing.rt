@@ -3,7 +3,7 @@
 ghost use Rattle.std.specs.Prelude.{◌≡◌, ◌≤◌, List, take, IfOk, Err, Some};
 ghost use Rattle.cell_cache.specs.Entries.{AreOf};
 ghost use Rattle.file_tree.specs.Book.{Entry, tree_after};
-ghost use Rattle.harp_base.specs.Streams.{Rose};
+ghost use Rattle.harp_types.specs.Streams.{Rose};
 ghost use Rattle.harp_cells.specs.CellsOfTree.{StandForBook};
 ghost use Rattle.harp_cells.specs.Effect.{Cells};
 ghost use Rattle.harp_store.specs.Disk.{cells_told};

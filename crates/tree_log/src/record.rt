@@ -1,8 +1,8 @@
 //! The record of a new update.
 
 ghost use Rattle.std.specs.Prelude.{◌≡◌, ◌≤◌, ◌∷◌, ◌++◌, [], List, Some, Err, IfOk, length, true};
-ghost use Rattle.harp_base.specs.Streams.{Rose};
-ghost use Rattle.harp_base.specs.Update.{is_update};
+ghost use Rattle.harp_types.specs.Streams.{Rose};
+ghost use Rattle.harp_types.specs.Update.{is_update};
 ghost use Rattle.file_tree.specs.Book.{Entry};
 ghost use Rattle.harp_cells.specs.declared.cell.Cell.TheVariants as cell;
 ghost use Rattle.harp_cells.specs.declared.change.Change.TheVariants as change;
@@ -17,7 +17,7 @@ ghost use Rattle.tree_log.specs.Sizes.{HasShortParts, longest_made};
 use crate::parts::parts_are_short;
 use dedup::keep;
 use event_record::{Changes, Index, Moment, Record, RecordFields};
-use harp_base::{Call, Cred, ViewNo};
+use harp_types::{Call, Cred, ViewNo};
 use harp_cells::{CellFault, CellRead};
 use nfs_calls::{Prepared, prepare};
 use std::alloc::{AllocError, Global};

@@ -3,7 +3,7 @@
 ghost use Rattle.std.specs.Prelude.{◌≡◌, ℕ, ◌+◌, ◌-◌, ◌<◌, ◌≤◌, ◌^◌, ◌↔◌, ◌++◌, ◌∷◌, [], List, length, take, true, Option, IfOk, IfErr, IfSome, IsSome, OnErr, OnOk};
 ghost use Rattle.std.specs.Option.{option_copied};
 ghost use Rattle.file_tree.specs.Book.{Entry};
-ghost use Rattle.harp_base.specs.Update.{is_update};
+ghost use Rattle.harp_types.specs.Update.{is_update};
 ghost use Rattle.harp_store.specs.Disk.{Moments};
 ghost use Rattle.overlay.specs.Index.{IsIndexOf};
 ghost use Rattle.tree_log.specs.Reading.{HoldsTree, IsNextRecord};

@@ -21,7 +21,7 @@ mod watched;
 use crate::fault::put_fault;
 use crate::rows::{play, unrolled};
 use crate::table::Table;
-use harp_base::{WriterSink, write_all};
+use harp_types::{WriterSink, write_all};
 use std::io::{self, BufRead, BufReader};
 
 fn main(rt: HostRuntime) -> io::Result<()> {

@@ -1,6 +1,6 @@
 //! Replies and changes as text.
 
-use harp_base::{Attr, Reply};
+use harp_types::{Attr, Reply};
 use harp_cells::{Cell, Change, Inode, Value};
 use std::alloc::{AllocError, Global};
 use text_writer::{

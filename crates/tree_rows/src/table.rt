@@ -1,13 +1,13 @@
 //! A tree in cells and the same one as a plain list, and the calls that are made on them.
 
 ghost use Rattle.std.specs.Prelude.{◌≡◌, true};
-ghost use Rattle.harp_base.specs.Update.{is_update};
+ghost use Rattle.harp_types.specs.Update.{is_update};
 
 use crate::fault::Fault;
 use crate::shown::{put_change, put_shown};
 use crate::watched::Watched;
 use event_record::{Index, read_item, write_item};
-use harp_base::{Bytes, Call, Cred, Reply, ServerId, ViewNo, is_update};
+use harp_types::{Bytes, Call, Cred, Reply, ServerId, ViewNo, is_update};
 use harp_cells::{MemCells, Moment};
 use nfs_calls::answer;
 use plain_tree::PlainTree;

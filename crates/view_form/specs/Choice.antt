@@ -1,15 +1,15 @@
 -- Joins and choices as the group's machine has them.
 use Rattle.std.specs.Prelude.{Option, None, Some, option_map, is_some, if◌then◌else◌}
-use Rattle.harp_base.specs.declared.server.ServerId.{ServerId}
-use Rattle.harp_base.specs.declared.state.Held.{Held as Had}
-use Rattle.harp_base.specs.declared.state.Held.TheVariants as had
-use Rattle.harp_base.specs.Trio.{with_value}
-use Rattle.harp_base.specs.declared.trio.Trio.{Trio as Each}
+use Rattle.harp_types.specs.declared.server.ServerId.{ServerId}
+use Rattle.harp_types.specs.declared.state.Held.{Held as Had}
+use Rattle.harp_types.specs.declared.state.Held.TheVariants as had
+use Rattle.harp_types.specs.Trio.{with_value}
+use Rattle.harp_types.specs.declared.trio.Trio.{Trio as Each}
 use Rattle.group_rules.specs.Choose.{choose, greatest}
 use Rattle.group_rules.specs.Names.{id_of, number_of_view, place_of, view_of}
 use Rattle.group_rules.specs.Places.{Pair, Place, S01, S02, S12, Trio, leader, partner}
 use Rattle.group_rules.specs.State.{Empty, Held, Log, Lost, Plan as Chosen, Report}
-use Rattle.harp_base.specs.View.{View}
+use Rattle.harp_types.specs.View.{View}
 use Rattle.view_form.specs.declared.join.JoinInfo.{JoinInfo}
 use Rattle.view_form.specs.declared.plan.Plan.{Plan}
 use Rattle.view_form.specs.declared.plan.Storers.{Storers}

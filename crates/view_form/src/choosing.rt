@@ -2,14 +2,14 @@
 
 ghost use Rattle.std.specs.Prelude.{◌≡◌, ◌&&◌, ◌==◌, max, option_map};
 ghost use Rattle.group_rules.specs.Limits.{is_log};
-ghost use Rattle.harp_base.specs.declared.server.ServerId.TheVariants as server;
+ghost use Rattle.harp_types.specs.declared.server.ServerId.TheVariants as server;
 ghost use Rattle.group_rules.specs.Choose.{accepted_of, base_of, better, greatest, horizon_of, longer, pair_of, source_of, storers_base};
 ghost use Rattle.group_rules.specs.Names.{number_of_view, place_of};
 ghost use Rattle.view_form.specs.Choice.{choice, pair, report, reports, source};
 
 use crate::join::JoinInfo;
 use crate::plan::{Plan, Storers};
-use harp_base::{Held, ServerId, Trio, ViewNo};
+use harp_types::{Held, ServerId, Trio, ViewNo};
 use promise::Deadline;
 
 /// The choice that these joins allow: the storers (0,1) where both joined, else (0,2) or (1,2);

@@ -1,18 +1,18 @@
 //! The joins of a view that its coordinator collects.
 
 ghost use Rattle.std.specs.Prelude.{◌≡◌, None, Some};
-ghost use Rattle.harp_base.specs.Trio.{with_value};
+ghost use Rattle.harp_types.specs.Trio.{with_value};
 ghost use Rattle.view_form.specs.Choice.{chosen_at, collected};
 
 use crate::choosing::choose;
 use crate::join::JoinInfo;
 use crate::plan::Plan;
-use harp_base::{ServerId, Trio, ViewNo};
+use harp_types::{ServerId, Trio, ViewNo};
 use std::marker::Model;
 
 /// What a coordinator has of the joins of its view, its own from the first on. Joins after the
 /// first that allows a choice are ignored.
-#[derive(Debug, Drop)]
+#[derive(Drop)]
 pub struct Collector {
     view: ViewNo,
     joins: Trio<Option<JoinInfo>>,

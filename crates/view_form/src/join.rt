@@ -1,12 +1,12 @@
 //! What a server tells when it joins a view.
 
-use harp_base::{Held, ViewNo};
+use harp_types::{Held, ViewNo};
 use promise::Deadline;
 
 /// What a Join tells of its sender: what it has, the view that it accepted last, the numbers of
 /// its log, and until when it may have promised. A lost server tells its LB for each of the four
 /// numbers, and one without a log 0.
-#[derive(Clone, Copy, Debug, PartialEq, Eq)]
+#[derive(Clone, Copy, PartialEq, Eq)]
 pub struct JoinInfo {
     pub held: Held,
     pub accepted: ViewNo,

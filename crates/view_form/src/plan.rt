@@ -5,11 +5,11 @@ ghost use Rattle.group_rules.specs.Names.{id_of};
 ghost use Rattle.group_rules.specs.Places.{leader, partner};
 ghost use Rattle.view_form.specs.Choice.{pair};
 
-use harp_base::{ServerId, ViewNo};
+use harp_types::{ServerId, ViewNo};
 use promise::Deadline;
 
 /// The choice of a view, as a Form tells it.
-#[derive(Clone, Copy, Debug, PartialEq, Eq)]
+#[derive(Clone, Copy, PartialEq, Eq)]
 pub struct Plan {
     pub leader: ServerId,
     pub partner: ServerId,
@@ -28,7 +28,7 @@ pub struct Plan {
 }
 
 /// The two storers of a view. The first named leads.
-#[derive(Clone, Copy, Debug, PartialEq, Eq)]
+#[derive(Clone, Copy, PartialEq, Eq)]
 pub(crate) enum Storers {
     ZeroOne,
     ZeroTwo,

@@ -1,7 +1,7 @@
 -- A log in memory: its numbers, and the records after its base.
 use Rattle.std.specs.Prelude.{◌≡◌, ℕ, ◌+◌, ◌-◌, ◌<◌, ◌≤◌, ◌^◌, List, [], ◌∷◌, ◌++◌, length, take, drop, max, Option, None, nat_lt, if◌then◌else◌}
 use Rattle.std.specs.List.{slice_get}
-use Rattle.harp_base.specs.Limits.{log_room}
+use Rattle.harp_types.specs.Limits.{log_room}
 use Rattle.event_record.specs.declared.record.RecordFields.{RecordFields as Record}
 
 -- the records base + 1 to base + length records; those up to LB are on the disk, up to AP applied,

@@ -7,13 +7,13 @@ ghost use Rattle.volatile_log.specs.Log.{IsLog, LogValue, applied_to, committed_
 use crate::frozen::FrozenLog;
 use crate::records::drop_front;
 use event_record::Record;
-use harp_base::LOG_ROOM;
+use harp_types::LOG_ROOM;
 use std::alloc::{AllocError, Global};
 use std::collections::VecDeque;
 use std::marker::Model;
 
 /// The log has no room for another record: 32,768 stand in it.
-#[derive(Clone, Copy, Debug, PartialEq, Eq)]
+#[derive(Clone, Copy, PartialEq, Eq)]
 pub struct LogFull;
 
 /// A log that records are added to and committed in. It has the records base + 1 to top, at most

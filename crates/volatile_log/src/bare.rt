@@ -9,7 +9,7 @@ use std::marker::Model;
 
 /// What a data server has that was a storer and lost its records, as by a crash: the number LB of
 /// records that are on its disk.
-#[derive(Debug, Drop)]
+#[derive(Drop)]
 pub struct LostLog {
     lb: u64,
 }
@@ -67,7 +67,7 @@ impl LostLog {
 }
 
 /// What a server has that stands outside of its view: no log.
-#[derive(Debug, Drop)]
+#[derive(Drop)]
 pub struct EmptyLog;
 
 impl EmptyLog {

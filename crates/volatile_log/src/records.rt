@@ -5,7 +5,7 @@ ghost use Rattle.std.specs.VecDeque.{deque_capacity};
 ghost use Rattle.volatile_log.specs.Log.{room};
 
 use event_record::Record;
-use harp_base::LOG_ROOM;
+use harp_types::LOG_ROOM;
 use std::alloc::AllocError;
 use std::collections::VecDeque;
 

@@ -1,6 +1,7 @@
 -- The messages undo their bytes.
 use Rattle.std.proofs.Common.{◌≡◌, ℕ, ◌+◌, List, [], ◌∷◌, ◌++◌, length, drop, Some, Ok, refl, arith}
-use Rattle.harp_base.specs.Fields.{Reader, Spells, ◌⊗◌, field_as, value_with_number, u32_at, u64_at}
+use Rattle.harp_base.specs.Fields.{Reader, Spells, ◌⊗◌, field_as, u32_at, u64_at}
+use Rattle.harp_types.specs.Numbered.{value_with_number}
 use Rattle.harp_base.specs.Names.{view_at}
 use Rattle.harp_base.proofs.Codec.{IsBytes, IsCodec, u32_codec, u64_codec, part_takes, field_as_again, fields_by_tag_codec}
 use Rattle.harp_base.proofs.AttributeLaws.{then}

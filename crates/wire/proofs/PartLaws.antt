@@ -2,21 +2,22 @@
 use Rattle.std.proofs.Common.{◌≡◌, ℕ, ◌+◌, ◌<◌, ◌≤◌, ◌^◌, Bool, true, false, cond, eqb, ltb, List, [], ◌∷◌, ◌++◌, length, get_or, drop, Option, Some, None, Ok, Err, refl, sym, ap, subst, ◌∙◌, arith, drop-cons, add-one, add-zero}
 use Rattle.std.proofs.lemmas.Bool.{eqb-true, ltb-true, lt-ltb}
 use Rattle.std.proofs.lemmas.List.{length-drop, get_or-drop}
-use Rattle.harp_base.specs.declared.server.ServerId.{ServerId}
-use Rattle.harp_base.specs.declared.server.ServerId.TheVariants.{Zero, One, Two}
-use Rattle.harp_base.specs.declared.state.Held.{Held}
-use Rattle.harp_base.specs.declared.state.Held.TheVariants as held
+use Rattle.harp_types.specs.declared.server.ServerId.{ServerId}
+use Rattle.harp_types.specs.declared.server.ServerId.TheVariants.{Zero, One, Two}
+use Rattle.harp_types.specs.declared.state.Held.{Held}
+use Rattle.harp_types.specs.declared.state.Held.TheVariants as held
 use Rattle.harp_base.specs.declared.field.Misread.TheVariants.{Ends}
-use Rattle.harp_base.specs.Server.{number_of}
-use Rattle.harp_base.specs.Fields.{Reader, Spells, ◌⊗◌, field_as, fields_by_tag, passing, tag_at, value_with_number, byte_at, u16_at, u16_bytes, u64_bytes, many_at, many_bytes, AllFit}
+use Rattle.harp_types.specs.Server.{number_of}
+use Rattle.harp_base.specs.Fields.{Reader, Spells, ◌⊗◌, field_as, fields_by_tag, passing, tag_at, byte_at, u16_at, u16_bytes, u64_bytes, many_at, many_bytes, AllFit}
+use Rattle.harp_types.specs.Numbered.{value_with_number}
 use Rattle.harp_base.proofs.Codec.{IsBytes, IsCodec, ok_is, byte_codec, below_codec, passing_codec, fitting, tag_codec, part_takes, field_as_again, field_as_codec, fields_by_tag_codec}
 use Rattle.harp_base.proofs.AttributeLaws.{then}
 use Rattle.harp_base.proofs.ListLaws.{list_codec}
 use Rattle.event_record.specs.declared.record.RecordFields.{RecordFields}
 use Rattle.event_record.specs.Bytes.{RecordFits, record_bytes, item_at}
 use Rattle.event_record.proofs.RecordLaws.{item_codec}
-use Rattle.trace_lines.specs.declared.line.Cause.{Cause}
-use Rattle.trace_lines.specs.declared.line.Cause.TheVariants as cause
+use Rattle.harp_types.specs.declared.cause.Cause.{Cause}
+use Rattle.harp_types.specs.declared.cause.Cause.TheVariants as cause
 use Rattle.wire.specs.declared.forms.Reason.{Reason}
 use Rattle.wire.specs.declared.forms.Reason.TheVariants as reason
 use Rattle.wire.specs.declared.storers.Storers.{Storers}

@@ -2,7 +2,7 @@
 use Rattle.std.specs.Prelude.{◌≡◌, ℕ, ◌+◌, ◌<◌, ◌^◌, ◌==◌, List, [], ◌∷◌, ◌++◌, length, Result, Ok, Err, if◌then◌else◌}
 use Rattle.harp_base.specs.declared.field.Misread.{Misread}
 use Rattle.harp_base.specs.declared.field.Misread.TheVariants as misread
-use Rattle.harp_base.specs.Server.{number_of}
+use Rattle.harp_types.specs.Server.{number_of}
 use Rattle.harp_base.specs.Fields.{Read, Reader, ◌⊗◌, field_as, fields_by_tag, tag_at, u32_at, u64_at, u32_bytes, u64_bytes}
 use Rattle.harp_base.specs.Names.{ViewFits, view_at, view_bytes, server_at, CredFits, cred_at, cred_bytes}
 use Rattle.harp_base.specs.Calls.{CallFits, call_at, call_bytes}

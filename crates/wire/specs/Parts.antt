@@ -1,15 +1,15 @@
 -- The parts of messages as bytes.
 use Rattle.std.specs.Prelude.{◌≡◌, ℕ, ◌+◌, ◌<◌, ◌≤◌, ◌^◌, Bool, ◌==◌, ◌&&◌, ◌||◌, List, [], ◌∷◌, ◌++◌, length, nat_lt, Option, Some, None, Ok, if◌then◌else◌}
-use Rattle.harp_base.specs.declared.server.ServerId.{ServerId}
-use Rattle.harp_base.specs.declared.server.ServerId.TheVariants.{Zero, One, Two}
-use Rattle.harp_base.specs.declared.state.Held.{Held}
-use Rattle.harp_base.specs.declared.state.Held.TheVariants as held
-use Rattle.harp_base.specs.Server.{number_of}
+use Rattle.harp_types.specs.declared.server.ServerId.{ServerId}
+use Rattle.harp_types.specs.declared.server.ServerId.TheVariants.{Zero, One, Two}
+use Rattle.harp_types.specs.declared.state.Held.{Held}
+use Rattle.harp_types.specs.declared.state.Held.TheVariants as held
+use Rattle.harp_types.specs.Server.{number_of}
 use Rattle.harp_base.specs.Fields.{Reader, ◌>>=◌, ◌⊗◌, field_as, fields_by_tag, passing, tag_at, byte_at, u16_at, below_at, many_at, u16_bytes, many_bytes, AllFit}
 use Rattle.event_record.specs.declared.record.RecordFields.{RecordFields}
 use Rattle.event_record.specs.Bytes.{RecordFits, record_bytes, item_at}
-use Rattle.trace_lines.specs.declared.line.Cause.{Cause}
-use Rattle.trace_lines.specs.declared.line.Cause.TheVariants as cause
+use Rattle.harp_types.specs.declared.cause.Cause.{Cause}
+use Rattle.harp_types.specs.declared.cause.Cause.TheVariants as cause
 use Rattle.wire.specs.declared.forms.Reason.{Reason}
 use Rattle.wire.specs.declared.forms.Reason.TheVariants as reason
 use Rattle.wire.specs.declared.storers.Storers.{Storers}

@@ -1,7 +1,7 @@
 -- The storers of a view.
 use Rattle.std.specs.Prelude.{Option, Some, None}
-use Rattle.harp_base.specs.declared.server.ServerId.{ServerId}
-use Rattle.harp_base.specs.declared.server.ServerId.TheVariants.{Zero, One, Two}
+use Rattle.harp_types.specs.declared.server.ServerId.{ServerId}
+use Rattle.harp_types.specs.declared.server.ServerId.TheVariants.{Zero, One, Two}
 use Rattle.wire.specs.declared.storers.Storers.{Storers}
 use Rattle.wire.specs.declared.storers.Storers.TheVariants.{ZeroOne, ZeroTwo, OneTwo}
 

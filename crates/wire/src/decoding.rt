@@ -15,7 +15,7 @@ use harp_base::fields::{call_at, cred_at, reply_at, server_at, u32_at, u64_at, v
 use std::alloc::Global;
 
 /// Why bytes are no message, with the place of the first fault.
-#[derive(Clone, Copy, Debug, PartialEq, Eq)]
+#[derive(Clone, Copy, PartialEq, Eq)]
 pub enum DecodeFault {
     /// The bytes end within the message; the place is their number.
     Short(usize),

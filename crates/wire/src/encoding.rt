@@ -10,7 +10,7 @@ use crate::parts::{held_number, put_cause, put_records, put_storers};
 use crate::storers::Storers;
 use event_record::fields::put_item;
 use harp_base::fields::{put_call, put_cred, put_reply, put_u32, put_u64, put_view};
-use harp_base::{Bytes, Held, ServerId, ViewNo};
+use harp_types::{Bytes, Held, ServerId, ViewNo};
 use promise::Deadline;
 use std::alloc::{AllocError, Global};
 

@@ -1,16 +1,17 @@
 //! The forms of messages and the reasons of refusals, by their numbers in bytes.
 
 ghost use Rattle.std.specs.Prelude.{◌≡◌, ◌≤◌, length, IfOk};
-ghost use Rattle.harp_base.specs.Fields.{value_with_number, tag_at};
+ghost use Rattle.harp_types.specs.Numbered.{value_with_number};
+ghost use Rattle.harp_base.specs.Fields.{tag_at};
 ghost use Rattle.wire.specs.Parts.{reason_of, reason_number, reasons};
 ghost use Rattle.wire.specs.Messages.{form_of, form_number, forms};
 
 use crate::message::Message;
 use harp_base::Misread;
 use harp_base::fields::byte_at;
-use trace_lines::Cause;
+use harp_types::Cause;
 
-#[derive(Clone, Copy, Debug, PartialEq, Eq)]
+#[derive(Clone, Copy, PartialEq, Eq)]
 pub(crate) enum Form {
     Invite,
     Join,
@@ -28,7 +29,7 @@ pub(crate) enum Form {
 }
 
 /// A cause without its hint.
-#[derive(Clone, Copy, Debug, PartialEq, Eq)]
+#[derive(Clone, Copy, PartialEq, Eq)]
 pub(crate) enum Reason {
     NotLeader,
     NotYetOpen,

@@ -15,4 +15,4 @@ pub use message::Message;
 pub use promise::Deadline;
 pub use records::Records;
 pub use storers::Storers;
-pub use trace_lines::Cause;
+pub use harp_types::Cause;

@@ -3,10 +3,10 @@
 ghost use Rattle.std.specs.Prelude.{◌≡◌};
 ghost use Rattle.wire.specs.Storers.{leader_of, partner_of, storers_of};
 
-use harp_base::ServerId;
+use harp_types::ServerId;
 
 /// The two servers that store a view's updates: its leader, and then its partner.
-#[derive(Clone, Copy, Debug, PartialEq, Eq)]
+#[derive(Clone, Copy, PartialEq, Eq)]
 pub enum Storers {
     ZeroOne,
     ZeroTwo,

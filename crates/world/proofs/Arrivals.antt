@@ -14,7 +14,7 @@ use Rattle.group_rules.specs.Said.{sends_said}
 use Rattle.group_rules.specs.State.{Group, Message, Packet, Page}
 use Rattle.group_rules.specs.Step.{Comes, Input as Begins, numbered}
 use Rattle.group_trace.specs.Run.{Turn, bytes_where, delivery, disarmed, lines_where, moved_where, turn}
-use Rattle.harp_base.specs.Trio.{value_of}
+use Rattle.harp_types.specs.Trio.{value_of}
 use Rattle.world_rules.specs.Spellings.{spellings}
 use Rattle.node.specs.declared.input.Input.TheVariants as input
 use Rattle.node_outputs.specs.Messages.{heard}

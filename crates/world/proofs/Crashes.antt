@@ -8,9 +8,9 @@ use Rattle.group_rules.specs.Names.{place_of}
 use Rattle.group_rules.specs.Step.{Crash, Does}
 use Rattle.group_trace.specs.Lines.{state_lines}
 use Rattle.group_trace.specs.Shown.{shown_of}
-use Rattle.harp_base.specs.Trio.{value_of}
-use Rattle.harp_base.specs.declared.server.ServerId.{ServerId}
-use Rattle.harp_base.specs.declared.state.StateLine.{StateLine}
+use Rattle.harp_types.specs.Trio.{value_of}
+use Rattle.harp_types.specs.declared.server.ServerId.{ServerId}
+use Rattle.harp_types.specs.declared.state.StateLine.{StateLine}
 use Rattle.harp_store.specs.declared.pick.Pick.{Pick as StorePick}
 use Rattle.world_rules.specs.Host.{HostValue, IsHost}
 use Rattle.world_rules.specs.Spellings.{spellings}

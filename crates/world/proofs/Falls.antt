@@ -15,8 +15,8 @@ use Rattle.group_rules.specs.State.{Group, Mark, Saved, Server, mark_of}
 use Rattle.group_rules.specs.Step.{At, Boot, Crash, Power, boot}
 use Rattle.group_safety.proofs.Moving.{at_self}
 use Rattle.group_safety.specs.Laws.{Whole}
-use Rattle.harp_base.specs.Trio.{value_of}
-use Rattle.harp_base.specs.declared.server.ServerId.{ServerId}
+use Rattle.harp_types.specs.Trio.{value_of}
+use Rattle.harp_types.specs.declared.server.ServerId.{ServerId}
 use Rattle.world_laws.specs.Waits.{HasWaits}
 use Rattle.world_rules.specs.Host.{HostValue, IsHost, no_stock}
 use Rattle.world_rules.specs.Spellings.{spellings}

@@ -5,10 +5,10 @@ use Rattle.group_rules.specs.Limits.{room}
 use Rattle.group_rules.specs.Names.{place_of}
 use Rattle.group_rules.specs.Places.{Zero, One, Two, Place, all_of}
 use Rattle.group_rules.specs.Step.{first_group}
-use Rattle.harp_base.specs.Limits.{first_promise}
-use Rattle.harp_base.specs.Trio.{value_of}
-use Rattle.harp_base.specs.declared.server.ServerId.{ServerId}
-use Rattle.harp_base.specs.declared.server.ServerId.TheVariants as server
+use Rattle.harp_types.specs.Limits.{first_promise}
+use Rattle.harp_types.specs.Trio.{value_of}
+use Rattle.harp_types.specs.declared.server.ServerId.{ServerId}
+use Rattle.harp_types.specs.declared.server.ServerId.TheVariants as server
 use Rattle.world_laws.specs.Waits.{HasWaits}
 use Rattle.world_rules.specs.Host.{HostValue, IsHost, no_stock}
 use Rattle.world_rules.specs.Steps.{IsStop}

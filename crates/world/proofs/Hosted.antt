@@ -1,9 +1,9 @@
 -- What the host of a server did, in its world.
 use Rattle.std.proofs.Common.{◌≡◌, ℕ, Option, Result, Ok, Err, sym, subst}
 use Rattle.std.specs.Prelude.{OnOk}
-use Rattle.harp_base.specs.Trio.{value_of, with_value}
-use Rattle.harp_base.specs.declared.server.ServerId.{ServerId}
-use Rattle.harp_base.specs.declared.trio.Trio.{Trio}
+use Rattle.harp_types.specs.Trio.{value_of, with_value}
+use Rattle.harp_types.specs.declared.server.ServerId.{ServerId}
+use Rattle.harp_types.specs.declared.trio.Trio.{Trio}
 use Rattle.harp_store.specs.declared.pick.Pick.{Pick as StorePick}
 use Rattle.world_rules.specs.Host.{HostValue}
 use Rattle.world_rules.specs.Steps.{HostBoots, HostFails, HostFalls}

@@ -9,10 +9,10 @@ use Rattle.group_rules.specs.Places.{Place, all_of, at}
 use Rattle.group_safety.proofs.Moving.{at_self}
 use Rattle.group_trace.specs.Refusals.{refusal}
 use Rattle.group_trace.specs.Run.{step_lines, with_delta}
-use Rattle.harp_base.specs.Trio.{value_of, with_value}
-use Rattle.harp_base.specs.declared.server.ServerId.{ServerId}
-use Rattle.harp_base.specs.declared.server.ServerId.TheVariants as server
-use Rattle.harp_base.specs.declared.trio.Trio.{Trio}
+use Rattle.harp_types.specs.Trio.{value_of, with_value}
+use Rattle.harp_types.specs.declared.server.ServerId.{ServerId}
+use Rattle.harp_types.specs.declared.server.ServerId.TheVariants as server
+use Rattle.harp_types.specs.declared.trio.Trio.{Trio}
 use Rattle.world_rules.specs.Spellings.{spellings}
 use Rattle.world_rules.specs.Steps.{IsStop}
 use Rattle.world_rules.specs.declared.stop.Stop.{Stop}

@@ -7,8 +7,8 @@ use Rattle.group_rules.specs.Names.{place_of}
 use Rattle.group_rules.specs.Places.{Zero, One, Two, Place, Trio, at, get, with_at}
 use Rattle.group_rules.specs.Step.{near}
 use Rattle.group_trace.specs.Refusals.{clock_refusal, net_limit, net_refusal, passes_full_net}
-use Rattle.harp_base.specs.Trio.{value_of}
-use Rattle.harp_base.specs.declared.server.ServerId.{ServerId}
+use Rattle.harp_types.specs.Trio.{value_of}
+use Rattle.harp_types.specs.declared.server.ServerId.{ServerId}
 use Rattle.world_packets.specs.Posted.{bytes_sent}
 use Rattle.trace_types.specs.declared.line.LineFault.TheVariants as fault
 use Rattle.trace_types.specs.declared.step.Step.{Step}

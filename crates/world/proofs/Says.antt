@@ -8,8 +8,8 @@ use Rattle.group_rules.specs.Names.{place_of}
 use Rattle.group_rules.specs.Said.{Answer, answered_by, answers_said, read_by, reads_said, refusals_said}
 use Rattle.group_rules.specs.State.{Answers, Lists, Refuses}
 use Rattle.group_trace.specs.Lines.{answered_line, answered_lines, refused_line, refused_lines}
-use Rattle.harp_base.specs.declared.peer.Peer.{Peer}
-use Rattle.harp_base.specs.declared.server.ServerId.{ServerId}
+use Rattle.harp_types.specs.declared.peer.Peer.{Peer}
+use Rattle.harp_types.specs.declared.server.ServerId.{ServerId}
 use Rattle.node_outputs.specs.Said.{answered, answers_of, in_turn, refusals_of, refused}
 use Rattle.trace_types.specs.declared.line.Line.TheVariants as line
 use Rattle.world.proofs.Tables.{id_there}

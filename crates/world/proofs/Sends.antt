@@ -13,7 +13,7 @@ use Rattle.group_rules.specs.State.{Message, Packet, Page}
 use Rattle.group_safety.specs.Words.{Each}
 use Rattle.group_trace.specs.Lines.{packet_lines}
 use Rattle.group_trace.specs.Shown.{message_shown}
-use Rattle.harp_base.specs.declared.server.ServerId.{ServerId}
+use Rattle.harp_types.specs.declared.server.ServerId.{ServerId}
 use Rattle.idle_log.specs.Gives.{StandIn}
 use Rattle.node_outputs.specs.Messages.{as_heard, heard}
 use Rattle.node_outputs.specs.Records.{carried}

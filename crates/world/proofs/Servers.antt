@@ -9,8 +9,8 @@ use Rattle.group_rules.specs.Names.{place_of}
 use Rattle.group_rules.specs.Places.{Place, at}
 use Rattle.group_rules.specs.State.{Server}
 use Rattle.group_safety.proofs.Moving.{at_self}
-use Rattle.harp_base.specs.Trio.{value_of, with_value}
-use Rattle.harp_base.specs.declared.server.ServerId.{ServerId}
+use Rattle.harp_types.specs.Trio.{value_of, with_value}
+use Rattle.harp_types.specs.declared.server.ServerId.{ServerId}
 use Rattle.world_laws.specs.Waits.{HasWaits}
 use Rattle.world_rules.specs.Host.{HostValue, IsHost}
 use Rattle.world_rules.specs.Steps.{IsStop}

@@ -13,7 +13,7 @@ use Rattle.group_rules.specs.Step.{list_of}
 use Rattle.group_trace.specs.Lines.{answered_line, entered_lines, packet_lines, refused_line, state_lines}
 use Rattle.group_trace.specs.Run.{bytes_of, moved_in}
 use Rattle.group_trace.specs.Shown.{shown_of}
-use Rattle.harp_base.specs.declared.server.ServerId.{ServerId}
+use Rattle.harp_types.specs.declared.server.ServerId.{ServerId}
 use Rattle.world_rules.specs.Host.{HostValue}
 use Rattle.world_rules.specs.Spellings.{spellings}
 use Rattle.world_packets.specs.Machine.{StandFor}

@@ -1,7 +1,7 @@
 -- A world in which a stop was spent, and then a host did something.
 use Rattle.std.proofs.Common.{◌≡◌, Option, None, ap, ◌∙◌, subst}
-use Rattle.harp_base.specs.Trio.{value_of, with_value}
-use Rattle.harp_base.specs.declared.server.ServerId.{ServerId}
+use Rattle.harp_types.specs.Trio.{value_of, with_value}
+use Rattle.harp_types.specs.declared.server.ServerId.{ServerId}
 use Rattle.harp_store.specs.declared.pick.Pick.{Pick as StorePick}
 use Rattle.world_rules.specs.Steps.{HostBoots, HostFails, HostFalls, HostTakes}
 use Rattle.world_rules.specs.declared.stop.Stop.{Stop}

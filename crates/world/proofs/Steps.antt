@@ -16,7 +16,7 @@ use Rattle.group_trace.specs.Lines.{answered_lines, entered_lines, list_lines, l
 use Rattle.group_trace.specs.Refusals.{own_refusal, refusal, where_down}
 use Rattle.group_trace.specs.Run.{moved_in, step_lines}
 use Rattle.group_trace.specs.Shown.{shown_of}
-use Rattle.harp_base.specs.declared.server.ServerId.{ServerId}
+use Rattle.harp_types.specs.declared.server.ServerId.{ServerId}
 use Rattle.world_rules.specs.Spellings.{spellings}
 use Rattle.world_rules.specs.Steps.{IsStop, listing_by}
 use Rattle.world_rules.specs.declared.stop.Stop.{Stop}

@@ -2,10 +2,10 @@
 use Rattle.std.proofs.Common.{◌≡◌, refl}
 use Rattle.group_rules.specs.Names.{id_of, place_of}
 use Rattle.group_rules.specs.Places.{Zero, One, Two, Place, at}
-use Rattle.harp_base.specs.Trio.{value_of, with_value}
-use Rattle.harp_base.specs.declared.server.ServerId.{ServerId}
-use Rattle.harp_base.specs.declared.server.ServerId.TheVariants as server
-use Rattle.harp_base.specs.declared.trio.Trio.{Trio}
+use Rattle.harp_types.specs.Trio.{value_of, with_value}
+use Rattle.harp_types.specs.declared.server.ServerId.{ServerId}
+use Rattle.harp_types.specs.declared.server.ServerId.TheVariants as server
+use Rattle.harp_types.specs.declared.trio.Trio.{Trio}
 
 -- what holds of one server's new value and of the other servers' old ones holds of each
 pub each_value : {T : Type 0} (P : ServerId → T → Type 0) (t : Trio T) (s : ServerId) (x : T)

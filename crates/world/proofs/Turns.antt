@@ -17,9 +17,9 @@ use Rattle.group_safety.proofs.Moving.{at_self}
 use Rattle.group_trace.specs.Lines.{state_lines}
 use Rattle.group_trace.specs.Run.{moved_in}
 use Rattle.group_trace.specs.Shown.{shown_of}
-use Rattle.harp_base.specs.Trio.{value_of, with_value}
-use Rattle.harp_base.specs.declared.server.ServerId.{ServerId}
-use Rattle.harp_base.specs.declared.state.StateLine.{StateLine}
+use Rattle.harp_types.specs.Trio.{value_of, with_value}
+use Rattle.harp_types.specs.declared.server.ServerId.{ServerId}
+use Rattle.harp_types.specs.declared.state.StateLine.{StateLine}
 use Rattle.world_rules.specs.Host.{HostValue}
 use Rattle.world_rules.specs.Spellings.{spellings}
 use Rattle.world_rules.specs.Steps.{Fails, Falls, HostFails, HostTakes, Takes, TakesWhole, listing_by, moves_at, saved_after}

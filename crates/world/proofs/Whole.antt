@@ -16,8 +16,8 @@ use Rattle.group_safety.specs.Words.{In}
 use Rattle.group_trace.specs.Lines.{answered_lines, entered_lines, refused_lines, state_lines}
 use Rattle.group_trace.specs.Run.{bytes_of}
 use Rattle.group_trace.specs.Shown.{shown_of}
-use Rattle.harp_base.specs.Trio.{value_of}
-use Rattle.harp_base.specs.declared.server.ServerId.{ServerId}
+use Rattle.harp_types.specs.Trio.{value_of}
+use Rattle.harp_types.specs.declared.server.ServerId.{ServerId}
 use Rattle.world_laws.specs.Waits.{HasWaits, StepWaits}
 use Rattle.world_rules.specs.Host.{HostValue, IsHost}
 use Rattle.world_rules.specs.Spellings.{spellings}

@@ -2,7 +2,7 @@
 use Rattle.std.specs.Prelude.{ℕ, ◌+◌, if◌then◌else◌}
 use Rattle.group_rules.specs.Limits.{delta_tests}
 use Rattle.group_rules.specs.Places.{all_of}
-use Rattle.harp_base.specs.declared.trio.Trio.{Trio as Each}
+use Rattle.harp_types.specs.declared.trio.Trio.{Trio as Each}
 
 -- all clocks, so much later
 abbrev pub later : Each ℕ → ℕ → Each ℕ

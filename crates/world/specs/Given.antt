@@ -1,7 +1,7 @@
 -- What the outputs of a server's step come to in the world.
 use Rattle.std.specs.Prelude.{◌≡◌, List, ◌++◌, length, Option, None, Some}
 use Rattle.world_lines.specs.Given.{book_given, lines_given, packets_of}
-use Rattle.harp_base.specs.declared.server.ServerId.{ServerId}
+use Rattle.harp_types.specs.declared.server.ServerId.{ServerId}
 use Rattle.node_outputs.specs.declared.outputs.Outputs.{Outputs}
 use Rattle.trace_types.specs.declared.line.Line.{Line}
 use Rattle.tree_listing.specs.declared.listing.Listing.{Listing}

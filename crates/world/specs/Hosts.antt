@@ -1,7 +1,7 @@
 -- A world of which one host changes.
 use Rattle.std.specs.Prelude.{◌≡◌}
-use Rattle.harp_base.specs.Trio.{value_of, with_value}
-use Rattle.harp_base.specs.declared.server.ServerId.{ServerId}
+use Rattle.harp_types.specs.Trio.{value_of, with_value}
+use Rattle.harp_types.specs.declared.server.ServerId.{ServerId}
 use Rattle.world.specs.World.{WorldValue}
 
 -- nothing of it changes but that host, which stays the host of the same server

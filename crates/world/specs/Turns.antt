@@ -14,7 +14,7 @@ use Rattle.group_rules.specs.Step.{Comes, Does, Input as Begins, Power, list_of,
 use Rattle.group_trace.specs.Calls.{moves_of}
 use Rattle.group_trace.specs.Lines.{lines_of_moves}
 use Rattle.group_trace.specs.Run.{bytes_of, moved_in}
-use Rattle.harp_base.specs.declared.server.ServerId.{ServerId}
+use Rattle.harp_types.specs.declared.server.ServerId.{ServerId}
 use Rattle.world_rules.specs.Spellings.{spellings}
 use Rattle.world_rules.specs.Steps.{listing_by}
 use Rattle.node.specs.Input.{came, input_of}

@@ -9,10 +9,10 @@ use Rattle.world_rules.specs.declared.stop.Stop.{Stop}
 use Rattle.group_rules.specs.Names.{place_of}
 use Rattle.group_rules.specs.Places.{Zero, One, Two, Place, Trio, get}
 use Rattle.group_rules.specs.State.{Group, Message, Page}
-use Rattle.harp_base.specs.Trio.{value_of}
-use Rattle.harp_base.specs.declared.server.ServerId.{ServerId}
-use Rattle.harp_base.specs.declared.server.ServerId.TheVariants as server
-use Rattle.harp_base.specs.declared.trio.Trio.{Trio as Each}
+use Rattle.harp_types.specs.Trio.{value_of}
+use Rattle.harp_types.specs.declared.server.ServerId.{ServerId}
+use Rattle.harp_types.specs.declared.server.ServerId.TheVariants as server
+use Rattle.harp_types.specs.declared.trio.Trio.{Trio as Each}
 use Rattle.world_laws.specs.Waits.{HasWaits}
 use Rattle.world_rules.specs.Host.{HostValue, IsHost, no_stock}
 use Rattle.node.specs.Stock.{Stock}

@@ -11,7 +11,7 @@ ghost use Rattle.world.specs.Steps.{Takes};
 ghost use Rattle.world.specs.World.{clocks_in};
 
 use crate::world::World;
-use harp_base::{CLOCK_SKEW, ServerId, Trio};
+use harp_types::{CLOCK_SKEW, ServerId, Trio};
 use promise::Delta;
 
 impl World {

@@ -4,13 +4,13 @@ ghost use Rattle.std.specs.Prelude.{◌≡◌, ◌<◌, ◌^◌, None, IfOk, OnO
 ghost use Rattle.group_disks.specs.Run.{DiskScene};
 ghost use Rattle.group_rules.specs.Names.{place_of};
 ghost use Rattle.group_trace.specs.Shown.{shown_of};
-ghost use Rattle.harp_base.specs.Trio.{value_of, with_value};
+ghost use Rattle.harp_types.specs.Trio.{value_of, with_value};
 ghost use Rattle.world_rules.specs.Steps.{HostBoots, HostFails, HostFalls, HostTakes};
 ghost use Rattle.world.specs.World.{IsWorld};
 ghost use Rattle.world.specs.Hosts.{HasHost};
 
 use crate::world::World;
-use harp_base::{ServerId, StateLine};
+use harp_types::{ServerId, StateLine};
 use harp_store::Pick;
 use node::Input;
 use node_outputs::Outputs;

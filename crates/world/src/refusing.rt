@@ -16,7 +16,7 @@ ghost use Rattle.world.specs.Steps.{IsReady, IsReason};
 ghost use Rattle.world.specs.World.{IsWorld, clocks_in};
 
 use crate::world::World;
-use harp_base::ServerId;
+use harp_types::ServerId;
 use schedule_play::Refusal;
 use std::alloc::Global;
 use trace_types::Step;

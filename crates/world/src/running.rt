@@ -7,7 +7,7 @@ ghost use Rattle.world.specs.Steps.{Takes};
 ghost use Rattle.world.specs.World.{clocks_in};
 
 use crate::world::World;
-use harp_base::ServerId;
+use harp_types::ServerId;
 use node::Input;
 use std::alloc::{AllocError, Global};
 use trace_types::Line;

@@ -6,7 +6,7 @@ ghost use Rattle.world.specs.Steps.{Takes};
 
 use crate::picks::pick_of;
 use crate::world::World;
-use harp_base::ServerId;
+use harp_types::ServerId;
 use std::alloc::{AllocError, Global};
 use trace_types::Pick;
 use world_host::Stop;

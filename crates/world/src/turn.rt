@@ -8,7 +8,7 @@ ghost use Rattle.world.specs.Turns.{Turns};
 ghost use Rattle.world.specs.World.{clocks_in};
 
 use crate::world::World;
-use harp_base::ServerId;
+use harp_types::ServerId;
 use node::Input;
 use node_outputs::Outputs;
 use std::alloc::{AllocError, Global};

@@ -4,7 +4,7 @@ ghost use Rattle.std.specs.Prelude.{IfOk};
 ghost use Rattle.group_disks.specs.Run.{first_disk_scene};
 ghost use Rattle.world.specs.World.{IsWorld};
 
-use harp_base::{ServerId, Trio};
+use harp_types::{ServerId, Trio};
 use promise::Delta;
 use schedule_play::{Refusal, Stage};
 use std::alloc::{AllocError, Global};

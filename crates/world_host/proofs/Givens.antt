@@ -10,7 +10,7 @@ use Rattle.group_rules.specs.Names.{place_of}
 use Rattle.group_rules.specs.Places.{Place}
 use Rattle.group_rules.specs.State.{Message, Server}
 use Rattle.group_rules.specs.Step.{Comes, Input as Begins, step}
-use Rattle.harp_base.specs.declared.peer.Peer.{Peer}
+use Rattle.harp_types.specs.declared.peer.Peer.{Peer}
 use Rattle.harp_store.specs.Disk.{Disk as ToldDisk, Moments, reads}
 use Rattle.node.proofs.Wholes.{no_listing}
 use Rattle.node.specs.Input.{FillsInput, input_of, peers_of}

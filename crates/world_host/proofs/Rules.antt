@@ -15,9 +15,9 @@ use Rattle.group_rules.specs.Replicate.{ack_tests, answers}
 use Rattle.group_rules.specs.State.{Ack, Beat, Chose, Collects, Demote, Duty, Event, Fetch, Form, Formed, Give, Invite, Join, Message, NoDuty, Plan, Report, Saved, Server, top}
 use Rattle.group_rules.specs.Step.{Apply, Ask, Comes, Crash, Does, Flush, Input, ListTree, Power, Suspect, Tick, on_message, rule, step}
 use Rattle.group_rules.specs.Tick.{tick}
-use Rattle.harp_base.specs.Update.{is_update}
-use Rattle.harp_base.specs.declared.call.Call.{Call}
-use Rattle.harp_base.specs.declared.cred.Cred.{Cred}
+use Rattle.harp_types.specs.Update.{is_update}
+use Rattle.harp_types.specs.declared.call.Call.{Call}
+use Rattle.harp_types.specs.declared.cred.Cred.{Cred}
 use Rattle.node.proofs.Calls.{AreSilent}
 use Rattle.node.proofs.Marks.{alike_then, opens_unmarked}
 use Rattle.node.proofs.Mute.{silent_message}

@@ -8,7 +8,7 @@ use Rattle.group_rules.proofs.Tests.{if_is}
 use Rattle.group_rules.specs.Shown.{state_of}
 use Rattle.group_rules.specs.State.{Server}
 use Rattle.group_trace.specs.Shown.{shown_of}
-use Rattle.harp_base.specs.declared.state.StateLine.{StateLine}
+use Rattle.harp_types.specs.declared.state.StateLine.{StateLine}
 use Rattle.world_rules.specs.Host.{HostValue, IsHost, IsNodeOf, Runs, disk_of}
 use Rattle.node.specs.Node.{IsServer, NodeValue, server}
 use Rattle.node.specs.Stock.{Stock}

@@ -19,8 +19,8 @@ use Rattle.group_rules.specs.Names.{id_of, place_of}
 use Rattle.group_rules.specs.Places.{Zero, One, Two, Place}
 use Rattle.group_rules.specs.State.{Mark, Server, longest_of, mark_of}
 use Rattle.group_rules.specs.Step.{first_group}
-use Rattle.harp_base.specs.Limits.{first_promise}
-use Rattle.harp_base.specs.declared.server.ServerId.{ServerId}
+use Rattle.harp_types.specs.Limits.{first_promise}
+use Rattle.harp_types.specs.declared.server.ServerId.{ServerId}
 use Rattle.harp_store.specs.Disk.{Disk as ToldDisk, Moments, after_step, reads}
 use Rattle.harp_store.specs.Mark.{MarkFields, SavedNumbers}
 use Rattle.harp_store.specs.Memory.{nothing_stored}

@@ -16,7 +16,7 @@ use Rattle.group_rules.specs.Moves.{Move, acts}
 use Rattle.group_rules.specs.Places.{Place}
 use Rattle.group_rules.specs.State.{Group, Server, mark_of}
 use Rattle.group_rules.specs.Step.{Input as Begins, list_of, step}
-use Rattle.harp_base.specs.declared.peer.Peer.{Peer}
+use Rattle.harp_types.specs.declared.peer.Peer.{Peer}
 use Rattle.harp_store.specs.Disk.{Disk as ToldDisk, Moments}
 use Rattle.harp_store.specs.Mark.{MarkFields}
 use Rattle.idle_log.specs.Gives.{StandIn}

@@ -9,8 +9,8 @@ use Rattle.group_rules.specs.Replicate.{answers}
 use Rattle.group_rules.specs.Said.{Answer, answered_by, answers_said}
 use Rattle.group_rules.specs.State.{Ack, Answers, Lists, Open, Refuses, Server}
 use Rattle.group_rules.specs.Step.{Ask, Comes, Does, Input as Begins}
-use Rattle.harp_base.specs.declared.call.Call.{Call}
-use Rattle.harp_base.specs.declared.cred.Cred.{Cred}
+use Rattle.harp_types.specs.declared.call.Call.{Call}
+use Rattle.harp_types.specs.declared.cred.Cred.{Cred}
 use Rattle.trace_laws.proofs.MoveKinds.{AreMild, AreTail, IsMild, Kind, accepts, appends, commits, fronts_mild, heeds, mild, notes, plain, reads, repeats, tails_mild}
 
 -- ---- moves that answer nobody

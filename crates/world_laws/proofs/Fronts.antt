@@ -16,10 +16,10 @@ use Rattle.group_rules.specs.Step.{Ask, Comes, Deed, Does, Input as Begins, Tick
 use Rattle.group_rules.specs.Tick.{again, beats, duties, events, tick, unacknowledged}
 use Rattle.group_safety.proofs.Quiet.{log_is}
 use Rattle.group_safety.specs.Words.{In}
-use Rattle.harp_base.specs.Limits.{last_client}
-use Rattle.harp_base.specs.Update.{is_update}
-use Rattle.harp_base.specs.declared.call.Call.{Call}
-use Rattle.harp_base.specs.declared.cred.Cred.{Cred}
+use Rattle.harp_types.specs.Limits.{last_client}
+use Rattle.harp_types.specs.Update.{is_update}
+use Rattle.harp_types.specs.declared.call.Call.{Call}
+use Rattle.harp_types.specs.declared.cred.Cred.{Cred}
 use Rattle.world_laws.proofs.Told.{Quiet, QuietAll, quiet_base, quiet_both, quiet_deed, quiet_last, quiet_message, quiet_open}
 use Rattle.trace_laws.proofs.MoveKinds.{AreEnd, IsEnd}
 use Rattle.trace_laws.proofs.StepKinds.{end_open, tick_end}

@@ -13,9 +13,9 @@ use Rattle.group_safety.proofs.Safe.{good_of, input_goes, sent_known}
 use Rattle.group_safety.proofs.Steps.{Known}
 use Rattle.group_safety.specs.Laws.{Whole}
 use Rattle.group_safety.specs.Words.{IsActive}
-use Rattle.harp_base.specs.declared.call.Call.{Call}
-use Rattle.harp_base.specs.declared.cred.Cred.{Cred}
-use Rattle.harp_base.specs.declared.peer.Peer.{Peer}
+use Rattle.harp_types.specs.declared.call.Call.{Call}
+use Rattle.harp_types.specs.declared.cred.Cred.{Cred}
+use Rattle.harp_types.specs.declared.peer.Peer.{Peer}
 use Rattle.world_laws.proofs.Answered.{MayAnswer, answers_few}
 use Rattle.world_laws.proofs.Peers.{asks_refuse_one, others_refuse_none}
 use Rattle.world_laws.proofs.Waits.{HasAsker, moves_wait}

@@ -20,7 +20,7 @@ use Rattle.group_safety.proofs.Growth.{grows_moved}
 use Rattle.group_safety.proofs.Lists.{get_back, part_append, part_drop, part_take}
 use Rattle.group_safety.proofs.Moving.{Goes, Good, its}
 use Rattle.group_safety.specs.Words.{IsJoining, Part}
-use Rattle.harp_base.specs.declared.peer.Peer.{Peer}
+use Rattle.harp_types.specs.declared.peer.Peer.{Peer}
 use Rattle.tree_log.specs.Records.{record_of}
 use Rattle.node.specs.Stock.{Stock, stock_after, stock_by}
 use Rattle.idle_log.specs.Pulls.{adopted_records}

@@ -15,10 +15,10 @@ use Rattle.group_rules.specs.Replicate.{ack_tests, answers}
 use Rattle.group_rules.specs.Said.{refusals_said, refused_by}
 use Rattle.group_rules.specs.State.{Ack, Beat, Demote, Event, Fetch, Form, Formed, Give, Invite, Join, Message, Server, top}
 use Rattle.group_rules.specs.Step.{Apply, Ask, Comes, Crash, Does, Flush, Input as Begins, ListTree, Power, Suspect, Tick, on_message, rule, step}
-use Rattle.harp_base.specs.Limits.{last_client}
-use Rattle.harp_base.specs.Update.{is_update}
-use Rattle.harp_base.specs.declared.call.Call.{Call}
-use Rattle.harp_base.specs.declared.cred.Cred.{Cred}
+use Rattle.harp_types.specs.Limits.{last_client}
+use Rattle.harp_types.specs.Update.{is_update}
+use Rattle.harp_types.specs.declared.call.Call.{Call}
+use Rattle.harp_types.specs.declared.cred.Cred.{Cred}
 use Rattle.node.proofs.Calls.{mute_rebase, mute_suspect}
 use Rattle.node.proofs.Mute.{mute_rule}
 use Rattle.node.proofs.Stepped.{mute_tick}

@@ -26,9 +26,9 @@ use Rattle.group_safety.proofs.Modes.{joins_is, open_is, pulls_is}
 use Rattle.group_safety.proofs.Moving.{Good, its}
 use Rattle.group_safety.specs.Facts.{BodyOk}
 use Rattle.group_safety.specs.Words.{IsActive, IsJoining, Part}
-use Rattle.harp_base.specs.declared.call.Call.{Call}
-use Rattle.harp_base.specs.Update.{is_update}
-use Rattle.harp_base.specs.declared.cred.Cred.{Cred}
+use Rattle.harp_types.specs.declared.call.Call.{Call}
+use Rattle.harp_types.specs.Update.{is_update}
+use Rattle.harp_types.specs.declared.cred.Cred.{Cred}
 use Rattle.record_changes.specs.Records.{history_of}
 use Rattle.world_laws.proofs.Moves.{Adopts, ArePulled, Fed, Heeds}
 use Rattle.world_laws.proofs.Plain.{fed_base, fed_both, fed_if, fed_none, fed_sends, plain_answers, plain_each, plain_fed, plain_first, plain_if, plain_last, plain_open}

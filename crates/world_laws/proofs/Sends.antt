@@ -20,7 +20,7 @@ use Rattle.group_safety.specs.Entered.{UpdatesFrom}
 use Rattle.group_safety.specs.Facts.{BodyOk, PacketOk}
 use Rattle.group_safety.specs.Laws.{PageGrows, Whole}
 use Rattle.group_safety.specs.Words.{Agree, Each, In, IsJoining, Part}
-use Rattle.harp_base.specs.View.{View}
+use Rattle.harp_types.specs.View.{View}
 use Rattle.tree_log.specs.Records.{cells_of, record_of}
 use Rattle.node.specs.Stock.{Stock}
 use Rattle.node_outputs.specs.Messages.{heard}

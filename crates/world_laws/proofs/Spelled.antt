@@ -9,11 +9,11 @@ use Rattle.group_rules.specs.Names.{id_of, place_of, view_of}
 use Rattle.group_safety.specs.Words.{Part}
 use Rattle.harp_base.specs.Fields.{many_bytes, u16_bytes, u32_bytes, u64_bytes}
 use Rattle.harp_base.specs.Names.{cred_bytes, view_bytes}
-use Rattle.harp_base.specs.View.{View}
-use Rattle.harp_base.specs.declared.server.ServerId.{ServerId}
-use Rattle.harp_base.specs.declared.server.ServerId.TheVariants as server
-use Rattle.harp_base.specs.declared.state.Held.{Held as HeldTold}
-use Rattle.harp_base.specs.declared.state.Held.TheVariants as held
+use Rattle.harp_types.specs.View.{View}
+use Rattle.harp_types.specs.declared.server.ServerId.{ServerId}
+use Rattle.harp_types.specs.declared.server.ServerId.TheVariants as server
+use Rattle.harp_types.specs.declared.state.Held.{Held as HeldTold}
+use Rattle.harp_types.specs.declared.state.Held.TheVariants as held
 use Rattle.harp_cells.specs.declared.change.Change.{Change}
 use Rattle.world_rules.specs.Spellings.{held_told, plain_record, plain_records, storers_told}
 use Rattle.tree_log.specs.Records.{cells_of}

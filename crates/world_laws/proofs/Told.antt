@@ -23,9 +23,9 @@ use Rattle.group_safety.proofs.Modes.{joining_is, open_is}
 use Rattle.group_safety.proofs.Quiet.{log_is}
 use Rattle.group_safety.specs.Facts.{BodyOk}
 use Rattle.group_safety.specs.Words.{IsJoining}
-use Rattle.harp_base.specs.Update.{is_update}
-use Rattle.harp_base.specs.declared.call.Call.{Call}
-use Rattle.harp_base.specs.declared.cred.Cred.{Cred}
+use Rattle.harp_types.specs.Update.{is_update}
+use Rattle.harp_types.specs.declared.call.Call.{Call}
+use Rattle.harp_types.specs.declared.cred.Cred.{Cred}
 
 -- a source that joined the view gives of its own log
 pub record IsSource (g : Group Entry) (q : Place) (s : Server Entry) (v : ℕ) : Type 0 where

@@ -13,7 +13,7 @@ use Rattle.group_rules.specs.Places.{Place, all_of, is_p2}
 use Rattle.group_rules.specs.State.{Group, Mark, Mode, Open, Rests, Saved, Server, mark_of}
 use Rattle.group_safety.proofs.Moving.{Goes, Good, May, its}
 use Rattle.group_safety.specs.Words.{IsActive}
-use Rattle.harp_base.specs.declared.peer.Peer.{Peer}
+use Rattle.harp_types.specs.declared.peer.Peer.{Peer}
 use Rattle.world_laws.specs.Waits.{HasWaits, RestingWait}
 use Rattle.node.specs.Stock.{Stock, stock_after, stock_by}
 

@@ -7,7 +7,7 @@ use Rattle.group_rules.specs.Places.{Place}
 use Rattle.group_rules.specs.State.{Group, Packet, Server, top}
 use Rattle.group_rules.specs.Step.{Comes, Crash, Deed, Does, Happening, Input, Power, boot, first_group, list_of, numbered, run, saves, step_of}
 use Rattle.group_safety.specs.Laws.{Whole}
-use Rattle.harp_base.specs.declared.peer.Peer.{Peer}
+use Rattle.harp_types.specs.declared.peer.Peer.{Peer}
 use Rattle.node.specs.Stock.{Stock, stock_after}
 use Rattle.world_laws.specs.Stocks.{AreSaved, Carries, HasStock, booted_stock, no_stock}
 use Rattle.tree_log.specs.Reading.{IsOfList}

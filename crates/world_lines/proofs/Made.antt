@@ -2,9 +2,9 @@
 use Rattle.std.proofs.Common.{◌≡◌, ℕ, ◌+◌, Bool, true, false, List, [], ◌∷◌, ◌++◌, append_assoc, length, map, nat_le, if◌then◌else◌, drop, get_or, ◌<◌, ◌≤◌}
 use Rattle.std.proofs.Common.{refl, sym, ap, ◌∙◌, arith, append-nil}
 use Rattle.std.proofs.lemmas.List.{at_drop_all, length-append}
-use Rattle.harp_base.specs.declared.server.ServerId.{ServerId}
+use Rattle.harp_types.specs.declared.server.ServerId.{ServerId}
 use Rattle.trace_types.specs.declared.line.Line.{Line}
-use Rattle.trace_lines.specs.declared.line.BookEntry.{BookEntry}
+use Rattle.harp_types.specs.declared.book.BookEntry.{BookEntry}
 use Rattle.file_tree.specs.Book.{Entry}
 use Rattle.group_trace.specs.Lines.{entered_line, entered_lines}
 use Rattle.node_outputs.specs.Said.{entered}

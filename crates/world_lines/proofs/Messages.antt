@@ -3,10 +3,10 @@ use Rattle.std.proofs.Common.{◌≡◌, refl}
 use Rattle.group_rules.specs.Names.{id_of, place_of}
 use Rattle.group_rules.specs.Places.{leader, partner}
 use Rattle.group_rules.specs.Shown.{held_shown}
-use Rattle.harp_base.specs.declared.server.ServerId.{ServerId}
-use Rattle.harp_base.specs.declared.server.ServerId.TheVariants as server
-use Rattle.harp_base.specs.declared.state.Held.{Held}
-use Rattle.harp_base.specs.declared.state.Held.TheVariants as held
+use Rattle.harp_types.specs.declared.server.ServerId.{ServerId}
+use Rattle.harp_types.specs.declared.server.ServerId.TheVariants as server
+use Rattle.harp_types.specs.declared.state.Held.{Held}
+use Rattle.harp_types.specs.declared.state.Held.TheVariants as held
 use Rattle.node_outputs.specs.Messages.{held_heard, pair_heard}
 use Rattle.wire.specs.Storers.{leader_of, partner_of}
 use Rattle.wire.specs.declared.storers.Storers.{Storers}

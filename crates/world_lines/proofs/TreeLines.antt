@@ -10,7 +10,7 @@ use Rattle.file_tree.specs.declared.object.Body.{Body}
 use Rattle.file_tree.specs.declared.object.Body.TheVariants.{Regular, Directory, Link}
 use Rattle.file_tree.specs.declared.object.Object.{Object}
 use Rattle.file_tree.specs.Tree.{Tree, attr_of, place, slots_within}
-use Rattle.harp_base.specs.declared.server.ServerId.{ServerId}
+use Rattle.harp_types.specs.declared.server.ServerId.{ServerId}
 use Rattle.tree_listing.specs.declared.listing.Listed.{Listed}
 use Rattle.tree_listing.specs.declared.listing.Listing.{Listing}
 use Rattle.tree_listing.specs.Listing.{blocks_listed, bytes_of_file, listed, object_listed, of_each_below, slots_listed, text_of_link, tree_listed}

@@ -4,7 +4,7 @@ use Rattle.std.specs.List.{flat_map}
 use Rattle.file_tree.specs.Book.{Entry}
 use Rattle.group_trace.specs.Lines.{entered_lines}
 use Rattle.group_trace.specs.Shown.{message_shown}
-use Rattle.harp_base.specs.declared.server.ServerId.{ServerId}
+use Rattle.harp_types.specs.declared.server.ServerId.{ServerId}
 use Rattle.world_lines.specs.Lines.{lines_of_listing}
 use Rattle.node_outputs.specs.Messages.{heard}
 use Rattle.node_outputs.specs.Said.{entered}

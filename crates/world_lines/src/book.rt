@@ -9,12 +9,12 @@ ghost use Rattle.node_outputs.specs.Said.{entered as committed};
 use node_outputs::Answered;
 use std::alloc::{AllocError, Global};
 use std::marker::Model;
-use trace_lines::BookEntry as Committed;
+use harp_types::BookEntry as Committed;
 use trace_types::{BookEntry, Line};
 
 /// The calls that were entered, in their order: each committed update once, and each read that was
 /// answered.
-#[derive(Debug, Drop)]
+#[derive(Drop)]
 pub struct Book {
     entries: Vec<BookEntry>,
     /// How many of them are updates.

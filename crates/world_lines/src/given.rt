@@ -5,7 +5,7 @@ ghost use Rattle.world_lines.specs.Given.{answered_line, answered_lines, book_gi
 
 use crate::book::Book;
 use crate::shown::shown;
-use harp_base::ServerId;
+use harp_types::ServerId;
 use node_outputs::{Answered, Outputs, Refused, Sent};
 use std::alloc::{AllocError, Global};
 use trace_types::Line;

@@ -7,7 +7,7 @@ ghost use Rattle.trace_types.specs.declared.line.Line.TheVariants as line;
 ghost use Rattle.tree_listing.specs.Listing.{tree_listed};
 ghost use Rattle.world_lines.specs.Lines.{line_of_block, line_of_slot, lines_of_listing, lines_of_object, lines_of_objects, lines_of_text};
 
-use harp_base::{Bounded, LONGEST_PATH, ServerId};
+use harp_types::{Bounded, LONGEST_PATH, ServerId};
 use std::alloc::{AllocError, Global};
 use trace_types::Line;
 use tree_listing::{Listed, ListedBlock, ListedSlot, Listing, Row};

@@ -6,7 +6,7 @@ ghost use Rattle.group_trace.specs.Lines.{state_lines};
 ghost use Rattle.world_lines.specs.Given.{listing_shown};
 
 use crate::lines_of_listing;
-use harp_base::{ServerId, StateLine};
+use harp_types::{ServerId, StateLine};
 use std::alloc::{AllocError, Global};
 use trace_types::Line;
 use tree_listing::Listing;

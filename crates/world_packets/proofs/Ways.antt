@@ -8,10 +8,10 @@ use Rattle.std.specs.Prelude.{eqb, get_or, slice_get}
 use Rattle.std.specs.Option.{option_eq, option_or}
 use Rattle.std.proofs.lemmas.Bool.{eqb-false, eqb-true}
 use Rattle.std.proofs.lemmas.Option.{same_Some, slice_get_read}
-use Rattle.harp_base.specs.declared.server.ServerId.{ServerId}
-use Rattle.harp_base.specs.declared.server.ServerId.TheVariants.{Zero, One, Two}
-use Rattle.harp_base.specs.declared.trio.Trio.{Trio}
-use Rattle.harp_base.specs.Trio.{value_of, with_value}
+use Rattle.harp_types.specs.declared.server.ServerId.{ServerId}
+use Rattle.harp_types.specs.declared.server.ServerId.TheVariants.{Zero, One, Two}
+use Rattle.harp_types.specs.declared.trio.Trio.{Trio}
+use Rattle.harp_types.specs.Trio.{value_of, with_value}
 use Rattle.wire.specs.declared.message.Message.{Message}
 use Rattle.group_rules.specs.Names.{place_of}
 use Rattle.group_rules.specs.Places.{same}

@@ -1,8 +1,8 @@
 -- Which packet a pump delivers next.
 use Rattle.std.specs.Prelude.{ℕ, suc, Bool, true, not, ◌&&◌, ◌||◌, List, [], ◌∷◌, Option, None}
 use Rattle.std.specs.Prelude.{Some, min, if◌then◌else◌}
-use Rattle.harp_base.specs.declared.server.ServerId.{ServerId}
-use Rattle.harp_base.specs.declared.trio.Trio.{Trio}
+use Rattle.harp_types.specs.declared.server.ServerId.{ServerId}
+use Rattle.harp_types.specs.declared.trio.Trio.{Trio}
 use Rattle.group_rules.specs.Names.{place_of}
 use Rattle.group_rules.specs.Places.{same}
 use Rattle.world_packets.specs.Posted.{Posted}

@@ -1,9 +1,9 @@
 -- What a kept packet and the packets together hold true of their fields.
 use Rattle.std.specs.Prelude.{◌≡◌, ℕ, ◌-◌, ◌^◌, List, Option, Result, Ok, Err, min}
-use Rattle.harp_base.specs.declared.server.ServerId.{ServerId}
-use Rattle.harp_base.specs.declared.server.ServerId.TheVariants.{Zero}
-use Rattle.harp_base.specs.declared.trio.Trio.{Trio}
-use Rattle.harp_base.specs.Trio.{value_of, with_value}
+use Rattle.harp_types.specs.declared.server.ServerId.{ServerId}
+use Rattle.harp_types.specs.declared.server.ServerId.TheVariants.{Zero}
+use Rattle.harp_types.specs.declared.trio.Trio.{Trio}
+use Rattle.harp_types.specs.Trio.{value_of, with_value}
 use Rattle.wire.specs.declared.message.Message.{Message}
 use Rattle.wire.specs.declared.message.Message.TheVariants as message
 use Rattle.wire.specs.declared.decoding.DecodeFault.{DecodeFault}

@@ -2,7 +2,7 @@
 use Rattle.std.specs.Prelude.{ℕ, zero, suc, Bool, true, false, List, [], ◌∷◌, length, Option, None}
 use Rattle.std.specs.Prelude.{Some}
 use Rattle.std.specs.List.{sum_by}
-use Rattle.harp_base.specs.declared.server.ServerId.{ServerId}
+use Rattle.harp_types.specs.declared.server.ServerId.{ServerId}
 use Rattle.wire.specs.declared.message.Message.{Message}
 use Rattle.wire.specs.Messages.{message_bytes}
 use Rattle.world_packets.specs.declared.packet.Packet.{Packet}

@@ -7,7 +7,7 @@ ghost use Rattle.world_packets.specs.Kept.{AreFirst, way, with_way};
 ghost use Rattle.world_packets.specs.Posted.{Posted, delivered_at};
 
 use crate::kept::Kept;
-use harp_base::{ServerId, Trio};
+use harp_types::{ServerId, Trio};
 
 /// For each sender and each target the lowest number of a packet that was never delivered.
 pub(crate) type Ways = Trio<Trio<Option<u64>>>;

@@ -6,7 +6,7 @@ ghost use Rattle.world_packets.specs.Due.{goes};
 ghost use Rattle.world_packets.specs.Posted.{arrived, bytes_of, posted};
 
 use crate::packet::Packet;
-use harp_base::{Bytes, ServerId};
+use harp_types::{Bytes, ServerId};
 use std::alloc::{AllocError, Global};
 use std::marker::Model;
 use wire::{Message, decode, encode};

@@ -1,10 +1,10 @@
 //! One packet.
 
-use harp_base::ServerId;
+use harp_types::ServerId;
 use wire::Message;
 
 /// A message from one server to another.
-#[derive(Debug, Drop)]
+#[derive(Drop)]
 pub struct Packet {
     pub from: ServerId,
     pub to: ServerId,

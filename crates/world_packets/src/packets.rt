@@ -17,7 +17,7 @@ ghost use Rattle.world_packets.specs.Posted.{Posted, bytes_sent, delivered_at, p
 use crate::due::{Ways, lower, lowest, with_new, without};
 use crate::kept::Kept;
 use crate::packet::Packet;
-use harp_base::{ServerId, Trio};
+use harp_types::{ServerId, Trio};
 use std::alloc::{AllocError, Global};
 use std::marker::Model;
 use wire::Message;

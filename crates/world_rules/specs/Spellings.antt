@@ -7,8 +7,8 @@ use Rattle.group_disks.specs.Calls.{Spellings}
 use Rattle.group_rules.specs.Names.{id_of, view_of}
 use Rattle.group_rules.specs.Places.{Pair, S01, S02, S12}
 use Rattle.group_rules.specs.State.{Ack, Beat, Demote, Empty, Event, Fetch, Form, Formed, Give, Held, Invite, Join, Log, Lost, Message}
-use Rattle.harp_base.specs.declared.state.Held.{Held as HeldTold}
-use Rattle.harp_base.specs.declared.state.Held.TheVariants as held
+use Rattle.harp_types.specs.declared.state.Held.{Held as HeldTold}
+use Rattle.harp_types.specs.declared.state.Held.TheVariants as held
 use Rattle.tree_log.specs.Records.{record_of}
 use Rattle.wire.specs.declared.decoding.DecodeFault.{DecodeFault}
 use Rattle.wire.specs.declared.message.Message.{Message as Wire}

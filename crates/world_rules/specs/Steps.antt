@@ -11,7 +11,7 @@ use Rattle.group_rules.specs.Moves.{Move, acts}
 use Rattle.group_rules.specs.Places.{Place, all_of, is_p2}
 use Rattle.group_rules.specs.State.{Group, Log, Server, mark_of}
 use Rattle.group_rules.specs.Step.{Crash, Does, Input as Begins, Power, list_of, saves, step_of}
-use Rattle.harp_base.specs.declared.peer.Peer.{Peer}
+use Rattle.harp_types.specs.declared.peer.Peer.{Peer}
 use Rattle.harp_store.specs.Disk.{Disk as ToldDisk}
 use Rattle.harp_store.specs.declared.pick.Pick.{Pick as StorePick}
 use Rattle.idle_log.specs.Gives.{StandIn}

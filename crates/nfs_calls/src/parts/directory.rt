@@ -1,7 +1,7 @@
 //! Directories and their entries.
 
 ghost use Rattle.std.specs.Prelude.{◌≡◌, ◌≤◌, ◌<◌, Some, Err, IfOk, IfSome};
-ghost use Rattle.harp_base.specs.Streams.{Rose};
+ghost use Rattle.harp_types.specs.Streams.{Rose};
 ghost use Rattle.file_tree.specs.declared.object.Body.{Body};
 ghost use Rattle.file_tree.specs.Tree.{place, slots_of, slots_within, kind_of, entry};
 ghost use Rattle.file_tree.specs.Tries.{slots_in, directory};
@@ -13,7 +13,7 @@ ghost use Rattle.nfs_calls.specs.Gives.{Gives, Tells};
 use crate::error::CallError;
 use crate::parts::inode::live;
 use crate::parts::names::{check_name, is_dot, is_dot_dot};
-use harp_base::{Kind, Status};
+use harp_types::{Kind, Status};
 use harp_cells::{CellFault, CellRead, Inode};
 
 /// Ok for a directory, else its refusal.

@@ -1,8 +1,8 @@
 //! The bytes of files and the texts of links.
 
 ghost use Rattle.std.specs.Prelude.{◌≡◌, ◌≤◌, ◌≢◌, Some, Err, IfOk, length, take, drop};
-ghost use Rattle.harp_base.specs.Streams.{Rose};
-ghost use Rattle.harp_base.specs.declared.attr.Kind.TheVariants as kinds;
+ghost use Rattle.harp_types.specs.Streams.{Rose};
+ghost use Rattle.harp_types.specs.declared.attr.Kind.TheVariants as kinds;
 ghost use Rattle.file_tree.specs.declared.object.Body.{Body};
 ghost use Rattle.file_tree.specs.Tree.{place, kind_of};
 ghost use Rattle.file_tree.specs.Tries.{bytes_in, text_in};
@@ -11,7 +11,7 @@ ghost use Rattle.cell_changes.specs.TreeCells.{TreeCells};
 ghost use Rattle.nfs_calls.specs.TreeCells.{IsInode, bytes_within};
 ghost use Rattle.nfs_calls.specs.Gives.{Gives, Tells};
 
-use harp_base::{Bytes, Kind, Status};
+use harp_types::{Bytes, Kind, Status};
 use harp_cells::{CellFault, CellRead, Inode};
 use inode_blocks::read_bytes;
 use std::alloc::Global;

@@ -1,7 +1,7 @@
 //! The attributes of objects, read in their cells.
 
 ghost use Rattle.std.specs.Prelude.{◌≡◌, ◌≤◌, Some, Err, IfOk};
-ghost use Rattle.harp_base.specs.Streams.{Rose};
+ghost use Rattle.harp_types.specs.Streams.{Rose};
 ghost use Rattle.harp_cells.specs.Effect.{Cells};
 ghost use Rattle.file_tree.specs.Tree.{attr_at, attr_zero};
 ghost use Rattle.file_tree.specs.Tries.{live};
@@ -10,7 +10,7 @@ ghost use Rattle.nfs_calls.specs.TreeCells.{IsInode, inode_found, inode_placed, 
 ghost use Rattle.nfs_calls.specs.Gives.{Gives};
 
 use crate::error::CallError;
-use harp_base::{Attr, BLOCK_SIZE, Kind, Status, Time};
+use harp_types::{Attr, BLOCK_SIZE, Kind, Status, Time};
 use harp_cells::{Cell, CellFault, CellRead, Inode, Value};
 
 /// The attributes of the root of the first tree.

@@ -1,7 +1,7 @@
 //! Directories and objects that entries were taken away from.
 
 ghost use Rattle.std.specs.Prelude.{◌≡◌, ◌≤◌, ◌++◌, ◌-◌, ℕ, List, Some, Err, IfOk};
-ghost use Rattle.harp_base.specs.Streams.{Rose};
+ghost use Rattle.harp_types.specs.Streams.{Rose};
 ghost use Rattle.file_tree.specs.Tree.{place, slots_of, blocks_of, entry};
 ghost use Rattle.cell_changes.specs.Short.{AreShort};
 ghost use Rattle.cell_changes.specs.TreeCells.{TreeCells};
@@ -11,7 +11,7 @@ ghost use Rattle.nfs_calls.specs.Entries.{is_directory_kind, link_of, relinked, 
 use crate::parts::inode::inode_at;
 use crate::parts::pushes::{erase_blocks, erase_object, put_object};
 use crate::parts::totals::Totals;
-use harp_base::{BLOCK_SIZE, Kind, Time};
+use harp_types::{BLOCK_SIZE, Kind, Time};
 use harp_cells::{CellFault, CellRead, Change, Inode};
 use std::alloc::AllocError;
 

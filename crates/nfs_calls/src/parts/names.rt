@@ -5,7 +5,7 @@ ghost use Rattle.std.specs.List.{list_any};
 ghost use Rattle.file_tree.specs.Tries.{refuse, is_dot, is_dot_dot, is_dots, is_odd_byte, is_odd, check_name, entry_name};
 ghost use Rattle.nfs_calls.specs.NewEntries.{FitsName};
 
-use harp_base::{LONGEST_NAME, Status};
+use harp_types::{LONGEST_NAME, Status};
 
 /// A refusal, where its cause holds.
 pub fn refuse(status: Status, when: bool) -> Result<(), Status>

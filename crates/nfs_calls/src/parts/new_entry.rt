@@ -1,8 +1,8 @@
 //! New entries of directories.
 
 ghost use Rattle.std.specs.Prelude.{◌≡◌, ◌≤◌, ◌<◌, ◌^◌, ◌*◌, Some, Err, IfOk, length};
-ghost use Rattle.harp_base.specs.Limits.{slot_size};
-ghost use Rattle.harp_base.specs.Streams.{Rose};
+ghost use Rattle.harp_types.specs.Limits.{slot_size};
+ghost use Rattle.harp_types.specs.Streams.{Rose};
 ghost use Rattle.file_tree.specs.declared.object.Slot.{Slot};
 ghost use Rattle.file_tree.specs.Tree.{place, slots_of, with_entry};
 ghost use Rattle.file_tree.specs.Outcome.{has_entry, free_name};
@@ -17,7 +17,7 @@ use crate::error::CallError;
 use crate::parts::directory::entry;
 use crate::parts::names::{entry_name, refuse};
 use crate::parts::space::{capped, replaced};
-use harp_base::{SLOT_SIZE, Status, Time};
+use harp_types::{SLOT_SIZE, Status, Time};
 use harp_cells::{CellFault, CellRead, Inode};
 use inode_dirs::slot_for;
 
@@ -66,7 +66,7 @@ pub fn free_name<R: CellRead>(
 
 /// The place of a new entry in a directory, which then has so many slots, and the used blocks with
 /// it.
-#[derive(Clone, Copy, Debug)]
+#[derive(Clone, Copy)]
 pub struct Room {
     pub slot: u32,
     pub slots: u64,

@@ -1,8 +1,8 @@
 //! What a caller may do with objects, by the attributes in their cells.
 
 ghost use Rattle.std.specs.Prelude.{◌≡◌, ◌≤◌, ℕ, not, Some, Err, IfOk};
-ghost use Rattle.harp_base.specs.Streams.{Rose};
-ghost use Rattle.harp_base.specs.declared.reply.Status.TheVariants.{Perm};
+ghost use Rattle.harp_types.specs.Streams.{Rose};
+ghost use Rattle.harp_types.specs.declared.reply.Status.TheVariants.{Perm};
 ghost use Rattle.file_tree.specs.Tree.{Tree, place, slots_of};
 ghost use Rattle.file_tree.specs.Tries.{refuse};
 ghost use Rattle.file_tree.specs.Permissions.{allowed, searched, may_set, may_make};
@@ -14,7 +14,7 @@ use crate::error::CallError;
 use crate::parts::directory::directory;
 use crate::parts::names::refuse;
 use file_tree::{TO_SEARCH, TO_WRITE, may, may_give, may_set};
-use harp_base::{Cred, SetAttr, Status};
+use harp_types::{Cred, SetAttr, Status};
 use harp_cells::{CellFault, CellRead, Inode};
 
 /// A refusal, unless the caller may do what is wanted with an object.

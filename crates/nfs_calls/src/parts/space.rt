@@ -5,7 +5,7 @@ ghost use Rattle.file_tree.specs.Tree.{blocks_of};
 ghost use Rattle.nfs_calls.specs.Space.{capped, replaced_blocks};
 
 use crate::parts::names::refuse;
-use harp_base::{BLOCK_SIZE, Status, TREE_BLOCKS};
+use harp_types::{BLOCK_SIZE, Status, TREE_BLOCKS};
 
 /// The blocks of 4096 bytes of so many bytes.
 pub fn blocks_of(size: u64) -> u64

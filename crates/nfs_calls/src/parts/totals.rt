@@ -1,7 +1,7 @@
 //! What holds of the whole tree, read in its cell.
 
 ghost use Rattle.std.specs.Prelude.{◌≡◌, ◌≤◌, Some, Err, IfOk, length};
-ghost use Rattle.harp_base.specs.Streams.{Rose};
+ghost use Rattle.harp_types.specs.Streams.{Rose};
 ghost use Rattle.harp_cells.specs.Effect.{Cells};
 ghost use Rattle.file_tree.specs.Tree.{used_blocks};
 ghost use Rattle.cell_changes.specs.TreeCells.{TreeCells};
@@ -10,7 +10,7 @@ ghost use Rattle.nfs_calls.specs.TreeCells.{totals_found};
 use harp_cells::{Cell, CellFault, CellRead, Value};
 
 /// The next object's number, and the used blocks of 4096 bytes.
-#[derive(Clone, Copy, Debug)]
+#[derive(Clone, Copy)]
 pub struct Totals {
     pub next: u32,
     pub used: u32,

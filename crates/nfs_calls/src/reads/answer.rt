@@ -2,16 +2,16 @@
 
 ghost use Rattle.std.specs.Prelude.{◌≡◌, ◌≤◌, ℕ, Some, Err, IfOk, false};
 ghost use Rattle.nfs_calls.specs.Forms.{IsReplyTo, form, form_given};
-ghost use Rattle.harp_base.specs.Streams.{Rose};
-ghost use Rattle.harp_base.specs.Update.{is_update};
-ghost use Rattle.harp_base.specs.declared.attr.Time.{Time};
+ghost use Rattle.harp_types.specs.Streams.{Rose};
+ghost use Rattle.harp_types.specs.Update.{is_update};
+ghost use Rattle.harp_types.specs.declared.attr.Time.{Time};
 ghost use Rattle.file_tree.specs.Calls.{answered, outcome};
 ghost use Rattle.cell_changes.specs.TreeCells.{TreeCells};
 ghost use Rattle.nfs_calls.specs.Gives.{Gives};
 
 use crate::error::CallError;
 use crate::reads::calls::{get_attr, lookup, read, read_dir, read_link, stat_fs};
-use harp_base::{Call, Cred, Reply};
+use harp_types::{Call, Cred, Reply};
 use harp_cells::{CellFault, CellRead};
 use std::alloc::Global;
 

@@ -1,7 +1,7 @@
 //! The calls that change nothing.
 
 ghost use Rattle.std.specs.Prelude.{◌≡◌, ◌≤◌, Some, Err, IfOk};
-ghost use Rattle.harp_base.specs.Streams.{Rose};
+ghost use Rattle.harp_types.specs.Streams.{Rose};
 ghost use Rattle.file_tree.specs.Tree.{attr_at};
 ghost use Rattle.file_tree.specs.Outcome.{get_attr, lookup, read_link, read, read_dir, stat_fs};
 ghost use Rattle.cell_changes.specs.TreeCells.{TreeCells};
@@ -16,9 +16,7 @@ use crate::parts::inode::{attr_at, attr_by, live};
 use crate::parts::permissions::{allowed, searched};
 use crate::parts::totals::read_totals;
 use file_tree::TO_READ;
-use harp_base::{
-    BLOCK_SIZE, Bounded, Cred, Entries, LONGEST_PATH, LONGEST_TRANSFER, Reply, TREE_BLOCKS,
-};
+use harp_types::{BLOCK_SIZE, Bounded, Cred, Entries, LONGEST_PATH, LONGEST_TRANSFER, Reply, TREE_BLOCKS};
 use harp_cells::{CellFault, CellRead};
 use inode_dirs::list_from;
 use std::alloc::Global;

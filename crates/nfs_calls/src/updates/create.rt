@@ -1,8 +1,8 @@
 //! Files that are created.
 
 ghost use Rattle.std.specs.Prelude.{◌≡◌, ◌≤◌, ℕ, Some, None, Ok, Err, IfOk};
-ghost use Rattle.harp_base.specs.Streams.{Rose};
-ghost use Rattle.harp_base.specs.declared.call.Call.TheVariants as call;
+ghost use Rattle.harp_types.specs.Streams.{Rose};
+ghost use Rattle.harp_types.specs.declared.call.Call.TheVariants as call;
 ghost use Rattle.file_tree.specs.declared.object.Body.{Body};
 ghost use Rattle.file_tree.specs.Tree.{place, slots_of, entry, kind_of};
 ghost use Rattle.file_tree.specs.Tries.{entry_name};
@@ -28,7 +28,7 @@ use crate::updates::make::{Entering, made, make, name_of, room_for};
 use crate::updates::planned::Planned;
 use crate::updates::set_attr::{given, set_found};
 use file_tree::heeded;
-use harp_base::{Cred, Kind, LARGEST_FILE, Reply, SetAttr, Status, Time};
+use harp_types::{Cred, Kind, LARGEST_FILE, Reply, SetAttr, Status, Time};
 use harp_cells::{CellFault, CellRead, Inode};
 use std::alloc::Global;
 

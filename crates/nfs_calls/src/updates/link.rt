@@ -1,10 +1,10 @@
 //! A further entry of a file or a link.
 
 ghost use Rattle.std.specs.Prelude.{◌≡◌, ◌≤◌, ◌<◌, ◌*◌, ◌^◌, Some, Ok, Err, IfOk, length};
-ghost use Rattle.harp_base.specs.Limits.{slot_size};
-ghost use Rattle.harp_base.specs.Streams.{Rose};
-ghost use Rattle.harp_base.specs.declared.call.Call.TheVariants as call;
-ghost use Rattle.harp_base.specs.declared.attr.Time.{Time};
+ghost use Rattle.harp_types.specs.Limits.{slot_size};
+ghost use Rattle.harp_types.specs.Streams.{Rose};
+ghost use Rattle.harp_types.specs.declared.call.Call.TheVariants as call;
+ghost use Rattle.harp_types.specs.declared.attr.Time.{Time};
 ghost use Rattle.file_tree.specs.declared.object.Body.{Body};
 ghost use Rattle.file_tree.specs.declared.object.Slot.{Slot};
 ghost use Rattle.file_tree.specs.Tree.{is_directory, kind_of, place, slots_of, with_entry};
@@ -30,7 +30,7 @@ use crate::parts::totals::Totals;
 use crate::updates::make::{Entering, name_of};
 use crate::updates::planned::Planned;
 use file_tree::TO_WRITE;
-use harp_base::{Cred, Kind, Reply, Status, Time};
+use harp_types::{Cred, Kind, Reply, Status, Time};
 use harp_cells::{CellFault, CellRead, Change, Inode};
 use std::alloc::{AllocError, Global};
 

@@ -1,9 +1,9 @@
 //! New objects with their entries.
 
 ghost use Rattle.std.specs.Prelude.{◌≡◌, ◌≤◌, ◌<◌, ◌+◌, ◌*◌, ◌^◌, ◌++◌, ℕ, List, Some, Ok, Err, IfOk, length};
-ghost use Rattle.harp_base.specs.Limits.{longest_path, object_numbers, slot_size};
-ghost use Rattle.harp_base.specs.Streams.{Rose};
-ghost use Rattle.harp_base.specs.declared.call.Call.TheVariants as call;
+ghost use Rattle.harp_types.specs.Limits.{longest_path, object_numbers, slot_size};
+ghost use Rattle.harp_types.specs.Streams.{Rose};
+ghost use Rattle.harp_types.specs.declared.call.Call.TheVariants as call;
 ghost use Rattle.file_tree.specs.declared.object.Slot.{Slot};
 ghost use Rattle.file_tree.specs.Tree.{place, slots_of, with_entry, blocks_of};
 ghost use Rattle.file_tree.specs.Outcome.{make_dir, make_link, room_for};
@@ -28,9 +28,7 @@ use crate::parts::space::blocks_of;
 use crate::parts::totals::Totals;
 use crate::updates::planned::Planned;
 use crate::updates::set_attr::{given, given_mode, given_time};
-use harp_base::{
-    Cred, Kind, LONGEST_NAME, LONGEST_PATH, OBJECT_NUMBERS, Reply, SetAttr, Status, Time,
-};
+use harp_types::{Cred, Kind, LONGEST_NAME, LONGEST_PATH, OBJECT_NUMBERS, Reply, SetAttr, Status, Time};
 use harp_cells::{Cell, CellFault, CellRead, Change, Inode, NonEmpty, Value};
 use std::alloc::{AllocError, Global};
 
@@ -99,7 +97,7 @@ pub fn made(
 
 /// A directory that gets an entry: its number, its attributes with the entry, and the entry's slot
 /// and name.
-#[derive(Debug, Drop)]
+#[derive(Drop)]
 pub struct Entering {
     pub dir: u32,
     pub inode: Inode,

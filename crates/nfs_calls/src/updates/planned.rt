@@ -1,12 +1,12 @@
 //! What an update plans.
 
 use crate::parts::totals::Totals;
-use harp_base::Reply;
+use harp_types::Reply;
 use harp_cells::Change;
 
 /// The reply to an update, its changes of the tree's cells, in their order, but for the Put of the
 /// totals, and the totals after it.
-#[derive(Debug, Drop)]
+#[derive(Drop)]
 pub struct Planned {
     pub reply: Reply,
     pub changes: Vec<Change>,

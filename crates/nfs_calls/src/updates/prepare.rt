@@ -2,8 +2,8 @@
 
 ghost use Rattle.std.specs.Prelude.{◌≡◌, ◌≤◌, ◌∷◌, ◌++◌, [], Some, Err, IfOk, OnOk, true};
 ghost use Rattle.nfs_calls.specs.Forms.{EndsWithTotals, IsReplyTo, form, form_given};
-ghost use Rattle.harp_base.specs.Streams.{Rose};
-ghost use Rattle.harp_base.specs.Update.{is_update, changes_entries};
+ghost use Rattle.harp_types.specs.Streams.{Rose};
+ghost use Rattle.harp_types.specs.Update.{is_update, changes_entries};
 ghost use Rattle.file_tree.specs.Calls.{answered, outcome};
 ghost use Rattle.harp_cells.specs.declared.cell.Cell.TheVariants as cell;
 ghost use Rattle.harp_cells.specs.declared.change.Change.TheVariants as change;
@@ -26,12 +26,12 @@ use crate::updates::remove::{remove, remove_dir};
 use crate::updates::rename::rename;
 use crate::updates::set_attr::set_attr;
 use crate::updates::write::write;
-use harp_base::{Call, Cred, Reply, Time, time_of};
+use harp_types::{Call, Cred, Reply, Time, time_of};
 use harp_cells::{Cell, CellFault, CellRead, Change, Moment, Value};
 use std::alloc::{AllocError, Global};
 
 /// The reply to an update, and its changes of the tree's cells, in their order.
-#[derive(Debug, Drop)]
+#[derive(Drop)]
 pub struct Prepared {
     pub reply: Reply,
     pub changes: Vec<Change>,

@@ -1,9 +1,9 @@
 //! The plans of an entry that moves.
 
 ghost use Rattle.std.specs.Prelude.{◌≡◌, ◌≢◌, ◌≤◌, ◌++◌, ◌∷◌, [], ℕ, List, Some, None, Ok, Err, IfOk};
-ghost use Rattle.harp_base.specs.Streams.{Rose};
-ghost use Rattle.harp_base.specs.declared.call.Call.TheVariants as call;
-ghost use Rattle.harp_base.specs.declared.reply.Reply.TheVariants.{Done};
+ghost use Rattle.harp_types.specs.Streams.{Rose};
+ghost use Rattle.harp_types.specs.declared.call.Call.TheVariants as call;
+ghost use Rattle.harp_types.specs.declared.reply.Reply.TheVariants.{Done};
 ghost use Rattle.harp_cells.specs.declared.cell.Cell.TheVariants as cell;
 ghost use Rattle.harp_cells.specs.declared.value.Value.TheVariants as value;
 ghost use Rattle.harp_cells.specs.declared.change.Change.TheVariants as change;
@@ -28,7 +28,7 @@ use crate::updates::relocation::{
     Relocation, links_over, moved_inode, push_directories, push_slots,
 };
 use crate::updates::remove::is_empty;
-use harp_base::{LONGEST_NAME, Reply, Status, Time};
+use harp_types::{LONGEST_NAME, Reply, Status, Time};
 use harp_cells::{CellFault, CellRead, Inode, NonEmpty};
 use inode_dirs::slot_for;
 use std::alloc::{AllocError, Global};

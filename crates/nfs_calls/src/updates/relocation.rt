@@ -5,12 +5,12 @@ ghost use Rattle.nfs_calls.specs.Moves.{slot_changes, directory_changes, moved_i
 
 use crate::parts::loss::{is_directory, link_of, relinked};
 use crate::parts::pushes::{erase_slot, put_object, put_slot};
-use harp_base::{LONGEST_NAME, Time};
+use harp_types::{LONGEST_NAME, Time};
 use harp_cells::{Change, Inode, NonEmpty};
 use std::alloc::AllocError;
 
 /// The directories of a move, which may be one, and their attributes.
-#[derive(Clone, Copy, Debug)]
+#[derive(Clone, Copy)]
 pub struct Directories {
     pub dir: u32,
     pub from: Inode,
@@ -20,7 +20,7 @@ pub struct Directories {
 
 /// An entry that moves: its slot, the object that it names, the directory that it is in and the one
 /// that it moves to, which may be the same, and the attributes of these.
-#[derive(Clone, Copy, Debug)]
+#[derive(Clone, Copy)]
 pub struct Relocation {
     pub dir: u32,
     pub from: Inode,

@@ -1,9 +1,9 @@
 //! Calls that take an entry away.
 
 ghost use Rattle.std.specs.Prelude.{◌≡◌, ◌≤◌, ◌++◌, ◌-◌, ℕ, List, Some, Err, IfOk};
-ghost use Rattle.harp_base.specs.Streams.{Rose};
-ghost use Rattle.harp_base.specs.declared.call.Call.TheVariants as call;
-ghost use Rattle.harp_base.specs.declared.reply.Reply.TheVariants.{Done};
+ghost use Rattle.harp_types.specs.Streams.{Rose};
+ghost use Rattle.harp_types.specs.declared.call.Call.TheVariants as call;
+ghost use Rattle.harp_types.specs.declared.reply.Reply.TheVariants.{Done};
 ghost use Rattle.file_tree.specs.Tree.{place, slots_of, entry};
 ghost use Rattle.file_tree.specs.Outcome.{doomed, has_no_entry, removed, remove, remove_dir};
 ghost use Rattle.cell_changes.specs.Short.{AreShort};
@@ -24,7 +24,7 @@ use crate::parts::pushes::{erase_slot, put_object};
 use crate::parts::totals::Totals;
 use crate::updates::planned::Planned;
 use file_tree::TO_WRITE;
-use harp_base::{Cred, Reply, Status, Time};
+use harp_types::{Cred, Reply, Status, Time};
 use harp_cells::{CellFault, CellRead, Inode};
 use inode_dirs::list_from;
 use std::alloc::{AllocError, Global};

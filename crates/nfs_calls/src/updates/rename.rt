@@ -1,8 +1,8 @@
 //! RENAME.
 
 ghost use Rattle.std.specs.Prelude.{◌≡◌, ◌≤◌, ◌&&◌, ℕ, List, Some, Ok, Err, IfOk, length, true};
-ghost use Rattle.harp_base.specs.Streams.{Rose};
-ghost use Rattle.harp_base.specs.declared.call.Call.TheVariants as call;
+ghost use Rattle.harp_types.specs.Streams.{Rose};
+ghost use Rattle.harp_types.specs.declared.call.Call.TheVariants as call;
 ghost use Rattle.file_tree.specs.Tree.{place, slots_of, entry, is_directory_at};
 ghost use Rattle.file_tree.specs.Tries.{entry_name};
 ghost use Rattle.file_tree.specs.Rename.{is_above, rename};
@@ -27,7 +27,7 @@ use crate::updates::planned::Planned;
 use crate::updates::relocate::{move_in, move_over};
 use crate::updates::relocation::{Directories, Relocation};
 use file_tree::{TO_SEARCH, TO_WRITE};
-use harp_base::{Cred, Status, Time};
+use harp_types::{Cred, Status, Time};
 use harp_cells::{CellFault, CellRead, Inode};
 use inode_dirs::is_below;
 use std::alloc::Global;

@@ -1,10 +1,10 @@
 //! Attributes that are set.
 
 ghost use Rattle.std.specs.Prelude.{◌≡◌, ◌≤◌, ◌<◌, ◌≢◌, ℕ, Some, Ok, Err, IfOk};
-ghost use Rattle.harp_base.specs.Limits.{field_left, largest_file};
-ghost use Rattle.harp_base.specs.Streams.{Rose};
-ghost use Rattle.harp_base.specs.declared.call.Call.TheVariants as call;
-ghost use Rattle.harp_base.specs.declared.attr.Kind.TheVariants as kinds;
+ghost use Rattle.harp_types.specs.Limits.{field_left, largest_file};
+ghost use Rattle.harp_types.specs.Streams.{Rose};
+ghost use Rattle.harp_types.specs.declared.call.Call.TheVariants as call;
+ghost use Rattle.harp_types.specs.declared.attr.Kind.TheVariants as kinds;
 ghost use Rattle.file_tree.specs.Tree.{Tree, used_blocks};
 ghost use Rattle.file_tree.specs.Outcome.{given, given_mode, given_time, mtime_for_size, set_attr, set_fields, with_size};
 ghost use Rattle.harp_cells.specs.Effect.{Cells};
@@ -27,7 +27,7 @@ use crate::parts::space::replaced;
 use crate::parts::totals::Totals;
 use crate::updates::planned::Planned;
 use file_tree::TO_WRITE;
-use harp_base::{Cred, FIELD_LEFT, LARGEST_FILE, Reply, SetAttr, Status, Time};
+use harp_types::{Cred, FIELD_LEFT, LARGEST_FILE, Reply, SetAttr, Status, Time};
 use harp_cells::{CellFault, CellRead, Change, Inode};
 use inode_blocks::cut_to;
 use std::alloc::Global;
@@ -128,7 +128,7 @@ fn resize<R: CellRead>(
 }
 
 /// An object whose attributes are set: these, the changes, and the totals.
-#[derive(Debug, Drop)]
+#[derive(Drop)]
 pub struct Set {
     pub inode: Inode,
     pub changes: Vec<Change>,

@@ -1,9 +1,9 @@
 //! Bytes that are written.
 
 ghost use Rattle.std.specs.Prelude.{◌≡◌, ◌≤◌, ◌+◌, Some, Err, IfOk, length};
-ghost use Rattle.harp_base.specs.Limits.{largest_file, longest_transfer};
-ghost use Rattle.harp_base.specs.Streams.{Rose};
-ghost use Rattle.harp_base.specs.declared.call.Call.TheVariants as call;
+ghost use Rattle.harp_types.specs.Limits.{largest_file, longest_transfer};
+ghost use Rattle.harp_types.specs.Streams.{Rose};
+ghost use Rattle.harp_types.specs.declared.call.Call.TheVariants as call;
 ghost use Rattle.file_tree.specs.Outcome.{write};
 ghost use Rattle.harp_cells.specs.Effect.{Cells};
 ghost use Rattle.inode_blocks.specs.Changes.{puts};
@@ -23,7 +23,7 @@ use crate::parts::space::replaced;
 use crate::parts::totals::Totals;
 use crate::updates::planned::Planned;
 use file_tree::TO_WRITE;
-use harp_base::{Cred, LARGEST_FILE, Reply, Status, Time};
+use harp_types::{Cred, LARGEST_FILE, Reply, Status, Time};
 use harp_cells::{CellFault, CellRead, Change, Inode};
 use inode_blocks::write_bytes;
 use std::alloc::Global;

@@ -11,7 +11,7 @@ ghost use Rattle.volatile_log.specs.Log.{committed_to, top as top_of};
 
 use crate::leader::Leader;
 use crate::records::{entry_copy, record_after};
-use harp_base::Peer;
+use harp_types::Peer;
 use node_outputs::{Answered, Outputs};
 use promise::Deadline;
 use std::alloc::{AllocError, Global};

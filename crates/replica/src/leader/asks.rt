@@ -9,8 +9,8 @@ ghost use Rattle.group_rules.specs.Ask.{append, new_entry, on_ask, update_moves}
 ghost use Rattle.group_rules.specs.Limits.{limit, room as most};
 ghost use Rattle.group_rules.specs.Names.{view_of};
 ghost use Rattle.group_rules.specs.State.{Event};
-ghost use Rattle.harp_base.specs.Streams.{Rose};
-ghost use Rattle.harp_base.specs.Update.{is_update};
+ghost use Rattle.harp_types.specs.Streams.{Rose};
+ghost use Rattle.harp_types.specs.Update.{is_update};
 ghost use Rattle.harp_store.specs.Disk.{Moments, cells_told};
 ghost use Rattle.node_outputs.specs.Records.{records_sent};
 ghost use Rattle.node_outputs.specs.Said.{said};
@@ -24,12 +24,12 @@ use crate::leader::Leader;
 use crate::records::event_of;
 use dedup::Seen;
 use event_record::Record;
-use harp_base::{Call, LAST_CLIENT, LOG_ROOM, Peer, Reply, is_update};
+use harp_types::{Call, LAST_CLIENT, LOG_ROOM, Peer, Reply, is_update};
 use harp_cells::CellFault;
 use harp_store::Store;
 use node_outputs::{Answered, Asker, Outputs};
 use std::alloc::{AllocError, Global};
-use trace_lines::Cause;
+use harp_types::Cause;
 
 /// The greatest index.
 const LAST_INDEX: u64 = (1 << 62) - 1;

@@ -5,7 +5,7 @@ ghost use Rattle.cell_cache.specs.Entries.{AreOf};
 ghost use Rattle.file_tree.specs.Book.{Entry};
 ghost use Rattle.group_rules.specs.Moves.{Saying};
 ghost use Rattle.group_rules.specs.State.{Lists};
-ghost use Rattle.harp_base.specs.Streams.{Rose};
+ghost use Rattle.harp_types.specs.Streams.{Rose};
 ghost use Rattle.harp_store.specs.Disk.{cells_told};
 ghost use Rattle.node_outputs.specs.Makes.{Makes};
 ghost use Rattle.node_outputs.specs.Records.{records_sent};

@@ -12,7 +12,7 @@ ghost use Rattle.volatile_log.specs.Log.{committed_to, top};
 
 use crate::leader::{Beside, Leader};
 use crate::records::{entry_copy, record_after};
-use harp_base::ServerId;
+use harp_types::ServerId;
 use node_outputs::Outputs;
 use promise::{Grant, may_open};
 use std::alloc::{AllocError, Global};

@@ -6,8 +6,8 @@ ghost use Rattle.file_tree.specs.Book.{Entry, tree_after};
 ghost use Rattle.file_tree.specs.Calls.{outcome};
 ghost use Rattle.group_rules.specs.Ask.{read_entry, read_moves};
 ghost use Rattle.group_rules.specs.Moves.{Reading};
-ghost use Rattle.harp_base.specs.Streams.{Rose};
-ghost use Rattle.harp_base.specs.Update.{is_update};
+ghost use Rattle.harp_types.specs.Streams.{Rose};
+ghost use Rattle.harp_types.specs.Update.{is_update};
 ghost use Rattle.harp_store.specs.Disk.{cells_told};
 ghost use Rattle.tree_log.specs.Reading.{HoldsTree};
 ghost use Rattle.replica.specs.Asking.{Asked, IsGrown};
@@ -15,12 +15,12 @@ ghost use Rattle.replica.specs.Leading.{Outer, led};
 
 use crate::leader::Leader;
 use crate::leader::asks::refuse;
-use harp_base::{Call, Cred, Reply, is_update};
+use harp_types::{Call, Cred, Reply, is_update};
 use harp_cells::CellFault;
 use harp_store::Store;
 use node_outputs::{Answered, AskedRead, Asker, Outputs};
 use std::alloc::Global;
-use trace_lines::Cause;
+use harp_types::Cause;
 
 impl Leader {
     /// A read is answered while the partner's promise runs.

@@ -1,5 +1,5 @@
 use Rattle.std.proofs.Common.{rules}
-use Rattle.harp_base.specs.declared.server.ServerId.TheVariants.{Zero, One, Two}
+use Rattle.harp_types.specs.declared.server.ServerId.TheVariants.{Zero, One, Two}
 use Rattle.node_loop.specs.Scene.{each, spot}
 use Rattle.node_loop.specs.Turn.{sent_of}
 use Rattle.node_loop.proofs.Results.{on_err, on_err-one, on_ok-one}

@@ -1,5 +1,5 @@
 use Rattle.std.proofs.Common.{rules}
-use Rattle.harp_base.specs.declared.server.ServerId.TheVariants.{Two}
+use Rattle.harp_types.specs.declared.server.ServerId.TheVariants.{Two}
 use Rattle.node_loop.specs.Scene.{each}
 use Rattle.node_loop.proofs.Scenes.{boots-three}
 use Rattle.node_loop.proofs.serving.boot_all.Goals as goal

@@ -1,7 +1,7 @@
 use Rattle.std.proofs.Common.{ap, subst, sym, ◌∙◌, ◌++◌}
 use Rattle.std.specs.Prelude.{Err}
 use Rattle.std.specs.Io.KnownBytes.{Appends}
-use Rattle.harp_base.specs.Streams.{GrewByPart}
+use Rattle.harp_types.specs.Streams.{GrewByPart}
 use Rattle.schedule_play.specs.OnTheWay.{HasCome}
 use Rattle.schedule_play.specs.Reading.{refused_at}
 use Rattle.schedule_play.specs.Trace.{trace_text}

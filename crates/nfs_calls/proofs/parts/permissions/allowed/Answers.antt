@@ -1,5 +1,5 @@
 use Rattle.std.proofs.Common.{Bool, not, sym, ap, ◌∙◌}
-use Rattle.harp_base.specs.declared.reply.Status.TheVariants.{Acces}
+use Rattle.harp_types.specs.declared.reply.Status.TheVariants.{Acces}
 use Rattle.file_tree.specs.Tries.{refuse}
 use Rattle.nfs_calls.proofs.Inodes.{may_stored}
 use Rattle.nfs_calls.proofs.parts.permissions.allowed.Goals as goal

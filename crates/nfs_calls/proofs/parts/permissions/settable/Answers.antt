@@ -1,5 +1,5 @@
 use Rattle.std.proofs.Common.{Bool, not, ap, ◌∙◌}
-use Rattle.harp_base.specs.declared.reply.Status.TheVariants.{Perm}
+use Rattle.harp_types.specs.declared.reply.Status.TheVariants.{Perm}
 use Rattle.file_tree.specs.Tries.{refuse}
 use Rattle.file_tree.specs.Permissions.{may_set}
 use Rattle.harp_cells.specs.declared.value.Inode.{Inode}

@@ -1,7 +1,7 @@
 use Rattle.std.proofs.Common.{◌≡◌, sym, ap, subst, ◌∙◌, Ok}
 use Rattle.std.specs.Prelude.{not}
-use Rattle.harp_base.specs.declared.attr.SetAttr.{SetAttr}
-use Rattle.harp_base.specs.declared.reply.Status.TheVariants.{Exist}
+use Rattle.harp_types.specs.declared.attr.SetAttr.{SetAttr}
+use Rattle.harp_types.specs.declared.reply.Status.TheVariants.{Exist}
 use Rattle.file_tree.specs.Tries.{refuse}
 use Rattle.file_tree.specs.Outcome.{set_fields}
 use Rattle.nfs_calls.specs.declared.error.CallError.TheVariants as error

@@ -1,9 +1,9 @@
 use Rattle.std.proofs.Common.{◌≡◌, ℕ, ◌+◌, ◌*◌, ltb, [], length, sym, ap, ◌∙◌}
-use Rattle.harp_base.specs.declared.attr.Kind.TheVariants as kind
-use Rattle.harp_base.specs.declared.reply.Status.TheVariants.{FBig}
+use Rattle.harp_types.specs.declared.attr.Kind.TheVariants as kind
+use Rattle.harp_types.specs.declared.reply.Status.TheVariants.{FBig}
 use Rattle.file_tree.specs.Tree.{place, slots_of, blocks_of, with_entry}
 use Rattle.file_tree.specs.Outcome.{given, room_for}
-use Rattle.harp_base.specs.Limits.{largest_file}
+use Rattle.harp_types.specs.Limits.{largest_file}
 use Rattle.nfs_calls.specs.NewEntries.{made_inode}
 use Rattle.nfs_calls.specs.Space.{replaced_blocks}
 use Rattle.nfs_calls.proofs.Makes.{IsComputed, is_open}

@@ -1,5 +1,5 @@
 use Rattle.std.proofs.Common.{◌≡◌, false, sym, ◌∙◌}
-use Rattle.harp_base.specs.declared.reply.Status.TheVariants.{Perm}
+use Rattle.harp_types.specs.declared.reply.Status.TheVariants.{Perm}
 use Rattle.file_tree.specs.Tree.{is_directory}
 use Rattle.nfs_calls.specs.TreeCells.{IsDirectory, IsInode, object_at}
 use Rattle.nfs_calls.proofs.Inodes.{kind_is}

@@ -1,5 +1,5 @@
 use Rattle.std.proofs.Common.{[], sym, ◌∙◌}
-use Rattle.harp_base.specs.declared.attr.Kind.TheVariants as kind
+use Rattle.harp_types.specs.declared.attr.Kind.TheVariants as kind
 use Rattle.nfs_calls.specs.NewEntries.{made_inode}
 use Rattle.nfs_calls.specs.TreeCells.{IsDirectory}
 use Rattle.nfs_calls.proofs.Makes.{IsComputed, is_open, make_dir_plan}

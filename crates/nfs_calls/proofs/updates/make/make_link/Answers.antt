@@ -1,6 +1,6 @@
 use Rattle.std.proofs.Common.{length, sym, ◌∙◌}
-use Rattle.harp_base.specs.declared.attr.Kind.TheVariants as kind
-use Rattle.harp_base.specs.declared.reply.Status.TheVariants.{NameTooLong, Exist}
+use Rattle.harp_types.specs.declared.attr.Kind.TheVariants as kind
+use Rattle.harp_types.specs.declared.reply.Status.TheVariants.{NameTooLong, Exist}
 use Rattle.nfs_calls.specs.NewEntries.{made_inode}
 use Rattle.nfs_calls.specs.TreeCells.{IsDirectory}
 use Rattle.nfs_calls.proofs.Makes.{IsComputed, is_open}

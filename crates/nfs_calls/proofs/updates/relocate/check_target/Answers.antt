@@ -1,7 +1,7 @@
 use Rattle.std.proofs.Common.{◌≡◌, false, true, ◌∙◌, sym, ap, Err}
 use Rattle.file_tree.specs.Tree.{place, slots_of}
 use Rattle.file_tree.specs.Outcome.{has_no_entry}
-use Rattle.harp_base.specs.declared.reply.Status.{Status}
+use Rattle.harp_types.specs.declared.reply.Status.{Status}
 use Rattle.nfs_calls.proofs.Losses.{kind_at}
 use Rattle.nfs_calls.proofs.Targets.{differ, alike, target_differs, target_same, target_full, target_empty}
 use Rattle.nfs_calls.proofs.updates.relocate.check_target.Goals as goal

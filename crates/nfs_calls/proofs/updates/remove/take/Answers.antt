@@ -1,5 +1,5 @@
 use Rattle.std.proofs.Common.{◌≡◌, ◌-◌, ◌∷◌, refl, sym, ◌∙◌, ap}
-use Rattle.harp_base.specs.declared.reply.Reply.TheVariants.{Done}
+use Rattle.harp_types.specs.declared.reply.Reply.TheVariants.{Done}
 use Rattle.harp_cells.specs.declared.value.Value.TheVariants as value
 use Rattle.harp_cells.specs.declared.cell.Cell.TheVariants as cell
 use Rattle.harp_cells.specs.declared.change.Change.TheVariants as change

@@ -1,5 +1,5 @@
 use Rattle.std.proofs.Common.{◌≡◌, false, ◌∙◌, sym, subst}
-use Rattle.harp_base.specs.declared.call.Call.TheVariants as call
+use Rattle.harp_types.specs.declared.call.Call.TheVariants as call
 use Rattle.file_tree.specs.Tries.{is_dots}
 use Rattle.file_tree.specs.Outcome.{Outcome}
 use Rattle.file_tree.proofs.TryLaws.{entry_name_from}

@@ -1,6 +1,6 @@
 use Rattle.std.proofs.Common.{◌≡◌, ℕ, ◌+◌, max, length, ltb, false, Ok, refl, sym, ap, ◌∙◌}
-use Rattle.harp_base.specs.declared.reply.Status.TheVariants.{FBig}
-use Rattle.harp_base.specs.Limits.{largest_file}
+use Rattle.harp_types.specs.declared.reply.Status.TheVariants.{FBig}
+use Rattle.harp_types.specs.Limits.{largest_file}
 use Rattle.nfs_calls.specs.Space.{replaced_blocks}
 use Rattle.nfs_calls.specs.TreeCells.{object_at}
 use Rattle.nfs_calls.proofs.Inodes.{kind_is}

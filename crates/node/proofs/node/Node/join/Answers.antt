@@ -1,6 +1,6 @@
 use Rattle.std.proofs.Common.{◌≡◌, None, ap, refl, subst, sym, ◌∙◌}
 use Rattle.group_rules.specs.Names.{place_of}
-use Rattle.harp_base.specs.View.{View}
+use Rattle.harp_types.specs.View.{View}
 use Rattle.harp_store.specs.Mark.{MarkFields}
 use Rattle.group_rules.specs.Places.{Zero, One, Two, Place, get}
 use Rattle.idle_log.specs.declared.kept.Kept.{Kept}

@@ -1,6 +1,6 @@
 use Rattle.std.proofs.Common.{◌≡◌}
-use Rattle.harp_base.specs.Trio.{value_of}
-use Rattle.harp_base.specs.declared.server.ServerId.{ServerId as Place}
+use Rattle.harp_types.specs.Trio.{value_of}
+use Rattle.harp_types.specs.declared.server.ServerId.{ServerId as Place}
 use Rattle.node_link.specs.Memory.{waiting_at}
 use Rattle.node_link.proofs.queues.Queues.of.Given as goal
 

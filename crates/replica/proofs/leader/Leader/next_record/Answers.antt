@@ -2,7 +2,7 @@ use Rattle.std.proofs.Common.{◌≡◌, sym, ap, ◌∙◌, subst}
 use Rattle.std.specs.Prelude.{IfOk}
 use Rattle.cell_cache.specs.Entries.{AreOf}
 use Rattle.group_rules.specs.Names.{view_of}
-use Rattle.harp_base.specs.View.{View}
+use Rattle.harp_types.specs.View.{View}
 use Rattle.harp_store.specs.Disk.{cells_told}
 use Rattle.tree_log.specs.Planning.{next_record}
 use Rattle.tree_log.specs.Reading.{HoldsTree}

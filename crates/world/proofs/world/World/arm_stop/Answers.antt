@@ -1,5 +1,5 @@
 use Rattle.std.proofs.Common.{Some, ap, refl, sym}
-use Rattle.harp_base.specs.Trio.{with_value}
+use Rattle.harp_types.specs.Trio.{with_value}
 use Rattle.world_rules.specs.declared.stop.Stop.{Stop}
 use Rattle.world.specs.World.{WorldValue}
 use Rattle.world.proofs.Quiet.{stop_taken}

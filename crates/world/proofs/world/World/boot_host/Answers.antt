@@ -1,5 +1,5 @@
 use Rattle.std.proofs.Common.{ap, ◌∙◌}
-use Rattle.harp_base.specs.Trio.{value_of}
+use Rattle.harp_types.specs.Trio.{value_of}
 use Rattle.world.specs.World.{WorldValue}
 use Rattle.world.proofs.Hosted.{hosts_boot, on_ok}
 use Rattle.world.proofs.world.World.boot_host.Goals as goal

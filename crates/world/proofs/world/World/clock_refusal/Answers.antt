@@ -1,6 +1,6 @@
 use Rattle.std.proofs.Common.{◌≡◌, true, false, sym, ap, ◌∙◌, arith}
 use Rattle.std.proofs.lemmas.Bool.{le-ltb}
-use Rattle.harp_base.specs.Trio.{value_of}
+use Rattle.harp_types.specs.Trio.{value_of}
 use Rattle.world.specs.World.{WorldValue}
 use Rattle.world.proofs.Refusals.{clock_right}
 use Rattle.world.proofs.world.World.clock_refusal.Goals as goal

@@ -1,5 +1,5 @@
 use Rattle.std.proofs.Common.{sym}
-use Rattle.harp_base.specs.Trio.{value_of}
+use Rattle.harp_types.specs.Trio.{value_of}
 use Rattle.world.proofs.Crashes.{crash_taken}
 use Rattle.world.proofs.Spent.{falls_then, host_then, me_then}
 use Rattle.world.proofs.TheLaws.{the_laws}

@@ -1,4 +1,4 @@
-use Rattle.harp_base.specs.Trio.{value_of}
+use Rattle.harp_types.specs.Trio.{value_of}
 use Rattle.world.proofs.Spent.{fails_then, host_then, me_then}
 use Rattle.world.proofs.TheLaws.{the_laws}
 use Rattle.world.proofs.Turns.{failure_leaves}

@@ -1,5 +1,5 @@
 use Rattle.std.proofs.Common.{subst}
-use Rattle.harp_base.specs.Trio.{value_of}
+use Rattle.harp_types.specs.Trio.{value_of}
 use Rattle.world.specs.Given.{Gives}
 use Rattle.world.specs.World.{WorldValue}
 use Rattle.world.proofs.Spent.{host_then, me_then, takes_then}

@@ -1,5 +1,5 @@
 use Rattle.std.proofs.Common.{ap}
-use Rattle.harp_base.specs.Trio.{with_value}
+use Rattle.harp_types.specs.Trio.{with_value}
 use Rattle.world.specs.World.{WorldValue}
 use Rattle.world.proofs.Quiet.{clock_taken}
 use Rattle.world.proofs.world.World.set_clock.Goals as goal

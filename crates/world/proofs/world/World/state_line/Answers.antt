@@ -1,6 +1,6 @@
 use Rattle.std.proofs.Common.{◌≡◌, ap, sym, subst, ◌∙◌}
 use Rattle.group_rules.specs.Names.{place_of}
-use Rattle.harp_base.specs.Trio.{value_of}
+use Rattle.harp_types.specs.Trio.{value_of}
 use Rattle.world_rules.specs.Host.{HostValue, IsHost}
 use Rattle.world.specs.World.{WorldValue}
 use Rattle.world.proofs.world.World.state_line.Goals as goal

@@ -1,7 +1,7 @@
 use Rattle.std.proofs.Common.{◌<◌, ◌≤◌, List, Some, arith, length, slice_get, ap, sym, ◌∙◌}
 use Rattle.std.specs.Option.{option_map}
 use Rattle.std.proofs.lemmas.Option.{slice_get_past, slice_get_read}
-use Rattle.harp_base.specs.declared.server.ServerId.{ServerId}
+use Rattle.harp_types.specs.declared.server.ServerId.{ServerId}
 use Rattle.group_rules.specs.Names.{place_of}
 use Rattle.world_packets.specs.Posted.{Posted}
 use Rattle.world_packets.proofs.Machine.{map_twice, target_is}

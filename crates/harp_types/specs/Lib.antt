@@ -1,0 +1,13 @@
+pub mod Limits
+pub mod Server
+pub mod Trio
+pub mod View
+pub mod Time
+pub mod Numbered
+pub mod Kinds
+pub mod Statuses
+pub mod Procedures
+pub mod Update
+pub mod Streams
+pub mod Memory
+pub mod Standard

@@ -1,0 +1,39 @@
+//! The values that all crates speak of: servers and views, the calls and replies of NFS version 2,
+//! times and limits, and the places where bytes come from and go to.
+#![tactic(auto)]
+
+mod attr;
+mod book;
+mod bytes;
+mod call;
+mod cause;
+mod cred;
+mod limits;
+mod memory;
+mod peer;
+mod procedure;
+mod reply;
+mod server;
+mod standard;
+mod state;
+mod streams;
+mod trio;
+mod update;
+
+pub use attr::{Attr, Kind, SetAttr, Time};
+pub use book::BookEntry;
+pub use bytes::{Bounded, Bytes};
+pub use call::Call;
+pub use cause::Cause;
+pub use cred::{Cred, SUPERUSER};
+pub use limits::{BLOCK_SIZE, CLOCK_SKEW, FIELD_LEFT, FIRST_PROMISE, LARGEST_FILE, LAST_CLIENT, LOG_ROOM, LONGEST_ARGUMENT, LONGEST_NAME, LONGEST_PATH, LONGEST_TRANSFER, OBJECT_NUMBERS, SLOT_SIZE, TREE_BLOCKS};
+pub use memory::{FailingCalls, MemSink, MemSource};
+pub use peer::Peer;
+pub use procedure::{PROCEDURES, Procedure};
+pub use reply::{DirEntry, Entries, Reply, Status};
+pub use server::{ServerId, ViewNo};
+pub use standard::{ReaderSource, WriterSink};
+pub use state::{Held, Mode, Role, StateLine};
+pub use streams::{Failed, Sink, SinkFault, Source, write_all};
+pub use trio::Trio;
+pub use update::{changes_entries, is_update, time_of};
