@@ -11,8 +11,8 @@ ghost use Rattle.harp_cells.specs.CellsOfTree.{client_value};
 ghost use Rattle.dedup.specs.Repeats.{repeated, seen_beside, seen_in, seen_after};
 
 use crate::repeat::Seen;
-use harp_types::Reply;
 use harp_cells::{Cell, CellFault, CellRead, Change, Value};
+use harp_types::Reply;
 use std::alloc::{AllocError, Global};
 
 /// The last update again, whose index is tried against the commit point.

@@ -2,7 +2,7 @@
 use Rattle.std.proofs.Common.{◌≡◌, ◌⊎◌, ℕ, zero, suc, ◌-◌, ◌≤◌, ◌&&◌, ◌==◌, nat_le, Bool, true, false, List, [], ◌∷◌, ◌++◌, take, Option, Some, None, refl, sym, ap, ◌∙◌, inl, inr, ⊎_elim, arith, le_refl, if◌then◌else◌}
 use Rattle.std.specs.Prelude.{fold, is_some}
 use Rattle.std.proofs.lemmas.List.Sums.{fold-append}
-use Rattle.trace_types.specs.declared.pick.Pick.{Pick}
+use Rattle.harp_types.specs.declared.pick.Pick.{Pick}
 use Rattle.harp_cells.specs.declared.cell.Cell.{Cell}
 use Rattle.harp_cells.specs.declared.cell.Cell.TheVariants as cell
 use Rattle.harp_cells.specs.declared.value.Value.{Value}
@@ -12,14 +12,15 @@ use Rattle.harp_cells.specs.Effect.{Cells, after, changed, is_block_from, is_cel
 use Rattle.harp_cells.proofs.CellLemmas.{is_cell_true}
 use Rattle.std.proofs.lemmas.Bool.{and_from, eq-eqb, le-leb}
 use Rattle.disk_laws.specs.Laws.{PicksAreParts}
-use Rattle.group_disks.specs.Picks.{all_counted, counted, erases_there, kept, keeps, most_blocks}
+use Rattle.group_disks.specs.Picks.{all_counted, counted, erases_there, kept, most_blocks}
+use Rattle.harp_types.specs.Picks.{is_kept}
 
 -- what is kept of two lists, the second one's places going on from the first one's
 kept_both : (p : Pick) (k : ℕ) (xs ys : List Change) → (j : ℕ) × (kept p k (xs ++ ys) ≡ kept p k xs
     ++ kept p j ys)
 unfolding kept
 kept_both p k [] ys = (k, refl)
-kept_both p k (x ∷ xs) ys = let r = kept_both p (suc k) xs ys in (r.0, by r.0 r.1 (keeps p k))
+kept_both p k (x ∷ xs) ys = let r = kept_both p (suc k) xs ys in (r.0, by r.0 r.1 (is_kept p k))
   where
     by : (j : ℕ) → kept p (suc k) (xs ++ ys) ≡ kept p (suc k) xs ++ kept p j ys → (b : Bool)
         → (if b then x ∷ kept p (suc k) (xs ++ ys) else kept p (suc k) (xs ++ ys)) ≡
@@ -86,7 +87,7 @@ erased p c cells object first (suc n) block k held le =
 
     there : (b : Bool) → ((j : ℕ) (v : Option Value) → Then v (kept p j rest))
         → Then held (kept p k (if b then change.Erase (cell.Block object block) ∷ rest else rest))
-    there true more = keep (keeps p k) more
+    there true more = keep (is_kept p k) more
     there false more = more k held
 
 -- a change that is kept or not leaves what a cell held, or what the change makes of it
@@ -94,14 +95,14 @@ touched : (p : Pick) (k : ℕ) (x : Change) (cells left : Cells) (c : Cell)
     → (after (kept p k (counted cells x)) left c ≡ left c)
     ⊎ (after (kept p k (counted cells x)) left c ≡ after (x ∷ []) cells c)
 unfolding kept
-touched p k (change.Put d v) cells left c = by (keeps p k)
+touched p k (change.Put d v) cells left c = by (is_kept p k)
   where
     by : (b : Bool) → (after (if b then change.Put d v ∷ [] else []) left c ≡ left c)
         ⊎ (after (if b then change.Put d v ∷ [] else []) left c ≡
         after (change.Put d v ∷ []) cells c)
     by true = put_or_not (is_cell d c) (Some v) (left c) (cells c)
     by false = inl refl
-touched p k (change.Erase d) cells left c = by (keeps p k)
+touched p k (change.Erase d) cells left c = by (is_kept p k)
   where
     by : (b : Bool) → (after (if b then change.Erase d ∷ [] else []) left c ≡ left c)
         ⊎ (after (if b then change.Erase d ∷ [] else []) left c ≡

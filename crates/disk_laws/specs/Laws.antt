@@ -1,7 +1,7 @@
 -- What holds of every run with disks.
 use Rattle.std.specs.Prelude.{◌≡◌, ℕ, ◌≤◌, true, false, List, [], ◌∷◌, map, take, None}
-use Rattle.trace_types.specs.declared.pick.Pick.{Pick}
-use Rattle.trace_types.specs.declared.pick.Pick.TheVariants as pick
+use Rattle.harp_types.specs.declared.pick.Pick.{Pick}
+use Rattle.harp_types.specs.declared.pick.Pick.TheVariants as pick
 use Rattle.trace_types.specs.declared.step.Step.{Step}
 use Rattle.file_tree.specs.Book.{Entry}
 use Rattle.harp_cells.specs.declared.cell.Cell.{Cell}

@@ -1,9 +1,9 @@
 //! The words of a store.
 
 use crate::cells::{Numbers, cell, folded, number, told, value};
-use harp_types::{Role, ServerId, ViewNo};
 use harp_cells::Cell;
 use harp_store::{Bits, Mark, MemStore, Pick, Store, StoreFault};
+use harp_types::{Role, ServerId, ViewNo};
 use std::alloc::Global;
 
 /// How many places random steps take.

@@ -3,8 +3,8 @@
 ghost use Rattle.std.specs.Prelude.{◌≡◌, IfSome};
 
 use event_record::{Changes, Index, Moment, Record, RecordFields};
-use harp_types::{Bounded, Call, Cred, Reply, ServerId, ViewNo};
 use harp_cells::Change;
+use harp_types::{Bounded, Call, Cred, Reply, ServerId, ViewNo};
 use std::alloc::Global;
 use volatile_log::{ActiveLog, FrozenLog};
 

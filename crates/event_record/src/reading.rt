@@ -15,9 +15,9 @@ use harp_base::fields::{
     below_at, call_at, cred_at, reply_at, told, u16_at, u32_at, u64_at, view_at,
 };
 use harp_base::{FieldFault, Misread};
-use harp_types::{Call, Cred, Reply, SUPERUSER, ViewNo};
 use harp_cells::fields::change_at;
 use harp_cells::{Change, LONGEST_OLD_RECORD, LONGEST_RECORD, Moment};
+use harp_types::{Call, Cred, Reply, SUPERUSER, ViewNo};
 use std::alloc::Global;
 use std::rc::Rc;
 

@@ -7,10 +7,10 @@ ghost use Rattle.event_record.specs.Bytes.{ChangesFit, FieldsFit, HeadFits, Reco
 
 use crate::changes::Changes;
 use crate::record::{Record, RecordFields};
-use harp_types::Bytes;
 use harp_base::fields::{put_call, put_cred, put_reply, put_u16, put_u32, put_u64, put_view};
 use harp_cells::Change;
 use harp_cells::fields::put_change;
+use harp_types::Bytes;
 use std::alloc::{AllocError, Global};
 
 /// Room for the bytes of most records, taken at once. A longer record's bytes take more as they

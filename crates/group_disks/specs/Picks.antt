@@ -1,25 +1,12 @@
 -- What a crash leaves of a disk, by its pick.
 use Rattle.std.specs.Prelude.{ℕ, zero, suc, ◌-◌, ◌%◌, Bool, true, false, List, [], ◌∷◌, ◌++◌, length, None, Some, is_some, slice_get, if◌then◌else◌}
-use Rattle.trace_types.specs.declared.pick.Pick.{Pick}
-use Rattle.trace_types.specs.declared.pick.Pick.TheVariants as pick
+use Rattle.harp_types.specs.Picks.{is_kept}
+use Rattle.harp_types.specs.declared.pick.Pick.{Pick}
 use Rattle.harp_cells.specs.declared.cell.Cell.TheVariants as cell
 use Rattle.harp_cells.specs.declared.change.Change.{Change}
 use Rattle.harp_cells.specs.declared.change.Change.TheVariants as change
 use Rattle.harp_cells.specs.Effect.{Cells, after}
 use Rattle.fuzzy_cells.specs.Disk.{Disk, synced_to}
-
--- whether the change at a place is kept; the bits are repeated
-abbrev pub bit_at : List Bool → ℕ → Bool
-bit_at bits k = elim (slice_get bits (k % length bits)) [
-  | Some bit ↦ bit
-  | None ↦ false
-]
-
--- whether a pick keeps the change at a place
-abbrev pub keeps : Pick → ℕ → Bool
-keeps pick.All k = true
-keeps pick.None k = false
-keeps (pick.Bits bits) k = bit_at bits k
 
 -- the number of each block of a file is below this
 unfoldable pub most_blocks : ℕ
@@ -48,7 +35,7 @@ all_counted cells (x ∷ xs) = counted cells x ++ all_counted (after (x ∷ []) 
 -- the changes that are kept of a list whose first one has the place k
 unfoldable pub kept : Pick → ℕ → List Change → List Change
 kept pick k [] = []
-kept pick k (x ∷ xs) = if keeps pick k then x ∷ kept pick (suc k) xs else kept pick (suc k) xs
+kept pick k (x ∷ xs) = if is_kept pick k then x ∷ kept pick (suc k) xs else kept pick (suc k) xs
 
 -- THE DISK AFTER A CRASH BY A PICK: of the changes since the last sync those that the pick keeps
 abbrev pub crashed_by : Pick → Disk → Disk

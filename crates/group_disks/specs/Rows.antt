@@ -4,7 +4,7 @@ use Rattle.std.specs.Prelude.{◌≡◌, true, false, List, [], ◌∷◌, ◌++
 use Rattle.harp_types.specs.declared.server.ServerId.TheVariants as server
 use Rattle.harp_types.specs.declared.reply.Reply.TheVariants as reply
 use Rattle.harp_types.specs.declared.cred.TheConstants.{SUPERUSER}
-use Rattle.trace_types.specs.declared.pick.Pick.TheVariants as pick
+use Rattle.harp_types.specs.declared.pick.Pick.TheVariants as pick
 use Rattle.trace_types.specs.declared.step.Step.{Step}
 use Rattle.trace_types.specs.declared.step.Step.TheVariants as step
 use Rattle.harp_cells.specs.declared.cell.Cell.TheVariants as cell

@@ -1,7 +1,7 @@
 -- A run of the group with the disks of its servers.
 use Rattle.std.specs.Prelude.{ℕ, Bool, true, false, not, ◌&&◌, List, [], ◌∷◌, take, Option, None, Some, if◌then◌else◌}
-use Rattle.trace_types.specs.declared.pick.Pick.{Pick}
-use Rattle.trace_types.specs.declared.pick.Pick.TheVariants as pick
+use Rattle.harp_types.specs.declared.pick.Pick.{Pick}
+use Rattle.harp_types.specs.declared.pick.Pick.TheVariants as pick
 use Rattle.trace_types.specs.declared.step.Step.{Step}
 use Rattle.trace_types.specs.declared.step.Step.TheVariants as step
 use Rattle.file_tree.specs.Book.{Entry}

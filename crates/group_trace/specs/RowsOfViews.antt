@@ -7,7 +7,7 @@ use Rattle.harp_types.specs.declared.server.ServerId.TheVariants as server
 use Rattle.harp_types.specs.declared.state.Held.TheVariants as held
 use Rattle.harp_types.specs.declared.state.Mode.TheVariants as mode
 use Rattle.harp_types.specs.declared.state.Role.TheVariants as role
-use Rattle.trace_types.specs.declared.pick.Pick.TheVariants as pick
+use Rattle.harp_types.specs.declared.pick.Pick.TheVariants as pick
 use Rattle.trace_types.specs.declared.step.Step.{Step}
 use Rattle.trace_types.specs.declared.step.Step.TheVariants as step
 use Rattle.trace_types.specs.declared.line.Line.{Line}

@@ -2,8 +2,8 @@
 //! and the exit status.
 #![tactic(auto)]
 
-use harp_types::{ReaderSource, Trio, WriterSink};
 use harp_cli::{Exit, harp};
+use harp_types::{ReaderSource, Trio, WriterSink};
 use node_link::{UdpLink, WallClock};
 use std::io::{BufWriter, Input, Write};
 use std::net::Net;

@@ -5,8 +5,8 @@ ghost use Rattle.harp_base.specs.Fields.{tag_at};
 ghost use Rattle.harp_base.specs.Attributes.{TimeFits, SetAttrFits, AttrFits, time_at, time_bytes, set_attr_at, set_attr_bytes, attr_at, attr_bytes};
 ghost use Rattle.harp_types.specs.Kinds.{kind_number, kinds};
 
-use harp_types::{Attr, Kind, SetAttr, Time};
 use crate::field::{Misread, byte_at, put_u16, put_u32, u16_at, u32_at};
+use harp_types::{Attr, Kind, SetAttr, Time};
 use std::alloc::AllocError;
 
 /// A time, and the place after it.

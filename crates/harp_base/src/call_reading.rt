@@ -8,9 +8,8 @@ ghost use Rattle.harp_types.specs.Procedures.{procedure_number, procedures};
 ghost use Rattle.harp_base.specs.Calls.{fields_at, call_at, call_bytes, CallFits};
 
 use crate::attr_fields::set_attr_at;
-use harp_types::Call;
 use crate::field::{FieldFault, Misread, byte_at, bytes_at, told, u32_at};
-use harp_types::Procedure;
+use harp_types::{Call, Procedure};
 use std::alloc::Global;
 
 /// The procedure of the number at a place, and the place after it.

@@ -6,12 +6,8 @@ ghost use Rattle.harp_types.specs.Update.{changes_entries, is_update};
 ghost use Rattle.harp_base.specs.Calls.{fields_of, call_bytes, NameFits, CallFits};
 
 use crate::attr_fields::put_set_attr;
-use harp_types::{Bounded, Bytes};
-use harp_types::Call;
 use crate::field::{put_bytes, put_u32};
-use harp_types::LONGEST_ARGUMENT;
-use harp_types::Procedure;
-use harp_types::{changes_entries, is_update};
+use harp_types::{Bounded, Bytes, Call, LONGEST_ARGUMENT, Procedure, changes_entries, is_update};
 use std::alloc::{AllocError, Global};
 
 /// A directory and a name in it.

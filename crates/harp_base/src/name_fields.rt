@@ -3,9 +3,8 @@
 ghost use Rattle.std.specs.Prelude.{◌≡◌, ◌≤◌, ◌++◌, length, IfOk, OnOk};
 ghost use Rattle.harp_base.specs.Names.{server_at, view_at, view_bytes, ViewFits, cred_at, cred_bytes, CredFits};
 
-use harp_types::Cred;
 use crate::field::{Misread, below_at, byte_at, put_u32, put_u64, u32_at};
-use harp_types::{ServerId, ViewNo};
+use harp_types::{Cred, ServerId, ViewNo};
 use std::alloc::AllocError;
 
 /// A server, and the place after it.

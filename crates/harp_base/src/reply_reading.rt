@@ -9,8 +9,8 @@ ghost use Rattle.harp_base.specs.Replies.{flag_number, flags, entry_at, entries_
 
 use crate::attr_fields::attr_at;
 use crate::field::{FieldFault, Misread, byte_at, bytes_at, told, u16_at, u32_at};
-use harp_types::{DirEntry, Entries, Reply, Status};
 use crate::reply_form::{ReplyForm, form_at};
+use harp_types::{DirEntry, Entries, Reply, Status};
 use std::alloc::Global;
 
 fn status_at(bytes: &[u8], at: usize) -> Result<(Status, usize), Misread>

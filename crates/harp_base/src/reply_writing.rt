@@ -5,10 +5,9 @@ ghost use Rattle.harp_base.specs.Fields.{many_bytes, AllFit};
 ghost use Rattle.harp_base.specs.Replies.{entry_bytes, entries_bytes, EntryFits, EntriesFit, reply_fields_of, reply_bytes, ReplyFits};
 
 use crate::attr_fields::put_attr;
-use harp_types::Bytes;
 use crate::field::{put_bytes, put_u16, put_u32};
-use harp_types::{DirEntry, Entries, Reply};
 use crate::reply_form::form_number;
+use harp_types::{Bytes, DirEntry, Entries, Reply};
 use std::alloc::{AllocError, Global};
 
 #[tactic(auto, unfolding(crate::specs::Replies::entry_bytes))]

@@ -10,8 +10,8 @@ use crate::cell::Cell;
 use crate::change::Change;
 use crate::codec_forms::{cell_form_number, change_form_number, value_form_number};
 use crate::value::{Inode, UnformedInode, Value};
-use harp_types::Bytes;
 use harp_base::fields::{put_reply, put_time, put_u16, put_u32, put_u64};
+use harp_types::Bytes;
 use std::alloc::{AllocError, Global};
 
 #[tactic(auto, unfolding(harp_base::specs::Fields::counted_bytes))]

@@ -9,8 +9,8 @@ ghost use Rattle.harp_cli.specs.Serve.{ServeEnds, WriteEnds, outside, served_lin
 
 use crate::exit::Exit;
 use crate::loop_words::Loop;
-use harp_types::{ServerId, Sink, SinkFault, Trio, write_all};
 use harp_store::{Store, StoreFault};
+use harp_types::{ServerId, Sink, SinkFault, Trio, write_all};
 use node_link::{Clock, Link};
 use node_loop::{LoopFault, Served, serve_one, serve_three};
 use std::alloc::{AllocError, Global};

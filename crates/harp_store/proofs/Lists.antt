@@ -11,8 +11,9 @@ use Rattle.harp_store.specs.Mark.{MarkFields}
 use Rattle.harp_store.specs.Disk.{Disk, Moments, reads, values_of, set_by, with_unsynced, with_mark, synced_whole, then_disk}
 use Rattle.harp_store.specs.Layers.{disk_at, stored_by, IsMoment, IsPast}
 use Rattle.harp_store.specs.declared.layers.Unsynced.{Unsynced}
-use Rattle.harp_store.specs.declared.pick.Pick.{Pick}
-use Rattle.harp_store.specs.Memory.{crashed_by, is_kept, kept, left_by, without_past}
+use Rattle.harp_types.specs.declared.pick.Pick.{Pick}
+use Rattle.harp_store.specs.Memory.{crashed_by, kept, left_by, without_past}
+use Rattle.harp_types.specs.Picks.{is_kept}
 use Rattle.harp_store.specs.declared.layers.Instant.{Instant}
 
 -- ---- one cell

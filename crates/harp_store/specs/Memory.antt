@@ -7,8 +7,8 @@ use Rattle.harp_store.specs.Disk.{Disk, Moments, synced_whole}
 use Rattle.harp_store.specs.Layers.{stored_in}
 use Rattle.harp_store.specs.declared.layers.Unsynced.{Unsynced}
 use Rattle.harp_store.specs.declared.mem_store.MemStore.{MemStore}
-use Rattle.harp_store.specs.declared.pick.Pick.{Pick}
-use Rattle.harp_store.specs.declared.pick.Pick.TheVariants as pick
+use Rattle.harp_types.specs.Picks.{is_kept}
+use Rattle.harp_types.specs.declared.pick.Pick.{Pick}
 
 -- the disk at each moment
 abbrev pub stored_of : MemStore → Moments
@@ -29,12 +29,6 @@ abbrev pub without_past : Moments → Moments
 without_past h = record { past = []; now = h.now }
 
 -- ---- a crash
-
--- whether an unsynced change is kept, by its place among them
-abbrev pub is_kept : Pick → ℕ → Bool
-is_kept pick.All place = true
-is_kept pick.None place = false
-is_kept (pick.Bits bits) place = slice_index_or bits (place % length bits) false
 
 -- the changes that are kept of some whose first one has this place
 unfoldable pub kept : (ℕ → Bool) → ℕ → List Unsynced → List Unsynced

@@ -11,3 +11,4 @@ pub mod Update
 pub mod Streams
 pub mod Memory
 pub mod Standard
+pub mod Picks

@@ -62,3 +62,13 @@ first_promise = 2000
 -- the most milliseconds between two servers' clocks
 abbrev pub clock_skew : ℕ
 clock_skew = 50
+
+-- ---- texts
+
+-- the most bytes of a line of a schedule or a trace
+abbrev pub longest_line : ℕ
+longest_line = 20000
+
+-- the most lines of a schedule
+abbrev pub most_lines : ℕ
+most_lines = 50000

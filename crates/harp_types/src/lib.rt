@@ -11,6 +11,7 @@ mod cred;
 mod limits;
 mod memory;
 mod peer;
+mod pick;
 mod procedure;
 mod reply;
 mod server;
@@ -26,9 +27,14 @@ pub use bytes::{Bounded, Bytes};
 pub use call::Call;
 pub use cause::Cause;
 pub use cred::{Cred, SUPERUSER};
-pub use limits::{BLOCK_SIZE, CLOCK_SKEW, FIELD_LEFT, FIRST_PROMISE, LARGEST_FILE, LAST_CLIENT, LOG_ROOM, LONGEST_ARGUMENT, LONGEST_NAME, LONGEST_PATH, LONGEST_TRANSFER, OBJECT_NUMBERS, SLOT_SIZE, TREE_BLOCKS};
+pub use limits::{
+    BLOCK_SIZE, CLOCK_SKEW, FIELD_LEFT, FIRST_PROMISE, LARGEST_FILE, LAST_CLIENT, LOG_ROOM,
+    LONGEST_ARGUMENT, LONGEST_LINE, LONGEST_NAME, LONGEST_PATH, LONGEST_TRANSFER, MOST_LINES,
+    OBJECT_NUMBERS, SLOT_SIZE, TREE_BLOCKS,
+};
 pub use memory::{FailingCalls, MemSink, MemSource};
 pub use peer::Peer;
+pub use pick::{Bits, Pick};
 pub use procedure::{PROCEDURES, Procedure};
 pub use reply::{DirEntry, Entries, Reply, Status};
 pub use server::{ServerId, ViewNo};

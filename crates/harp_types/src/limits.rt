@@ -41,3 +41,9 @@ pub const FIRST_PROMISE: u64 = 2000;
 
 /// The most milliseconds between two servers' clocks.
 pub const CLOCK_SKEW: u64 = 50;
+
+/// The most bytes of a line of a schedule or a trace.
+pub const LONGEST_LINE: usize = 20_000;
+
+/// The most lines of a schedule.
+pub const MOST_LINES: u64 = 50_000;

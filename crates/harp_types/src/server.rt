@@ -1,7 +1,7 @@
 //! Servers and views.
 
 ghost use Rattle.std.specs.Prelude.{◌≡◌, ◌<◌, ◌+◌, ◌^◌, ◌↔◌, IsSome, IfSome, IsTrue, IfNone, ℕ};
-ghost use Rattle.harp_types.specs.Server.{number_of};
+ghost use Rattle.harp_types.specs.Server.{number_of, same_server};
 ghost use Rattle.harp_types.specs.View.{View, above};
 
 use std::marker::Model;
@@ -26,6 +26,13 @@ impl ServerId {
             2 => Some(ServerId::Two),
             _ => None,
         }
+    }
+
+    /// Whether two servers are one.
+    pub fn is(self, other: ServerId) -> bool
+        ensures { result ≡ same_server self other }
+    {
+        self.number() == other.number()
     }
 
     /// The server's number: 0, 1 or 2.

@@ -11,9 +11,9 @@ ghost use Rattle.idle_log.specs.Boots.{rests, role_of, saved_of, takes_saved};
 ghost use Rattle.idle_log.specs.Kept.{IsPlaced, held_in, log_in, with_kept};
 ghost use Rattle.idle_log.specs.declared.kept.Kept.TheVariants as kept;
 
-use crate::form::is_witness;
 use crate::kept::Kept;
 use harp_types::{Role, ServerId};
+use view_form::is_witness;
 use volatile_log::{EmptyLog, FrozenLog, LostLog};
 
 /// Whether a choice can give a server this role. A boot takes the saved log of no other mark.

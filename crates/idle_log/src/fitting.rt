@@ -10,9 +10,10 @@ ghost use Rattle.group_rules.specs.State.{Server};
 ghost use Rattle.idle_log.specs.Kept.{IsPlaced, base_in, cp_in, held_in, lb_in, plan_of, top_in, with_kept};
 ghost use Rattle.idle_log.specs.Pulls.{CanTake, keeps_of};
 
-use crate::form::{Form, is_one, is_witness};
+use crate::form::Form;
 use crate::kept::Kept;
 use harp_types::{LOG_ROOM, ServerId};
+use view_form::{is_one, is_witness};
 
 /// The greatest index.
 const LIMIT: u64 = (1 << 62) - 1;

@@ -1,8 +1,6 @@
 //! The choice of a view, as a Form tells it.
 
 ghost use Rattle.std.specs.Prelude.{◌≡◌};
-ghost use Rattle.group_rules.specs.Names.{place_of};
-ghost use Rattle.group_rules.specs.Places.{is_p2, same};
 ghost use Rattle.group_rules.specs.State.{Plan as Chosen};
 ghost use Rattle.harp_types.specs.View.{View};
 ghost use Rattle.idle_log.specs.Kept.{plan_of};
@@ -45,39 +43,5 @@ impl Form {
             start: choice.start,
             horizon: choice.horizon,
         }
-    }
-}
-
-/// Whether two servers are one.
-pub(crate) fn is_one(a: ServerId, b: ServerId) -> bool
-    ensures { result ≡ same (place_of a) (place_of b) }
-{
-    match a {
-        ServerId::Zero => match b {
-            ServerId::Zero => true,
-            ServerId::One => false,
-            ServerId::Two => false,
-        },
-        ServerId::One => match b {
-            ServerId::Zero => false,
-            ServerId::One => true,
-            ServerId::Two => false,
-        },
-        ServerId::Two => match b {
-            ServerId::Zero => false,
-            ServerId::One => false,
-            ServerId::Two => true,
-        },
-    }
-}
-
-/// Whether this is the witness's place.
-pub(crate) fn is_witness(me: ServerId) -> bool
-    ensures { result ≡ is_p2 (place_of me) }
-{
-    match me {
-        ServerId::Zero => false,
-        ServerId::One => false,
-        ServerId::Two => true,
     }
 }

@@ -11,10 +11,11 @@ ghost use Rattle.idle_log.specs.declared.kept.Kept.TheVariants as kept;
 ghost use Rattle.idle_log.specs.Pulls.{CanTake, IsFor, TakesUp, needless};
 ghost use Rattle.volatile_log.specs.Log.{next, room};
 
-use crate::form::{Form, is_one, is_witness};
+use crate::form::Form;
 use crate::kept::Kept;
 use harp_types::ServerId;
 use std::alloc::{AllocError, Global};
+use view_form::{is_one, is_witness};
 use volatile_log::{ActiveLog, EmptyLog, FrozenLog, LostLog, Staged};
 use witness::promote;
 

@@ -7,8 +7,8 @@ ghost use Rattle.file_tree.specs.Tree.{blocks_of};
 ghost use Rattle.file_tree.specs.Outcome.{resized, written};
 ghost use Rattle.inode_blocks.specs.Holds.{stored};
 
-use harp_types::BLOCK_SIZE;
 use harp_cells::Value;
+use harp_types::BLOCK_SIZE;
 use std::alloc::{AllocError, Global};
 
 /// How many blocks a file of a size has, holes counted.

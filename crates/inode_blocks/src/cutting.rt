@@ -11,8 +11,8 @@ ghost use Rattle.inode_blocks.specs.Changes.{BeginsWith, LeadTo, added, cuts, er
 
 use crate::block::{blocks_of, stored};
 use crate::changes::{append, append_put};
-use harp_types::BLOCK_SIZE;
 use harp_cells::{Cell, CellFault, CellRead, Change};
+use harp_types::BLOCK_SIZE;
 use std::alloc::Global;
 
 /// What is kept of the block that a size cuts, where more stands there.

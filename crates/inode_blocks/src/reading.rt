@@ -8,8 +8,8 @@ ghost use Rattle.harp_cells.specs.Effect.{Cells};
 ghost use Rattle.inode_blocks.specs.Holds.{stored, HoldsBytes};
 
 use crate::block::{append_part, stored};
-use harp_types::{BLOCK_SIZE, Bytes};
 use harp_cells::{Cell, CellFault, CellRead};
+use harp_types::{BLOCK_SIZE, Bytes};
 use std::alloc::Global;
 
 /// Appends so many bytes of a block from a place on, zeros where they are missing.

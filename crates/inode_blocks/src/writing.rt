@@ -11,8 +11,8 @@ ghost use Rattle.inode_blocks.specs.Changes.{BeginsWith, LeadTo, added, block_pu
 
 use crate::block::{blocks_of, part, stored, written};
 use crate::changes::append_put;
-use harp_types::BLOCK_SIZE;
 use harp_cells::{Cell, CellFault, CellRead, Change};
+use harp_types::BLOCK_SIZE;
 use std::alloc::Global;
 
 /// The part of bytes written at an offset that comes into a block.

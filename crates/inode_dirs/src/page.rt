@@ -11,8 +11,8 @@ ghost use Rattle.inode_dirs.specs.Slots.{TellsSlots};
 ghost use Rattle.inode_dirs.specs.Pages.{entries_under, entry_list, page_after};
 
 use crate::slot::entry_of_slot;
-use harp_types::{Bounded, DirEntry, LONGEST_TRANSFER};
 use harp_cells::{CellFault, CellRead};
+use harp_types::{Bounded, DirEntry, LONGEST_TRANSFER};
 use std::alloc::{AllocError, Global};
 
 /// A page of a directory: entries in the order of their cookies, and whether none is left after

@@ -7,8 +7,8 @@ ghost use Rattle.file_tree.specs.Outcome.{entry_at};
 ghost use Rattle.inode_dirs.specs.Slots.{TellsSlot, slot_of, object_named};
 ghost use Rattle.inode_dirs.specs.Pages.{entry_list};
 
-use harp_types::{Bounded, DirEntry};
 use harp_cells::{Cell, CellFault, CellRead, Value};
+use harp_types::{Bounded, DirEntry};
 use std::alloc::{AllocError, Global};
 
 /// The object that a value names by a name.

@@ -2,18 +2,16 @@
 
 ghost use Rattle.std.specs.Prelude.{◌≡◌, ◌≢◌, ◌≤◌, ◌<◌, ℕ, List, [], ◌∷◌, ◌++◌, length, IfOk, OnOk, OnErr, Err};
 ghost use Rattle.std.specs.Io.KnownBytes.{Keeps};
+ghost use Rattle.harp_types.specs.Limits.{longest_line};
 ghost use Rattle.harp_types.specs.Streams.{Rose};
 ghost use Rattle.line_reader.specs.Lines.{Feedless};
 ghost use Rattle.line_reader.specs.Reading.{text_left, GivesKnown, IsShort};
 
 use crate::chunk::Chunk;
-use harp_types::{Failed, Source};
+use harp_types::{Failed, LONGEST_LINE, Source};
 use std::alloc::{AllocError, AllocFailed, Global};
 use std::marker::Model;
 use std::mem;
-
-/// The most bytes of a line, its line feed not counted.
-const MOST: usize = 20_000;
 
 /// What comes next in a text.
 #[derive(Drop)]
@@ -85,7 +83,7 @@ impl Model for LineReader {
 
 /// Takes the bytes at hand before the next line feed to a line, as far as it has room.
 fn take_plain(line: &mut Vec<u8>, chunk: &mut Chunk) -> Result<(), AllocError>
-    requires { length line.old.items ≤ 20000 }
+    requires { length line.old.items ≤ longest_line }
     ensures whole { line.new.items ++ chunk.new ≡ line.old.items ++ chunk.old }
     ensures feedless { Feedless line.old.items → Feedless line.new.items }
     ensures few { length line.new.items ≤ 20001 }
@@ -93,7 +91,7 @@ fn take_plain(line: &mut Vec<u8>, chunk: &mut Chunk) -> Result<(), AllocError>
     ensures more { OnOk result ((b : ℕ) (rest : List ℕ) → chunk.old ≡ b ∷ rest → b ≢ 10
         → length line.old.items < length line.new.items) }
 {
-    let piece = chunk.plain(MOST + 1 - line.len());
+    let piece = chunk.plain(LONGEST_LINE + 1 - line.len());
     let count = piece.len();
     line.extend_from_slice(piece)?;
     chunk.take(count);
@@ -131,7 +129,7 @@ impl LineReader {
         ensures rose { result ≡ Err ReadFault.Failed → Rose (S.faults source.old) (S.faults source.new) }
         ensures count { S.faults source.old ≤ S.faults source.new }
     {
-        while self.line.len() <= MOST {
+        while self.line.len() <= LONGEST_LINE {
             match self.chunk.peek(source)? {
                 None if self.line.is_empty() => return Ok(Next::End),
                 None => return Ok(Next::Line(hand_out(alloc, &mut self.line, &mut self.spare))),

@@ -4,8 +4,8 @@ ghost use Rattle.std.specs.Prelude.{◌≡◌, IfSome};
 
 use crate::words::Answer;
 use event_record::{Changes, Index, Moment, Record, RecordFields};
-use harp_types::{Bounded, Call, Reply, SUPERUSER, ServerId, ViewNo};
 use harp_cells::ChangeLog;
+use harp_types::{Bounded, Call, Reply, SUPERUSER, ServerId, ViewNo};
 use idle_log::serve_active;
 use std::alloc::Global;
 use volatile_log::ActiveLog;

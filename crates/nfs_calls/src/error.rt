@@ -4,8 +4,8 @@ ghost use Rattle.std.specs.Prelude.{◌≡◌};
 ghost use Rattle.harp_cells.specs.declared.reads.CellFault.TheVariants.{NoMemory};
 ghost use Rattle.nfs_calls.specs.declared.error.CallError.TheVariants as error;
 
-use harp_types::Status;
 use harp_cells::CellFault;
+use harp_types::Status;
 use std::alloc::{AllocError, AllocFailed};
 
 /// The status that a call is refused with, or why cells couldn't be read.

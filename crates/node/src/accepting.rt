@@ -22,14 +22,14 @@ ghost use Rattle.volatile_log.specs.Log.{next, top};
 use crate::fault::NodeFault;
 use crate::node::Node;
 use crate::pull::Pull;
-use crate::same::is_one;
 use crate::state::{Joining, State};
-use harp_types::{Role, ServerId, ViewNo};
 use harp_store::{Mark, Store};
+use harp_types::{Role, ServerId, ViewNo};
 use idle_log::Form;
 use node_outputs::Outputs;
 use replica::{Leader, Partner};
 use std::alloc::{AllocError, Global};
+use view_form::is_one;
 use volatile_log::ActiveLog;
 use wire::Message;
 

@@ -25,10 +25,10 @@ ghost use Rattle.volatile_log.specs.Log.{applied_to};
 
 use crate::fault::NodeFault;
 use crate::node::Node;
-use crate::same::is_witness;
 use crate::state::State;
 use harp_store::{Store, StoreFault};
 use std::alloc::Global;
+use view_form::is_witness;
 
 impl Node {
     /// A settled data server brings the changes of at most so many records after AP, up to CP, to

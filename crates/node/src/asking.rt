@@ -19,11 +19,10 @@ ghost use Rattle.tree_log.specs.Reading.{HoldsTree};
 use crate::fault::NodeFault;
 use crate::node::Node;
 use crate::state::State;
-use harp_types::{Call, LAST_CLIENT, Role, ServerId};
 use harp_store::Store;
+use harp_types::{Call, Cause, LAST_CLIENT, Role, ServerId};
 use node_outputs::{Asker, Outputs};
 use std::alloc::{AllocError, Global};
-use harp_types::Cause;
 
 impl Node {
     /// Deals with a client's call, by the client's own number of it. The open leader of a view

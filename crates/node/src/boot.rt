@@ -19,8 +19,8 @@ ghost use Rattle.power_save.specs.Saved.{IsNotSaved};
 
 use crate::fault::NodeFault;
 use crate::node::Node;
-use harp_types::ServerId;
 use harp_store::{Mark, Store};
+use harp_types::ServerId;
 use idle_log::{Kept, can_have};
 use power_save::{SaveFault, SeenRecords, load};
 use promise::{Delta, Horizon};

@@ -18,15 +18,14 @@ ghost use Rattle.view_form.specs.Choice.{plan, report};
 
 use crate::fault::NodeFault;
 use crate::node::Node;
-use crate::same::is_one;
 use crate::state::Task;
-use harp_types::{ServerId, ViewNo};
 use harp_store::Store;
+use harp_types::{ServerId, ViewNo};
 use idle_log::Form;
 use node_outputs::Outputs;
 use std::alloc::{AllocError, Global};
 use std::mem;
-use view_form::{JoinInfo, Plan};
+use view_form::{JoinInfo, Plan, is_one};
 use wire::Message;
 
 impl Node {

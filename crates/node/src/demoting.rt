@@ -22,13 +22,13 @@ ghost use Rattle.node_outputs.specs.Makes.{Makes};
 use crate::fault::NodeFault;
 use crate::joining::kept_of;
 use crate::node::Node;
-use crate::same::is_witness;
 use crate::state::{State, Task};
-use harp_types::{Role, ViewNo};
 use harp_store::{Mark, Store};
+use harp_types::{Role, ViewNo};
 use node_outputs::Outputs;
 use std::alloc::Global;
 use std::mem;
+use view_form::is_witness;
 
 impl Node {
     /// Deals with a Demote of a view. Server 2 heeds one of a view above its accepted one: it drops

@@ -14,12 +14,12 @@ ghost use Rattle.node.specs.Node.{server};
 ghost use Rattle.node_outputs.specs.Makes.{Makes};
 
 use crate::node::Node;
-use crate::same::is_view;
 use crate::state::State;
 use event_record::Record;
 use harp_types::ViewNo;
 use node_outputs::Outputs;
 use std::alloc::AllocError;
+use view_form::is_view;
 
 impl Node {
     /// Deals with an Event of a view. Where the server is active there, the base is at most its LB,

@@ -12,12 +12,12 @@ ghost use Rattle.node.specs.Node.{server};
 ghost use Rattle.node_outputs.specs.Makes.{Makes};
 
 use crate::node::Node;
-use crate::same::is_view;
 use crate::state::State;
 use harp_types::ViewNo;
 use node_outputs::Outputs;
 use promise::Deadline;
 use std::alloc::{AllocError, Global};
+use view_form::is_view;
 
 impl Node {
     /// Deals with an Ack of a view, whose top is at most that of a server that is active there. The

@@ -27,7 +27,6 @@ mod power;
 mod pull;
 mod pulling;
 mod role;
-mod same;
 mod serving;
 mod showing;
 mod state;

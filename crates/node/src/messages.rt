@@ -14,8 +14,8 @@ ghost use Rattle.node_outputs.specs.Makes.{Makes};
 
 use crate::fault::NodeFault;
 use crate::node::Node;
-use harp_types::ServerId;
 use harp_store::Store;
+use harp_types::ServerId;
 use idle_log::Form;
 use node_outputs::Outputs;
 use std::alloc::Global;

@@ -13,11 +13,10 @@ ghost use Rattle.node.specs.Misfits.{pulls_view};
 ghost use Rattle.view_form.specs.Choice.{report};
 
 use crate::node::Node;
-use crate::same::{is_one, is_view};
 use crate::state::State;
 use harp_types::{ServerId, ViewNo};
 use idle_log::{Form, follow, is_within};
-use view_form::JoinInfo;
+use view_form::{JoinInfo, is_one, is_view};
 use wire::Records;
 
 impl Node {

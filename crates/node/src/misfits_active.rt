@@ -12,11 +12,11 @@ ghost use Rattle.group_rules.specs.Replicate.{is_in_view};
 ghost use Rattle.group_rules.specs.State.{Ack, Beat, Event, Formed, top as top_of};
 
 use crate::node::Node;
-use crate::same::{is_one, is_view};
 use crate::state::State;
 use event_record::Record;
 use harp_types::{LOG_ROOM, ServerId, ViewNo};
 use promise::Deadline;
+use view_form::{is_one, is_view};
 
 impl Node {
     /// Whether this server sent the Formed, or, where it is active in the view, another than its

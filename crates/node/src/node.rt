@@ -8,8 +8,8 @@ ghost use Rattle.node.specs.State.{IsKept};
 ghost use Rattle.node.specs.Stock.{stock, stock_kept};
 
 use crate::state::{State, Task};
-use harp_types::ServerId;
 use harp_store::Mark;
+use harp_types::ServerId;
 use idle_log::Kept;
 use promise::Horizon;
 use std::marker::Model;

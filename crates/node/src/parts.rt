@@ -10,10 +10,10 @@ ghost use Rattle.group_rules.specs.State.{top};
 ghost use Rattle.idle_log.specs.Kept.{held_in, plan_of};
 
 use crate::node::Node;
-use crate::same::is_view;
 use crate::state::State;
 use harp_types::ViewNo;
 use idle_log::{Form, Kept};
+use view_form::is_view;
 
 impl Node {
     /// Whether the server holds a log.

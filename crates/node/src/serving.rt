@@ -14,12 +14,12 @@ ghost use Rattle.node.specs.Serving.{FindsGiven, IsSized, last_served};
 ghost use Rattle.node_outputs.specs.Makes.{Makes};
 
 use crate::node::Node;
-use crate::same::is_view;
 use crate::state::State;
 use harp_types::{ServerId, ViewNo};
 use idle_log::serve_active;
 use node_outputs::Outputs;
 use std::alloc::{AllocError, Global};
+use view_form::is_view;
 use wire::{Message, Records};
 
 impl Node {

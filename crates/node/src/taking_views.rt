@@ -19,8 +19,8 @@ ghost use Rattle.view_form.specs.Choice.{report};
 
 use crate::fault::NodeFault;
 use crate::node::Node;
-use harp_types::{ServerId, ViewNo};
 use harp_store::Store;
+use harp_types::{ServerId, ViewNo};
 use idle_log::Form;
 use node_outputs::Outputs;
 use std::alloc::{AllocError, Global};

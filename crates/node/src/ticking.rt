@@ -21,13 +21,12 @@ ghost use Rattle.node_outputs.specs.Said.{said};
 ghost use Rattle.view_form.specs.Choice.{report};
 
 use crate::node::Node;
-use crate::same::{is_one, is_view};
 use crate::state::{State, Task};
 use harp_types::{ServerId, ViewNo};
 use idle_log::Form;
 use node_outputs::Outputs;
 use std::alloc::{AllocError, Global};
-use view_form::JoinInfo;
+use view_form::{JoinInfo, is_one, is_view};
 use wire::Message;
 
 impl Node {

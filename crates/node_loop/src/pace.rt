@@ -161,8 +161,8 @@ fn is_other(role: Role, from: ServerId) -> bool
     ensures { result ≡ is_other role from }
 {
     match role {
-        Role::Leads(other) => from.number() == other.number(),
-        Role::Follows(other) => from.number() == other.number(),
+        Role::Leads(other) => from.is(other),
+        Role::Follows(other) => from.is(other),
         Role::Outside => false,
     }
 }

@@ -14,8 +14,8 @@ use crate::giving::give_all;
 use crate::running::Running;
 use crate::turn::take_turn;
 use crate::turned::Turned;
-use harp_types::{ServerId, Trio};
 use harp_store::Store;
+use harp_types::{ServerId, Trio};
 use node_link::{Clock, Link};
 use std::alloc::Global;
 

@@ -6,9 +6,8 @@ ghost use Rattle.node_outputs.specs.Messages.{heard};
 ghost use Rattle.node_outputs.specs.Records.{carried, records_sent};
 ghost use Rattle.node_outputs.specs.Said.{entered, nothing, said};
 
-use harp_types::{Call, Cred, Peer, Reply, ServerId, ViewNo};
+use harp_types::{BookEntry, Call, Cause, Cred, Peer, Reply, ServerId, ViewNo};
 use std::alloc::{AllocError, Global};
-use harp_types::{BookEntry, Cause};
 use tree_listing::Listing;
 use wire::Message;
 

@@ -12,9 +12,9 @@ mod disk;
 mod server;
 
 use crate::server::{Server, input_of};
-use harp_types::ServerId;
 use harp_cells::Cell;
 use harp_store::{Pick, Store, StoreFault};
+use harp_types::ServerId;
 use node::{Input, NodeFault};
 use promise::Delta;
 use schedule_text::read_step;

@@ -1,8 +1,8 @@
 //! One server over its disk.
 
 use crate::disk::Disk;
-use harp_types::{Peer, ServerId};
 use harp_store::MemStore;
+use harp_types::{Peer, ServerId};
 use node::{Input, Node, NodeFault};
 use node_outputs::Outputs;
 use power_save::SeenRecords;

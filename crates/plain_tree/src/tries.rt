@@ -14,7 +14,9 @@ use crate::changes::with_entry;
 use crate::computed::{blocks_of, blocks_placed, entry, parent_of, place, used_blocks};
 use crate::error::TreeError;
 use file_tree::{Body, Object, Slot, Slots};
-use harp_types::{Bounded, LONGEST_NAME, LONGEST_PATH, OBJECT_NUMBERS, SLOT_SIZE, Status, TREE_BLOCKS};
+use harp_types::{
+    Bounded, LONGEST_NAME, LONGEST_PATH, OBJECT_NUMBERS, SLOT_SIZE, Status, TREE_BLOCKS,
+};
 use std::alloc::Global;
 
 /// A refusal, where its cause holds.

@@ -1,8 +1,8 @@
 //! What a command is run over besides its text: which calls fail, which datagrams wait, and what
 //! the clock reads.
 
-use harp_types::{Bytes, Peer, ServerId, Trio};
 use harp_store::{MemStore, Store};
+use harp_types::{Bytes, Peer, ServerId, Trio};
 use node_link::{Datagram, Waiting};
 use std::alloc::{AllocError, Global};
 

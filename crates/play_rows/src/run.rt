@@ -2,9 +2,9 @@
 
 use crate::case::Case;
 use crate::given::Given;
-use harp_types::{Bytes, MemSink, MemSource, Peer, Trio};
 use harp_cli::harp;
 use harp_store::MemStore;
+use harp_types::{Bytes, MemSink, MemSource, Peer, Trio};
 use node_link::{ListClock, MemLink, SentDatagram, readings_rise};
 use std::alloc::{AllocError, Global};
 use std::thread::Threads;

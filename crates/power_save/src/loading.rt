@@ -19,9 +19,9 @@ use crate::fault::SaveFault;
 use crate::record::record_of;
 use crate::seen::SeenRecords;
 use event_record::Record;
-use harp_types::LOG_ROOM;
 use harp_cells::Cell;
 use harp_store::{Mark, Saved, Store};
+use harp_types::LOG_ROOM;
 use std::alloc::Global;
 use volatile_log::FrozenLog;
 

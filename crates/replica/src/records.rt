@@ -11,9 +11,8 @@ ghost use Rattle.replica.specs.Leading.{entries};
 ghost use Rattle.volatile_log.specs.Log.{top};
 
 use event_record::Record;
-use harp_types::ViewNo;
+use harp_types::{BookEntry, ViewNo};
 use std::alloc::{AllocError, Global};
-use harp_types::BookEntry;
 use volatile_log::ActiveLog;
 use wire::Message;
 

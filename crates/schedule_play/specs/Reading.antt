@@ -1,5 +1,6 @@
 -- The steps that are read of a schedule's text.
 use Rattle.std.specs.Prelude.{ℕ, ◌+◌, nat_lt, List, [], ◌∷◌, ◌++◌, length, Option, Some, None, Result, Ok, Err, if◌then◌else◌}
+use Rattle.harp_types.specs.Limits.{longest_line, most_lines}
 use Rattle.trace_types.specs.declared.step.Step.{Step}
 use Rattle.trace_types.specs.declared.line.LineFault.{LineFault}
 use Rattle.trace_types.specs.declared.line.LineFault.TheVariants as fault
@@ -20,8 +21,8 @@ step_or_fault (Err why) = Err fault.Grammar
 -- refused
 unfoldable pub given_by : ℕ → List ℕ → Result (Option Step) LineFault
 given_by number line =
-    if nat_lt 50000 number then Err fault.TooMany
-    else (if nat_lt 20000 (length line) then Err fault.TooLong
+    if nat_lt most_lines number then Err fault.TooMany
+    else (if nat_lt longest_line (length line) then Err fault.TooLong
     else step_or_fault (meaning_of line))
 
 -- the elementary steps that are taken, and the number and the fault of the line that is refused,

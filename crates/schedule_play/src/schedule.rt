@@ -3,6 +3,7 @@
 
 ghost use Rattle.std.specs.Prelude.{◌≡◌, ◌≢◌, ◌⊎◌, ◌<◌, ◌≤◌, ◌+◌, ℕ, List, Option, length, IfOk};
 ghost use Rattle.std.specs.Prelude.{MatchResult, Some, Ok, Err};
+ghost use Rattle.harp_types.specs.Limits.{longest_line, most_lines};
 ghost use Rattle.harp_types.specs.Streams.{Rose};
 ghost use Rattle.line_reader.specs.Reading.{text_left};
 ghost use Rattle.disk_laws.specs.Laws.{DiskRunIsRight};
@@ -28,20 +29,17 @@ use crate::stage::Stage;
 use crate::step::take_step;
 use crate::text::Room;
 use crate::turn::{Turn, end, refuse};
-use harp_types::{Sink, Source};
+use harp_types::{MOST_LINES, Sink, Source};
 use line_reader::{LineReader, Next, ReadFault};
 use schedule_text::{TextFault, read_step};
 use std::alloc::Global;
 use trace_types::LineFault;
 
-/// The most lines of a schedule.
-const LINES: u64 = 50_000;
-
 /// Why a line with this number is refused that is too long: past the limit no line is looked at.
 fn fault_of_long_line(number: u64) -> LineFault
-    ensures { (line : List ℕ) → 20000 < length line → given_by number line ≡ Err result }
+    ensures { (line : List ℕ) → longest_line < length line → given_by number line ≡ Err result }
 {
-    if number > LINES {
+    if number > MOST_LINES {
         LineFault::TooMany
     } else {
         LineFault::TooLong
@@ -57,7 +55,7 @@ fn take_line<W: Stage, K: Sink>(
     world: &mut W,
     sink: &mut K,
 ) -> Result<Turn, Stop>
-    requires short { length line.now ≤ 20000 }
+    requires short { length line.now ≤ longest_line }
     requires below { AreBelow number (W.clocks world.old) }
     ensures ends { (all : Reading) (rest : Scene → Reading) (before : Option (List ℕ))
         → HasCome W.spellings all
@@ -70,9 +68,9 @@ fn take_line<W: Stage, K: Sink>(
     ensures rose { result ≡ Err Stop.SinkFailed → Rose (K.faults sink.old) (K.faults sink.new) }
     ensures count { K.faults sink.old ≤ K.faults sink.new }
     ensures own { result ≡ Err Stop.SourceFailed → ⊥ }
-    ensures last { 50000 < number → IfOk result (λ turn. turn ≢ Turn.GoesOn) }
+    ensures last { most_lines < number → IfOk result (λ turn. turn ≢ Turn.GoesOn) }
 {
-    if number > LINES {
+    if number > MOST_LINES {
         return refuse(alloc, number, LineFault::TooMany, sink);
     }
     match read_step(alloc, line) {
@@ -103,7 +101,7 @@ fn play_line<W: Stage, S: Source, K: Sink>(
         (W.stands world.new))
         (λ stop. PlayEnds W.spellings text (S.left source.new) before (K.written sink.new)
         (W.stands world.new) (exit_of stop)) }
-    ensures last { 50000 < number → IfOk result (λ turn. turn ≢ Turn.GoesOn) }
+    ensures last { most_lines < number → IfOk result (λ turn. turn ≢ Turn.GoesOn) }
     ensures below { result ≡ Ok Turn.GoesOn → AreBelow (number + 1) (W.clocks world.new) }
     ensures source_rose { result ≡ Err Stop.SourceFailed
         → Rose (S.faults source.old) (S.faults source.new) }

@@ -5,7 +5,7 @@ use Rattle.std.proofs.lemmas.List.{length-drop}
 use Rattle.harp_types.specs.declared.server.ServerId.{ServerId}
 use Rattle.harp_types.specs.declared.call.Call.{Call}
 use Rattle.harp_types.specs.declared.cred.Cred.{Cred}
-use Rattle.trace_types.specs.declared.pick.Pick.{Pick}
+use Rattle.harp_types.specs.declared.pick.Pick.{Pick}
 use Rattle.trace_types.specs.declared.step.Step.{Step}
 use Rattle.trace_types.specs.declared.step.Step.TheVariants as step
 use Rattle.text_spelling.specs.Text.{spaced, hex_text, among_text}

@@ -12,8 +12,8 @@ use Rattle.harp_types.specs.declared.cred.Cred.{Cred}
 use Rattle.harp_types.specs.declared.cred.TheConstants.{SUPERUSER}
 use Rattle.harp_types.specs.declared.procedure.Procedure.{Procedure}
 use Rattle.harp_types.specs.declared.procedure.Procedure.TheVariants as procedure
-use Rattle.trace_types.specs.declared.pick.Pick.{Pick}
-use Rattle.trace_types.specs.declared.pick.Pick.TheVariants as pick
+use Rattle.harp_types.specs.declared.pick.Pick.{Pick}
+use Rattle.harp_types.specs.declared.pick.Pick.TheVariants as pick
 use Rattle.trace_types.specs.declared.step.Step.{Step}
 use Rattle.trace_types.specs.declared.step.Step.TheVariants as step
 use Rattle.text_spelling.specs.Text.{is_implied}

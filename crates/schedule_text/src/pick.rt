@@ -63,7 +63,7 @@ fn pick_at(alloc: Global, line: &[u8], at: usize) -> Result<(Pick, usize), TextF
         let Some(bits) = Bits::of(items) else {
             return Err(TextFault::Grammar(at));
         };
-        return Ok((Pick::Bits { bits }, end));
+        return Ok((Pick::Bits(bits), end));
     }
     let word = word_at(line, at);
     match pick_named(word) {

@@ -6,9 +6,9 @@ ghost use Rattle.harp_cells.specs.ValueBytes.{ValueFits, value_bytes};
 ghost use Rattle.store_folder.specs.CellFile.{ReadsFile, whole_file};
 
 use harp_base::FieldFault;
-use harp_types::Bytes;
 use harp_cells::{Value, read_value, write_value};
 use harp_store::StoreFault;
+use harp_types::Bytes;
 use std::alloc::{AllocError, Global};
 
 /// No file of a cell is longer: the longest would be a reply of 65,535 entries of a directory,

@@ -7,10 +7,10 @@ ghost use Rattle.harp_store.specs.Mark.{MarkFields, SavedNumbers};
 ghost use Rattle.store_folder.specs.MarkFile.{FirstFit, IsMarkFile, LastFit, MarkFits, NumbersFit, OptionFits, SavedFits, fields_in, first_at, first_bytes, first_of, flag_number, flags, last_at, last_bytes, last_of, mark_bytes, numbers_at, numbers_bytes, numbers_of, old_last, option_at, option_bytes, ring_of, role_number, roles};
 
 use crate::mark_fields::{FirstFields, LastFields, Numbers};
-use harp_base::fields::{below_at, byte_at, put_u32, put_u64, put_view, u32_at, view_at};
 use harp_base::Misread;
-use harp_types::{Role, ServerId};
+use harp_base::fields::{below_at, byte_at, put_u32, put_u64, put_view, u32_at, view_at};
 use harp_store::{Mark, OLD_RING, Saved};
+use harp_types::{Role, ServerId};
 use std::alloc::{AllocError, Global};
 
 /// No file of a mark is longer.

@@ -18,10 +18,10 @@ use Rattle.power_save.specs.Entries.{saved_entries}
 use Rattle.power_save.specs.Saved.{puts_of}
 use Rattle.store_laws.specs.Calls.{HaveFewBlocks, IsCallOf, IsChangeOf, Makes, StoreCall, Syncs, Writes, called, passing, save_calls, told_after}
 use Rattle.store_laws.specs.Laws.{CallsAreMoments, CallsFollow, ChangesAreCalls, ChangesAreOfCalls, FirstChangesAreCalls, MomentsBeforeStand, PutsAreSaved, SavesAreCalls, SavesAreTold, StepsFollow}
-use Rattle.store_laws.specs.Told.{IsDiskOf, IsToldOf, OneForOne, pick_of}
+use Rattle.store_laws.specs.Told.{IsDiskOf, IsToldOf, OneForOne}
 use Rattle.store_laws.proofs.Disks.{crashes_follow, marks_follow, one_follows, syncs_follow}
 use Rattle.store_laws.proofs.Lists.{both}
-use Rattle.trace_types.specs.declared.pick.Pick.{Pick}
+use Rattle.harp_types.specs.declared.pick.Pick.{Pick}
 use Rattle.volatile_log.specs.Log.{AreNumberedAfter, LogValue}
 
 -- ---- one call
@@ -72,7 +72,7 @@ passing_follow (Some most) told r calls others h e few =
 
 -- and a crash then
 crash_told : (p : Pick) (told : Option Moments) (r : Disk) → IsToldOf told r
-    → Now (λ d. IsDiskOf (told_crashed_by (pick_of p) d) (crashed_by p r)) told
+    → Now (λ d. IsDiskOf (told_crashed_by p d) (crashed_by p r)) told
 crash_told p None r h = tt
 crash_told p (Some m) r h = crashes_follow m.now r p h
 
@@ -81,7 +81,7 @@ steps_follow f g stop p q i calls told r h e few = record {
   whole = λ t. subst (λ (b : Bool). IsToldOf (told_after calls told) (if b then
       after_calls (calls_at f g q i) r else cut)) (sym t)
       (all_follow told r calls (calls_at f g q i) h e few);
-  crashed = λ t. subst (λ (b : Bool). Now (λ d. IsDiskOf (told_crashed_by (pick_of p) d)
+  crashed = λ t. subst (λ (b : Bool). Now (λ d. IsDiskOf (told_crashed_by p d)
       (if b then after_calls (calls_at f g q i) r else cut)) (told_after (passing stop calls) told))
       (sym t) (crash_told p (told_after (passing stop calls) told)
       (after_calls (run_passing stop (calls_at f g q i)) r)

@@ -1,11 +1,11 @@
 -- The disk of a store and that of a run, after changes, a sync, a mark and a crash.
 use Rattle.std.proofs.Common.{◌≡◌, ℕ, zero, suc, ◌+◌, ◌-◌, ◌≤◌, max, Bool, true, false, List, [], ◌∷◌, ◌++◌, Option, Some, None, refl, sym, ap, subst, ◌∙◌, arith, append-nil, append_assoc, true≢false, if◌then◌else◌}
-use Rattle.std.specs.Prelude.{fold, slice_get, slice_index_or}
+use Rattle.std.specs.Prelude.{fold}
 use Rattle.disk_laws.specs.Laws.{HasFewBlocks}
 use Rattle.disk_laws.proofs.Keeping.{picks_keep}
 use Rattle.fuzzy_cells.specs.Disk.{Disk, reads, with_changes}
 use Rattle.fuzzy_cells.specs.Fuzzy.{is_saved}
-use Rattle.group_disks.specs.Picks.{all_counted, counted, kept, keeps, most_blocks}
+use Rattle.group_disks.specs.Picks.{all_counted, counted, kept, most_blocks}
 use Rattle.harp_cells.proofs.CellLemmas.{is_cell_true}
 use Rattle.harp_cells.specs.Effect.{Cells, after, changed, is_block_from, is_cell}
 use Rattle.harp_cells.specs.declared.cell.Cell.{Cell}
@@ -14,15 +14,16 @@ use Rattle.harp_cells.specs.declared.change.Change.{Change}
 use Rattle.harp_cells.specs.declared.change.Change.TheVariants as change
 use Rattle.harp_cells.specs.declared.value.Value.{Value}
 use Rattle.harp_store.specs.Disk.{Disk as ToldDisk, block_numbers, blocks_there, changed_by, changed_by_all, erasures, reads as told_reads, set_by}
-use Rattle.harp_store.specs.Memory.{is_kept, kept as told_kept}
+use Rattle.harp_store.specs.Memory.{kept as told_kept}
+use Rattle.harp_types.specs.Picks.{is_kept}
 use Rattle.harp_store.specs.declared.layers.Unsynced.{Unsynced}
 use Rattle.store_laws.specs.Calls.{IsChangeOf}
 use Rattle.store_laws.specs.Laws.{AreNumbered, ChangesFollow, CrashesFollow, EqualChangesAre, MarksFollow, NewDisksAre, ReadsAreAlike, SyncsFollow}
-use Rattle.store_laws.specs.Told.{IsDiskOf, IsUnsyncedOf, OneForOne, pick_of}
+use Rattle.store_laws.specs.Told.{IsDiskOf, IsUnsyncedOf, OneForOne}
 use Rattle.store_laws.proofs.Blocks.{all_erased, all_low, bare, bare_alike, erased_alike, few_before, few_read, high_behind, high_from, none_saved, within_numbers, IsHigh}
 use Rattle.store_laws.proofs.Lists.{both}
-use Rattle.trace_types.specs.declared.pick.Pick.{Pick}
-use Rattle.trace_types.specs.declared.pick.Pick.TheVariants as pick
+use Rattle.harp_types.specs.declared.pick.Pick.{Pick}
+use Rattle.harp_types.specs.declared.pick.Pick.TheVariants as pick
 
 -- ---- what changes make of a cell that isn't of a saved log
 
@@ -54,31 +55,18 @@ all_set (u ∷ us) [] c a b s h e = absurd h
 
 -- ---- crashes
 
-bit_same : (bits : List Bool) (k : ℕ) → slice_index_or bits k false ≡ elim (slice_get bits k) [
-  | Some bit ↦ bit
-  | None ↦ false
-]
-bit_same [] k = refl
-bit_same (b ∷ bits) zero = refl
-bit_same (b ∷ bits) (suc k) = bit_same bits k
-
-keeps_same : (p : Pick) (k : ℕ) → is_kept (pick_of p) k ≡ keeps p k
-keeps_same pick.All k = refl
-keeps_same pick.None k = refl
-keeps_same (pick.Bits bits) k = bit_same bits _
-
 -- the places of changes are counted alike
 kept_alike : (p : Pick) (k j : ℕ) (us : List Unsynced) (xs : List Change) → k ≡ j
     → OneForOne IsUnsyncedOf us xs
-    → OneForOne IsUnsyncedOf (told_kept (is_kept (pick_of p)) k us) (kept p j xs)
+    → OneForOne IsUnsyncedOf (told_kept (is_kept p) k us) (kept p j xs)
 unfolding told_kept kept
 kept_alike p k j [] [] e h = tt
-kept_alike p k j (u ∷ us) (x ∷ xs) e h = by (is_kept (pick_of p) k) (keeps p j)
-    (ap (is_kept (pick_of p)) e ∙ keeps_same p j)
+kept_alike p k j (u ∷ us) (x ∷ xs) e h = by (is_kept p k) (is_kept p j)
+    (ap (is_kept p) e)
     (kept_alike p (k + 1) (suc j) us xs (omega (arith, e)) h.1)
   where
     vs : List Unsynced
-    vs = told_kept (is_kept (pick_of p)) (k + 1) us
+    vs = told_kept (is_kept p) (k + 1) us
 
     ys : List Change
     ys = kept p (suc j) xs
@@ -95,7 +83,7 @@ kept_alike p k j (u ∷ us) [] e h = absurd h
 pub crashes_follow : CrashesFollow
 unfolding told_reads all_counted
 crashes_follow d r p h = record {
-  synced = λ c s. all_set (told_kept (is_kept (pick_of p)) 0 d.unsynced)
+  synced = λ c s. all_set (told_kept (is_kept p) 0 d.unsynced)
       (kept p 0 (all_counted r.synced r.changes)) c (d.synced c) (r.synced c) s
       (kept_alike p 0 0 d.unsynced (all_counted r.synced r.changes) refl h.unsynced) (h.synced c s);
   unsynced = tt;
@@ -103,7 +91,7 @@ crashes_follow d r p h = record {
 
 -- ---- reads
 
-all_kept : (k : ℕ) (us : List Unsynced) → told_kept (is_kept (pick_of pick.All)) k us ≡ us
+all_kept : (k : ℕ) (us : List Unsynced) → told_kept (is_kept pick.All) k us ≡ us
 unfolding told_kept
 all_kept k [] = refl
 all_kept k (u ∷ us) = ap (λ (vs : List Unsynced). u ∷ vs) (all_kept (k + 1) us)

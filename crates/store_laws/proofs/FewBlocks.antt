@@ -45,8 +45,8 @@ use Rattle.store_laws.proofs.Blocks.{few_read}
 use Rattle.trace_laws.proofs.MoveKinds.{each-append}
 use Rattle.trace_laws.proofs.StepKinds.{tail_base}
 use Rattle.trace_laws.proofs.Turns.{own_none}
-use Rattle.trace_types.specs.declared.pick.Pick.{Pick}
-use Rattle.trace_types.specs.declared.pick.Pick.TheVariants as pick
+use Rattle.harp_types.specs.declared.pick.Pick.{Pick}
+use Rattle.harp_types.specs.declared.pick.Pick.TheVariants as pick
 use Rattle.trace_types.specs.declared.step.Step.{Step}
 use Rattle.trace_types.specs.declared.step.Step.TheVariants as step
 

@@ -24,8 +24,8 @@ use Rattle.harp_store.specs.Memory.{crashed_by as told_crashed_by, nothing_store
 use Rattle.power_save.specs.Entries.{saved_entries}
 use Rattle.power_save.specs.Saved.{SavesInPart, puts_of}
 use Rattle.store_laws.specs.Calls.{HaveFewBlocks, IsCallOf, IsChangeOf, Makes, StoreCall, Writes, flush_calls, passing, save_calls, told_after}
-use Rattle.store_laws.specs.Told.{IsDiskOf, IsToldOf, OneForOne, pick_of}
-use Rattle.trace_types.specs.declared.pick.Pick.{Pick}
+use Rattle.store_laws.specs.Told.{IsDiskOf, IsToldOf, OneForOne}
+use Rattle.harp_types.specs.declared.pick.Pick.{Pick}
 use Rattle.trace_types.specs.declared.step.Step.{Step}
 use Rattle.volatile_log.specs.Log.{AreNumberedAfter, LogValue}
 
@@ -70,7 +70,7 @@ MarksFollow = (d : ToldDisk) (r : Disk) (mark : MarkFields) → IsDiskOf d r
 -- a crash by one pick
 abbrev pub CrashesFollow : Type 0
 CrashesFollow = (d : ToldDisk) (r : Disk) (pick : Pick) → IsDiskOf d r
-    → IsDiskOf (told_crashed_by (pick_of pick) d) (crashed_by pick r)
+    → IsDiskOf (told_crashed_by pick d) (crashed_by pick r)
 
 -- the first calls, one for one
 abbrev pub CallsFollow : Type 0
@@ -87,7 +87,7 @@ pub record StepIsTold (f : Spellings) (g : Group Entry) (stop : Option ℕ) (pic
   pub whole : (is_whole f g stop q i && not (is_crash i)) ≡ true
       → IsToldOf (told_after calls told) (disk_after f g stop pick q i r)
   pub crashed : (is_whole f g stop q i && not (is_crash i)) ≡ false
-      → Now (λ d. IsDiskOf (told_crashed_by (pick_of pick) d) (disk_after f g stop pick q i r))
+      → Now (λ d. IsDiskOf (told_crashed_by pick d) (disk_after f g stop pick q i r))
       (told_after (passing stop calls) told)
 
 abbrev pub StepsFollow : Type 0

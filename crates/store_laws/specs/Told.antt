@@ -7,10 +7,6 @@ use Rattle.harp_cells.specs.declared.change.Change.{Change}
 use Rattle.harp_cells.specs.declared.change.Change.TheVariants as change
 use Rattle.harp_store.specs.Disk.{Disk as ToldDisk, Moments, Now}
 use Rattle.harp_store.specs.declared.layers.Unsynced.{Unsynced}
-use Rattle.harp_store.specs.declared.pick.Pick.{Pick as StorePick}
-use Rattle.harp_store.specs.declared.pick.Pick.TheVariants as store
-use Rattle.trace_types.specs.declared.pick.Pick.{Pick}
-use Rattle.trace_types.specs.declared.pick.Pick.TheVariants as pick
 
 -- as many of one kind as of another, each with the one at its place
 abbrev pub OneForOne : {A B : Type 0} → (A → B → Type 0) → List A → List B → Type 0
@@ -36,9 +32,3 @@ pub record IsDiskOf (d : ToldDisk) (r : Disk) : Type 0 where
 -- the disk that is told now is, if one is told
 abbrev pub IsToldOf : Option Moments → Disk → Type 0
 IsToldOf told r = Now (λ d. IsDiskOf d r) told
-
--- a pick of a schedule, as a store takes it
-abbrev pub pick_of : Pick → StorePick
-pick_of pick.All = store.All
-pick_of pick.None = store.None
-pick_of (pick.Bits bits) = store.Bits bits

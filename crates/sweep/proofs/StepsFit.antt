@@ -7,7 +7,7 @@ use Rattle.harp_types.specs.declared.server.ServerId.{ServerId}
 use Rattle.harp_types.specs.declared.server.ServerId.TheVariants.{Zero, One, Two}
 use Rattle.text_spelling.specs.Fits.{AreBytes, SetAttrFits, CallFits, PairFits}
 use Rattle.text_spelling.specs.StepFits.{StepFits}
-use Rattle.trace_types.specs.declared.pick.Pick.TheVariants as pick
+use Rattle.harp_types.specs.declared.pick.Pick.TheVariants as pick
 use Rattle.trace_types.specs.declared.step.Step.TheVariants as step
 use Rattle.sweep.specs.Draws.{below}
 use Rattle.sweep.specs.Calls.{handle, name, entry, with_mode, call_kind, call_of_entry, write, rename, call_of_kind, any_call}

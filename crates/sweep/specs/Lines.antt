@@ -4,7 +4,7 @@ use Rattle.harp_types.specs.Trio.{value_of, with_value}
 use Rattle.harp_types.specs.declared.cred.Cred.{Cred}
 use Rattle.harp_types.specs.declared.server.ServerId.{ServerId}
 use Rattle.harp_types.specs.declared.server.ServerId.TheVariants.{Zero, One, Two}
-use Rattle.trace_types.specs.declared.pick.Pick.TheVariants as pick
+use Rattle.harp_types.specs.declared.pick.Pick.TheVariants as pick
 use Rattle.trace_types.specs.declared.step.Step.{Step}
 use Rattle.trace_types.specs.declared.step.Step.TheVariants as step
 use Rattle.sweep.specs.declared.draws.Draws.{Draws}

@@ -64,7 +64,7 @@ fn every_second(alloc: Global) -> Result<Pick, AllocError>
     items.push(true)?;
     items.push(false)?;
     match Bits::of(items) {
-        Some(bits) => Ok(Pick::Bits { bits }),
+        Some(bits) => Ok(Pick::Bits(bits)),
         None => unreachable!(),
     }
 }

@@ -8,8 +8,8 @@ use Rattle.harp_types.specs.declared.server.ServerId.{ServerId}
 use Rattle.text_spelling.specs.Text.{among_text, ask_head}
 use Rattle.text_spelling.specs.StepFits.{PickFits, StepFits}
 use Rattle.text_spelling.specs.Steps.{bits_text, pick_text, step_text}
-use Rattle.trace_types.specs.declared.pick.Pick.{Pick}
-use Rattle.trace_types.specs.declared.pick.Pick.TheVariants as pick
+use Rattle.harp_types.specs.declared.pick.Pick.{Pick}
+use Rattle.harp_types.specs.declared.pick.Pick.TheVariants as pick
 use Rattle.trace_types.specs.declared.step.Step.{Step}
 use Rattle.trace_types.specs.declared.step.Step.TheVariants as step
 use Rattle.trace_bounds.proofs.Texts.{short_call, short_count, short_cred, short_number, short_server}

@@ -1,6 +1,7 @@
 -- What a sweep counts of steps, and what a play writes of their text.
 use Rattle.std.specs.Prelude.{◌≡◌, ℕ, ◌<◌, ◌≤◌, ◌^◌, List, length}
 use Rattle.std.specs.List.{AllByRecursion}
+use Rattle.harp_types.specs.Limits.{longest_line}
 use Rattle.trace_types.specs.declared.step.Step.{Step}
 use Rattle.text_spelling.specs.StepFits.{StepFits}
 use Rattle.text_spelling.specs.Steps.{step_text}
@@ -15,7 +16,7 @@ use Rattle.sweep_player.specs.Reading.{steps_read, summary_of_steps}
 
 -- a line of a schedule can tell this step
 abbrev pub HasLine : Step → Type 0
-HasLine s = StepFits s × (length (step_text s) ≤ 20000)
+HasLine s = StepFits s × (length (step_text s) ≤ longest_line)
 
 -- THE TEXT OF STEPS IS READ as the steps are
 abbrev pub StepsAreRead : Type 0

@@ -3,21 +3,7 @@
 ghost use Rattle.std.specs.Prelude.{◌≡◌, IfOk};
 
 use std::alloc::{AllocError, Global};
-use trace_types::{Bits, Pick, Step};
-
-/// An equal pick.
-fn copy_of_pick(alloc: Global, pick: &Pick) -> Result<Pick, AllocError>
-    ensures { IfOk result (λ copy. copy ≡ pick.now) }
-{
-    match pick {
-        Pick::All => Ok(Pick::All),
-        Pick::None => Ok(Pick::None),
-        Pick::Bits { bits } => match Bits::of(Vec::from_slice(alloc, bits.as_slice())?) {
-            Some(bits) => Ok(Pick::Bits { bits }),
-            None => unreachable!(),
-        },
-    }
-}
+use trace_types::Step;
 
 /// An equal step.
 pub fn copy_of(alloc: Global, step: &Step) -> Result<Step, AllocError>
@@ -56,11 +42,11 @@ pub fn copy_of(alloc: Global, step: &Step) -> Result<Step, AllocError>
         } => Step::PowerCut {
             server: *server,
             calls: *calls,
-            pick: copy_of_pick(alloc, pick)?,
+            pick: pick.copy(alloc)?,
         },
         Step::Crash { server, pick } => Step::Crash {
             server: *server,
-            pick: copy_of_pick(alloc, pick)?,
+            pick: pick.copy(alloc)?,
         },
         Step::Stop {
             server,
@@ -69,7 +55,7 @@ pub fn copy_of(alloc: Global, step: &Step) -> Result<Step, AllocError>
         } => Step::Stop {
             server: *server,
             calls: *calls,
-            pick: copy_of_pick(alloc, pick)?,
+            pick: pick.copy(alloc)?,
         },
         Step::Noise { server, bytes } => Step::Noise {
             server: *server,

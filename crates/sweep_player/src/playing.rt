@@ -14,14 +14,14 @@ ghost use Rattle.sweep_player.specs.Reading.{given_as, moves_within, summary_of_
 
 use crate::copies::copy_of;
 use crate::tally::Tally;
-use harp_types::ServerId;
+use harp_types::{MOST_LINES, ServerId};
 use schedule_play::Stage;
 use std::alloc::{AllocError, Global};
 use sweep::Summary;
 use trace_types::{Line, Step};
 
-/// The most lines of a schedule.
-const LINES: usize = 50_000;
+/// The most lines of a schedule, as a count of steps.
+const LINES: usize = MOST_LINES as usize;
 
 /// The latest moment that a line sets a clock to.
 const LAST_MOMENT: u64 = 999_999_999_999_999_999;

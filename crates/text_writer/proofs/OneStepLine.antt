@@ -7,8 +7,8 @@ use Rattle.harp_types.specs.View.{View}
 use Rattle.harp_types.specs.declared.state.Held.{Held}
 use Rattle.harp_types.specs.declared.cause.Cause.{Cause}
 use Rattle.harp_types.specs.declared.cause.Cause.TheVariants as cause
-use Rattle.trace_types.specs.declared.pick.Pick.{Pick}
-use Rattle.trace_types.specs.declared.pick.Pick.TheVariants as pick
+use Rattle.harp_types.specs.declared.pick.Pick.{Pick}
+use Rattle.harp_types.specs.declared.pick.Pick.TheVariants as pick
 use Rattle.trace_types.specs.declared.step.Step.{Step}
 use Rattle.trace_types.specs.declared.step.Step.TheVariants as step
 use Rattle.trace_types.specs.declared.line.BookEntry.{BookEntry}

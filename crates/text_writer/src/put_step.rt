@@ -48,7 +48,7 @@ fn put_pick(out: &mut Vec<u8>, pick: &Pick) -> Result<(), AllocError>
     match pick {
         Pick::All => out.extend_from_slice(b" all"),
         Pick::None => out.extend_from_slice(b" none"),
-        Pick::Bits { bits } => {
+        Pick::Bits(bits) => {
             out.push(b' ')?;
             put_bits(out, bits.as_slice())
         }

@@ -1,6 +1,7 @@
 -- What holds of the lines of every run whose steps fit.
 use Rattle.std.specs.Prelude.{ℕ, ◌+◌, ◌<◌, ◌≤◌, ◌^◌, List, [], ◌∷◌, length}
 use Rattle.std.specs.List.{AllByRecursion}
+use Rattle.harp_types.specs.Limits.{longest_line}
 use Rattle.harp_base.specs.Fields.{AllFit}
 use Rattle.trace_types.specs.declared.step.Step.{Step}
 use Rattle.trace_types.specs.declared.step.Step.TheVariants as step
@@ -25,7 +26,7 @@ ToldFits s = StepFits s × (length (step_text s) ≤ 19998)
 
 -- a line that has a spelling, of at most 20,000 bytes
 abbrev pub LineIn : Line → Type 0
-LineIn l = LineFits l × (length (line_text l) ≤ 20000)
+LineIn l = LineFits l × (length (line_text l) ≤ longest_line)
 
 -- how many lines tell a step alone; deliveries come of pumps too
 abbrev pub told : Step → ℕ

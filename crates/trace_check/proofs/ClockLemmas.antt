@@ -9,7 +9,8 @@ use Rattle.trace_types.specs.declared.step.Step.TheVariants as step
 use Rattle.trace_types.specs.declared.line.Line.{Line}
 use Rattle.trace_types.specs.declared.line.Line.TheVariants as line
 use Rattle.trace_claims.specs.Trace.{Trace}
-use Rattle.trace_claims.specs.Servers.{clock_after, clock_next, same_server}
+use Rattle.harp_types.specs.Server.{same_server}
+use Rattle.trace_claims.specs.Servers.{clock_after, clock_next}
 use Rattle.trace_check.specs.Readings.{clock_told}
 use Rattle.trace_check.specs.ClocksRead.{last_moment, AreClocksOf}
 use Rattle.trace_check.specs.declared.clocks.Clocks.{Clocks}

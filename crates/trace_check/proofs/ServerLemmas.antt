@@ -14,7 +14,8 @@ use Rattle.harp_types.specs.declared.trio.Trio.{Trio}
 use Rattle.trace_types.specs.declared.line.Line.{Line}
 use Rattle.trace_types.specs.declared.line.Line.TheVariants as line
 use Rattle.trace_claims.specs.Trace.{Trace}
-use Rattle.trace_claims.specs.Servers.{HasShown, first_open, first_state, is_open, last_state, later_state, opens, same_server}
+use Rattle.harp_types.specs.Server.{same_server}
+use Rattle.trace_claims.specs.Servers.{HasShown, first_open, first_state, is_open, last_state, later_state, opens}
 use Rattle.trace_check.specs.Keys.{place_key}
 use Rattle.trace_check.specs.Marks.{mark_at, is_key, or_else, Entries, IsNoted, IsRaised, IsWithin, Reaches}
 use Rattle.trace_check.specs.Readings.{state_told}

@@ -8,7 +8,8 @@ use Rattle.trace_types.specs.declared.line.Line.{Line}
 use Rattle.trace_types.specs.declared.line.Line.TheVariants as line
 use Rattle.trace_types.specs.declared.line.ShownMessage.{ShownMessage}
 use Rattle.trace_types.specs.declared.line.ShownMessage.TheVariants as shown
-use Rattle.trace_claims.specs.Servers.{Packet, first_state, packet_in, same_server}
+use Rattle.harp_types.specs.Server.{same_server}
+use Rattle.trace_claims.specs.Servers.{Packet, first_state, packet_in}
 use Rattle.trace_claims.specs.Trace.{AtEachPlace, Trace, step_under_way}
 
 -- ---- whose step it is

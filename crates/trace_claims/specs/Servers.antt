@@ -1,6 +1,6 @@
 -- What a trace says of its servers, and of the packets between them.
 use Rattle.std.specs.Prelude.{◌≡◌, ℕ, ◌+◌, ◌≤◌, ◌<◌, Bool, true, false, ◌&&◌, ◌==◌, [], ◌∷◌, ◌++◌, Option, Some, None, fold, if◌then◌else◌}
-use Rattle.harp_types.specs.Server.{number_of}
+use Rattle.harp_types.specs.Server.{same_server}
 use Rattle.harp_types.specs.View.{View}
 use Rattle.harp_types.specs.declared.server.ServerId.{ServerId}
 use Rattle.harp_types.specs.declared.server.ServerId.TheVariants as server
@@ -17,10 +17,6 @@ use Rattle.trace_types.specs.declared.line.ShownMessage.TheVariants as shown
 use Rattle.trace_types.specs.declared.line.Line.{Line}
 use Rattle.trace_types.specs.declared.line.Line.TheVariants as line
 use Rattle.trace_claims.specs.Trace.{Trace}
-
--- whether two servers are the same
-abbrev pub same_server : ServerId → ServerId → Bool
-same_server s t = number_of s == number_of t
 
 -- ---- states
 

@@ -12,7 +12,8 @@ use Rattle.harp_types.specs.declared.state.StateLine.{StateLine}
 use Rattle.trace_types.specs.declared.step.Step.{Step}
 use Rattle.trace_types.specs.declared.line.Line.{Line}
 use Rattle.trace_types.specs.declared.line.Line.TheVariants as line
-use Rattle.trace_claims.specs.Servers.{first_open, first_state, opens, is_open, same_server, same_view}
+use Rattle.harp_types.specs.Server.{same_server}
+use Rattle.trace_claims.specs.Servers.{first_open, first_state, opens, is_open, same_view}
 use Rattle.trace_claims.specs.Trace.{Trace}
 use Rattle.trace_claims.proofs.Places.{all-append}
 use Rattle.file_tree.specs.Book.{Entry}

@@ -9,7 +9,8 @@ use Rattle.trace_types.specs.declared.step.Step.TheVariants as step
 use Rattle.trace_types.specs.declared.line.Line.{Line}
 use Rattle.trace_types.specs.declared.line.Line.TheVariants as line
 use Rattle.trace_claims.specs.LocalSteps.{Adds, BringsRecords, IsNextPacket, Names, last_shown, later_shown, more_sent, records, sent_in}
-use Rattle.trace_claims.specs.Servers.{first_state, last_state, later_state, same_server}
+use Rattle.harp_types.specs.Server.{same_server}
+use Rattle.trace_claims.specs.Servers.{first_state, last_state, later_state}
 use Rattle.trace_claims.specs.Trace.{AtPlacesAfter, Trace}
 use Rattle.trace_claims.proofs.Places.{all-append, places-append}
 use Rattle.file_tree.specs.Book.{Entry}

@@ -16,7 +16,8 @@ use Rattle.harp_types.specs.declared.state.Role.{Role}
 use Rattle.harp_types.specs.declared.state.Held.{Held}
 use Rattle.trace_types.specs.declared.line.Line.{Line}
 use Rattle.trace_types.specs.declared.line.Line.TheVariants as line
-use Rattle.trace_claims.specs.Servers.{HasShown, first_open, first_state, first_view, last_state, later_state, opens, same_server}
+use Rattle.harp_types.specs.Server.{same_server}
+use Rattle.trace_claims.specs.Servers.{HasShown, first_open, first_state, first_view, last_state, later_state, opens}
 use Rattle.trace_claims.specs.Trace.{Trace}
 use Rattle.group_rules.specs.Names.{id_of}
 use Rattle.group_rules.specs.Places.{Zero, One, Two, Place}

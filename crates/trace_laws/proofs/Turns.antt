@@ -12,7 +12,8 @@ use Rattle.trace_types.specs.declared.line.LineFault.{LineFault}
 use Rattle.trace_types.specs.declared.line.LineFault.TheVariants as fault
 use Rattle.trace_types.specs.declared.line.Line.{Line}
 use Rattle.trace_types.specs.declared.line.Line.TheVariants as line
-use Rattle.trace_claims.specs.Servers.{clock_next, same_server}
+use Rattle.harp_types.specs.Server.{same_server}
+use Rattle.trace_claims.specs.Servers.{clock_next}
 use Rattle.file_tree.specs.Book.{Entry}
 use Rattle.group_safety.specs.Laws.{Whole}
 use Rattle.group_rules.specs.Limits.{delta_tests}

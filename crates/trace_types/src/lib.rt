@@ -2,10 +2,8 @@
 #![tactic(auto)]
 
 mod line;
-mod pick;
 mod step;
 
+pub use harp_types::{Bits, Cause, Pick};
 pub use line::{BookEntry, Line, LineFault, ShownMessage};
-pub use pick::{Bits, Pick};
 pub use step::Step;
-pub use harp_types::Cause;

@@ -3,9 +3,8 @@
 ghost use Rattle.std.specs.Prelude.{◌≡◌, IfOk};
 
 use crate::step::Step;
-use harp_types::{Attr, Bounded, Call, Cred, Held, Reply, ServerId, StateLine, ViewNo};
+use harp_types::{Attr, Bounded, Call, Cause, Cred, Held, Reply, ServerId, StateLine, ViewNo};
 use std::alloc::{AllocError, Global};
-use harp_types::Cause;
 
 /// A call that stands in the book, with its reply. A read has the index 0 and the stamp 0.
 #[derive(Drop)]

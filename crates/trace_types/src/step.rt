@@ -1,7 +1,6 @@
 //! What a line of a schedule asks for.
 
-use crate::pick::Pick;
-use harp_types::{Bytes, Call, Cred, ServerId};
+use harp_types::{Bytes, Call, Cred, Pick, ServerId};
 
 /// One step of a schedule.
 #[derive(Drop)]

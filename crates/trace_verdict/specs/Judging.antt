@@ -1,5 +1,6 @@
 -- A judge on its way through a text.
 use Rattle.std.specs.Prelude.{◌≡◌, ℕ, ◌+◌, ◌^◌, ◌<◌, ◌≤◌, List, [], ◌∷◌, ◌++◌, length, Option, Some, None}
+use Rattle.harp_types.specs.Limits.{longest_line}
 use Rattle.line_reader.specs.Lines.{lines_of}
 use Rattle.trace_text.specs.Grammar.{IsTraceLine}
 use Rattle.trace_types.specs.declared.line.Line.{Line}
@@ -18,7 +19,7 @@ use Rattle.trace_verdict.specs.Verdicts.{HasNoPlace, IsRightText, IsVerdictOn}
 pub record MeansOnly (text : List ℕ) (l : Line) : Type 0 where
   pub spelled : IsTraceLine text l
   pub only : (m : Line) → IsTraceLine text m → m ≡ l
-  pub short : length text ≤ 20000
+  pub short : length text ≤ longest_line
 
 abbrev pub MeanOnly : List (List ℕ) → Trace → Type 0
 MeanOnly [] [] = Unit {0}

@@ -1,5 +1,6 @@
 -- What is found of the text of a trace.
 use Rattle.std.specs.Prelude.{◌≡◌, ℕ, ◌+◌, ◌^◌, ◌<◌, ◌≤◌, true, false, List, [], ◌∷◌, ◌++◌, length}
+use Rattle.harp_types.specs.Limits.{longest_line}
 use Rattle.line_reader.specs.Lines.{lines_of}
 use Rattle.trace_text.specs.Grammar.{IsTraceLine}
 use Rattle.trace_types.specs.declared.line.Line.{Line}
@@ -18,7 +19,7 @@ AreLines [] [] = Unit {0}
 AreLines [] (l ∷ ls) = ⊥
 AreLines (text ∷ texts) [] = ⊥
 AreLines (text ∷ texts) (l ∷ ls) =
-    (IsTraceLine text l × (length text ≤ 20000)) × AreLines texts ls
+    (IsTraceLine text l × (length text ≤ longest_line)) × AreLines texts ls
 
 -- A RIGHT TEXT: that of a closed trace of at most 2^40 lines which is faithful and acknowledged, and
 -- uses promises
@@ -60,7 +61,7 @@ pub record IsPlaceless (text : List ℕ) (n : ℕ) : Type 0 where
   pub line : List ℕ
   pub comes : Comes text n before line
   pub few : n ≤ 2 ^ 40
-  pub short : length line ≤ 20000
+  pub short : length line ≤ longest_line
   pub none : HasNoPlace before line
 
 -- it has more than 20,000 bytes
@@ -69,7 +70,7 @@ pub record IsLong (text : List ℕ) (n : ℕ) : Type 0 where
   pub line : List ℕ
   pub comes : Comes text n before line
   pub few : n ≤ 2 ^ 40
-  pub long : 20000 < length line
+  pub long : longest_line < length line
 
 -- it is one past the 2^40th
 pub record IsPast (text : List ℕ) (n : ℕ) : Type 0 where

@@ -1,6 +1,7 @@
 //! Judging a text, line by line.
 
 ghost use Rattle.std.specs.Prelude.{◌≡◌, ◌≢◌, ℕ, ◌+◌, ◌<◌, ◌≤◌, ◌^◌, ◌↔◌, List, [], ◌∷◌, length, Err, IfOk, IsTrue, Ok, None, Some};
+ghost use Rattle.harp_types.specs.Limits.{longest_line};
 ghost use Rattle.harp_types.specs.Streams.{Rose};
 ghost use Rattle.line_reader.specs.Lines.{lines_of};
 ghost use Rattle.line_reader.specs.Reading.{text_left};
@@ -66,7 +67,7 @@ impl Judge {
     fn judge_line(&mut self, alloc: Global, line: &Line) -> Result<Option<Verdict>, AllocError>
         requires { self.old.lines < 2 ^ 40 }
         ensures after { (taken : List (List ℕ)) (before : Trace) (text : List ℕ)
-            → HasTaken self.old taken before → IsTraceLine text line.now → length text ≤ 20000
+            → HasTaken self.old taken before → IsTraceLine text line.now → length text ≤ longest_line
             → ((m : TraceLine) → IsTraceLine text m → m ≡ line.now)
             → IfOk result (AfterLine self.new taken before text) }
         ensures lines { result ≡ Ok None → self.new.lines ≡ self.old.lines + 1 }
@@ -88,7 +89,7 @@ impl Judge {
     /// Judges the next line of a text.
     fn take(&mut self, alloc: Global, text: &[u8]) -> Result<Option<Verdict>, AllocError>
         requires few { self.old.lines < 2 ^ 40 }
-        requires short { length text.now ≤ 20000 }
+        requires short { length text.now ≤ longest_line }
         ensures after { (taken : List (List ℕ)) (before : Trace) → HasTaken self.old taken before
             → IfOk result (AfterLine self.new taken before text.now) }
         ensures lines { result ≡ Ok None → self.new.lines ≡ self.old.lines + 1 }
@@ -111,7 +112,7 @@ impl Judge {
     /// Judges the next line of a text, of which further lines are left.
     fn take_line(&mut self, alloc: Global, line: &[u8]) -> Result<Option<Verdict>, AllocError>
         requires few { self.old.lines ≤ 2 ^ 40 }
-        requires short { length line.now ≤ 20000 }
+        requires short { length line.now ≤ longest_line }
         ensures after { (text left after : List ℕ) → IsOnTheWay text left self.old
             → lines_of left ≡ line.now ∷ lines_of after
             → IfOk result (AfterTurn text after self.new) }
@@ -128,7 +129,7 @@ impl Judge {
     fn too_long(&self) -> Verdict
         requires { self.now.lines ≤ 2 ^ 40 }
         ensures { (text left line : List ℕ) (lines : List (List ℕ)) → IsOnTheWay text left self.now
-            → lines_of left ≡ line ∷ lines → 20000 < length line
+            → lines_of left ≡ line ∷ lines → longest_line < length line
             → Denies text result }
     {
         if self.lines >= LINES {

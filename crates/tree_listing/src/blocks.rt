@@ -13,8 +13,8 @@ ghost use Rattle.tree_listing.specs.Reading.{at_most_one};
 
 use crate::inode::blocks_of;
 use crate::listing::{ListedBlock, Row};
-use harp_types::{BLOCK_SIZE, Bounded};
 use harp_cells::{Cell, CellFault, CellRead, Value};
+use harp_types::{BLOCK_SIZE, Bounded};
 use std::alloc::{AllocError, Global};
 
 // The bytes that stand in a block, none where it is absent.

@@ -6,8 +6,8 @@ ghost use Rattle.cell_changes.specs.TreeCells.{TreeCells};
 ghost use Rattle.file_tree.specs.Tree.{blocks_of};
 ghost use Rattle.tree_listing.specs.Reading.{attr_by, first_root_inode, inode_found, inode_placed, next_found};
 
-use harp_types::{Attr, BLOCK_SIZE, Kind, Time};
 use harp_cells::{Cell, CellFault, CellRead, Inode, Value};
+use harp_types::{Attr, BLOCK_SIZE, Kind, Time};
 
 fn next_in(value: &Value) -> u32
     ensures { result ≡ next_found (Some value.now) }

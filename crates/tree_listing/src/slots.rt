@@ -9,8 +9,8 @@ ghost use Rattle.tree_listing.specs.Listing.{slot_listed, slots_listed};
 ghost use Rattle.tree_listing.specs.Reading.{at_most_one};
 
 use crate::listing::{ListedSlot, Row};
-use harp_types::Bounded;
 use harp_cells::{Cell, CellFault, CellRead, Value};
+use harp_types::Bounded;
 use std::alloc::{AllocError, Global};
 
 fn slot_in(alloc: Global, value: &Value, slot: u32) -> Result<Option<ListedSlot>, AllocError>

@@ -12,8 +12,8 @@ use crate::blocks::list_blocks;
 use crate::inode::{attr_by, inode_at, next_number};
 use crate::listing::{Listed, ListedBlock, Row};
 use crate::slots::list_slots;
-use harp_types::{Bounded, Kind, LONGEST_PATH};
 use harp_cells::{CellFault, CellRead, Inode};
+use harp_types::{Bounded, Kind, LONGEST_PATH};
 use inode_blocks::read_bytes;
 use std::alloc::Global;
 

@@ -7,8 +7,8 @@ ghost use Rattle.harp_base.specs.Fields.{AllFit};
 ghost use Rattle.tree_log.specs.Sizes.{HasShortParts, IsShortChange, IsShortValue, longest_call};
 
 use event_record::RecordFields;
-use harp_types::Call;
 use harp_cells::{Change, Value};
+use harp_types::Call;
 
 /// A call has at most 8,233 bytes.
 #[tactic(auto, using(crate::proofs::Lengths::sizes))]

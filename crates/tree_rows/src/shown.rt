@@ -1,7 +1,7 @@
 //! Replies and changes as text.
 
-use harp_types::{Attr, Reply};
 use harp_cells::{Cell, Change, Inode, Value};
+use harp_types::{Attr, Reply};
 use std::alloc::{AllocError, Global};
 use text_writer::{
     put_attr, put_decimal, put_hex, put_name, put_named, put_number, put_reply, put_three,

@@ -1,6 +1,8 @@
 //! Sources and sinks that fail.
 
-use harp_types::{Bytes, Failed, MemSink, MemSource, ReaderSource, Sink, SinkFault, Source, WriterSink, write_all};
+use harp_types::{
+    Bytes, Failed, MemSink, MemSource, ReaderSource, Sink, SinkFault, Source, WriterSink, write_all,
+};
 use std::io;
 use std::io::{ErrorKind, Read, Write};
 use std::test::Fail;

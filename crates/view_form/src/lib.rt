@@ -7,9 +7,11 @@ mod collector;
 mod join;
 mod laws;
 mod plan;
+mod same;
 
 pub use choosing::choose;
 pub use collector::Collector;
 pub use join::JoinInfo;
 pub use laws::choices_are_right;
 pub use plan::Plan;
+pub use same::{is_one, is_view, is_witness};

@@ -11,8 +11,8 @@ mod storers;
 
 pub use decoding::{DecodeFault, decode};
 pub use encoding::encode;
+pub use harp_types::Cause;
 pub use message::Message;
 pub use promise::Deadline;
 pub use records::Records;
 pub use storers::Storers;
-pub use harp_types::Cause;

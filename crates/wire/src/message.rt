@@ -5,10 +5,9 @@ ghost use Rattle.std.specs.Prelude.{◌≡◌, IfOk};
 use crate::records::Records;
 use crate::storers::Storers;
 use event_record::Record;
-use harp_types::{Call, Cred, Held, Reply, ServerId, ViewNo};
+use harp_types::{Call, Cause, Cred, Held, Reply, ServerId, ViewNo};
 use promise::Deadline;
 use std::alloc::{AllocError, Global};
-use harp_types::Cause;
 
 /// A message: one datagram between two servers, or between a client and a server. The counts of
 /// updates are those of the sender: `base` of those dropped from the log, `lb` on disk, `cp` known

@@ -11,12 +11,11 @@ use crate::records::Records;
 use crate::storers::Storers;
 use event_record::Record;
 use event_record::fields::{item_at, put_item};
-use harp_base::fields::{below_at, byte_at, put_u16, u16_at};
 use harp_base::Misread;
-use harp_types::{Held, ServerId};
+use harp_base::fields::{below_at, byte_at, put_u16, u16_at};
+use harp_types::{Cause, Held, ServerId};
 use promise::Deadline;
 use std::alloc::{AllocError, Global};
-use harp_types::Cause;
 
 // The end of a promise is below this.
 const DEADLINES: u64 = (1 << 62) + 100_000;

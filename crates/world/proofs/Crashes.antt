@@ -11,18 +11,16 @@ use Rattle.group_trace.specs.Shown.{shown_of}
 use Rattle.harp_types.specs.Trio.{value_of}
 use Rattle.harp_types.specs.declared.server.ServerId.{ServerId}
 use Rattle.harp_types.specs.declared.state.StateLine.{StateLine}
-use Rattle.harp_store.specs.declared.pick.Pick.{Pick as StorePick}
+use Rattle.harp_types.specs.declared.pick.Pick.{Pick}
 use Rattle.world_rules.specs.Host.{HostValue, IsHost}
 use Rattle.world_rules.specs.Spellings.{spellings}
 use Rattle.world_rules.specs.Steps.{Falls, HostBoots, HostFalls}
 use Rattle.node.specs.Stock.{Stock}
 use Rattle.world_laws.proofs.StockSteps.{falls_are_right}
-use Rattle.store_laws.specs.Told.{pick_of}
 use Rattle.trace_laws.proofs.Turns.{own_none}
 use Rattle.trace_types.specs.declared.line.Line.{Line}
 use Rattle.trace_types.specs.declared.line.Line.TheVariants as line
 use Rattle.trace_types.specs.declared.line.LineFault.TheVariants as fault
-use Rattle.trace_types.specs.declared.pick.Pick.{Pick}
 use Rattle.trace_types.specs.declared.step.Step.TheVariants as step
 use Rattle.world.specs.Steps.{Takes}
 use Rattle.world.specs.Turns.{turn_moves}
@@ -37,12 +35,12 @@ use Rattle.world.proofs.Turns.{disk_there, others_stay, shown_rightly, with_host
 
 -- A CRASH is taken, where the state was shown before and is shown afterwards
 pub crash_taken : (l : Laws) (old new : WorldValue) (server : ServerId) (pick : Pick)
-    (h : HostValue) (before now : Option StateLine) (none_yet lines : List Line) (by : StorePick)
+    (h : HostValue) (before now : Option StateLine) (none_yet lines : List Line) (by : Pick)
     → none_yet ≡ []
     → ((w : DiskScene) → IsWorld w old
     → before ≡ shown_of (w.scene.group.server (place_of server)))
     → h.me ≡ (value_of old.hosts server).me → HostFalls (value_of old.hosts server) h by
-    → pick_of pick ≡ by → new ≡ with_host old server h
+    → pick ≡ by → new ≡ with_host old server h
     → ((w : DiskScene) → IsWorld w new → now ≡ shown_of (w.scene.group.server (place_of server)))
     → lines ≡ none_yet ++ state_lines (place_of server) before now
     → Takes old new (step.Crash server pick) lines

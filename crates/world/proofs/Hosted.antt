@@ -4,7 +4,7 @@ use Rattle.std.specs.Prelude.{OnOk}
 use Rattle.harp_types.specs.Trio.{value_of, with_value}
 use Rattle.harp_types.specs.declared.server.ServerId.{ServerId}
 use Rattle.harp_types.specs.declared.trio.Trio.{Trio}
-use Rattle.harp_store.specs.declared.pick.Pick.{Pick as StorePick}
+use Rattle.harp_types.specs.declared.pick.Pick.{Pick}
 use Rattle.world_rules.specs.Host.{HostValue}
 use Rattle.world_rules.specs.Steps.{HostBoots, HostFails, HostFalls}
 use Rattle.world_rules.specs.declared.stop.Stop.{Stop}
@@ -25,7 +25,7 @@ module _ (hosts : Trio HostValue) (server : ServerId) (old there new : HostValue
       (subst (λ x. HostBoots old x now delta) (sym (value_there hosts server new))
       (subst (λ x. HostBoots x new now delta) is h)))
 
-  pub hosts_fall : (by : StorePick) → HostFalls there new by
+  pub hosts_fall : (by : Pick) → HostFalls there new by
       → HostFalls old (value_of (with_value hosts server new) server) by
   hosts_fall by h = subst (λ x. HostFalls old x by) (sym (value_there hosts server new))
       (subst (λ x. HostFalls x new by) is h)

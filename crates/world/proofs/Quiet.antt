@@ -16,9 +16,8 @@ use Rattle.harp_types.specs.declared.trio.Trio.{Trio}
 use Rattle.world_rules.specs.Spellings.{spellings}
 use Rattle.world_rules.specs.Steps.{IsStop}
 use Rattle.world_rules.specs.declared.stop.Stop.{Stop}
-use Rattle.store_laws.specs.Told.{pick_of}
 use Rattle.trace_types.specs.declared.line.Line.TheVariants as line
-use Rattle.trace_types.specs.declared.pick.Pick.{Pick}
+use Rattle.harp_types.specs.declared.pick.Pick.{Pick}
 use Rattle.trace_types.specs.declared.step.Step.{Step}
 use Rattle.trace_types.specs.declared.step.Step.TheVariants as step
 use Rattle.world.specs.Clocks.{delta_after, later}
@@ -167,7 +166,7 @@ stop_taken old new server calls pick stop is stops w reached world none =
           (subst (λ p. IsStop (value_of old.stops y) (w.scene.armed (place_of y)) p)
           (sym (at_other w.picks q (place_of y) pick n)) (world.stops y))) (
             at_self w.scene.armed q (Some calls) ∙ stops.0,
-            ap pick_of (at_self w.picks q pick) ∙ stops.1,
+            at_self w.picks q pick ∙ stops.1,
           );
       clocks = world.clocks;
       delta = world.delta;

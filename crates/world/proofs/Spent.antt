@@ -2,7 +2,7 @@
 use Rattle.std.proofs.Common.{◌≡◌, Option, None, ap, ◌∙◌, subst}
 use Rattle.harp_types.specs.Trio.{value_of, with_value}
 use Rattle.harp_types.specs.declared.server.ServerId.{ServerId}
-use Rattle.harp_store.specs.declared.pick.Pick.{Pick as StorePick}
+use Rattle.harp_types.specs.declared.pick.Pick.{Pick}
 use Rattle.world_rules.specs.Steps.{HostBoots, HostFails, HostFalls, HostTakes}
 use Rattle.world_rules.specs.declared.stop.Stop.{Stop}
 use Rattle.node.specs.declared.input.Input.{Input}
@@ -42,7 +42,7 @@ module _ (old spent new : WorldValue) (server : ServerId) (is : spent ≡ withou
     fails_then stop h = subst (λ (x : WorldValue). HostFails (value_of x.hosts server)
         (value_of new.hosts server) stop) is h
 
-    pub falls_then : (by : StorePick)
+    pub falls_then : (by : Pick)
         → HostFalls (value_of spent.hosts server) (value_of new.hosts server) by
         → HostFalls (value_of old.hosts server) (value_of new.hosts server) by
     falls_then by h = subst (λ (x : WorldValue). HostFalls (value_of x.hosts server)

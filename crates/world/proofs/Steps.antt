@@ -31,7 +31,7 @@ use Rattle.trace_laws.proofs.StopLaws.{makes_no_call}
 use Rattle.trace_laws.proofs.Turns.{is_up, own_none}
 use Rattle.trace_types.specs.declared.line.Line.{Line}
 use Rattle.trace_types.specs.declared.line.Line.TheVariants as line
-use Rattle.trace_types.specs.declared.pick.Pick.{Pick}
+use Rattle.harp_types.specs.declared.pick.Pick.{Pick}
 use Rattle.trace_types.specs.declared.step.Step.{Step}
 use Rattle.trace_types.specs.declared.step.Step.TheVariants as step
 use Rattle.tree_listing.specs.Listing.{tree_listed}

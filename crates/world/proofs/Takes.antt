@@ -7,7 +7,7 @@ use Rattle.group_disks.specs.Run.{disk_after}
 use Rattle.group_rules.specs.Places.{Place}
 use Rattle.group_rules.specs.State.{Group}
 use Rattle.group_rules.specs.Step.{Crash, Does, Input as Begins}
-use Rattle.harp_store.specs.declared.pick.Pick.{Pick as StorePick}
+use Rattle.harp_types.specs.declared.pick.Pick.{Pick}
 use Rattle.world_rules.specs.Host.{HostValue, IsHost, no_stock}
 use Rattle.world_rules.specs.Spellings.{spellings}
 use Rattle.world_rules.specs.Steps.{Boots, CanFail, CanTake, Fails, Falls, HostBoots, HostFails, HostFalls, HostTakes, IsStop, Takes}
@@ -15,8 +15,6 @@ use Rattle.world_rules.specs.declared.stop.Stop.{Stop}
 use Rattle.node.specs.Stock.{Stock}
 use Rattle.node.specs.declared.input.Input.{Input}
 use Rattle.node_outputs.specs.declared.outputs.Outputs.{Outputs}
-use Rattle.store_laws.specs.Told.{pick_of}
-use Rattle.trace_types.specs.declared.pick.Pick.{Pick}
 
 pub takes_at : (q : Place) (old new : HostValue) (given : Input) (now : ℕ) (stop : Option Stop)
     (outs : Option Outputs) → old.me ≡ q → HostTakes old new given now stop outs
@@ -41,12 +39,12 @@ fails_at q old new stop me h = subst (λ (p : Place).
     → (g.server p).up ≡ true → IsStop stop most pick → CanFail g p r
     → Fails g most pick p k saved r new) me h
 
-pub falls_at : (q : Place) (old new : HostValue) (by : StorePick) → old.me ≡ q
+pub falls_at : (q : Place) (old new : HostValue) (by : Pick) → old.me ≡ q
     → HostFalls old new by → (g : Group Entry) (pick : Pick) (k : Stock)
-    (saved : List RecordFields) (r : Disk) → IsHost (g.server q) k saved r old → pick_of pick ≡ by
+    (saved : List RecordFields) (r : Disk) → IsHost (g.server q) k saved r old → pick ≡ by
     → Falls (g.server q) saved (disk_after spellings g None pick q (Does Crash) r) new
 falls_at q old new by me h = subst (λ (p : Place). (g : Group Entry) (pick : Pick) (k : Stock)
-    (saved : List RecordFields) (r : Disk) → IsHost (g.server p) k saved r old → pick_of pick ≡ by
+    (saved : List RecordFields) (r : Disk) → IsHost (g.server p) k saved r old → pick ≡ by
     → Falls (g.server p) saved (disk_after spellings g None pick p (Does Crash) r) new) me h
 
 pub boots_at : (q : Place) (old new : HostValue) (now delta : ℕ) → old.me ≡ q

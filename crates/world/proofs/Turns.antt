@@ -28,7 +28,7 @@ use Rattle.node.specs.declared.input.Input.{Input}
 use Rattle.node_outputs.specs.declared.outputs.Outputs.{Outputs}
 use Rattle.world_laws.proofs.StockSteps.{falls_are_right}
 use Rattle.trace_types.specs.declared.line.Line.{Line}
-use Rattle.trace_types.specs.declared.pick.Pick.{Pick}
+use Rattle.harp_types.specs.declared.pick.Pick.{Pick}
 use Rattle.tree_listing.specs.declared.listing.Listing.{Listing}
 use Rattle.world.specs.Given.{Gives, GivesAll, GivesNothing}
 use Rattle.world.specs.Turns.{PowerFails, TurnBegins, Turns, after_armed_turn, after_turn, turn_lines, turn_moves}

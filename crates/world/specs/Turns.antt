@@ -22,7 +22,7 @@ use Rattle.node.specs.declared.input.Input.{Input}
 use Rattle.world_laws.specs.StockLaws.{GoesOn}
 use Rattle.world_laws.specs.Stocks.{Carries}
 use Rattle.trace_types.specs.declared.line.Line.{Line}
-use Rattle.trace_types.specs.declared.pick.Pick.{Pick}
+use Rattle.harp_types.specs.declared.pick.Pick.{Pick}
 use Rattle.tree_listing.specs.declared.listing.Listing.{Listing}
 use Rattle.world.specs.World.{IsWorld, WorldValue}
 

@@ -5,7 +5,6 @@ ghost use Rattle.trace_types.specs.declared.step.Step.TheVariants as step_is;
 ghost use Rattle.world.specs.Steps.{Takes};
 ghost use Rattle.world.specs.Turns.{PowerFails};
 
-use crate::picks::pick_of;
 use crate::world::World;
 use harp_types::ServerId;
 use std::alloc::{AllocError, Global};
@@ -46,7 +45,7 @@ impl World {
     {
         let stop = Stop {
             calls,
-            pick: pick_of(alloc, pick)?,
+            pick: pick.copy(alloc)?,
         };
         self.fail_power(alloc, server, Some(stop), lines)?;
         Ok(())
@@ -85,10 +84,9 @@ impl World {
             (step_is.Crash server pick.now) lines.new.items) }
         ensures clocks { OnOk result (self.new.clocks ≡ self.old.clocks) }
     {
-        let kept = pick_of(alloc, pick)?;
         let before = self.state_line(server);
         self.spend_stop(server);
-        self.crash_host(server, &kept);
+        self.crash_host(server, pick);
         let after = self.state_line(server);
         show_state(server, &before, &after, lines)?;
         Ok(())

@@ -10,8 +10,8 @@ ghost use Rattle.world.specs.World.{IsWorld};
 ghost use Rattle.world.specs.Hosts.{HasHost};
 
 use crate::world::World;
-use harp_types::{ServerId, StateLine};
 use harp_store::Pick;
+use harp_types::{ServerId, StateLine};
 use node::Input;
 use node_outputs::Outputs;
 use std::alloc::{AllocError, Global};

@@ -8,7 +8,6 @@ mod clocks;
 mod delivering;
 mod falling;
 mod hosts;
-mod picks;
 mod refusing;
 mod running;
 mod stopping;

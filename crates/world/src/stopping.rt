@@ -4,7 +4,6 @@ ghost use Rattle.std.specs.Prelude.{◌≡◌, OnOk, []};
 ghost use Rattle.trace_types.specs.declared.step.Step.TheVariants as step_is;
 ghost use Rattle.world.specs.Steps.{Takes};
 
-use crate::picks::pick_of;
 use crate::world::World;
 use harp_types::ServerId;
 use std::alloc::{AllocError, Global};
@@ -26,7 +25,7 @@ impl World {
     {
         let stop = Stop {
             calls,
-            pick: pick_of(alloc, pick)?,
+            pick: pick.copy(alloc)?,
         };
         *self.stops.get_mut(server) = Some(stop);
         Ok(())

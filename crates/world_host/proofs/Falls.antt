@@ -22,13 +22,14 @@ use Rattle.harp_cells.specs.declared.cell.Cell.{Cell}
 use Rattle.harp_cells.specs.declared.value.Value.{Value}
 use Rattle.harp_store.specs.Disk.{Disk as ToldDisk, IsSynced, reads, set_by}
 use Rattle.harp_store.specs.Mark.{MarkFields, SavedNumbers}
-use Rattle.harp_store.specs.Memory.{crashed_by as told_crashed_by, is_kept, kept}
+use Rattle.harp_store.specs.Memory.{crashed_by as told_crashed_by, kept}
+use Rattle.harp_types.specs.Picks.{is_kept}
 use Rattle.harp_store.specs.declared.layers.Unsynced.{Unsynced}
-use Rattle.harp_store.specs.declared.pick.Pick.{Pick as StorePick}
+use Rattle.harp_types.specs.declared.pick.Pick.{Pick}
 use Rattle.power_save.specs.Saved.{HasRecord, HoldRecords, cell_in}
 use Rattle.store_laws.proofs.Disks.{crashes_follow}
 use Rattle.store_laws.proofs.StepCalls.{steps_make_calls}
-use Rattle.store_laws.specs.Told.{IsDiskOf, pick_of}
+use Rattle.store_laws.specs.Told.{IsDiskOf}
 
 -- ---- a crash of a disk that is synced
 
@@ -36,7 +37,7 @@ none_kept : (keeps : ℕ → _) (us : List Unsynced) → us ≡ [] → kept keep
 unfolding kept
 none_kept keeps us e = ap (kept keeps 0) e
 
-synced_reads : (pick : StorePick) (d : ToldDisk) → IsSynced d → (c : Cell)
+synced_reads : (pick : Pick) (d : ToldDisk) → IsSynced d → (c : Cell)
     → reads (told_crashed_by pick d) c ≡ reads d c
 unfolding reads set_by
 synced_reads pick d synced c =
@@ -53,7 +54,7 @@ same_held ring a b base records same h = λ k d lt. record {
   its = (h k d lt).its;
 }
 
-crashed_saves : (pick : StorePick) (saved : List RecordFields) (d : ToldDisk) (v : SavedNumbers)
+crashed_saves : (pick : Pick) (saved : List RecordFields) (d : ToldDisk) (v : SavedNumbers)
     → SavesRecords saved d v → SavesRecords saved (told_crashed_by pick d) v
 crashed_saves pick saved d v h = record {
   top = h.top;
@@ -64,7 +65,7 @@ crashed_saves pick saved d v h = record {
 
 -- ---- a host that fell
 
-fallen_saves : (pick : StorePick) (saved : List RecordFields) (mark : MarkFields)
+fallen_saves : (pick : Pick) (saved : List RecordFields) (mark : MarkFields)
     (d e : ToldDisk) → (mark.saved ≡ None) ⊎ (e ≡ d) → IfSome mark.saved (SavesRecords saved d)
     → IfSome mark.saved (SavesRecords saved (told_crashed_by pick e))
 fallen_saves pick saved mark d e (inl none) h =
@@ -75,7 +76,7 @@ fallen_saves pick saved mark d e (inr same) h = saves_if saved mark mark d
     (crashed_saves pick saved d v saves)) h
 
 -- its disk keeps the mark, and the saved log by it
-pub fallen : (s : Server Entry) (saved : List RecordFields) (q : Place) (pick : StorePick)
+pub fallen : (s : Server Entry) (saved : List RecordFields) (q : Place) (pick : Pick)
     (d e : ToldDisk) (left : Disk) → (h : HasMark s saved q d) → KeepsLog h.mark d e
     → IsDiskOf (told_crashed_by pick e) left
     → (host : HostValue) → Holds host q None (told_crashed_by pick e) → Falls s saved left host
@@ -99,7 +100,7 @@ no_calls : (disk : Disk) (calls : List DiskCall) → calls ≡ [] → after_call
 unfolding after_calls
 no_calls disk calls e = ap (λ (cs : List DiskCall). after_calls cs disk) e
 
-pub crash_falls : (old new : HostValue) (by : StorePick)
+pub crash_falls : (old new : HostValue) (by : Pick)
     → Holds new old.me None (told_crashed_by by (disk_of old)) → HostFalls old new by
 crash_falls old new by holds g pick k saved r h same =
     let q = old.me in
@@ -108,6 +109,6 @@ crash_falls old new by holds g pick k saved r h same =
     let none : after_calls calls r ≡ r = no_calls r calls (steps_make_calls spellings g q).crash in
     let left = disk_after spellings g None pick q (Does Crash) r in
     fallen (g.server q) saved q by d d left h.mark (record { mark = refl; log = inr refl })
-    (subst (λ (p : StorePick). IsDiskOf (told_crashed_by p d) left) same
-    (subst (λ (x : Disk). IsDiskOf (told_crashed_by (pick_of pick) d) (crashed_by pick x))
+    (subst (λ (p : Pick). IsDiskOf (told_crashed_by p d) left) same
+    (subst (λ (x : Disk). IsDiskOf (told_crashed_by pick d) (crashed_by pick x))
     (sym none) (crashes_follow d r pick h.disk))) new holds

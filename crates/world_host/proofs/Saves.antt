@@ -27,7 +27,7 @@ use Rattle.harp_cells.specs.declared.change.Change.{Change}
 use Rattle.harp_store.specs.Disk.{Disk as ToldDisk, Moments, after_step, reads, then_disk, with_mark}
 use Rattle.harp_store.specs.Mark.{MarkFields, SavedNumbers}
 use Rattle.harp_store.specs.Memory.{crashed_by as told_crashed_by}
-use Rattle.harp_store.specs.declared.pick.Pick.{Pick as StorePick}
+use Rattle.harp_types.specs.declared.pick.Pick.{Pick}
 use Rattle.node.specs.Boot.{HasBase}
 use Rattle.node.specs.Node.{NodeValue, mark_with, saved_with, server}
 use Rattle.node.specs.Power.{IsSavedBy, SavesAtOnce, mark_left, saved_log, saves_log, saving_mark}
@@ -40,7 +40,6 @@ use Rattle.store_laws.proofs.Parts.{parts_are_saves}
 use Rattle.store_laws.proofs.StepCalls.{steps_make_calls}
 use Rattle.store_laws.specs.Calls.{IsCallOf, Makes, StoreCall, Syncs, Writes, save_calls, told_after}
 use Rattle.store_laws.specs.Told.{IsDiskOf, OneForOne}
-use Rattle.trace_types.specs.declared.pick.Pick.{Pick}
 use Rattle.volatile_log.specs.Log.{AreNumberedAfter, LogValue, room}
 
 -- what a node says of a power failure, whether it saved its log or not
@@ -392,7 +391,7 @@ stopped_from n stop d e stands host holds le within p g most pick k saved r h up
       stopped = λ _. fallen s saved q stop.pick d stands.now left h.mark
           (subst (λ (m : MarkFields). KeepsLog m d stands.now)
           (sym (node_mark s k saved r n d h)) cut.kept)
-          (subst (λ (p : StorePick). IsDiskOf (told_crashed_by p stands.now) left) by.1 cut.disk)
+          (subst (λ (p : Pick). IsDiskOf (told_crashed_by p stands.now) left) by.1 cut.disk)
           host holds;
     })
 

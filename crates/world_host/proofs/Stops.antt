@@ -21,8 +21,8 @@ use Rattle.harp_store.specs.Memory.{crashed_by as told_crashed_by, nothing_store
 use Rattle.stopping_store.specs.Stopping.{numbered, stop_moment}
 use Rattle.store_laws.proofs.Calls.{calls_are_moments, moments_before, steps_follow}
 use Rattle.store_laws.specs.Calls.{HaveFewBlocks, IsCallOf, Makes, StoreCall, Syncs, Writes, told_after}
-use Rattle.store_laws.specs.Told.{IsDiskOf, IsToldOf, OneForOne, pick_of}
-use Rattle.trace_types.specs.declared.pick.Pick.{Pick}
+use Rattle.store_laws.specs.Told.{IsDiskOf, IsToldOf, OneForOne}
+use Rattle.harp_types.specs.declared.pick.Pick.{Pick}
 
 -- ---- the calls that were made
 
@@ -221,7 +221,7 @@ pub record IsCut (f : Spellings) (g : Group Entry) (most : ℕ) (pick : Pick) (q
     (mark : MarkFields) (d stands : ToldDisk) (r : Disk) : Type 0 where
   pub cut : is_whole f g (Some most) q i ≡ false
   pub kept : KeepsLog mark d stands
-  pub disk : IsDiskOf (told_crashed_by (pick_of pick) stands)
+  pub disk : IsDiskOf (told_crashed_by pick stands)
       (disk_after f g (Some most) pick q i r)
 
 pub step_cut : (f : Spellings) (g : Group Entry) (most : ℕ) (pick : Pick) (q : Place) (i : Begins)
@@ -240,7 +240,7 @@ step_cut f g most pick q i mark d e stands r le within disk few c =
       cut = not_whole;
       kept = keeps_log mark c.calls most (first_told most d) (numbered 0 stands) c.last c.kept
           cut.more cut.passed;
-      disk = subst (λ (t : Option Moments). Now (λ x. IsDiskOf (told_crashed_by (pick_of pick) x)
+      disk = subst (λ (t : Option Moments). Now (λ x. IsDiskOf (told_crashed_by pick x)
           (disk_after f g (Some most) pick q i r)) t) cut.passed
           (told.crashed (ap (λ (b : Bool). b && not (is_crash i)) not_whole));
     }

@@ -21,7 +21,7 @@ use Rattle.group_rules.specs.Step.{Input as Begins}
 use Rattle.harp_store.specs.Disk.{Disk as ToldDisk, Moments, then_disk}
 use Rattle.harp_store.specs.Mark.{MarkFields}
 use Rattle.harp_store.specs.Memory.{crashed_by as told_crashed_by}
-use Rattle.harp_store.specs.declared.pick.Pick.{Pick as StorePick}
+use Rattle.harp_types.specs.declared.pick.Pick.{Pick}
 use Rattle.node.specs.Input.{input_of}
 use Rattle.node.specs.Node.{NodeValue}
 use Rattle.node.specs.Stock.{Stock}
@@ -32,7 +32,6 @@ use Rattle.node_outputs.specs.declared.outputs.Outputs.{Outputs}
 use Rattle.stopping_store.specs.Stopping.{made, numbered, stop_moment, told_by}
 use Rattle.stopping_store.specs.declared.attempt.Attempt.{Attempt}
 use Rattle.store_laws.specs.Told.{IsDiskOf}
-use Rattle.trace_types.specs.declared.pick.Pick.{Pick}
 
 -- ---- a step of a node over a disk
 
@@ -202,7 +201,7 @@ stopped_from given now n stop d e stands host holds le within st g most pick i k
         fallen s saved q stop.pick d stands.now left h.mark
             (subst (λ (m : MarkFields). KeepsLog m d stands.now)
             (sym (node_mark s k saved r n d h)) cut.kept)
-            (subst (λ (p : StorePick). IsDiskOf (told_crashed_by p stands.now) left) by.1 cut.disk)
+            (subst (λ (p : Pick). IsDiskOf (told_crashed_by p stands.now) left) by.1 cut.disk)
             host holds,
       );
     })

@@ -6,10 +6,10 @@ ghost use Rattle.world_lines.specs.Book.{entered, new_updates, with_reads, with_
 ghost use Rattle.world_lines.specs.Given.{read_in, reads_in};
 ghost use Rattle.node_outputs.specs.Said.{entered as committed};
 
+use harp_types::BookEntry as Committed;
 use node_outputs::Answered;
 use std::alloc::{AllocError, Global};
 use std::marker::Model;
-use harp_types::BookEntry as Committed;
 use trace_types::{BookEntry, Line};
 
 /// The calls that were entered, in their order: each committed update once, and each read that was

@@ -13,7 +13,7 @@ use Rattle.group_rules.specs.State.{Group, Log, Server, mark_of}
 use Rattle.group_rules.specs.Step.{Crash, Does, Input as Begins, Power, list_of, saves, step_of}
 use Rattle.harp_types.specs.declared.peer.Peer.{Peer}
 use Rattle.harp_store.specs.Disk.{Disk as ToldDisk}
-use Rattle.harp_store.specs.declared.pick.Pick.{Pick as StorePick}
+use Rattle.harp_types.specs.declared.pick.Pick.{Pick}
 use Rattle.idle_log.specs.Gives.{StandIn}
 use Rattle.node.specs.Boot.{booted_stock}
 use Rattle.node.specs.Input.{FillsInput, came, input_of}
@@ -28,8 +28,7 @@ use Rattle.node_outputs.specs.Said.{nothing, said}
 use Rattle.node_outputs.specs.declared.outputs.Outputs.{Outputs}
 use Rattle.store_laws.specs.Calls.{HaveFewBlocks, IsChangeOf}
 use Rattle.store_laws.specs.Steps.{applied_by}
-use Rattle.store_laws.specs.Told.{OneForOne, pick_of}
-use Rattle.trace_types.specs.declared.pick.Pick.{Pick}
+use Rattle.store_laws.specs.Told.{OneForOne}
 use Rattle.tree_listing.specs.declared.listing.Listing.{Listing}
 use Rattle.tree_log.specs.Reading.{HoldsTree}
 use Rattle.replica.specs.Asking.{recorded}
@@ -43,7 +42,7 @@ use Rattle.world_rules.specs.declared.stop.Stop.{Stop}
 -- a stop lets so many calls pass, and this is its pick; where there is none, any will do
 abbrev pub IsStop : Option Stop → Option ℕ → Pick → Type 0
 IsStop None most pick = most ≡ None
-IsStop (Some stop) most pick = (most ≡ Some stop.calls) × (pick_of pick ≡ stop.pick)
+IsStop (Some stop) most pick = (most ≡ Some stop.calls) × (pick ≡ stop.pick)
 
 -- who is answered or refused in turn: an ask's own peer; those who wait, where an update commits
 abbrev pub peers_by : Stock → Input → List Peer
@@ -148,9 +147,9 @@ HostFails old new stop = (g : Group Entry) (most : Option ℕ) (pick : Pick) (k 
     → Fails g most pick old.me k saved r new
 
 -- A CRASH by a pick
-abbrev pub HostFalls : (old new : HostValue) → StorePick → Type 0
+abbrev pub HostFalls : (old new : HostValue) → Pick → Type 0
 HostFalls old new by = (g : Group Entry) (pick : Pick) (k : Stock) (saved : List RecordFields)
-    (r : Disk) → IsHost (g.server old.me) k saved r old → pick_of pick ≡ by
+    (r : Disk) → IsHost (g.server old.me) k saved r old → pick ≡ by
     → Falls (g.server old.me) saved
     (disk_after spellings g None pick old.me (Does Crash) r) new
 

@@ -13,8 +13,8 @@ ghost use Rattle.nfs_calls.specs.Gives.{Gives, Tells};
 use crate::error::CallError;
 use crate::parts::inode::live;
 use crate::parts::names::{check_name, is_dot, is_dot_dot};
-use harp_types::{Kind, Status};
 use harp_cells::{CellFault, CellRead, Inode};
+use harp_types::{Kind, Status};
 
 /// Ok for a directory, else its refusal.
 pub fn slots_in(kind: Kind) -> Result<(), Status>

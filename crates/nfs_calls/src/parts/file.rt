@@ -11,8 +11,8 @@ ghost use Rattle.cell_changes.specs.TreeCells.{TreeCells};
 ghost use Rattle.nfs_calls.specs.TreeCells.{IsInode, bytes_within};
 ghost use Rattle.nfs_calls.specs.Gives.{Gives, Tells};
 
-use harp_types::{Bytes, Kind, Status};
 use harp_cells::{CellFault, CellRead, Inode};
+use harp_types::{Bytes, Kind, Status};
 use inode_blocks::read_bytes;
 use std::alloc::Global;
 

@@ -10,8 +10,8 @@ ghost use Rattle.nfs_calls.specs.TreeCells.{IsInode, inode_found, inode_placed, 
 ghost use Rattle.nfs_calls.specs.Gives.{Gives};
 
 use crate::error::CallError;
-use harp_types::{Attr, BLOCK_SIZE, Kind, Status, Time};
 use harp_cells::{Cell, CellFault, CellRead, Inode, Value};
+use harp_types::{Attr, BLOCK_SIZE, Kind, Status, Time};
 
 /// The attributes of the root of the first tree.
 fn root_inode() -> Inode

@@ -11,8 +11,8 @@ ghost use Rattle.nfs_calls.specs.Entries.{is_directory_kind, link_of, relinked, 
 use crate::parts::inode::inode_at;
 use crate::parts::pushes::{erase_blocks, erase_object, put_object};
 use crate::parts::totals::Totals;
-use harp_types::{BLOCK_SIZE, Kind, Time};
 use harp_cells::{CellFault, CellRead, Change, Inode};
+use harp_types::{BLOCK_SIZE, Kind, Time};
 use std::alloc::AllocError;
 
 pub fn is_directory(kind: Kind) -> bool

@@ -17,8 +17,8 @@ use crate::error::CallError;
 use crate::parts::directory::entry;
 use crate::parts::names::{entry_name, refuse};
 use crate::parts::space::{capped, replaced};
-use harp_types::{SLOT_SIZE, Status, Time};
 use harp_cells::{CellFault, CellRead, Inode};
+use harp_types::{SLOT_SIZE, Status, Time};
 use inode_dirs::slot_for;
 
 /// Whether a directory has an entry with a name.

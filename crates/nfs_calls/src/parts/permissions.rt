@@ -14,8 +14,8 @@ use crate::error::CallError;
 use crate::parts::directory::directory;
 use crate::parts::names::refuse;
 use file_tree::{TO_SEARCH, TO_WRITE, may, may_give, may_set};
-use harp_types::{Cred, SetAttr, Status};
 use harp_cells::{CellFault, CellRead, Inode};
+use harp_types::{Cred, SetAttr, Status};
 
 /// A refusal, unless the caller may do what is wanted with an object.
 pub fn allowed(cred: Cred, inode: &Inode, want: u8) -> Result<(), Status>

@@ -5,8 +5,8 @@ ghost use Rattle.harp_cells.specs.declared.cell.Cell.TheVariants as cell;
 ghost use Rattle.harp_cells.specs.declared.value.Value.TheVariants as value;
 ghost use Rattle.harp_cells.specs.declared.change.Change.TheVariants as change;
 
-use harp_types::LONGEST_NAME;
 use harp_cells::{Cell, Change, Inode, NonEmpty, Value};
+use harp_types::LONGEST_NAME;
 use std::alloc::AllocError;
 
 /// An object gets attributes.

@@ -11,8 +11,8 @@ ghost use Rattle.nfs_calls.specs.Gives.{Gives};
 
 use crate::error::CallError;
 use crate::reads::calls::{get_attr, lookup, read, read_dir, read_link, stat_fs};
-use harp_types::{Call, Cred, Reply};
 use harp_cells::{CellFault, CellRead};
+use harp_types::{Call, Cred, Reply};
 use std::alloc::Global;
 
 /// The reply to a read, or its refusal.

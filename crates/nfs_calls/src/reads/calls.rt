@@ -16,8 +16,10 @@ use crate::parts::inode::{attr_at, attr_by, live};
 use crate::parts::permissions::{allowed, searched};
 use crate::parts::totals::read_totals;
 use file_tree::TO_READ;
-use harp_types::{BLOCK_SIZE, Bounded, Cred, Entries, LONGEST_PATH, LONGEST_TRANSFER, Reply, TREE_BLOCKS};
 use harp_cells::{CellFault, CellRead};
+use harp_types::{
+    BLOCK_SIZE, Bounded, Cred, Entries, LONGEST_PATH, LONGEST_TRANSFER, Reply, TREE_BLOCKS,
+};
 use inode_dirs::list_from;
 use std::alloc::Global;
 

@@ -28,8 +28,8 @@ use crate::updates::make::{Entering, made, make, name_of, room_for};
 use crate::updates::planned::Planned;
 use crate::updates::set_attr::{given, set_found};
 use file_tree::heeded;
-use harp_types::{Cred, Kind, LARGEST_FILE, Reply, SetAttr, Status, Time};
 use harp_cells::{CellFault, CellRead, Inode};
+use harp_types::{Cred, Kind, LARGEST_FILE, Reply, SetAttr, Status, Time};
 use std::alloc::Global;
 
 fn is_regular(kind: Kind) -> bool

@@ -30,8 +30,8 @@ use crate::parts::totals::Totals;
 use crate::updates::make::{Entering, name_of};
 use crate::updates::planned::Planned;
 use file_tree::TO_WRITE;
-use harp_types::{Cred, Kind, Reply, Status, Time};
 use harp_cells::{CellFault, CellRead, Change, Inode};
+use harp_types::{Cred, Kind, Reply, Status, Time};
 use std::alloc::{AllocError, Global};
 
 fn is_directory(kind: Kind) -> bool

@@ -28,8 +28,10 @@ use crate::parts::space::blocks_of;
 use crate::parts::totals::Totals;
 use crate::updates::planned::Planned;
 use crate::updates::set_attr::{given, given_mode, given_time};
-use harp_types::{Cred, Kind, LONGEST_NAME, LONGEST_PATH, OBJECT_NUMBERS, Reply, SetAttr, Status, Time};
 use harp_cells::{Cell, CellFault, CellRead, Change, Inode, NonEmpty, Value};
+use harp_types::{
+    Cred, Kind, LONGEST_NAME, LONGEST_PATH, OBJECT_NUMBERS, Reply, SetAttr, Status, Time,
+};
 use std::alloc::{AllocError, Global};
 
 /// The place of the entry of a new object of a size, where there is room for both.

@@ -1,8 +1,8 @@
 //! What an update plans.
 
 use crate::parts::totals::Totals;
-use harp_types::Reply;
 use harp_cells::Change;
+use harp_types::Reply;
 
 /// The reply to an update, its changes of the tree's cells, in their order, but for the Put of the
 /// totals, and the totals after it.

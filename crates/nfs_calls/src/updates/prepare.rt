@@ -26,8 +26,8 @@ use crate::updates::remove::{remove, remove_dir};
 use crate::updates::rename::rename;
 use crate::updates::set_attr::set_attr;
 use crate::updates::write::write;
-use harp_types::{Call, Cred, Reply, Time, time_of};
 use harp_cells::{Cell, CellFault, CellRead, Change, Moment, Value};
+use harp_types::{Call, Cred, Reply, Time, time_of};
 use std::alloc::{AllocError, Global};
 
 /// The reply to an update, and its changes of the tree's cells, in their order.

@@ -28,8 +28,8 @@ use crate::updates::relocation::{
     Relocation, links_over, moved_inode, push_directories, push_slots,
 };
 use crate::updates::remove::is_empty;
-use harp_types::{LONGEST_NAME, Reply, Status, Time};
 use harp_cells::{CellFault, CellRead, Inode, NonEmpty};
+use harp_types::{LONGEST_NAME, Reply, Status, Time};
 use inode_dirs::slot_for;
 use std::alloc::{AllocError, Global};
 

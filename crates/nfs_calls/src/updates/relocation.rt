@@ -5,8 +5,8 @@ ghost use Rattle.nfs_calls.specs.Moves.{slot_changes, directory_changes, moved_i
 
 use crate::parts::loss::{is_directory, link_of, relinked};
 use crate::parts::pushes::{erase_slot, put_object, put_slot};
-use harp_types::{LONGEST_NAME, Time};
 use harp_cells::{Change, Inode, NonEmpty};
+use harp_types::{LONGEST_NAME, Time};
 use std::alloc::AllocError;
 
 /// The directories of a move, which may be one, and their attributes.

@@ -24,8 +24,8 @@ use crate::parts::pushes::{erase_slot, put_object};
 use crate::parts::totals::Totals;
 use crate::updates::planned::Planned;
 use file_tree::TO_WRITE;
-use harp_types::{Cred, Reply, Status, Time};
 use harp_cells::{CellFault, CellRead, Inode};
+use harp_types::{Cred, Reply, Status, Time};
 use inode_dirs::list_from;
 use std::alloc::{AllocError, Global};
 

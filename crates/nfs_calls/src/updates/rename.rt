@@ -27,8 +27,8 @@ use crate::updates::planned::Planned;
 use crate::updates::relocate::{move_in, move_over};
 use crate::updates::relocation::{Directories, Relocation};
 use file_tree::{TO_SEARCH, TO_WRITE};
-use harp_types::{Cred, Status, Time};
 use harp_cells::{CellFault, CellRead, Inode};
+use harp_types::{Cred, Status, Time};
 use inode_dirs::is_below;
 use std::alloc::Global;
 

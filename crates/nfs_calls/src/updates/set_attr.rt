@@ -27,8 +27,8 @@ use crate::parts::space::replaced;
 use crate::parts::totals::Totals;
 use crate::updates::planned::Planned;
 use file_tree::TO_WRITE;
-use harp_types::{Cred, FIELD_LEFT, LARGEST_FILE, Reply, SetAttr, Status, Time};
 use harp_cells::{CellFault, CellRead, Change, Inode};
+use harp_types::{Cred, FIELD_LEFT, LARGEST_FILE, Reply, SetAttr, Status, Time};
 use inode_blocks::cut_to;
 use std::alloc::Global;
 

@@ -23,8 +23,8 @@ use crate::parts::space::replaced;
 use crate::parts::totals::Totals;
 use crate::updates::planned::Planned;
 use file_tree::TO_WRITE;
-use harp_types::{Cred, LARGEST_FILE, Reply, Status, Time};
 use harp_cells::{CellFault, CellRead, Change, Inode};
+use harp_types::{Cred, LARGEST_FILE, Reply, Status, Time};
 use inode_blocks::write_bytes;
 use std::alloc::Global;
 

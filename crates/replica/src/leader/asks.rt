@@ -24,12 +24,11 @@ use crate::leader::Leader;
 use crate::records::event_of;
 use dedup::Seen;
 use event_record::Record;
-use harp_types::{Call, LAST_CLIENT, LOG_ROOM, Peer, Reply, is_update};
 use harp_cells::CellFault;
 use harp_store::Store;
+use harp_types::{Call, Cause, LAST_CLIENT, LOG_ROOM, Peer, Reply, is_update};
 use node_outputs::{Answered, Asker, Outputs};
 use std::alloc::{AllocError, Global};
-use harp_types::Cause;
 
 /// The greatest index.
 const LAST_INDEX: u64 = (1 << 62) - 1;

@@ -15,12 +15,11 @@ ghost use Rattle.replica.specs.Leading.{Outer, led};
 
 use crate::leader::Leader;
 use crate::leader::asks::refuse;
-use harp_types::{Call, Cred, Reply, is_update};
 use harp_cells::CellFault;
 use harp_store::Store;
+use harp_types::{Call, Cause, Cred, Reply, is_update};
 use node_outputs::{Answered, AskedRead, Asker, Outputs};
 use std::alloc::Global;
-use harp_types::Cause;
 
 impl Leader {
     /// A read is answered while the partner's promise runs.

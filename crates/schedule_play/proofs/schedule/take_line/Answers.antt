@@ -51,8 +51,8 @@ returns-in-Err-NoMemory-clause-ends g c = λ all rest before h.
     grew-now g.W.Stage.spellings all _ before (g.K.Sink.written c.args.sink.now)
     (g.W.Stage.stands c.args.world.now) h
 
-pub returns-then-number-gt-LINES-clause-ends : goal.returns-then-number-gt-LINES-clause-ends
-returns-then-number-gt-LINES-clause-ends g c = λ all rest before h.
+pub returns-then-number-gt-MOST_LINES-clause-ends : goal.returns-then-number-gt-MOST_LINES-clause-ends
+returns-then-number-gt-MOST_LINES-clause-ends g c = λ all rest before h.
     let f = g.W.Stage.spellings in
     let here = g.W.Stage.stands c.args.world.now in
     let mid = g.K.Sink.written c.args.sink.now in

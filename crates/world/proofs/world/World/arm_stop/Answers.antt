@@ -8,8 +8,8 @@ use Rattle.world.proofs.world.World.arm_stop.Goals as goal
 pub returns-clause-taken : goal.returns-clause-taken
 returns-clause-taken c =
     let a = c.args in
-    let stop : Stop = record { calls = a.calls; pick = c.in_ok-pick_of.field-0 } in
+    let stop : Stop = record { calls = a.calls; pick = c.in_ok-copy.field-0 } in
     stop_taken a.self.now _ a.server a.calls a.pick.now stop
     (ap (λ (x : WorldValue). record x {
       stops = with_value x.stops a.server (Some stop);
-    }) c.self.view_is) (refl, sym c.in_ok-pick_of.ensures)
+    }) c.self.view_is) (refl, sym c.in_ok-copy.ensures)

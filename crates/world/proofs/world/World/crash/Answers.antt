@@ -1,4 +1,4 @@
-use Rattle.std.proofs.Common.{sym}
+use Rattle.std.proofs.Common.{refl}
 use Rattle.harp_types.specs.Trio.{value_of}
 use Rattle.world.proofs.Crashes.{crash_taken}
 use Rattle.world.proofs.Spent.{falls_then, host_then, me_then}
@@ -13,11 +13,10 @@ returns-clause-taken c =
     let new = c.crash_host.new.self in
     let is = c.spend_stop.ensures.world in
     let has = c.crash_host.ensures.world in
-    let kept = c.in_ok-kept.kept in
     crash_taken the_laws old new a.server a.pick.now (value_of new.hosts a.server)
     c.state_line-before.result c.state_line-after.result c.args.lines.now.items
-    c.show_state.new.lines.items kept c.requires c.state_line-before.ensures
+    c.show_state.new.lines.items a.pick.now c.requires c.state_line-before.ensures
     (me_then old spent new a.server is has)
-    (falls_then old spent new a.server is kept c.crash_host.ensures.falls)
-    (sym c.in_ok-kept.ensures) (host_then old spent new a.server is has) c.state_line-after.ensures
+    (falls_then old spent new a.server is a.pick.now c.crash_host.ensures.falls)
+    refl (host_then old spent new a.server is has) c.state_line-after.ensures
     c.in_ok-show_state.ensures

@@ -1,5 +1,5 @@
 use Rattle.std.proofs.Common.{None, refl}
-use Rattle.trace_types.specs.declared.pick.Pick.TheVariants as pick
+use Rattle.harp_types.specs.declared.pick.Pick.TheVariants as pick
 use Rattle.trace_types.specs.declared.step.Step.TheVariants as step
 use Rattle.world.proofs.Steps.{power_taken}
 use Rattle.world.proofs.world.World.power.Goals as goal

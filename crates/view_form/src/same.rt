@@ -7,7 +7,7 @@ ghost use Rattle.group_rules.specs.Places.{is_p2, same};
 use harp_types::{ServerId, ViewNo};
 
 /// Whether two servers are one.
-pub(crate) fn is_one(a: ServerId, b: ServerId) -> bool
+pub fn is_one(a: ServerId, b: ServerId) -> bool
     ensures { result ≡ same (place_of a) (place_of b) }
 {
     match a {
@@ -30,7 +30,7 @@ pub(crate) fn is_one(a: ServerId, b: ServerId) -> bool
 }
 
 /// Whether this is the witness's place.
-pub(crate) fn is_witness(me: ServerId) -> bool
+pub fn is_witness(me: ServerId) -> bool
     ensures { result ≡ is_p2 (place_of me) }
 {
     match me {
@@ -41,7 +41,7 @@ pub(crate) fn is_witness(me: ServerId) -> bool
 }
 
 /// Whether two views are one.
-pub(crate) fn is_view(a: ViewNo, b: ViewNo) -> bool
+pub fn is_view(a: ViewNo, b: ViewNo) -> bool
     ensures { result ≡ (number_of_view a == number_of_view b) }
 {
     a.is_same(b)
