@@ -1,5 +1,28 @@
 //! Applying the changes of committed records to a store, and flushing it; and what calls of a store,
 //! crashes and boots make of disks whose cells are fuzzy between two points of a history.
+//!
+//! # What is proved
+//!
+//! Apply and flush over any store.
+//!
+//! - `apply_some` makes each change of the records after AP up to the smaller of AP + most and CP,
+//!   in their order, by one call each, whatever the cells hold (`done`, `index`); at each moment,
+//!   and where it fails, a first part of them is made (`part`, `moments`, `crashes`). A disk that
+//!   is fuzzy between LB and m stays so, up to the larger of m and the new AP, at each moment and
+//!   after a crash at any (`fuzzy`); at the end AP is the new one, and where that is at least m
+//!   each cell is exact (`reached`).
+//! - `flush` syncs and then writes the mark with LB = AP (`done`); where it fails, a first part of
+//!   the two calls is made (`part`). At each moment the mark is the old one, or all cells are
+//!   synced (`moments`), and the disk is fuzzy from its own mark's LB on (`fuzzy`). What reads give
+//!   of the cells stays, also where it fails (`cells`).
+//! - `flush_laws`: the same moments and cells follow from any first part of the two calls
+//!   (`at_once`).
+//! - `fuzzy_disk_laws`: laws of a store's disk that is fuzzy (`IsFuzzyDisk`): what reads give of a
+//!   cell is of a moment between AP and m, and each value that a crash may leave of it between LB
+//!   and m. So the disk stays when records are applied (`applied`) or cut off in their middle
+//!   (`cut_off`), when it is synced or marked, while a log is saved beside (`saved`), and after a
+//!   crash and a boot (`crashed`). Once all is gone over that it may be ahead, reads give each cell
+//!   exactly (`exact`).
 #![tactic(auto)]
 
 mod disks;

@@ -1,4 +1,4 @@
--- Tick.
+-- What a server sends at a tick: again, or anew where it leads, pulls or forms a view.
 use Rattle.std.specs.Prelude.{ℕ, ◌+◌, ◌-◌, ◌&&◌, ◌==◌, not, Bool, true, false, List, [], ◌∷◌, ◌++◌, length, take, drop, Option, None, Some, max, if◌then◌else◌}
 use Rattle.group_rules.specs.Joining.{to_each}
 use Rattle.group_rules.specs.Limits.{is_open, is_pulls, is_settled, is_waits}

@@ -1,5 +1,33 @@
 //! The safety of the group: what every list of happenings keeps, from each group that meets the
 //! facts.
+//!
+//! # What is proved
+//!
+//! Laws over every list of happenings, from every group that meets the facts; definitions and
+//! proofs alone.
+//!
+//! - `facts_hold`: the first group meets the facts (`first`), and every happening keeps them
+//!   (`kept`); marks that know of no promise above 2000 may be old ones (`old_marks`).
+//! - `named_facts`: the facts of the induction by their names. Among them, of joins: those of a
+//!   server with a log to views above its accepted one report that view, the base, the CP and the
+//!   top of the log, and an LB that it has reached; so until it accepts a view, is demoted or loses
+//!   the log, also after a power failure and a boot.
+//! - `every_later_view`: an answered update stands in the list of each later view, and in each log
+//!   of it (`answered`); so does what a held server has as committed (`committed`).
+//! - `exclusive_reading`: who reads under an unexpired promise has the whole book as committed, and
+//!   no higher view was opened.
+//! - `one_book`: the book is one book of one tree.
+//! - `bases_on_both_disks`: every base of a log, a saved log, a page, a held server's join, and of
+//!   each Join of one, Form, Event and Beat among the packets is at most the LB in the marks of
+//!   servers 0 and 1.
+//! - `disks_are_committed`: how many records' changes a data server's disk may ever have had is a
+//!   number beside the run, which no server reads; it is none at first (`first`). After every list
+//!   of happenings, with steps that are cut among them, it is at least the LB of the mark and the
+//!   AP of a log; so many of the book's updates stand, and the accepted view's list begins with
+//!   them; it is within the log where the server holds one, and within CP where it is settled
+//!   (`committed`).
+//! - `logs_stand_for_lists`, `answered_at_once`, `said_rightly`, `history_grows`, `logs_grow`,
+//!   `limits`, `no_stale_fields`, `cut_off_steps`: the list of laws in `PROOFS.md`.
 #![tactic(auto)]
 
 ghost use Rattle.std.specs.Prelude.{◌≡◌, List, ℕ, Option, Some, true, false};

@@ -1,5 +1,18 @@
 //! A run of the group from three servers on new disks, step by step, and the lines that it writes,
 //! as definitions. No code stands here.
+//!
+//! # What is proved
+//!
+//! A run of the group from three servers that booted on new disks, as definitions: who steps and
+//! how, which calls change a disk and what a stop cuts, why a step is refused, the lines of a step,
+//! and the deliveries of a pump. `worked_rows`: twenty-four worked rows. Twenty-two are rows of the
+//! run, each with all its lines: an update, an opening at its moment, refusals of an ask, a repeat,
+//! an update acknowledged three times, one taken over, a late acknowledgement, an abandoned
+//! formation, the witness, a power failure, one that is cut off, one that stops in its save, stops
+//! at a join, before a flush's mark and behind it, a fuzzy disk, a base that moves, no view without
+//! a log, promises at the greatest distance of clocks, a promise that runs out, longer and shorter
+//! promises. Two are rows of the rules, for any records: boots from an old mark (`old_mark`), and
+//! an ask at a full log (`full_log`).
 #![tactic(auto)]
 
 ghost use Rattle.file_tree.specs.Book.{Entry};

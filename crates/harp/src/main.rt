@@ -1,5 +1,9 @@
 //! The program `harp`: its words, standard input and output, sockets, folders and the day's clock,
 //! and the exit status.
+//!
+//! # What is proved
+//!
+//! `main`, proved safe.
 #![tactic(auto)]
 
 use harp_cli::{Exit, harp};

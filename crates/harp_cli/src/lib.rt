@@ -1,4 +1,17 @@
 //! The top call: the words of a command, and what is done on them.
+//!
+//! # What is proved
+//!
+//! The top call, whose clauses `GUARANTEES.md` explains. `play` and the clauses on texts hand on
+//! what `schedule_play` says, of the world of `world`. `check` says for each exit what was written
+//! of the one line of a verdict (`TellsWhole`, `TellsPart`), and `generate` of the schedule of a
+//! seed. `sweep` hands on what `sweep_player` says. `node` and `group` hand on what `node_loop`
+//! says of its loops: with status 0 the run was made whole (`IsRun`) and its line written, with 7
+//! and 8 it was cut off (`IsCutOff`) and nothing written (`ServeEnds`). Not pinned: to which folder
+//! a disk is attached, and at which port the link is opened. The words are exactly `play`, `check`,
+//! `gen` with the decimal spellings of two numbers, `sweep` with three, `node` with a server, and
+//! `group`, both with a port, a folder that isn't empty, turns and perhaps the length of promises,
+//! each number within its bounds (`IsForm`).
 #![tactic(auto)]
 
 mod check;

@@ -1,3 +1,4 @@
+-- The numbers of servers.
 use Rattle.std.specs.Prelude.{ℕ, Bool, ◌==◌}
 use Rattle.harp_types.specs.declared.server.ServerId.{ServerId}
 use Rattle.harp_types.specs.declared.server.ServerId.TheVariants.{Zero, One, Two}

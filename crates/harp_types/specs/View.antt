@@ -1,3 +1,4 @@
+-- The numbers of views, and their order.
 use Rattle.std.specs.Prelude.{ℕ, Bool, nat_lt, ◌==◌, if◌then◌else◌}
 use Rattle.harp_types.specs.declared.server.ServerId.{ServerId}
 use Rattle.harp_types.specs.Server.{number_of}

@@ -1,5 +1,18 @@
 //! The values that all crates speak of: servers and views, the calls and replies of NFS version 2,
 //! times and limits, and the places where bytes come from and go to.
+//!
+//! # What is proved
+//!
+//! Each limit is one constant in the code (`limits`) and one in the definitions (`Limits`).
+//!
+//! - `Source::read` and `Sink::write`: what is taken and given, byte by byte where they tell it; a
+//!   fault takes nothing and comes only where the count of faults rose. `MemSource` and `MemSink`
+//!   fail exactly at the calls that they were told.
+//! - `Procedure` is a served procedure of RFC 1094, section 2.2: `of` a call, its `number` and its
+//!   `name` are those of the definitions, and `numbered` and `named` give the procedure that has
+//!   the number or the name, where one does.
+//! - `copy` gives an equal value. `is_update`, `changes_entries`, `time_of`, `is` and `keeps` equal
+//!   their definitions.
 #![tactic(auto)]
 
 mod attr;

@@ -1,5 +1,14 @@
 //! What a running server has around it: a link that takes and sends datagrams, and a clock. Each is
 //! a trait with a form in memory and an adapter over the real thing.
+//!
+//! # What is proved
+//!
+//! `Link` and `Clock`. A link tells, where it can, the datagrams taken and sent, and those left for
+//! each place: `receive` takes the first one left, and none exactly where none is left; after an
+//! error nothing is taken or sent. A clock's readings never fall and are below 2^62. `MemLink` and
+//! `ListClock` are exact, with faults exactly where their lists say so, and the readings that a
+//! `ListClock` shows are those it told; `UdpLink` and `WallClock` tell nothing and count each
+//! fault.
 #![tactic(auto)]
 
 mod clock;

@@ -1,5 +1,19 @@
 //! A running server: what it is given when its clock reads a time and when a datagram comes, what it
 //! sends, and its turns, alone or as one of three.
+//!
+//! # What is proved
+//!
+//! `take_turn` gives what a turn gives to a server (`turns`): a tick with what belongs to it where
+//! its time has come, else what came in one datagram; a turn sends nothing. `arrived` is what a
+//! datagram gives: a server's message only from a server's port. `serve_one` runs one server and
+//! `serve_three` runs three, and both by one definition (`run`): each server is booted from its
+//! disk at a reading of the clock, and takes its turns; what a turn gives are steps of its node,
+//! one after the other, and what a step makes is sent before the next, answers first, then
+//! refusals, then messages, each as its encoding. So the datagrams that a link tells as sent are
+//! just those, in order, and so are the readings and the datagrams taken. All turns were taken, and
+//! what is counted is right up to 2^64 - 1. After an error what was sent is a front of that
+//! (`cut`); a failed disk or link is told only where its count rose. What a step makes of the tree
+//! has `Node::step`'s premise, at each step. Not said: what an error leaves on a disk.
 #![tactic(auto)]
 
 mod arriving;

@@ -1,5 +1,5 @@
 //! Playing a schedule: its steps are taken one after the other, and each step's lines are written
-//! before the next line is read.
+//! before the next step is taken.
 
 ghost use Rattle.std.specs.Prelude.{◌≡◌, ◌≢◌, ◌⊎◌, ◌<◌, ◌≤◌, ◌+◌, ℕ, List, Option, length, IfOk};
 ghost use Rattle.std.specs.Prelude.{MatchResult, Some, Ok, Err};
@@ -162,7 +162,7 @@ fn play_lines<W: Stage, S: Source, K: Sink>(
 }
 
 /// Plays the schedule of a source in a world that stands at the first scene, and writes its trace
-/// to a sink: the lines of each step before the next line is read.
+/// to a sink: the lines of each step before the next step is taken.
 ///
 /// It ends as done at the end of the source, or with the first line that is refused, with a last
 /// line each time; and without one where the source or the sink fails, or without memory. A line

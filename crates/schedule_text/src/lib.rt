@@ -1,4 +1,12 @@
-//! The steps of a schedule, read from its lines and written, over all views.
+//! The steps of a schedule, read from its lines, over all views.
+//!
+//! # What is proved
+//!
+//! `read_step` answers what the line means (`meaning_of`), unless memory runs out: a step exactly
+//! where the line is the step's one spelling and the step fits (`grammar`, `only_step`), no step
+//! exactly for an empty line or a comment (`only_blank`), else Grammar with the place that the
+//! reading of `specs/Reading` gives. That this is the first place at which no step goes on is a
+//! definition that was tried against a table of outside values, and no theorem.
 #![tactic(auto)]
 
 mod ask;

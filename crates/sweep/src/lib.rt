@@ -1,4 +1,11 @@
 //! Schedules that are generated from a seed, runs of many of them, and their texts.
+//!
+//! # What is proved
+//!
+//! `generate` gives the one schedule of a seed. `sweep_one` and `sweep_many` give the same list, a
+//! summary for each seed in order, for any player that has one summary for each list of steps; that
+//! runs go on at the same time isn't claimed. `write_schedule` and `write_summaries` write exactly
+//! the text, or a front of it after a fault; `steps_fit`: each generated step has a spelling.
 #![tactic(auto)]
 
 mod calls;

@@ -1,5 +1,10 @@
 //! The fields of a schedule's lines: words, numbers, names and the fields of SETATTR, read from
 //! places of a line.
+//!
+//! # What is proved
+//!
+//! A reader of a field gives what its definition gives at a place of the line, or the place of a
+//! fault, or want of memory.
 #![tactic(auto)]
 
 mod fault;

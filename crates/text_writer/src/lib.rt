@@ -1,5 +1,11 @@
 //! Fields and steps of schedules and lines of traces, written: each is put at the end of what is
 //! written.
+//!
+//! # What is proved
+//!
+//! What writes a field appends just its spelling, or leaves the text where memory runs out;
+//! `write_step` and `write_line` append exactly the one spelling, or nothing where memory runs out,
+//! and no text has a line feed (`texts_are_lines`).
 #![tactic(auto)]
 
 mod decimals;

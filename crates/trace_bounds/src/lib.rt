@@ -1,5 +1,24 @@
 //! The bounds of the lines of every run, and how many lines runs have: by what calls make of trees,
 //! how far the moves of each step go, and how long messages with records are.
+//!
+//! # What is proved
+//!
+//! How large the numbers, names and texts of every run can become, how many lines runs have, and
+//! how long messages are; definitions and proofs alone.
+//!
+//! - `tree_fits`: a call that a schedule can spell leaves a tree whose fields fit, from one whose
+//!   fields fit; its reply fits a line, and only READ and READDIR have a long one (`calls`).
+//! - `step_walks`: how far the moves of a step go: views, horizons, what is appended and sent
+//!   (`moves`).
+//! - `run_laws`: each line of a run has a spelling of at most 20,000 bytes, where each message has
+//!   bytes, the steps have spellings of at most 19,998 bytes and all but deliveries are at most
+//!   half a million (`fit`); the book has fewer than 10^18 calls (`few`).
+//! - `count_laws`: the listing of a sound tree has at most 2^22 lines (`listings`); a run has at
+//!   most 2^29, two more for each step, and 2^22 more for each step but deliveries (`runs`).
+//! - `size_laws`: what a server gives takes at most 48,000 bytes, or is one record (`within`); a
+//!   Give has at most 60,028 bytes (`gives`); a Beat and 64 Events take less than 2^22 (`ticks`),
+//!   and so does all that one step of a server sends, whatever it begins with, where no message is
+//!   longer than an Event whose record fits (`steps`).
 #![tactic(auto)]
 
 mod line_counts;

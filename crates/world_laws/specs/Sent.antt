@@ -1,4 +1,4 @@
--- What is sent.
+-- The records that a step sends, beside the entries that its messages tell.
 use Rattle.std.specs.Prelude.{◌≡◌, ℕ, true, List, ◌++◌, Some}
 use Rattle.event_record.specs.declared.record.RecordFields.{RecordFields}
 use Rattle.file_tree.specs.Book.{Entry}
