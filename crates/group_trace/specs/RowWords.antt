@@ -13,7 +13,7 @@ use Rattle.harp_types.specs.declared.server.ServerId.TheVariants as server
 use Rattle.harp_types.specs.declared.state.Held.{Held}
 use Rattle.harp_types.specs.declared.state.Mode.{Mode}
 use Rattle.harp_types.specs.declared.state.Role.{Role}
-use Rattle.trace_types.specs.declared.line.BookEntry.{BookEntry}
+use Rattle.harp_types.specs.declared.book.BookEntry.{BookEntry}
 use Rattle.trace_types.specs.declared.line.Line.{Line}
 use Rattle.trace_types.specs.declared.line.Line.TheVariants as line
 use Rattle.group_trace.specs.Scene.{Measures}

@@ -14,9 +14,9 @@ use crate::{
     put_at, put_attr, put_call, put_client, put_cred, put_name, put_named, put_number, put_reply,
     put_server, put_state, put_three,
 };
-use harp_types::{Attr, Bounded, Reply, ServerId};
+use harp_types::{Attr, BookEntry, Bounded, Reply, ServerId};
 use std::alloc::{AllocError, Global};
-use trace_types::{BookEntry, Cause, Line, LineFault, ShownMessage, Step};
+use trace_types::{Cause, Line, LineFault, ShownMessage, Step};
 
 /// The server that leads, behind a space, or a dash for none.
 fn put_hint(out: &mut Vec<u8>, hint: Option<ServerId>) -> Result<(), AllocError>

@@ -16,7 +16,7 @@ use Rattle.harp_types.specs.declared.state.Role.TheVariants as role
 use Rattle.harp_types.specs.declared.state.StateLine.{StateLine}
 use Rattle.harp_types.specs.declared.cause.Cause.{Cause}
 use Rattle.harp_types.specs.declared.cause.Cause.TheVariants as cause
-use Rattle.trace_types.specs.declared.line.BookEntry.{BookEntry}
+use Rattle.harp_types.specs.declared.book.BookEntry.{BookEntry}
 use Rattle.trace_types.specs.declared.line.Line.{Line}
 use Rattle.trace_types.specs.declared.line.Line.TheVariants as line
 use Rattle.trace_types.specs.declared.line.LineFault.{LineFault}

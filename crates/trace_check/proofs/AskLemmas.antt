@@ -22,7 +22,7 @@ use Rattle.harp_base.proofs.AttributeLaws.{then}
 use Rattle.harp_base.proofs.CallLaws.{call_codec}
 use Rattle.harp_base.proofs.Codec.{u32_codec, u64_codec}
 use Rattle.harp_base.proofs.NameLaws.{cred_codec}
-use Rattle.trace_types.specs.declared.line.BookEntry.{BookEntry}
+use Rattle.harp_types.specs.declared.book.BookEntry.{BookEntry}
 use Rattle.trace_types.specs.declared.line.Line.{Line}
 use Rattle.trace_types.specs.declared.line.Line.TheVariants as line
 use Rattle.trace_types.specs.declared.step.Step.{Step}

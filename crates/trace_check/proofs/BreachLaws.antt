@@ -4,7 +4,7 @@ use Rattle.std.specs.Prelude.{◌↔◌}
 use Rattle.std.proofs.lemmas.List.{append-nil}
 use Rattle.file_tree.specs.Book.{Entry, IsBook, MayFollow}
 use Rattle.file_tree.proofs.BookLaws.{book_push}
-use Rattle.trace_types.specs.declared.line.BookEntry.{BookEntry}
+use Rattle.harp_types.specs.declared.book.BookEntry.{BookEntry}
 use Rattle.trace_types.specs.declared.line.Line.{Line}
 use Rattle.trace_types.specs.declared.line.Line.TheVariants as line
 use Rattle.trace_claims.specs.Acknowledged.{IsAcknowledged}

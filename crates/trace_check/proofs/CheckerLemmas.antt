@@ -17,7 +17,7 @@ use Rattle.file_tree.specs.Calls.{outcome}
 use Rattle.file_tree.specs.Tree.{Tree}
 use Rattle.trace_types.specs.declared.step.Step.{Step}
 use Rattle.trace_types.specs.declared.step.Step.TheVariants as step
-use Rattle.trace_types.specs.declared.line.BookEntry.{BookEntry}
+use Rattle.harp_types.specs.declared.book.BookEntry.{BookEntry}
 use Rattle.trace_types.specs.declared.line.Line.{Line}
 use Rattle.trace_types.specs.declared.line.Line.TheVariants as line
 use Rattle.trace_claims.specs.Acknowledged.{HasAcknowledged, WithinOpening}

@@ -3,7 +3,7 @@ use Rattle.std.specs.Prelude.{◌≡◌, ℕ, ◌+◌, ◌<◌, length, MatchBoo
 use Rattle.harp_types.specs.Update.{is_update}
 use Rattle.file_tree.specs.Book.{IsNextUpdate, IsRead, tree_after, updates}
 use Rattle.file_tree.specs.Calls.{outcome}
-use Rattle.trace_types.specs.declared.line.BookEntry.{BookEntry}
+use Rattle.harp_types.specs.declared.book.BookEntry.{BookEntry}
 use Rattle.trace_types.specs.declared.line.Line.{Line}
 use Rattle.trace_types.specs.declared.line.Line.TheVariants as line
 use Rattle.trace_claims.specs.Acknowledged.{AreAcknowledged, IsAcknowledged}

@@ -1,7 +1,7 @@
 -- What is kept of the step that is under way.
 use Rattle.std.specs.Prelude.{◌≡◌, Option, Some, None, [], ◌∷◌, if◌then◌else◌}
 use Rattle.harp_types.specs.Update.{is_update}
-use Rattle.trace_types.specs.declared.line.BookEntry.{BookEntry}
+use Rattle.harp_types.specs.declared.book.BookEntry.{BookEntry}
 use Rattle.trace_types.specs.declared.line.Line.{Line}
 use Rattle.trace_types.specs.declared.line.Line.TheVariants as line
 use Rattle.trace_types.specs.declared.step.Step.{Step}

@@ -8,10 +8,10 @@ ghost use Rattle.trace_claims.specs.Faithful.{WasAsked};
 ghost use Rattle.trace_check.specs.Asks.{ask_bytes, AreAsksOf, AskFits, IsAdded, TellsAsk};
 
 use harp_base::fields::{put_call, put_cred, put_u32, put_u64};
-use harp_types::{Call, Cred};
+use harp_types::{BookEntry, Call, Cred};
 use std::alloc::{AllocError, Global};
 use std::collections::BTreeSet;
-use trace_types::{BookEntry, Line, Step};
+use trace_types::{Line, Step};
 
 /// The asks, at any server, each by its bytes.
 #[derive(Drop)]

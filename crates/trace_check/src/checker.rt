@@ -25,10 +25,10 @@ use crate::network::Network;
 use crate::same::same_reply;
 use crate::servers::Servers;
 use crate::under_way::UnderWay;
-use harp_types::{Reply, Role, ServerId};
+use harp_types::{BookEntry, Reply, Role, ServerId};
 use plain_tree::PlainTree;
 use std::alloc::{AllocError, Global};
-use trace_types::{BookEntry, Line};
+use trace_types::Line;
 
 /// What the lines so far say of the next one. Its tree is a plain tree of lists. A line costs a few
 /// look-ups in maps, however many lines stand before it, and what its call does to the tree.

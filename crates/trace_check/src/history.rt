@@ -8,9 +8,9 @@ ghost use Rattle.trace_check.specs.History.{IsHistoryOf, HasReply};
 
 use crate::marks::Marks;
 use crate::same::same_reply;
-use harp_types::{Reply, is_update};
+use harp_types::{BookEntry, Reply, is_update};
 use std::alloc::{AllocError, Global};
-use trace_types::{BookEntry, Line};
+use trace_types::Line;
 
 /// Whose update was entered, and its reply.
 #[derive(Drop)]

@@ -8,9 +8,9 @@ ghost use Rattle.trace_claims.specs.Trace.{Trace};
 ghost use Rattle.trace_check.specs.UnderWay.{entry_told, reading_of, reading_told, IsUnderWay};
 
 use crate::same::{same_call, same_reply};
-use harp_types::{Call, Cred, Reply, is_update};
+use harp_types::{BookEntry, Call, Cred, Reply, is_update};
 use std::alloc::{AllocError, Global};
-use trace_types::{BookEntry, Line, Step};
+use trace_types::{Line, Step};
 
 /// A read that is asked for, and by whom.
 #[derive(Drop)]

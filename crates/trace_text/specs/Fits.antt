@@ -10,7 +10,7 @@ use Rattle.harp_types.specs.declared.reply.Reply.TheVariants as reply
 use Rattle.harp_types.specs.declared.state.StateLine.{StateLine}
 use Rattle.trace_types.specs.declared.step.Step.{Step}
 use Rattle.trace_types.specs.declared.step.Step.TheVariants as step
-use Rattle.trace_types.specs.declared.line.BookEntry.{BookEntry}
+use Rattle.harp_types.specs.declared.book.BookEntry.{BookEntry}
 use Rattle.trace_types.specs.declared.line.ShownMessage.{ShownMessage}
 use Rattle.trace_types.specs.declared.line.ShownMessage.TheVariants as message
 use Rattle.trace_types.specs.declared.line.Line.{Line}

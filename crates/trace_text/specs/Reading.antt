@@ -13,7 +13,7 @@ use Rattle.harp_types.specs.declared.state.Role.TheVariants as role
 use Rattle.harp_types.specs.declared.state.Held.{Held}
 use Rattle.harp_types.specs.declared.state.StateLine.{StateLine}
 use Rattle.trace_types.specs.declared.step.Step.{Step}
-use Rattle.trace_types.specs.declared.line.BookEntry.{BookEntry}
+use Rattle.harp_types.specs.declared.book.BookEntry.{BookEntry}
 use Rattle.trace_types.specs.declared.line.LineFault.{LineFault}
 use Rattle.trace_types.specs.declared.line.LineFault.TheVariants as fault
 use Rattle.trace_types.specs.declared.line.Line.{Line}

@@ -17,10 +17,11 @@ use crate::listing::{block_at, listed_at, object_at, slot_at, text_at, unlisted_
 use crate::message::spaced_message_at;
 use crate::reply::spaced_reply_at;
 use crate::state::state_at;
+use harp_types::BookEntry;
 use schedule_text::{asked_at, asker_at, spaced_count_at, spaced_server_at, spaced_u32_at};
 use std::alloc::Global;
 use text_fields::{TextFault, farther, space_at, word_at};
-use trace_types::{BookEntry, Line, LineFault};
+use trace_types::{Line, LineFault};
 
 #[tactic(auto, unfolding(crate::specs::Reading::form_at))]
 fn event_at(alloc: Global, line: &[u8], at: usize) -> Result<(Line, usize), TextFault>

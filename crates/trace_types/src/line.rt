@@ -1,43 +1,7 @@
 //! What a line of a trace says.
 
-ghost use Rattle.std.specs.Prelude.{◌≡◌, IfOk};
-
 use crate::step::Step;
-use harp_types::{Attr, Bounded, Call, Cause, Cred, Held, Reply, ServerId, StateLine, ViewNo};
-use std::alloc::{AllocError, Global};
-
-/// A call that stands in the book, with its reply. A read has the index 0 and the stamp 0.
-#[derive(Drop)]
-pub struct BookEntry {
-    /// The place among the updates, from 1.
-    pub index: u64,
-    pub client: u32,
-    /// The client's own number of the call.
-    pub number: u64,
-    /// Who made the call.
-    pub cred: Cred,
-    /// Milliseconds of the clock at which the update was appended.
-    pub stamp: u64,
-    pub call: Call,
-    pub reply: Reply,
-}
-
-impl BookEntry {
-    /// An equal entry.
-    pub fn copy(&self, alloc: Global) -> Result<BookEntry, AllocError>
-        ensures { IfOk result (λ copy. copy ≡ self.now) }
-    {
-        Ok(BookEntry {
-            index: self.index,
-            client: self.client,
-            number: self.number,
-            cred: self.cred,
-            stamp: self.stamp,
-            call: self.call.copy(alloc)?,
-            reply: self.reply.copy(alloc)?,
-        })
-    }
-}
+use harp_types::{Attr, BookEntry, Bounded, Cause, Held, Reply, ServerId, StateLine, ViewNo};
 
 /// What a trace shows of a message from one server to another.
 #[derive(Clone, Copy, PartialEq, Eq)]

@@ -1,19 +1,6 @@
 -- The book as the world keeps it.
 use Rattle.std.specs.Prelude.{ℕ, ◌+◌, List, [], ◌∷◌, ◌++◌, length, nat_le, if◌then◌else◌}
 use Rattle.file_tree.specs.Book.{Entry}
-use Rattle.trace_types.specs.declared.line.BookEntry.{BookEntry}
-
--- an entry of the book as the machine has it
-abbrev pub entered : BookEntry → Entry
-entered e = record {
-  index = e.index;
-  client = e.client;
-  number = e.number;
-  cred = e.cred;
-  call = e.call;
-  stamp = e.stamp;
-  reply = e.reply;
-}
 
 -- the calls that were entered, and how many of them are updates
 pub record BookValue : Type 0 where

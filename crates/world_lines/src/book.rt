@@ -2,17 +2,17 @@
 
 ghost use Rattle.std.specs.Prelude.{◌≡◌, ◌∷◌, ◌++◌, ◌+◌, ◌≤◌, [], length, map, nat_le, IfOk, OnOk};
 ghost use Rattle.group_trace.specs.Lines.{entered_line, entered_lines};
-ghost use Rattle.world_lines.specs.Book.{entered, new_updates, with_reads, with_updates};
+ghost use Rattle.world_lines.specs.Book.{new_updates, with_reads, with_updates};
 ghost use Rattle.world_lines.specs.Given.{read_in, reads_in};
-ghost use Rattle.node_outputs.specs.Said.{entered as committed};
+ghost use Rattle.node_outputs.specs.Said.{entered};
 
-use harp_types::BookEntry as Committed;
+use harp_types::BookEntry;
 use node_outputs::Answered;
 use std::alloc::{AllocError, Global};
 use std::marker::Model;
-use trace_types::{BookEntry, Line};
+use trace_types::Line;
 
-/// The calls that were entered, in their order: each committed update once, and each read that was
+/// The calls that were entered, in their order: each entered update once, and each read that was
 /// answered.
 #[derive(Drop)]
 pub struct Book {
@@ -23,7 +23,8 @@ pub struct Book {
 
 impl Model for Book {
     ghost use Rattle.std.specs.Prelude.{◌≤◌, length, map};
-    ghost use Rattle.world_lines.specs.Book.{BookValue, entered};
+    ghost use Rattle.node_outputs.specs.Said.{entered};
+    ghost use Rattle.world_lines.specs.Book.{BookValue};
 
     ghost Value = { BookValue };
 
@@ -57,14 +58,14 @@ impl Book {
     pub(crate) fn enter_updates(
         &mut self,
         alloc: Global,
-        updates: &[Committed],
+        updates: &[BookEntry],
         lines: &mut Vec<Line>,
     ) -> Result<(), AllocError>
         ensures book { OnOk result (self.new ≡ with_updates self.old
-            (new_updates self.old.updates (map committed updates.now))) }
+            (new_updates self.old.updates (map entered updates.now))) }
         ensures lines { OnOk result (lines.new.items ≡ lines.old.items
             ++ entered_lines (length self.old.entries)
-            (new_updates self.old.updates (map committed updates.now))) }
+            (new_updates self.old.updates (map entered updates.now))) }
     {
         let _ = &self.updates;
         for update in updates {
@@ -77,19 +78,19 @@ impl Book {
     fn enter_update(
         &mut self,
         alloc: Global,
-        update: &Committed,
+        update: &BookEntry,
         lines: &mut Vec<Line>,
     ) -> Result<(), AllocError>
         ensures book { OnOk result (self.new ≡ with_updates self.old
-            (new_updates self.old.updates (committed update.now ∷ []))) }
+            (new_updates self.old.updates (entered update.now ∷ []))) }
         ensures lines { OnOk result (lines.new.items ≡ lines.old.items
             ++ entered_lines (length self.old.entries)
-            (new_updates self.old.updates (committed update.now ∷ []))) }
+            (new_updates self.old.updates (entered update.now ∷ []))) }
     {
         if self.has(update.index) {
             return Ok(());
         }
-        let entry = entry_of(alloc, update)?;
+        let entry = update.copy(alloc)?;
         self.enter(alloc, entry, lines)?;
         self.count();
         Ok(())
@@ -180,19 +181,4 @@ impl Book {
         self.entries.push(entry)?;
         Ok(())
     }
-}
-
-/// A committed update as an entry of the book.
-fn entry_of(alloc: Global, update: &Committed) -> Result<BookEntry, AllocError>
-    ensures { IfOk result (λ entry. entered entry ≡ committed update.now) }
-{
-    Ok(BookEntry {
-        index: update.index,
-        client: update.client,
-        number: update.number,
-        cred: update.cred,
-        stamp: update.stamp,
-        call: update.call.copy(alloc)?,
-        reply: update.reply.copy(alloc)?,
-    })
 }
