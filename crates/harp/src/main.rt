@@ -7,14 +7,16 @@
 #![tactic(auto)]
 
 use harp_cli::{Exit, harp};
-use harp_types::{ReaderSource, Trio, WriterSink};
-use node_link::{UdpLink, WallClock};
+use harp_store::Store;
+use harp_types::{ReaderSource, Sink, Source, Trio, WriterSink};
+use node_link::{Clock, Link, UdpLink, WallClock};
+use std::alloc::{AllocError, Global};
 use std::io::{BufWriter, Input, Write};
 use std::net::Net;
 use std::process::ExitCode;
 use std::rt::{Env, Files};
 use std::thread::Threads;
-use std::time::Clock;
+use std::time::Clock as DayClock;
 use std::{env, io};
 use store_folder::FolderStore;
 use world::World;
@@ -31,51 +33,75 @@ fn words<R: Env + AllocGlobal>(rt: &R) -> io::Result<Vec<String>> {
     Ok(words)
 }
 
+/// What a command reads and writes beside its words.
+#[derive(Drop)]
+struct Outside<S, K, L, D, C> {
+    source: S,
+    sink: K,
+    link: L,
+    disks: Trio<D>,
+    clock: C,
+}
+
+impl<S: Source, K: Sink, L: Link, D: Store, C: Clock> Outside<S, K, L, D, C> {
+    /// Does what the words say, in a new world, and returns the exit status. Nothing else stands
+    /// here, since what `harp` promises is long.
+    fn status_of<R: Threads + Sync>(&mut self, rt: &R, alloc: Global, words: &[String]) -> u8 {
+        let Ok(mut world) = World::new(alloc) else {
+            return Exit::NoMemory.status();
+        };
+        harp(
+            rt,
+            alloc,
+            words,
+            &mut world,
+            &mut self.source,
+            &mut self.sink,
+            &mut self.link,
+            &mut self.disks,
+            &mut self.clock,
+        )
+    }
+}
+
 /// Does what the words say, writes to the output, and returns the exit status.
-fn run<R, W: Write>(rt: &R, output: &mut W) -> u8
+fn run<R, W: Write>(rt: &R, output: &mut W, words: &[String]) -> u8
 where
-    R: Env + Input + Files + Net + Threads + Clock + AllocGlobal + Sync,
+    R: Input + Files + Net + Threads + DayClock + AllocGlobal + Sync,
     R::Reader: Drop,
 {
-    let alloc = rt.alloc();
-    let words = match words(rt) {
-        Ok(words) => words,
-        Err(fault) if fault.kind() == io::ErrorKind::OutOfMemory => {
-            return Exit::NoMemory.status();
-        }
-        // A word that is no text is no command's, and neither are no words.
-        Err(_) => Vec::new(alloc),
+    let mut outside = Outside {
+        source: ReaderSource::new(rt.reader()),
+        sink: WriterSink::new(output),
+        link: UdpLink::new(rt),
+        disks: Trio {
+            zero: FolderStore::new(rt),
+            one: FolderStore::new(rt),
+            two: FolderStore::new(rt),
+        },
+        clock: WallClock::new(rt),
     };
-    let Ok(mut world) = World::new(alloc) else {
-        return Exit::NoMemory.status();
-    };
-    let mut source = ReaderSource::new(rt.reader());
-    let mut sink = WriterSink::new(output);
-    let mut link = UdpLink::new(rt);
-    let mut disks = Trio {
-        zero: FolderStore::new(rt),
-        one: FolderStore::new(rt),
-        two: FolderStore::new(rt),
-    };
-    let mut clock = WallClock::new(rt);
-    harp(
-        rt,
-        alloc,
-        words.as_slice(),
-        &mut world,
-        &mut source,
-        &mut sink,
-        &mut link,
-        &mut disks,
-        &mut clock,
-    )
+    outside.status_of(rt, rt.alloc(), words)
+}
+
+/// The words behind the program's name; none where one of them is no text, since such a word is
+/// no command's, and neither are no words.
+fn words_or_none<R: Env + AllocGlobal>(rt: &R) -> Result<Vec<String>, AllocError> {
+    match words(rt) {
+        Ok(words) => Ok(words),
+        Err(fault) if fault.kind() == io::ErrorKind::OutOfMemory => Err(AllocError),
+        Err(_) => Ok(Vec::new(rt.alloc())),
+    }
 }
 
 fn main(rt: HostRuntime) -> ExitCode {
     let Ok(mut output) = BufWriter::with_capacity(rt.alloc(), PIECE, io::writer(&rt)) else {
         return ExitCode::from(Exit::NoMemory.status());
     };
-    let status = run(&rt, &mut output);
+    let Ok(words) = words_or_none(&rt) else {
+        return ExitCode::from(Exit::NoMemory.status());
+    };
+    let status = run(&rt, &mut output, words.as_slice());
     // What still stands in memory is written however the words ended.
     match output.flush() {
         Ok(()) => ExitCode::from(status),
