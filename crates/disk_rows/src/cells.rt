@@ -1,7 +1,6 @@
 //! Cells that hold numbers, digests of them, and random numbers.
 
 use harp_cells::{Cell, Moment, Value};
-use std::alloc::Global;
 
 /// How many places there are: four blocks of object 2, one of object 3, a slot and a client's.
 pub(crate) const PLACES: u32 = 7;
@@ -36,14 +35,6 @@ pub(crate) fn number(value: Option<&Value>) -> Option<u32> {
     match value {
         Some(Value::Meta { next, .. }) => Some(*next),
         _ => None,
-    }
-}
-
-/// A number as text, a dash for none.
-pub(crate) fn told(alloc: Global, number: Option<u32>) -> Option<String> {
-    match number {
-        Some(number) => format!(in alloc; "{number}").ok(),
-        None => format!(in alloc; "-").ok(),
     }
 }
 

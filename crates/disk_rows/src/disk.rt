@@ -1,7 +1,7 @@
 //! The words of a store.
 
-use crate::cells::{Numbers, cell, folded, number, told, value};
-use harp_cells::Cell;
+use crate::cells::{Numbers, cell, folded, number, value};
+use crate::words::{Answer, passed, tell, tell_read, told};
 use harp_store::{Bits, Mark, MemStore, Pick, Store, StoreFault};
 use harp_types::{Role, ServerId, ViewNo};
 use std::alloc::Global;
@@ -22,30 +22,130 @@ pub(crate) fn unsaved(lb: u64) -> Option<Mark> {
     Mark::of(view, view, Role::Leads(ServerId::One), lb, Some(2000), None)
 }
 
-/// The pick of six bits, which is repeated along the changes that aren't synced.
-fn pick(alloc: Global, bits: u32) -> Option<Pick> {
+/// Six bits of a number.
+fn six(alloc: Global, bits: u32) -> Option<Vec<bool>> {
     let mut items = Vec::new(alloc);
     for place in 0..6u32 {
         items.push((bits >> place) & 1 == 1).ok()?;
     }
-    Some(Pick::Bits(Bits::of(items)?))
+    Some(items)
 }
 
-/// What came of a change.
-pub(crate) fn passed(outcome: Result<(), StoreFault>) -> &'static str {
-    match outcome {
-        Ok(()) => "",
-        Err(StoreFault::Failed) => "failed",
-        Err(StoreFault::NoMemory) => "no memory",
+/// The pick of six bits, which is repeated along the changes that aren't synced.
+fn pick(alloc: Global, bits: u32) -> Option<Pick> {
+    Some(Pick::Bits(Bits::of(six(alloc, bits)?)?))
+}
+
+// ---- calls of a store
+
+fn put<D: Store>(alloc: Global, store: &mut D, place: u32, number: u32) -> Answer {
+    passed(store.put(alloc, cell(place), &value(number)))
+}
+
+fn erase<D: Store>(alloc: Global, store: &mut D, place: u32) -> Answer {
+    passed(store.erase(alloc, cell(place)))
+}
+
+/// Erases the blocks of object 2 from one on.
+fn erase_from<D: Store>(alloc: Global, store: &mut D, first: u32) -> Answer {
+    passed(store.erase_from(alloc, 2, first))
+}
+
+fn sync<D: Store>(alloc: Global, store: &mut D) -> Answer {
+    passed(store.sync(alloc))
+}
+
+fn write_mark<D: Store>(alloc: Global, store: &mut D, mark: &Mark) -> Answer {
+    passed(store.write_mark(alloc, mark))
+}
+
+fn attach<D: Store>(alloc: Global, store: &mut D) -> Answer {
+    passed(store.attach(alloc, "disk"))
+}
+
+/// The number that a store has in a place.
+fn read<D: Store>(alloc: Global, store: &mut D, place: u32) -> Result<Option<u32>, StoreFault> {
+    match store.read(alloc, cell(place))? {
+        Some(shared) => Ok(number(Some(shared.get()))),
+        None => Ok(None),
     }
+}
+
+/// The mark that a store has.
+pub(crate) fn read_mark<D: Store>(
+    alloc: Global,
+    store: &mut D,
+) -> Result<Option<Mark>, StoreFault> {
+    store.read_mark(alloc)
+}
+
+/// The LB of a store's mark.
+fn lb<D: Store>(alloc: Global, store: &mut D) -> Result<Option<u32>, StoreFault> {
+    match read_mark(alloc, store)? {
+        Some(mark) => Ok(u32::try_from(mark.lb()).ok()),
+        None => Ok(None),
+    }
+}
+
+/// A digest with all that is read.
+fn digest<D: Store>(alloc: Global, store: &mut D, before: u64) -> Option<u64> {
+    let mut digest = before;
+    for place in 0..PLACES {
+        digest = folded(digest, read(alloc, store, place).ok()?);
+    }
+    Some(folded(digest, lb(alloc, store).ok()?))
+}
+
+// ---- what is done to a store in memory
+
+fn crash(store: &mut MemStore, pick: &Pick) {
+    store.crash(pick);
+}
+
+fn crash_some(alloc: Global, store: &mut MemStore, bits: u32) -> Option<()> {
+    let pick = pick(alloc, bits)?;
+    crash(store, &pick);
+    Some(())
+}
+
+fn settle(store: &mut MemStore) {
+    store.settle();
+}
+
+fn stop_after(store: &mut MemStore, calls: u32) {
+    store.stop_after(calls);
+}
+
+fn fail_read(store: &mut MemStore, calls: u32) {
+    store.fail_read(calls);
+}
+
+fn stop(alloc: Global, store: &mut MemStore, name: &str, first: u32) -> Option<Answer> {
+    match name {
+        "settle" => settle(store),
+        "passes" => stop_after(store, first),
+        "fails-read" => fail_read(store, first),
+        "crash" => crash_some(alloc, store, first)?,
+        "all" => crash(store, &Pick::All),
+        "none" => crash(store, &Pick::None),
+        _ => return None,
+    }
+    Some(Answer::Says(""))
 }
 
 impl Disk {
     pub(crate) fn new(alloc: Global) -> Option<Disk> {
+        let mark = unsaved(0)?;
         Some(Disk {
             store: MemStore::new(alloc),
-            mark: unsaved(0)?,
+            mark,
         })
+    }
+
+    /// Writes the mark with this LB and no saved log.
+    fn write_mark(&mut self, alloc: Global, lb: u32) -> Option<Answer> {
+        self.mark = unsaved(u64::from(lb))?;
+        Some(write_mark(alloc, &mut self.store, &self.mark))
     }
 
     /// Changes the store: a `put` of a number in a place, an `erase`, the blocks of object 2 that it
@@ -57,75 +157,40 @@ impl Disk {
         name: &str,
         first: u32,
         second: u32,
-    ) -> Option<&'static str> {
+    ) -> Option<Answer> {
         match name {
-            "put" => Some(passed(self.store.put(alloc, cell(first), &value(second)))),
-            "erase" => Some(passed(self.store.erase(alloc, cell(first)))),
-            "erases" => Some(passed(self.store.erase_from(alloc, 2, first))),
-            "sync" => Some(passed(self.store.sync(alloc))),
-            "mark" => {
-                self.mark = unsaved(u64::from(first))?;
-                Some(passed(self.store.write_mark(alloc, &self.mark)))
-            }
-            "attach" => Some(passed(self.store.attach(alloc, "disk"))),
-            _ => self.stop(alloc, name, first),
+            "put" => Some(put(alloc, &mut self.store, first, second)),
+            "erase" => Some(erase(alloc, &mut self.store, first)),
+            "erases" => Some(erase_from(alloc, &mut self.store, first)),
+            "sync" => Some(sync(alloc, &mut self.store)),
+            "mark" => self.write_mark(alloc, first),
+            "attach" => Some(attach(alloc, &mut self.store)),
+            _ => stop(alloc, &mut self.store, name, first),
         }
     }
 
-    fn stop(&mut self, alloc: Global, name: &str, first: u32) -> Option<&'static str> {
-        match name {
-            "settle" => self.store.settle(),
-            "passes" => self.store.stop_after(first),
-            "fails-read" => self.store.fail_read(first),
-            "crash" => self.store.crash(&pick(alloc, first)?),
-            "all" => self.store.crash(&Pick::All),
-            "none" => self.store.crash(&Pick::None),
-            _ => return None,
-        }
-        Some("")
-    }
-
-    /// The number that the store has in a place.
-    pub(crate) fn read(&mut self, alloc: Global, place: u32) -> Result<Option<u32>, StoreFault> {
-        match self.store.read(alloc, cell(place))? {
-            Some(shared) => Ok(number(Some(shared.get()))),
-            None => Ok(None),
-        }
-    }
-
-    /// The LB of its mark.
-    fn lb(&mut self, alloc: Global) -> Result<Option<u32>, StoreFault> {
-        match self.store.read_mark(alloc)? {
-            Some(mark) => Ok(u32::try_from(mark.lb()).ok()),
-            None => Ok(None),
-        }
-    }
-
-    /// All numbers that the store has, and the LB of its mark.
-    pub(crate) fn reads(&mut self, alloc: Global) -> Option<String> {
-        let mut text = String::new(alloc);
+    /// Tells all numbers that the store has, and the LB of its mark.
+    pub(crate) fn reads(&mut self, alloc: Global, text: &mut String) -> Option<Answer> {
         for place in 0..PLACES {
-            let number = self.read(alloc, place).ok()?;
-            text.push_str(told(alloc, number)?.as_str()).ok()?;
-            text.push_str(",").ok()?;
+            tell(text, read(alloc, &mut self.store, place).ok()?)?;
+            told(text.push_str(","))?;
         }
-        let lb = self.lb(alloc).ok()?;
-        text.push_str(told(alloc, lb)?.as_str()).ok()?;
-        Some(text)
+        tell(text, lb(alloc, &mut self.store).ok()?)
     }
 
     /// What it `reads` of all, of one `cell`, and of the mark's `lb`.
-    pub(crate) fn look(&mut self, alloc: Global, name: &str, numbers: [u32; 7]) -> Option<String> {
-        let found = match name {
-            "reads" => return self.reads(alloc),
-            "cell" => self.read(alloc, numbers[0]),
-            "lb" => self.lb(alloc),
-            _ => return None,
-        };
-        match found {
-            Ok(number) => told(alloc, number),
-            Err(StoreFault::Failed) => format!(in alloc; "failed").ok(),
-            Err(StoreFault::NoMemory) => None,
+    pub(crate) fn look(
+        &mut self,
+        alloc: Global,
+        name: &str,
+        place: u32,
+        text: &mut String,
+    ) -> Option<Answer> {
+        match name {
+            "reads" => self.reads(alloc, text),
+            "cell" => tell_read(text, read(alloc, &mut self.store, place)),
+            "lb" => tell_read(text, lb(alloc, &mut self.store)),
+            _ => None,
         }
     }
 
@@ -141,23 +206,15 @@ impl Disk {
             13 => ("mark", number),
             _ => ("settle", 0),
         };
-        if !self.change(alloc, name, first, number)?.is_empty() {
-            return None;
+        match self.change(alloc, name, first, number)? {
+            Answer::Says("") => {}
+            _ => return None,
         }
         if numbers.next() % 8 == 0 {
             let bits = numbers.next() % 64;
-            self.store.crash(&pick(alloc, bits)?);
+            crash_some(alloc, &mut self.store, bits)?;
         }
         Some(())
-    }
-
-    /// A digest with all that is read.
-    fn digest(&mut self, alloc: Global, before: u64) -> Option<u64> {
-        let mut digest = before;
-        for place in 0..PLACES {
-            digest = folded(digest, self.read(alloc, place).ok()?);
-        }
-        Some(folded(digest, self.lb(alloc).ok()?))
     }
 
     /// Takes so many random steps, and gives a digest of what is read after each.
@@ -167,11 +224,11 @@ impl Disk {
         numbers: &mut Numbers,
         count: u32,
     ) -> Option<u64> {
-        let mut digest = 0;
+        let mut sum = 0;
         for _ in 0..count {
             self.random(alloc, numbers)?;
-            digest = self.digest(alloc, digest)?;
+            sum = digest(alloc, &mut self.store, sum)?;
         }
-        Some(digest)
+        Some(sum)
     }
 }

@@ -9,12 +9,14 @@ mod indexed;
 mod records;
 mod saved;
 mod walks;
+mod words;
 
 use cells::Numbers;
 use disk::Disk;
 use std::alloc::Global;
 use std::io::{self, BufRead, BufReader};
 use walks::Overlay;
+use words::{Answer, parsed, told};
 
 /// What the words of a line are about.
 #[derive(Drop)]
@@ -24,64 +26,88 @@ struct Player {
     overlay: Overlay,
 }
 
-/// A word's name and the numbers behind it, 0 where there are fewer than seven.
-fn parsed(word: &str) -> (&str, [u32; 7]) {
-    let mut numbers = [0; 7];
-    let Some((name, rest)) = word.split_once(':') else {
-        return (word, numbers);
-    };
-    for (place, digits) in numbers.iter_mut().zip(rest.split(':')) {
-        *place = digits.parse().unwrap_or(0);
-    }
-    (name, numbers)
-}
-
 impl Player {
     fn new(alloc: Global) -> Option<Player> {
+        let disk = Disk::new(alloc)?;
+        let overlay = Overlay::new(alloc)?;
+        let numbers = Numbers { state: 0 };
         Some(Player {
-            numbers: Numbers { state: 0 },
-            disk: Disk::new(alloc)?,
-            overlay: Overlay::new(alloc)?,
+            numbers,
+            disk,
+            overlay,
         })
+    }
+
+    /// Takes random steps of the store, and tells a digest and all that it has then.
+    fn steps(&mut self, alloc: Global, count: u32, text: &mut String) -> Option<Answer> {
+        let digest = self.disk.steps(alloc, &mut self.numbers, count)?;
+        told(write!(text, "{digest} "))?;
+        self.disk.reads(alloc, text)
+    }
+
+    /// Takes random steps of the log over the store, and tells a digest.
+    fn walks(&mut self, alloc: Global, count: u32, text: &mut String) -> Option<Answer> {
+        let digest = self
+            .overlay
+            .walks(alloc, &mut self.numbers, &mut self.disk, count)?;
+        told(write!(text, "{digest}"))
     }
 
     /// Takes a word. Random numbers begin with a `seed`; then come random `steps` of the store, or of
     /// the log over it, which `walks`.
-    fn step(&mut self, alloc: Global, word: &str) -> Option<String> {
+    fn step(&mut self, alloc: Global, word: &str, text: &mut String) -> Option<Answer> {
         let (name, numbers) = parsed(word);
         let [first, ..] = numbers;
         match name {
-            "seed" => self.numbers = Numbers {
-                state: u64::from(first),
-            },
-            "steps" => {
-                let digest = self.disk.steps(alloc, &mut self.numbers, first)?;
-                let reads = self.disk.reads(alloc)?;
-                return format!(in alloc; "{digest} {reads}").ok();
+            "seed" => {
+                self.numbers.state = u64::from(first);
+                Some(Answer::Says(""))
             }
-            "walks" => {
-                let digest = self
-                    .overlay
-                    .walks(alloc, &mut self.numbers, &mut self.disk, first)?;
-                return format!(in alloc; "{digest}").ok();
-            }
-            _ => return self.plain(alloc, name, numbers),
+            "steps" => self.steps(alloc, first, text),
+            "walks" => self.walks(alloc, first, text),
+            _ => self.plain(alloc, name, numbers, text),
         }
-        Some(String::new(alloc))
     }
 
-    fn plain(&mut self, alloc: Global, name: &str, numbers: [u32; 7]) -> Option<String> {
-        if let Some(text) = self.disk.change(alloc, name, numbers[0], numbers[1]) {
-            return String::from_str(alloc, text).ok();
+    fn plain(
+        &mut self,
+        alloc: Global,
+        name: &str,
+        numbers: [u32; 7],
+        text: &mut String,
+    ) -> Option<Answer> {
+        if let Some(answer) = self.disk.change(alloc, name, numbers[0], numbers[1]) {
+            return Some(answer);
         }
-        if let Some(text) = self.disk.look(alloc, name, numbers) {
-            return Some(text);
+        if let Some(answer) = self.disk.look(alloc, name, numbers[0], text) {
+            return Some(answer);
         }
-        if let Some(text) = self.disk.save(alloc, name, numbers) {
-            return Some(text);
+        if let Some(answer) = self.disk.save(alloc, name, numbers, text) {
+            return Some(answer);
         }
-        self.overlay.step(alloc, &mut self.disk, name, numbers)
+        self.overlay
+            .step(alloc, &mut self.disk, name, numbers, text)
     }
+}
+
+/// Writes a word and what came of it.
+fn write(rt: HostRuntime, word: &str, answer: Option<Answer>, text: &str) -> io::Result<()> {
+    let text = match answer {
+        None => return print!(rt; " {word} failed"),
+        Some(Answer::Says(text)) => text,
+        Some(Answer::Told) => text,
+    };
+    if text.is_empty() {
+        return Ok(());
+    }
+    print!(rt; " {word}={text}")
+}
+
+/// Takes a word, and writes it and what came of it.
+fn take(rt: HostRuntime, player: &mut Player, word: &str) -> io::Result<()> {
+    let mut text = String::new(rt.alloc());
+    let answer = player.step(rt.alloc(), word, &mut text);
+    write(rt, word, answer, text.as_str())
 }
 
 /// Plays a line.
@@ -94,14 +120,7 @@ fn play(rt: HostRuntime, line: &str) -> io::Result<()> {
         return println!(rt; " no memory");
     };
     for word in words {
-        match player.step(rt.alloc(), word) {
-            None => print!(rt; " {word} failed")?,
-            Some(text) => {
-                if !text.is_empty() {
-                    print!(rt; " {word}={text}")?;
-                }
-            }
-        }
+        take(rt, &mut player, word)?;
     }
     println!(rt; "")
 }

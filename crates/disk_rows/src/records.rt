@@ -5,28 +5,36 @@ ghost use Rattle.std.specs.Prelude.{◌≡◌, IfSome};
 use event_record::{Changes, Index, Moment, Record, RecordFields};
 use harp_cells::Change;
 use harp_types::{Bounded, Call, Cred, Reply, ServerId, ViewNo};
-use std::alloc::Global;
+use std::alloc::{AllocError, Global};
 use volatile_log::{ActiveLog, FrozenLog};
+
+/// A write of eight bytes.
+fn write(alloc: Global) -> Option<Call> {
+    let nines = vec![in alloc; 9; 8].ok()?;
+    Some(Call::Write {
+        handle: 2,
+        offset: 0,
+        bytes: Bounded::of(nines)?,
+    })
+}
 
 /// An update with this index and these changes, of client 7 as the user 5: a write of eight bytes.
 pub(crate) fn record(alloc: Global, index: Index, changes: Vec<Change>) -> Option<Record>
     ensures { IfSome result (λ r. r.index ≡ index) }
 {
-    let nines = vec![in alloc; 9; 8].ok()?;
+    let stamped = ViewNo::of(1, ServerId::Zero)?;
+    let changes = Changes::of(changes)?;
+    let call = write(alloc)?;
     let fields = RecordFields {
-        stamped: ViewNo::of(1, ServerId::Zero)?,
+        stamped,
         index,
         client: 7,
         number: 1,
         cred: Cred { uid: 5, gid: 6 },
-        call: Call::Write {
-            handle: 2,
-            offset: 0,
-            bytes: Bounded::of(nines)?,
-        },
+        call,
         stamp: Moment::new(2050),
         reply: Reply::Done,
-        changes: Changes::of(changes)?,
+        changes,
     };
     Record::of(alloc, fields).ok()?
 }
@@ -57,20 +65,22 @@ pub(crate) fn four(alloc: Global) -> Option<FrozenLog> {
     Some(log.freeze())
 }
 
-/// The bytes of an update of client 7 with this index, a remove of "a" in the root at 2050, by the
-/// user 5 of the group 6 where it has a credential.
-pub(crate) fn spelled(alloc: Global, index: u32, cred: bool) -> Option<Vec<u8>> {
-    let mut bytes = Vec::from_slice(alloc, &[0, 0, 0, 0, 0, 0, 0, 1, 0, 0, 0, 0, 0]).ok()?;
-    bytes.extend_from_slice(&index.to_be_bytes()).ok()?;
-    bytes
-        .extend_from_slice(&[0, 0, 0, 7, 0, 0, 0, 0, 0, 0, 0, 1])
-        .ok()?;
+/// Appends the bytes of an update of client 7 with this index, a remove of "a" in the root at 2050,
+/// by the user 5 of the group 6 where it has a credential.
+fn spell(bytes: &mut Vec<u8>, index: u32, cred: bool) -> Result<(), AllocError> {
+    bytes.extend_from_slice(&[0, 0, 0, 0, 0, 0, 0, 1, 0, 0, 0, 0, 0])?;
+    bytes.extend_from_slice(&index.to_be_bytes())?;
+    bytes.extend_from_slice(&[0, 0, 0, 7, 0, 0, 0, 0, 0, 0, 0, 1])?;
     if cred {
-        bytes.extend_from_slice(&[0, 0, 0, 5, 0, 0, 0, 6]).ok()?;
+        bytes.extend_from_slice(&[0, 0, 0, 5, 0, 0, 0, 6])?;
     }
-    bytes.extend_from_slice(&[10, 0, 0, 0, 1, 0, 1, 0x61]).ok()?;
-    bytes
-        .extend_from_slice(&[0, 0, 0, 0, 0, 0, 8, 2, 1, 0, 0])
-        .ok()?;
+    bytes.extend_from_slice(&[10, 0, 0, 0, 1, 0, 1, 0x61])?;
+    bytes.extend_from_slice(&[0, 0, 0, 0, 0, 0, 8, 2, 1, 0, 0])
+}
+
+/// The bytes of such an update.
+pub(crate) fn spelled(alloc: Global, index: u32, cred: bool) -> Option<Vec<u8>> {
+    let mut bytes = Vec::new(alloc);
+    spell(&mut bytes, index, cred).ok()?;
     Some(bytes)
 }

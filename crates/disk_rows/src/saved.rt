@@ -1,24 +1,34 @@
 //! The words of saved logs.
 
 use crate::cells::value;
-use crate::disk::{Disk, passed, unsaved};
+use crate::disk::{Disk, read_mark, unsaved};
 use crate::records::{four, spelled};
+use crate::words::{Answer, passed, told};
 use event_record::Record;
 use harp_cells::{Cell, NonEmpty, Value};
-use harp_store::{Saved, Store};
+use harp_store::{Mark, Saved, SharedValue, Store, StoreFault};
 use harp_types::Call;
 use power_save::{SaveFault, SeenRecords, load, save};
 use std::alloc::Global;
 use volatile_log::FrozenLog;
 
 /// Why nothing was saved or loaded.
-fn fault(alloc: Global, fault: SaveFault) -> Option<String> {
-    let text = match fault {
-        SaveFault::StoreFailed => "store failed",
-        SaveFault::NotSaved => "not saved",
-        SaveFault::NoMemory => "no memory",
-    };
-    String::from_str(alloc, text).ok()
+fn fault(fault: SaveFault) -> Answer {
+    match fault {
+        SaveFault::StoreFailed => Answer::Says("store failed"),
+        SaveFault::NotSaved => Answer::Says("not saved"),
+        SaveFault::NoMemory => Answer::Says("no memory"),
+    }
+}
+
+/// A value with these bytes, in the old form or not.
+fn holding(bytes: Vec<u8>, is_old: bool) -> Option<Value> {
+    if is_old {
+        let bytes = NonEmpty::of(bytes)?;
+        return Some(Value::Saved { bytes });
+    }
+    let bytes = NonEmpty::of(bytes)?;
+    Some(Value::SavedCred { bytes })
 }
 
 /// The value with the bytes of an update of an index, with a credential or not, and with a zero more
@@ -32,29 +42,66 @@ fn value_of(alloc: Global, numbers: [u32; 7]) -> Option<Value> {
     if less > 0 {
         let _ = bytes.pop();
     }
-    if old > 0 {
-        let bytes = NonEmpty::of(bytes)?;
-        return Some(Value::Saved { bytes });
-    }
-    let bytes = NonEmpty::of(bytes)?;
-    Some(Value::SavedCred { bytes })
+    holding(bytes, old > 0)
 }
 
-/// Its numbers: base, LB, AP, CP and top.
-fn numbers_of(alloc: Global, log: &FrozenLog) -> Option<String> {
+/// Tells its numbers: base, LB, AP, CP and top.
+fn tell_numbers(log: &FrozenLog, text: &mut String) -> Option<Answer> {
     let numbers = [log.base(), log.lb(), log.ap(), log.cp(), log.top()];
-    format!(in alloc; "{numbers:?}").ok()
+    told(write!(text, "{numbers:?}"))
 }
 
-/// A record that removes: its user, group, index, client, number and stamp, and the name's bytes.
-fn record_of(alloc: Global, record: Option<&Record>) -> Option<String> {
-    let fields = record?.fields();
+/// Tells a record that removes: its user, group, index, client, number and stamp, and the name's
+/// bytes.
+fn tell_record(record: &Record, text: &mut String) -> Option<Answer> {
+    let fields = record.fields();
     let Call::Remove { name, .. } = &fields.call else {
         return None;
     };
     let cred = [fields.cred.uid, fields.cred.gid, fields.client];
     let numbers = [fields.index.get(), fields.number, fields.stamp.get()];
-    format!(in alloc; "{cred:?}{numbers:?}{:?}", name.as_slice()).ok()
+    let name = name.as_slice();
+    told(write!(text, "{cred:?}{numbers:?}{name:?}"))
+}
+
+/// The log that was saved by a mark.
+fn loaded<D: Store>(alloc: Global, mark: &Mark, store: &mut D) -> Result<FrozenLog, SaveFault> {
+    load(alloc, mark, store, &mut SeenRecords::new(alloc))
+}
+
+/// Saves a log, and gives the mark then, and what failed.
+fn saved<D: Store>(
+    alloc: Global,
+    log: &FrozenLog,
+    before: Mark,
+    store: &mut D,
+) -> (Mark, Result<(), SaveFault>) {
+    let mut mark = before.with_saved(None);
+    let outcome = save(alloc, log, &mut mark, store);
+    (mark, outcome)
+}
+
+/// Puts a value in the cell of a saved record.
+fn put<D: Store>(alloc: Global, store: &mut D, place: u32, value: &Value) -> Answer {
+    passed(store.put(alloc, Cell::Saved { place }, value))
+}
+
+/// What the cell of a saved record holds.
+fn read<D: Store>(
+    alloc: Global,
+    store: &mut D,
+    place: u32,
+) -> Result<Option<SharedValue>, StoreFault> {
+    store.read(alloc, Cell::Saved { place })
+}
+
+/// Tells the bytes of a record's value.
+fn tell_bytes(value: &Value, text: &mut String) -> Option<Answer> {
+    let Value::SavedCred { bytes } = value else {
+        return Some(Answer::Says("another value"));
+    };
+    let bytes = bytes.as_slice();
+    told(write!(text, "{bytes:?}"))
 }
 
 impl Disk {
@@ -62,68 +109,74 @@ impl Disk {
     /// `taken` from the disk, or that `marks` an LB, a base, CP, top and ring; the cell where one
     /// `keeps` a record's value, or a `number`; what it `loads`, also the `item` of an index; and
     /// the `bytes` of a cell.
-    pub(crate) fn save(&mut self, alloc: Global, name: &str, numbers: [u32; 7]) -> Option<String> {
+    pub(crate) fn save(
+        &mut self,
+        alloc: Global,
+        name: &str,
+        numbers: [u32; 7],
+        text: &mut String,
+    ) -> Option<Answer> {
         let [place, ..] = numbers;
         match name {
-            "saved" => self.save_four(alloc),
-            "taken" => {
-                self.mark = self.store.read_mark(alloc).ok()??;
-                format!(in alloc; "{},{}", self.mark.lb(), self.mark.saved().is_some()).ok()
-            }
-            "marks" => self.set_mark(alloc, numbers),
-            "keeps" => self.keep(alloc, place, &value_of(alloc, numbers)?),
-            "number" => self.keep(alloc, place, &value(3)),
-            "loads" => match self.load(alloc) {
-                Ok(log) => numbers_of(alloc, &log),
-                Err(why) => fault(alloc, why),
-            },
-            "item" => record_of(alloc, self.load(alloc).ok()?.item(u64::from(place))),
-            "bytes" => self.bytes(alloc, place),
+            "saved" => self.save_four(alloc, text),
+            "taken" => self.take_mark(alloc, text),
+            "marks" => self.set_mark(numbers),
+            "keeps" => self.keep(alloc, numbers),
+            "number" => Some(put(alloc, &mut self.store, place, &value(3))),
+            "loads" => self.load(alloc, text),
+            "item" => self.item(alloc, place, text),
+            "bytes" => self.bytes(alloc, place, text),
             _ => None,
         }
     }
 
-    fn load(&mut self, alloc: Global) -> Result<FrozenLog, SaveFault> {
-        load(
-            alloc,
-            &self.mark,
-            &mut self.store,
-            &mut SeenRecords::new(alloc),
-        )
-    }
-
-    /// Saves, and tells the LB of the mark then, and what failed.
-    fn save_four(&mut self, alloc: Global) -> Option<String> {
-        let log = four(alloc)?;
-        let mut mark = self.mark.with_saved(None);
-        let outcome = save(alloc, &log, &mut mark, &mut self.store);
-        self.mark = mark;
-        match outcome {
-            Ok(()) => format!(in alloc; "{}", mark.lb()).ok(),
-            Err(SaveFault::StoreFailed) => format!(in alloc; "{} store failed", mark.lb()).ok(),
-            Err(why) => fault(alloc, why),
+    fn load(&mut self, alloc: Global, text: &mut String) -> Option<Answer> {
+        match loaded(alloc, &self.mark, &mut self.store) {
+            Ok(log) => tell_numbers(&log, text),
+            Err(why) => Some(fault(why)),
         }
     }
 
-    fn set_mark(&mut self, alloc: Global, numbers: [u32; 7]) -> Option<String> {
+    fn item(&mut self, alloc: Global, index: u32, text: &mut String) -> Option<Answer> {
+        let log = loaded(alloc, &self.mark, &mut self.store).ok()?;
+        tell_record(log.item(u64::from(index))?, text)
+    }
+
+    /// Saves, and tells the LB of the mark then, and what failed.
+    fn save_four(&mut self, alloc: Global, text: &mut String) -> Option<Answer> {
+        let log = four(alloc)?;
+        let (mark, outcome) = saved(alloc, &log, self.mark, &mut self.store);
+        self.mark = mark;
+        let lb = mark.lb();
+        match outcome {
+            Ok(()) => told(write!(text, "{lb}")),
+            Err(SaveFault::StoreFailed) => told(write!(text, "{lb} store failed")),
+            Err(why) => Some(fault(why)),
+        }
+    }
+
+    fn take_mark(&mut self, alloc: Global, text: &mut String) -> Option<Answer> {
+        self.mark = read_mark(alloc, &mut self.store).ok()??;
+        let (lb, is_saved) = (self.mark.lb(), self.mark.saved().is_some());
+        told(write!(text, "{lb},{is_saved}"))
+    }
+
+    fn set_mark(&mut self, numbers: [u32; 7]) -> Option<Answer> {
         let [lb, base, cp, top, ring, ..] = numbers;
         let saved = Saved::of(u64::from(base), u64::from(cp), u64::from(top), ring)?;
         self.mark = unsaved(u64::from(lb))?.with_saved(Some(saved));
-        Some(String::new(alloc))
+        Some(Answer::Says(""))
     }
 
-    fn keep(&mut self, alloc: Global, place: u32, value: &Value) -> Option<String> {
-        let text = passed(self.store.put(alloc, Cell::Saved { place }, value));
-        String::from_str(alloc, text).ok()
+    fn keep(&mut self, alloc: Global, numbers: [u32; 7]) -> Option<Answer> {
+        let value = value_of(alloc, numbers)?;
+        Some(put(alloc, &mut self.store, numbers[0], &value))
     }
 
-    fn bytes(&mut self, alloc: Global, place: u32) -> Option<String> {
-        let Some(shared) = self.store.read(alloc, Cell::Saved { place }).ok()? else {
-            return format!(in alloc; "-").ok();
-        };
-        match shared.get() {
-            Value::SavedCred { bytes } => format!(in alloc; "{:?}", bytes.as_slice()).ok(),
-            _ => format!(in alloc; "another value").ok(),
+    fn bytes(&mut self, alloc: Global, place: u32, text: &mut String) -> Option<Answer> {
+        match read(alloc, &mut self.store, place).ok()? {
+            Some(shared) => tell_bytes(shared.get(), text),
+            None => Some(Answer::Says("-")),
         }
     }
 }

@@ -3,16 +3,18 @@
 ghost use Rattle.std.specs.Prelude.{◌≡◌, ◌≤◌};
 ghost use Rattle.volatile_log.specs.Log.{top};
 
-use crate::cells::{Numbers, PLACES, cell, folded, number, told, value};
-use crate::disk::{Disk, passed};
+use crate::cells::{Numbers, PLACES, cell, folded, number, value};
+use crate::disk::Disk;
 use crate::indexed::Indexed;
+use crate::words::{Answer, passed, tell, told};
 use applier::{apply_some, flush};
 use cell_cache::{Cached, CellCache};
 use harp_cells::{CellRead, Change};
-use harp_store::{MemStore, StoreFault};
+use harp_store::{Mark, Store, StoreFault};
 use overlay::At;
 use std::alloc::Global;
 use std::mem;
+use volatile_log::ActiveLog;
 
 /// A log with its index, and the changes of its next record.
 #[derive(Drop)]
@@ -56,10 +58,10 @@ fn indexed_over<U: CellRead>(
 }
 
 /// What the index gives of a place up to a record, over a store behind a cache.
-fn indexed_at(
+fn indexed_at<D: Store>(
     alloc: Global,
     all: &Indexed,
-    store: &mut MemStore,
+    store: &mut D,
     upto: u64,
     place: u32,
 ) -> Option<Option<u32>> {
@@ -72,10 +74,10 @@ fn indexed_at(
 }
 
 /// A digest with each place up to a record.
-fn digest_at(
+fn digest_at<D: Store>(
     alloc: Global,
     all: &Indexed,
-    store: &mut MemStore,
+    store: &mut D,
     upto: u64,
     before: u64,
 ) -> Option<u64> {
@@ -87,7 +89,7 @@ fn digest_at(
 }
 
 /// A digest with each place up to each record.
-fn digest_all(alloc: Global, all: &Indexed, store: &mut MemStore, before: u64) -> Option<u64> {
+fn digest_all<D: Store>(alloc: Global, all: &Indexed, store: &mut D, before: u64) -> Option<u64> {
     let mut digest = before;
     for upto in all.log.base()..=all.log.top() {
         digest = digest_at(alloc, all, store, upto, digest)?;
@@ -95,28 +97,50 @@ fn digest_all(alloc: Global, all: &Indexed, store: &mut MemStore, before: u64) -
     Some(digest)
 }
 
-/// What fetches of these places give, up to the first that fails.
-fn fetched_by<U: CellRead>(alloc: Global, cells: &mut U, places: [u32; 7]) -> Option<String>
+/// Tells what fetches of these places give, up to the first that fails.
+fn fetched_by<U: CellRead>(cells: &mut U, places: [u32; 7], text: &mut String) -> Option<Answer>
     ensures left { U.left cells.new ≡ U.left cells.old }
 {
-    let mut text = String::new(alloc);
     for place in places {
         if cells.fetch(cell(place)).is_err() {
-            text.push_str("failed").ok()?;
-            return Some(text);
+            return told(text.push_str("failed"));
         }
-        text.push_str(told(alloc, number(cells.value()))?.as_str())
-            .ok()?;
-        text.push_str(",").ok()?;
+        tell(text, number(cells.value()))?;
+        told(text.push_str(","))?;
     }
-    Some(text)
+    Some(Answer::Told)
 }
 
-/// What a cache with two places fetches of these places, up to the first that fails.
-fn fetched(alloc: Global, store: &mut MemStore, places: [u32; 7]) -> Option<String> {
+/// Tells what a cache with two places fetches of these places, up to the first that fails.
+fn fetched<D: Store>(
+    alloc: Global,
+    store: &mut D,
+    places: [u32; 7],
+    text: &mut String,
+) -> Option<Answer> {
     let mut cache = CellCache::new(alloc, 2).ok()?;
     let mut cells = Cached::new(alloc, store, &mut cache);
-    fetched_by(alloc, &mut cells, places)
+    fetched_by(&mut cells, places, text)
+}
+
+/// Lowers a mark's LB, behind a sync.
+fn flushed<D: Store>(alloc: Global, store: &mut D, mark: &mut Mark, lb: u32) -> Answer {
+    passed(flush(alloc, store, mark, u64::from(lb)))
+}
+
+/// Applies some records of a log behind an index, up to another.
+fn applied<D: Store>(
+    alloc: Global,
+    log: &ActiveLog,
+    from: u64,
+    to: u64,
+    most: u32,
+    store: &mut D,
+) -> Option<Result<u64, StoreFault>> {
+    if from < log.base() || to < from || to > log.top() {
+        return None;
+    }
+    Some(apply_some(alloc, log, from, to, most, store))
 }
 
 impl Overlay {
@@ -181,55 +205,53 @@ impl Overlay {
         disk: &mut Disk,
         name: &str,
         numbers: [u32; 7],
-    ) -> Option<String> {
+        text: &mut String,
+    ) -> Option<Answer> {
         let [first, second, third, ..] = numbers;
         match name {
-            "new-put" => {
-                let (cell, value) = (cell(first), value(second));
-                self.changes.push(Change::Put { cell, value }).ok()?;
+            "new-put" => self.put(first, second),
+            "new-erases" => self.erase_from(first, second),
+            "append" => {
+                self.append(alloc)?;
+                Some(Answer::Says(""))
             }
-            "new-erases" => {
-                let (object, first) = (first, second);
-                self.changes.push(Change::EraseFrom { object, first }).ok()?;
-            }
-            "append" => self.append(alloc)?,
             "at" => {
-                let found = indexed_at(
-                    alloc,
-                    &self.all,
-                    &mut disk.store,
-                    u64::from(first),
-                    second,
-                )?;
-                return told(alloc, found);
+                let upto = u64::from(first);
+                tell(
+                    text,
+                    indexed_at(alloc, &self.all, &mut disk.store, upto, second)?,
+                )
             }
-            "some" => return self.apply(alloc, disk, u64::from(first), u64::from(second), third),
-            "flush" => {
-                let lb = u64::from(first);
-                let text = passed(flush(alloc, &mut disk.store, &mut disk.mark, lb));
-                return String::from_str(alloc, text).ok();
-            }
-            "fetches" => return fetched(alloc, &mut disk.store, numbers),
-            _ => return None,
+            "some" => self.apply(alloc, disk, [first, second, third], text),
+            "flush" => Some(flushed(alloc, &mut disk.store, &mut disk.mark, first)),
+            "fetches" => fetched(alloc, &mut disk.store, numbers, text),
+            _ => None,
         }
-        Some(String::new(alloc))
+    }
+
+    fn put(&mut self, place: u32, number: u32) -> Option<Answer> {
+        let (cell, value) = (cell(place), value(number));
+        self.changes.push(Change::Put { cell, value }).ok()?;
+        Some(Answer::Says(""))
+    }
+
+    fn erase_from(&mut self, object: u32, first: u32) -> Option<Answer> {
+        self.changes.push(Change::EraseFrom { object, first }).ok()?;
+        Some(Answer::Says(""))
     }
 
     fn apply(
         &mut self,
         alloc: Global,
         disk: &mut Disk,
-        ap: u64,
-        cp: u64,
-        most: u32,
-    ) -> Option<String> {
-        let log = &self.all.log;
-        if ap < log.base() || cp < ap || cp > log.top() {
-            return None;
-        }
-        match apply_some(alloc, log, ap, cp, most, &mut disk.store) {
-            Ok(index) => format!(in alloc; "{index}").ok(),
-            Err(StoreFault::Failed) => format!(in alloc; "failed").ok(),
+        numbers: [u32; 3],
+        text: &mut String,
+    ) -> Option<Answer> {
+        let [from, to, most] = numbers;
+        let (from, to) = (u64::from(from), u64::from(to));
+        match applied(alloc, &self.all.log, from, to, most, &mut disk.store)? {
+            Ok(index) => told(write!(text, "{index}")),
+            Err(StoreFault::Failed) => Some(Answer::Says("failed")),
             Err(StoreFault::NoMemory) => None,
         }
     }
