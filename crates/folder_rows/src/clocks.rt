@@ -1,6 +1,6 @@
 //! A clock in memory, the day's clock, and one that goes back or can't be read.
 
-use crate::{answer, halves};
+use crate::words::{Answer, halves, number, told};
 use harp_types::ServerId;
 use node_link::{Clock, ListClock, WallClock, readings_rise};
 use std::alloc::{AllocError, Global};
@@ -47,36 +47,73 @@ impl<'a, R> Clocks<'a, R> {
     }
 }
 
-/// A clock that gives the readings of a line, where they never fall.
-fn list_of(alloc: Global, line: &str) -> Result<Option<ListClock>, AllocError> {
+/// The readings of a line.
+fn readings_of(alloc: Global, line: &str) -> Result<Vec<u64>, AllocError> {
     let mut readings = Vec::new(alloc);
     for word in line.split(' ') {
-        if let Ok(reading) = word.parse::<u64>() {
+        if let Some(reading) = number(word) {
             readings.push(reading)?;
         }
     }
-    if !readings_rise(readings.as_slice()) {
-        return Ok(None);
-    }
-    Ok(Some(ListClock::new(alloc, readings)))
+    Ok(readings)
 }
 
-/// What came of a line about clocks. None where it isn't one.
+/// Has the clock in memory give the readings of a line, where they never fall.
+fn set_readings(alloc: Global, list: &mut ListClock, line: &str) -> Answer {
+    let Ok(readings) = readings_of(alloc, line) else {
+        return Answer::NoMemory;
+    };
+    if !readings_rise(readings.as_slice()) {
+        return Answer::Nothing;
+    }
+    *list = ListClock::new(alloc, readings);
+    Answer::Done
+}
+
+/// A reading of the clock in memory, and how many it told.
+fn tell_reading(list: &mut ListClock, place: ServerId, text: &mut String) -> Answer {
+    let now = list.now(place);
+    let count = list.told().map_or(0, |told| told.len());
+    told(write!(text, "{now}, {count} told"))
+}
+
+/// Whether the day's clock reads no less than before, and how often it failed.
+fn tell_day<R: time::Clock>(
+    clocks: &mut Clocks<'_, R>,
+    place: ServerId,
+    text: &mut String,
+) -> Answer {
+    let now = clocks.day.now(place);
+    let (rises, faults) = (now >= clocks.least, clocks.day.faults());
+    clocks.least = now;
+    told(write!(text, "rises {rises}, {faults} faults"))
+}
+
+/// A reading of the clock that is told its seconds, and how often it failed.
+fn tell_seconds<R>(
+    clocks: &mut Clocks<'_, R>,
+    place: ServerId,
+    number: u64,
+    text: &mut String,
+) -> Answer {
+    clocks.seconds.set(number);
+    let (now, faults) = (clocks.told.now(place), clocks.told.faults());
+    told(write!(text, "{now}, {faults} faults"))
+}
+
+/// What came of a line about clocks.
 pub fn clock_answer<R: time::Clock>(
     alloc: Global,
     clocks: &mut Clocks<'_, R>,
     line: &str,
-) -> Result<Option<String>, AllocError> {
+    text: &mut String,
+) -> Answer {
     let (word, rest) = halves(line);
     if word == "readings" {
-        let Some(list) = list_of(alloc, rest)? else {
-            return Ok(None);
-        };
-        clocks.list = list;
-        return answer(alloc, "done");
+        return set_readings(alloc, &mut clocks.list, rest);
     }
-    let Ok(number) = rest.parse::<u64>() else {
-        return Ok(None);
+    let Some(number) = number(rest) else {
+        return Answer::Nothing;
     };
     let place = match number {
         0 => ServerId::Zero,
@@ -84,22 +121,9 @@ pub fn clock_answer<R: time::Clock>(
         _ => ServerId::Two,
     };
     match word {
-        "reading" => {
-            let now = clocks.list.now(place);
-            let told = clocks.list.told().map_or(0, |told| told.len());
-            Ok(Some(format!(in alloc; "{now}, {told} told")?))
-        }
-        "day" => {
-            let now = clocks.day.now(place);
-            let (rises, faults) = (now >= clocks.least, clocks.day.faults());
-            clocks.least = now;
-            Ok(Some(format!(in alloc; "rises {rises}, {faults} faults")?))
-        }
-        "seconds" => {
-            clocks.seconds.set(number);
-            let (now, faults) = (clocks.told.now(place), clocks.told.faults());
-            Ok(Some(format!(in alloc; "{now}, {faults} faults")?))
-        }
-        _ => Ok(None),
+        "reading" => tell_reading(&mut clocks.list, place, text),
+        "day" => tell_day(clocks, place, text),
+        "seconds" => tell_seconds(clocks, place, number, text),
+        _ => Answer::Nothing,
     }
 }

@@ -1,9 +1,9 @@
 //! A link in memory, and one over UDP with another host beside it.
 
-ghost use Rattle.std.specs.Prelude.{◌≤◌};
+ghost use Rattle.std.specs.Prelude.{◌≤◌, length, IfOk};
 ghost use Rattle.node_link.specs.Traffic.{last_port};
 
-use crate::{answer, bytes_of, digits_of, done, halves};
+use crate::words::{Answer, bytes_of, came, halves, number, tell, tell_bytes, told};
 use harp_types::{Bytes, Peer, ServerId};
 use node_link::{Datagram, LAST_PORT, Link, MemLink, UdpLink, Waiting};
 use std::alloc::{AllocError, Global};
@@ -41,18 +41,41 @@ impl<R: Net + Copy> Links<R> {
 }
 
 fn place_of(word: &str) -> Option<ServerId> {
-    ServerId::of(word.parse::<u8>().ok()?)
+    ServerId::of(u8::try_from(number(word)?).ok()?)
+}
+
+fn port_of(word: &str) -> Option<u16> {
+    u16::try_from(number(word)?).ok()
+}
+
+fn wait_of(word: &str) -> Option<u32> {
+    u32::try_from(number(word)?).ok()
 }
 
 /// A datagram of another host, told as `PLACE:DIGITS`.
 fn waiting_of(alloc: Global, word: &str) -> Option<Waiting> {
     let (place, digits) = word.split_once(':')?;
+    let place = place_of(place)?;
     let bytes = Bytes::from_vec(bytes_of(alloc, digits)?);
     let datagram = Datagram { from: OTHER, bytes };
-    Some(Waiting {
-        place: place_of(place)?,
-        datagram,
-    })
+    Some(Waiting { place, datagram })
+}
+
+/// Notes a datagram that waits, or the number of a call that fails.
+fn note(
+    alloc: Global,
+    left: &mut Vec<Waiting>,
+    fails: &mut Vec<u64>,
+    word: &str,
+) -> Result<(), AllocError> {
+    if let Some(waiting) = waiting_of(alloc, word) {
+        left.push(waiting)?;
+        return Ok(());
+    }
+    if let Some(number) = number(word) {
+        fails.push(number)?;
+    }
+    Ok(())
 }
 
 /// A link in memory that gives the datagrams of a line, and whose calls with its numbers fail.
@@ -60,82 +83,98 @@ fn memory_of(alloc: Global, line: &str) -> Result<MemLink, AllocError> {
     let mut left = Vec::new(alloc);
     let mut fails = Vec::new(alloc);
     for word in line.split(' ') {
-        if let Some(waiting) = waiting_of(alloc, word) {
-            left.push(waiting)?;
-        } else if let Ok(number) = word.parse::<u64>() {
-            fails.push(number)?;
-        }
+        note(alloc, &mut left, &mut fails, word)?;
     }
     MemLink::new(alloc, left, fails)
 }
 
-/// What a place receives within these milliseconds, and from whom.
-fn received<L: Link>(
+/// Has a link in memory begin anew, as a line says.
+fn renew(alloc: Global, memory: &mut MemLink, line: &str) -> Answer {
+    match memory_of(alloc, line) {
+        Ok(new) => {
+            *memory = new;
+            Answer::Done
+        }
+        Err(_) => Answer::NoMemory,
+    }
+}
+
+/// Tells the bytes of a datagram, and from whom it came.
+fn tell_datagram(alloc: Global, datagram: &Datagram, text: &mut String) -> Answer {
+    match tell_bytes(alloc, text, datagram.bytes.as_slice()) {
+        Answer::Told => {}
+        answer => return answer,
+    }
+    match datagram.from {
+        Peer::Server(server) => {
+            let server = server.number();
+            told(write!(text, " from server {server}"))
+        }
+        Peer::Other { .. } => tell(text, " from another host"),
+    }
+}
+
+/// What a place receives within so many milliseconds, and from whom.
+fn receive<L: Link>(
     alloc: Global,
     link: &mut L,
     last: &mut Peer,
     place: ServerId,
-    wait: &str,
-) -> Result<Option<String>, AllocError> {
-    let Ok(wait) = wait.parse::<u32>() else {
-        return Ok(None);
-    };
+    wait: u32,
+    text: &mut String,
+) -> Answer {
     match link.receive(alloc, place, wait) {
         Ok(Some(datagram)) => {
             *last = datagram.from;
-            let bytes = digits_of(alloc, datagram.bytes.as_slice())?;
-            match datagram.from {
-                Peer::Server(server) => {
-                    let server = server.number();
-                    Ok(Some(format!(in alloc; "{bytes} from server {server}")?))
-                }
-                Peer::Other { .. } => Ok(Some(format!(in alloc; "{bytes} from another host")?)),
-            }
+            tell_datagram(alloc, &datagram, text)
         }
-        Ok(None) => answer(alloc, "nothing"),
-        Err(_) => answer(alloc, "failed"),
+        Ok(None) => tell(text, "nothing"),
+        Err(_) => Answer::Failed,
     }
 }
 
 /// Sends to a server, or to the peer of which a datagram came last.
-fn sent<L: Link>(
-    alloc: Global,
-    link: &mut L,
-    last: Peer,
-    place: ServerId,
-    line: &str,
-) -> Result<Option<String>, AllocError> {
+fn send<L: Link>(alloc: Global, link: &mut L, last: Peer, place: ServerId, line: &str) -> Answer {
     let (to, digits) = halves(line);
     let to = match place_of(to) {
         Some(server) => Peer::Server(server),
         None => last,
     };
     match bytes_of(alloc, digits) {
-        Some(bytes) => done(alloc, link.send(alloc, place, to, bytes.as_slice())),
-        None => Ok(None),
+        Some(bytes) => came(link.send(alloc, place, to, bytes.as_slice())),
+        None => Answer::Nothing,
     }
 }
 
-/// What came of a line about one link. None where it isn't one.
+/// Opens a place at a port.
+fn bind<L: Link>(link: &mut L, place: ServerId, port: &str) -> Answer {
+    match port_of(port) {
+        Some(port) if port <= LAST_PORT => came(link.bind(place, port)),
+        _ => Answer::Nothing,
+    }
+}
+
+/// What came of a line about one link.
 fn link_answer<L: Link>(
     alloc: Global,
     link: &mut L,
     last: &mut Peer,
     line: &str,
-) -> Result<Option<String>, AllocError> {
+    text: &mut String,
+) -> Answer {
     let (word, rest) = halves(line);
     let (place, rest) = halves(rest);
     let Some(place) = place_of(place) else {
-        return Ok(None);
+        return Answer::Nothing;
     };
     match word {
-        "bind" => match rest.parse::<u16>() {
-            Ok(port) if port <= LAST_PORT => done(alloc, link.bind(place, port)),
-            _ => Ok(None),
+        "bind" => bind(link, place, rest),
+        "receive" => match wait_of(rest) {
+            Some(wait) => receive(alloc, link, last, place, wait, text),
+            None => Answer::Nothing,
         },
-        "receive" => received(alloc, link, last, place, rest),
-        "send" => sent(alloc, link, *last, place, rest),
-        _ => Ok(None),
+        "send" => send(alloc, link, *last, place, rest),
+        _ => Answer::Nothing,
     }
 }
 
@@ -156,19 +195,62 @@ fn any_socket<N: Net>(rt: &N) -> io::Result<UdpSocket> {
     UdpSocket::bind(rt, SocketAddr::from((Ipv4Addr::LOCALHOST, 0)))
 }
 
+/// A port from 1 to 60,000 that may be free.
+fn any_port<N: Net>(rt: &N) -> io::Result<u16>
+    ensures { IfOk result (λ port. port ≤ last_port) }
+{
+    let socket = any_socket(rt)?;
+    Ok(socket.local_addr()?.port() % 60_000 + 1)
+}
+
+/// Opens the three places at ports that are free, and gives the first of them.
+fn open_places<L: Link, N: Net>(link: &mut L, rt: &N) -> Option<u16> {
+    for _ in 0..20 {
+        let base = any_port(rt).ok()?;
+        if opens(link, base) {
+            return Some(base);
+        }
+    }
+    None
+}
+
 impl<R: Net> Links<R> {
     /// Opens the three places at ports that are free, and the other host.
-    fn open<N: Net>(&mut self, rt: &N) -> io::Result<()> {
-        for _ in 0..20 {
-            let base = any_socket(rt)?.local_addr()?.port() % 60_000 + 1;
-            if opens(&mut self.udp, base) {
-                self.base = base;
-                self.host = Some(any_socket(rt)?);
-                return Ok(());
-            }
-        }
-        Err(io::Error::from(io::ErrorKind::AddrInUse))
+    fn open<N: Net>(&mut self, rt: &N) -> Answer {
+        let Some(base) = open_places(&mut self.udp, rt) else {
+            return Answer::Failed;
+        };
+        let Ok(host) = any_socket(rt) else {
+            return Answer::Failed;
+        };
+        self.base = base;
+        self.host = Some(host);
+        Answer::Done
     }
+}
+
+/// Waits for a datagram for a second.
+fn received(host: &UdpSocket, bytes: &mut [u8]) -> io::Result<usize>
+    ensures { IfOk result (λ count. count ≤ length bytes.new) }
+{
+    host.set_read_timeout(Some(Duration::from_secs(1)))?;
+    let (count, _) = host.recv_from(bytes)?;
+    Ok(count)
+}
+
+/// What the other host receives within a second.
+fn host_receive(alloc: Global, host: &UdpSocket, text: &mut String) -> Answer {
+    let mut bytes = [0u8; 64];
+    match received(host, &mut bytes) {
+        Ok(count) => tell_bytes(alloc, text, &bytes[..count]),
+        Err(_) => Answer::Failed,
+    }
+}
+
+/// Sends from the other host to a place.
+fn host_send(host: &UdpSocket, base: u16, place: ServerId, bytes: &[u8]) -> Answer {
+    let port = base.saturating_add(u16::from(place.number()));
+    came(host.send_to(bytes, SocketAddr::from((Ipv4Addr::LOCALHOST, port))))
 }
 
 /// What came of a line about the other host: it receives within a second, or sends to a place.
@@ -177,43 +259,43 @@ fn host_answer(
     host: &UdpSocket,
     base: u16,
     line: &str,
-) -> io::Result<Option<String>> {
+    text: &mut String,
+) -> Answer {
     let (place, digits) = halves(line);
-    let (Some(place), Some(bytes)) = (place_of(place), bytes_of(alloc, digits)) else {
-        let mut bytes = [0u8; 64];
-        host.set_read_timeout(Some(Duration::from_secs(1)))?;
-        let (count, _) = host.recv_from(&mut bytes)?;
-        return Ok(Some(digits_of(alloc, &bytes[..count])?));
+    let Some(place) = place_of(place) else {
+        return host_receive(alloc, host, text);
     };
-    let port = base.saturating_add(u16::from(place.number()));
-    let to = SocketAddr::from((Ipv4Addr::LOCALHOST, port));
-    Ok(done(alloc, host.send_to(bytes.as_slice(), to))?)
+    match bytes_of(alloc, digits) {
+        Some(bytes) => host_send(host, base, place, bytes.as_slice()),
+        None => Answer::Nothing,
+    }
 }
 
-/// What came of a line about links. None where it isn't one.
+/// How many datagrams a link in memory gave and got.
+fn tell_counts(memory: &MemLink, text: &mut String) -> Answer {
+    let (taken, sent) = (memory.taken().len(), memory.sent().len());
+    told(write!(text, "taken {taken} sent {sent}"))
+}
+
+/// What came of a line about links.
 pub fn links_answer<N: Net, R: Net>(
     rt: &N,
     alloc: Global,
     links: &mut Links<R>,
     line: &str,
-) -> io::Result<Option<String>> {
+    text: &mut String,
+) -> Answer {
     let (word, rest) = halves(line);
     match word {
-        "link" => {
-            links.memory = memory_of(alloc, rest)?;
-            Ok(answer(alloc, "done")?)
-        }
-        "counts" => {
-            let (taken, sent) = (links.memory.taken().len(), links.memory.sent().len());
-            Ok(Some(format!(in alloc; "taken {taken} sent {sent}")?))
-        }
-        "memory" => Ok(link_answer(alloc, &mut links.memory, &mut links.last, rest)?),
-        "udp" => Ok(link_answer(alloc, &mut links.udp, &mut links.last, rest)?),
-        "open" => Ok(done(alloc, links.open(rt))?),
+        "link" => renew(alloc, &mut links.memory, rest),
+        "counts" => tell_counts(&links.memory, text),
+        "memory" => link_answer(alloc, &mut links.memory, &mut links.last, rest, text),
+        "udp" => link_answer(alloc, &mut links.udp, &mut links.last, rest, text),
+        "open" => links.open(rt),
         "host" => match &links.host {
-            Some(host) => host_answer(alloc, host, links.base, rest),
-            None => Ok(None),
+            Some(host) => host_answer(alloc, host, links.base, rest, text),
+            None => Answer::Nothing,
         },
-        _ => Ok(None),
+        _ => Answer::Nothing,
     }
 }

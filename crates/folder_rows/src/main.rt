@@ -6,101 +6,108 @@
 mod clocks;
 mod disk;
 mod links;
+mod words;
 
 use crate::clocks::{Clocks, clock_answer};
 use crate::disk::store_answer;
 use crate::links::{Links, links_answer};
+use crate::words::{Answer, bytes_of, came, halves};
 use std::alloc::{AllocError, Global};
 use std::io::{self, BufRead, BufReader};
 use std::rt::Files;
 use std::{cell, fs};
-use store_folder::{DiskFiles, FolderStore};
+use store_folder::{FolderStore, SystemFiles};
 
-/// The bytes of hexadecimal digits, a dash for none.
-pub(crate) fn bytes_of(alloc: Global, digits: &str) -> Option<Vec<u8>> {
-    if digits == "-" {
-        return Some(Vec::new(alloc));
-    }
-    hex::decode(alloc, digits).ok()
+/// What the lines are about.
+#[derive(Drop)]
+struct Player<'a> {
+    store: FolderStore<SystemFiles<HostRuntime>>,
+    links: Links<HostRuntime>,
+    clocks: Clocks<'a, HostRuntime>,
 }
 
-/// Bytes as hexadecimal digits, a dash for none.
-pub(crate) fn digits_of(alloc: Global, bytes: &[u8]) -> Result<String, AllocError> {
-    if bytes.is_empty() {
-        return String::from_str(alloc, "-");
-    }
-    hex::encode(alloc, bytes)
-}
-
-/// A line's first word, and what stands behind it.
-pub(crate) fn halves(line: &str) -> (&str, &str) {
-    match line.split_once(' ') {
-        Some(halves) => halves,
-        None => (line, ""),
+fn write_file<F: Files>(rt: &F, alloc: Global, path: &str, digits: &str) -> Answer {
+    match bytes_of(alloc, digits) {
+        Some(bytes) => came(fs::write(rt, path, bytes.as_slice())),
+        None => Answer::Nothing,
     }
 }
 
-/// An answer to a line.
-pub(crate) fn answer(alloc: Global, text: &str) -> Result<Option<String>, AllocError> {
-    Ok(Some(String::from_str(alloc, text)?))
-}
-
-/// What came of a call that gives nothing.
-pub(crate) fn done<T: Drop, E: Drop>(
-    alloc: Global,
-    outcome: Result<T, E>,
-) -> Result<Option<String>, AllocError> {
-    match outcome {
-        Ok(_) => answer(alloc, "done"),
-        Err(_) => answer(alloc, "failed"),
-    }
-}
-
-/// What came of a line about files. None where it isn't one.
-fn file_answer<F: Files>(rt: &F, alloc: Global, line: &str) -> Result<Option<String>, AllocError> {
+/// What came of a line about files.
+fn file_answer<F: Files>(rt: &F, alloc: Global, line: &str) -> Answer {
     let (word, rest) = halves(line);
     let (path, digits) = halves(rest);
     match word {
-        "write" => match bytes_of(alloc, digits) {
-            Some(bytes) => done(alloc, fs::write(rt, path, bytes.as_slice())),
-            None => Ok(None),
-        },
-        "folder" => done(alloc, fs::create_dir(rt, path)),
-        "remove" => done(alloc, fs::remove_dir(rt, path)),
-        _ => Ok(None),
+        "write" => write_file(rt, alloc, path, digits),
+        "folder" => came(fs::create_dir(rt, path)),
+        "remove" => came(fs::remove_dir(rt, path)),
+        _ => Answer::Nothing,
     }
+}
+
+impl Player<'_> {
+    /// Has new links and a new store, where a line is for them.
+    fn renew(&mut self, rt: HostRuntime, line: &str) -> Result<(), AllocError> {
+        let is_row = line.starts_with("row ");
+        if is_row {
+            self.links = Links::new(rt, rt.alloc())?;
+        }
+        if is_row || line == "store" {
+            self.store = FolderStore::new(rt);
+        }
+        Ok(())
+    }
+
+    /// What came of a line.
+    fn answer(&mut self, rt: HostRuntime, line: &str, text: &mut String) -> Answer {
+        let alloc = rt.alloc();
+        match file_answer(&rt, alloc, line) {
+            Answer::Nothing => {}
+            answer => return answer,
+        }
+        match store_answer(alloc, &mut self.store, line, text) {
+            Answer::Nothing => {}
+            answer => return answer,
+        }
+        match links_answer(&rt, alloc, &mut self.links, line, text) {
+            Answer::Nothing => clock_answer(alloc, &mut self.clocks, line, text),
+            answer => answer,
+        }
+    }
+}
+
+/// Writes a line and what came of it.
+fn write(rt: HostRuntime, line: &str, answer: Answer, text: &str) -> io::Result<()> {
+    let word = match answer {
+        Answer::Nothing => return println!(rt; "{line}"),
+        Answer::Done => "done",
+        Answer::Failed => "failed",
+        Answer::Absent => "absent",
+        Answer::NoMemory => "no memory",
+        Answer::Told => text,
+    };
+    println!(rt; "{line} = {word}")
+}
+
+/// Does what a line says.
+fn play(rt: HostRuntime, player: &mut Player<'_>, line: &str) -> io::Result<()> {
+    player.renew(rt, line)?;
+    let mut text = String::new(rt.alloc());
+    let answer = player.answer(rt, line, &mut text);
+    write(rt, line, answer, text.as_str())
 }
 
 fn main(rt: HostRuntime) -> io::Result<()> {
     let alloc = rt.alloc();
     let seconds = cell::Cell::new(0);
-    let mut store = FolderStore::new(&rt);
-    let mut links = Links::new(&rt, alloc)?;
-    let mut clocks = Clocks::new(&rt, alloc, &seconds);
+    let links = Links::new(rt, alloc)?;
+    let mut player = Player {
+        store: FolderStore::new(rt),
+        links,
+        clocks: Clocks::new(rt, alloc, &seconds),
+    };
     for line in BufReader::new(alloc, rt.reader())?.lines(alloc) {
-        let line = line?;
-        let text = line.as_str();
-        let is_row = text.starts_with("row ");
-        if is_row {
-            links = Links::new(&rt, alloc)?;
-        }
-        if is_row || text == "store" {
-            store = FolderStore::new(&rt);
-        }
-        let mut answer = file_answer(&rt, alloc, text)?;
-        if answer.is_none() {
-            answer = store_answer(alloc, &mut store, text)?;
-        }
-        if answer.is_none() {
-            answer = links_answer(&rt, alloc, &mut links, text)?;
-        }
-        if answer.is_none() {
-            answer = clock_answer(alloc, &mut clocks, text)?;
-        }
-        match answer {
-            Some(answer) => println!(rt; "{text} = {answer}")?,
-            None => println!(rt; "{text}")?,
-        }
+        play(rt, &mut player, line?.as_str())?;
     }
     Ok(())
 }
