@@ -1,81 +1,100 @@
 //! The words of what a server holds.
 
-ghost use Rattle.std.specs.Prelude.{◌≡◌, ◌≤◌, ◌<◌, true, OnSome};
+ghost use Rattle.std.specs.Prelude.{◌≡◌, ◌×◌, ◌<◌, true, IfSome};
 ghost use Rattle.group_rules.specs.Names.{place_of};
-ghost use Rattle.idle_log.specs.Kept.{IsPlaced};
+ghost use Rattle.idle_log.specs.Kept.{plan_of};
+ghost use Rattle.idle_log.specs.Pulls.{CanTake, IsFor};
 ghost use Rattle.volatile_log.specs.Log.{next};
 
-use crate::logs::{active, record, served};
+use crate::logs::{active, served};
+use crate::placed::{can_take, form_of};
+use crate::pulls::pulled;
 use crate::words::{Answer, server};
-use event_record::Index;
 use harp_cells::ChangeLog;
 use harp_types::{Held, Role, ServerId, ViewNo};
 use idle_log::{Form, Kept, can_have};
 use promise::Deadline;
 use std::alloc::Global;
 use volatile_log::{ActiveLog, EmptyLog, FrozenLog, LostLog, Staged};
-use wire::Storers;
 
-/// A log that is active, or what a server holds that is active in no view.
+/// A log that is active, and what a server holds where none is.
 #[derive(Drop)]
-pub(crate) enum Log {
-    Active(ActiveLog),
-    Kept(Kept),
+pub(crate) struct Logs {
+    active: Option<ActiveLog>,
+    kept: Kept,
 }
 
-impl Log {
+impl Logs {
     /// Nothing is held.
-    pub(crate) fn new() -> Log {
-        Log::Kept(Kept::Empty(EmptyLog::new()))
+    pub(crate) fn new() -> Logs {
+        Logs {
+            active: None,
+            kept: Kept::Empty(EmptyLog::new()),
+        }
     }
 
-    /// Takes a word. A log `starts` anew, or `freezes`.
+    /// Takes a word. A log `starts` anew, or `freezes`; where none is active, a server `accepts` a Form.
     pub(crate) fn step(&mut self, alloc: Global, name: &str, numbers: [u64; 7]) -> Option<Answer> {
-        let (log, answer) = match std::mem::replace(self, Log::new()) {
-            _ if name == "starts" => (Log::Active(ActiveLog::start(alloc).ok()?), Answer::Nothing),
-            Log::Active(log) if name == "freezes" => {
-                (Log::Kept(Kept::Held(log.freeze())), Answer::Nothing)
-            }
-            Log::Active(mut log) => {
-                let answer = active(alloc, &mut log, name, numbers)?;
-                (Log::Active(log), answer)
-            }
-            Log::Kept(kept) => match look(alloc, &kept, name, numbers) {
-                Some(answer) => (Log::Kept(kept), answer),
-                None => change(alloc, kept, name, numbers)?,
-            },
-        };
-        *self = log;
-        Some(answer)
+        match name {
+            "starts" => start(alloc, &mut self.active),
+            "freezes" => freeze(&mut self.active, &mut self.kept),
+            _ => self.go_on(alloc, name, numbers),
+        }
+    }
+
+    /// Takes a word of an active log, or of what is held where none is.
+    fn go_on(&mut self, alloc: Global, name: &str, numbers: [u64; 7]) -> Option<Answer> {
+        if let Some(log) = &mut self.active {
+            return active(alloc, log, name, numbers);
+        }
+        if name == "accepts" {
+            return accept(alloc, &mut self.kept, &mut self.active, numbers);
+        }
+        match look(alloc, &self.kept, name, numbers) {
+            Some(answer) => Some(answer),
+            None => change(&mut self.kept, name, numbers),
+        }
     }
 }
 
-/// What is `held`; what a join `tells`; what it `serves`; whether a server
-/// can have a role that `leads` another; and whether what a server holds `fits` a Form.
+/// Starts a log.
+fn start(alloc: Global, active: &mut Option<ActiveLog>) -> Option<Answer> {
+    *active = Some(ActiveLog::start(alloc).ok()?);
+    Some(Answer::Nothing)
+}
+
+/// Freezes the log that is active.
+fn freeze(active: &mut Option<ActiveLog>, kept: &mut Kept) -> Option<Answer> {
+    let log = active.take()?;
+    *kept = Kept::Held(log.freeze());
+    Some(Answer::Nothing)
+}
+
+/// What is `held`; what a join `tells`; what it `serves`; whether a server can have a role that
+/// `leads` another; and whether what a server holds `fits` a Form.
 fn look(alloc: Global, kept: &Kept, name: &str, numbers: [u64; 7]) -> Option<Answer> {
     let [first, second, ..] = numbers;
     match name {
-        "held" => Some(Answer::Says(match kept.held() {
-            Held::Held => "held",
-            Held::Lost => "lost",
-            Held::Empty => "empty",
-        })),
+        "held" => Some(held(kept)),
         "tells" => told(kept, first, second),
-        "serves" => Some(served(kept.serve(alloc, first, second).ok()?)),
+        "serves" => serve(alloc, kept, first, second),
         "leads" => Some(Answer::of(can_have(server(first), Role::Leads(server(second))))),
-        "fits" => {
-            let (me, form) = form_of(numbers)?;
-            if !is_placed(me, kept) {
-                return None;
-            }
-            Some(Answer::of(kept.fits(me, form.base, &form)))
-        }
+        "fits" => fits(kept, numbers),
         _ => match kept {
             Kept::Held(log) => look_into(log, name, first),
             Kept::Lost(_) => None,
             Kept::Empty(_) => None,
         },
     }
+}
+
+/// What is held.
+fn held(kept: &Kept) -> Answer {
+    Answer::Says(match kept.held() {
+        Held::Held => "held",
+        Held::Lost => "lost",
+        Held::Empty => "empty",
+    })
 }
 
 /// What a join tells, with AP: the count of the accepted view, the horizon, base, LB, AP, CP, top.
@@ -87,95 +106,101 @@ fn told(kept: &Kept, count: u64, horizon: u64) -> Option<Answer> {
     Some(Answer::Seven([count, horizon, join.base, join.lb, ap, join.cp, join.top]))
 }
 
+/// What is served.
+fn serve(alloc: Global, kept: &Kept, first: u64, last: u64) -> Option<Answer> {
+    match kept.serve(alloc, first, last) {
+        Ok(records) => Some(served(&records)),
+        Err(_) => None,
+    }
+}
+
+/// Whether what a server holds fits a Form.
+fn fits(kept: &Kept, numbers: [u64; 7]) -> Option<Answer> {
+    let (me, form) = form_of(numbers)?;
+    Some(Answer::of(can_take(me, kept, &form)?))
+}
+
 /// The `item` of an index of a frozen log, and its `ends`.
 fn look_into(log: &FrozenLog, name: &str, index: u64) -> Option<Answer> {
     match name {
-        "item" => match log.item(index) {
-            Some(item) => Some(Answer::One(item.index().get())),
-            None => Some(Answer::Says("none")),
-        },
+        "item" => Some(item(log, index)),
         "ends" => Some(Answer::Two([log.first(), log.last()])),
         _ => None,
     }
 }
 
-/// A server, and the Form that it takes a part of: leader, partner, source, base, CP and start.
-fn form_of(numbers: [u64; 7]) -> Option<(ServerId, Form)> {
-    let [me, leader, partner, source, base, cp, start] = numbers;
-    let form = Form {
-        storers: Storers::of(server(leader), server(partner))?,
-        source: server(source),
-        base,
-        cp,
-        start,
-        horizon: Deadline::of(2000)?,
-    };
-    Some((server(me), form))
-}
-
-/// Whether a server can hold this: the witness alone nothing, and a log with LB and AP at its base.
-fn is_placed(me: ServerId, kept: &Kept) -> bool
-    ensures { result ≡ true → IsPlaced (place_of me) kept.now }
-{
-    match me {
-        ServerId::Zero => !matches!(kept, Kept::Empty(_)),
-        ServerId::One => !matches!(kept, Kept::Empty(_)),
-        ServerId::Two => match kept {
-            Kept::Held(log) => log.lb() == log.base() && log.ap() == log.base(),
-            Kept::Lost(_) => true,
-            Kept::Empty(_) => true,
-        },
+/// The index of a record that is held.
+fn item(log: &FrozenLog, index: u64) -> Answer {
+    match log.item(index) {
+        Some(item) => Answer::One(item.index().get()),
+        None => Answer::Says("none"),
     }
 }
 
 /// What becomes of what is held: it `forgets`, is `lost` with an LB, or is that of a boot that takes
-/// the saved log, or of one whose mark stands `outside` or was `leading`; or it `accepts` a Form.
-fn change(alloc: Global, kept: Kept, name: &str, numbers: [u64; 7]) -> Option<(Log, Answer)> {
+/// the saved log, or of one whose mark stands `outside` or was `leading`.
+fn change(kept: &mut Kept, name: &str, numbers: [u64; 7]) -> Option<Answer> {
     let [first, second, third, ..] = numbers;
-    let kept = match (name, kept) {
-        ("forgets", kept) => kept.forget(),
-        ("lost", _) => Kept::Lost(LostLog::of(first)),
-        ("outside", _) => Kept::unloaded(server(first), Role::Outside, second),
-        ("leading", _) => Kept::unloaded(server(first), Role::Leads(server(second)), third),
-        ("boots", Kept::Held(log)) => Kept::loaded(server(first), log),
-        ("accepts", kept) => return accept(alloc, kept, numbers),
-        (_, _) => return None,
-    };
-    Some((Log::Kept(kept), Answer::Nothing))
+    match name {
+        "forgets" => forget(kept),
+        "lost" => *kept = Kept::Lost(LostLog::of(first)),
+        "outside" => unload(kept, server(first), Role::Outside, second),
+        "leading" => unload(kept, server(first), Role::Leads(server(second)), third),
+        "boots" => return load(kept, server(first)),
+        _ => return None,
+    }
+    Some(Answer::Nothing)
 }
 
-/// The log that a server goes on with which accepts a Form and pulls what it lacks. It tells the
-/// index of the record that it wanted first, and of the one behind those that it pulled.
-fn accept(alloc: Global, kept: Kept, numbers: [u64; 7]) -> Option<(Log, Answer)> {
+/// What is held, in whose place nothing is left.
+fn taken(kept: &mut Kept) -> Kept
+    ensures { result ≡ kept.old }
+{
+    std::mem::replace(kept, Kept::Empty(EmptyLog::new()))
+}
+
+/// Nothing is held any more.
+fn forget(kept: &mut Kept) {
+    *kept = taken(kept).forget();
+}
+
+/// A boot with a mark of this role, whose saved log it doesn't take.
+fn unload(kept: &mut Kept, me: ServerId, role: Role, lb: u64) {
+    *kept = Kept::unloaded(me, role, lb);
+}
+
+/// A boot that takes the saved log.
+fn load(kept: &mut Kept, me: ServerId) -> Option<Answer> {
+    let log = taken(kept).into_log()?;
+    *kept = Kept::loaded(me, log);
+    Some(Answer::Nothing)
+}
+
+/// Accepts a Form, with records that are pulled. It tells the index of the record that was wanted
+/// first, and of the one behind those that were pulled.
+fn accept(
+    alloc: Global,
+    kept: &mut Kept,
+    active: &mut Option<ActiveLog>,
+    numbers: [u64; 7],
+) -> Option<Answer> {
     let (me, form) = form_of(numbers)?;
-    if !is_placed(me, &kept) || !kept.fits(me, form.base, &form) {
+    if !can_take(me, kept, &form)? {
         return None;
     }
-    let mut staged = kept.stage(alloc, me, &form).ok()?;
-    let wanted = staged.next();
-    fill(alloc, &mut staged)?;
-    let answer = Answer::Two([wanted, staged.next()]);
-    match kept.take_up(me, &form, staged) {
-        Ok(log) => Some((Log::Active(log), answer)),
-        Err(_) => None,
-    }
+    let (staged, answer) = pulled(alloc, kept, me, &form)?;
+    *active = Some(take_up(taken(kept), me, &form, staged)?);
+    Some(answer)
 }
 
-/// Stages records until the list is full.
-fn fill(alloc: Global, staged: &mut Staged) -> Option<()>
-    requires first { 1 ≤ staged.old.first }
-    ensures first { staged.new.first ≡ staged.old.first }
-    ensures start { staged.new.start ≡ staged.old.start }
-    ensures full { OnSome result (staged.new.start < next staged.new) }
+/// The log that a server goes on with.
+fn take_up(kept: Kept, me: ServerId, form: &Form, staged: Staged) -> Option<ActiveLog>
+    requires can { CanTake (place_of me) kept (plan_of form.now) }
+    requires pulled { IsFor (place_of me) kept (plan_of form.now) staged }
+    requires full { staged.start < next staged }
 {
-    'filling: for _ in 0..u64::MAX {
-        if staged.is_full() {
-            return Some(());
-        }
-        let item = record(alloc, Index::new(staged.next()), 1)?;
-        if staged.take(item).is_err() {
-            return None;
-        }
+    match kept.take_up(me, form, staged) {
+        Ok(log) => Some(log),
+        Err(_) => None,
     }
-    None
 }

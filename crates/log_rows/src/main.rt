@@ -5,10 +5,12 @@
 
 mod kept;
 mod logs;
+mod placed;
+mod pulls;
 mod views;
 mod words;
 
-use kept::Log;
+use kept::Logs;
 use std::alloc::Global;
 use std::io::{self, BufRead, BufReader};
 use views::{Choices, Promises};
@@ -19,7 +21,7 @@ use words::{Answer, parsed};
 struct Player {
     promises: Promises,
     choices: Choices,
-    log: Log,
+    logs: Logs,
 }
 
 impl Player {
@@ -32,7 +34,7 @@ impl Player {
         if let Some(answer) = self.choices.step(name, numbers) {
             return Some(answer);
         }
-        self.log.step(alloc, name, numbers)
+        self.logs.step(alloc, name, numbers)
     }
 }
 
@@ -54,7 +56,7 @@ fn play(rt: HostRuntime, line: &str) -> io::Result<()> {
     let mut player = Player {
         promises: Promises::new(),
         choices: Choices::new(),
-        log: Log::new(),
+        logs: Logs::new(),
     };
     let mut words = line.split(' ');
     if let Some(name) = words.next() {

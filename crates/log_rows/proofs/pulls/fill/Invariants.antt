@@ -1,5 +1,5 @@
 use Rattle.std.proofs.Common.{◌≡◌}
-use Rattle.log_rows.proofs.kept.fill.Given as goal
+use Rattle.log_rows.proofs.pulls.fill.Given as goal
 
 -- the list is for the same records
 abbrev pub invariant-filling : goal.invariant-filling
