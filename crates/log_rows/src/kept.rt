@@ -1,6 +1,6 @@
 //! The words of what a server holds.
 
-ghost use Rattle.std.specs.Prelude.{◌≡◌, ◌×◌, ◌<◌, true, IfSome};
+ghost use Rattle.std.specs.Prelude.{◌≡◌, ◌<◌};
 ghost use Rattle.group_rules.specs.Names.{place_of};
 ghost use Rattle.idle_log.specs.Kept.{plan_of};
 ghost use Rattle.idle_log.specs.Pulls.{CanTake, IsFor};
@@ -33,7 +33,8 @@ impl Logs {
         }
     }
 
-    /// Takes a word. A log `starts` anew, or `freezes`; where none is active, a server `accepts` a Form.
+    /// Takes a word. A log `starts` anew, or `freezes`; where none is active, a server `accepts` a
+    /// Form.
     pub(crate) fn step(&mut self, alloc: Global, name: &str, numbers: [u64; 7]) -> Option<Answer> {
         match name {
             "starts" => start(alloc, &mut self.active),
@@ -57,16 +58,26 @@ impl Logs {
     }
 }
 
+/// From here on this log is active.
+fn activate(active: &mut Option<ActiveLog>, log: ActiveLog) {
+    *active = Some(log);
+}
+
+/// From here on this is held.
+fn keep(kept: &mut Kept, now: Kept) {
+    *kept = now;
+}
+
 /// Starts a log.
 fn start(alloc: Global, active: &mut Option<ActiveLog>) -> Option<Answer> {
-    *active = Some(ActiveLog::start(alloc).ok()?);
+    activate(active, ActiveLog::start(alloc).ok()?);
     Some(Answer::Nothing)
 }
 
 /// Freezes the log that is active.
 fn freeze(active: &mut Option<ActiveLog>, kept: &mut Kept) -> Option<Answer> {
     let log = active.take()?;
-    *kept = Kept::Held(log.freeze());
+    keep(kept, Kept::Held(log.freeze()));
     Some(Answer::Nothing)
 }
 
@@ -137,13 +148,13 @@ fn item(log: &FrozenLog, index: u64) -> Answer {
     }
 }
 
-/// What becomes of what is held: it `forgets`, is `lost` with an LB, or is that of a boot that takes
-/// the saved log, or of one whose mark stands `outside` or was `leading`.
+/// What becomes of what is held: it `forgets`, is `lost` with an LB, or is that of a boot that
+/// takes the saved log, or of one whose mark stands `outside` or was `leading`.
 fn change(kept: &mut Kept, name: &str, numbers: [u64; 7]) -> Option<Answer> {
     let [first, second, third, ..] = numbers;
     match name {
         "forgets" => forget(kept),
-        "lost" => *kept = Kept::Lost(LostLog::of(first)),
+        "lost" => keep(kept, Kept::Lost(LostLog::of(first))),
         "outside" => unload(kept, server(first), Role::Outside, second),
         "leading" => unload(kept, server(first), Role::Leads(server(second)), third),
         "boots" => return load(kept, server(first)),
@@ -161,18 +172,19 @@ fn taken(kept: &mut Kept) -> Kept
 
 /// Nothing is held any more.
 fn forget(kept: &mut Kept) {
-    *kept = taken(kept).forget();
+    let now = taken(kept).forget();
+    keep(kept, now);
 }
 
 /// A boot with a mark of this role, whose saved log it doesn't take.
 fn unload(kept: &mut Kept, me: ServerId, role: Role, lb: u64) {
-    *kept = Kept::unloaded(me, role, lb);
+    keep(kept, Kept::unloaded(me, role, lb));
 }
 
 /// A boot that takes the saved log.
 fn load(kept: &mut Kept, me: ServerId) -> Option<Answer> {
     let log = taken(kept).into_log()?;
-    *kept = Kept::loaded(me, log);
+    keep(kept, Kept::loaded(me, log));
     Some(Answer::Nothing)
 }
 
@@ -189,7 +201,7 @@ fn accept(
         return None;
     }
     let (staged, answer) = pulled(alloc, kept, me, &form)?;
-    *active = Some(take_up(taken(kept), me, &form, staged)?);
+    activate(active, take_up(taken(kept), me, &form, staged)?);
     Some(answer)
 }
 

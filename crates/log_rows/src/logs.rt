@@ -150,8 +150,9 @@ fn numbers_of(log: &ActiveLog) -> Answer {
 }
 
 /// What comes of a word of an active log, which `appends` so many records of so many bytes,
-/// `commits`, `applies`, `lowers` its LB, `drops` records, and `serves` those from an index on up to
-/// another. Its `numbers` are base, LB, AP, CP and top, and its `ends` the first index and the last.
+/// `commits`, `applies`, `lowers` its LB, `drops` records, and `serves` those from an index on up
+/// to another. Its `numbers` are base, LB, AP, CP and top, and its `ends` the first index and the
+/// last.
 pub(crate) fn active(
     alloc: Global,
     log: &mut ActiveLog,

@@ -38,16 +38,31 @@ impl Player {
     }
 }
 
+/// Writes a word, and a text behind a mark.
+fn tell_text(rt: HostRuntime, word: &str, mark: &str, text: &str) -> io::Result<()> {
+    print!(rt; " {word}{mark}{text}")
+}
+
+/// Writes a word and a number.
+fn tell_number(rt: HostRuntime, word: &str, number: u64) -> io::Result<()> {
+    print!(rt; " {word}={number}")
+}
+
+/// Writes a word and numbers.
+fn tell_numbers(rt: HostRuntime, word: &str, numbers: &[u64]) -> io::Result<()> {
+    print!(rt; " {word}={numbers:?}")
+}
+
 /// Writes a word, and what came of it.
 fn tell(rt: HostRuntime, word: &str, answer: Option<Answer>) -> io::Result<()> {
     match answer {
-        None => print!(rt; " {word} failed"),
-        Some(Answer::Nothing) => print!(rt; " {word}"),
-        Some(Answer::Says(text)) => print!(rt; " {word}={text}"),
-        Some(Answer::One(number)) => print!(rt; " {word}={number}"),
-        Some(Answer::Two(numbers)) => print!(rt; " {word}={numbers:?}"),
-        Some(Answer::Five(numbers)) => print!(rt; " {word}={numbers:?}"),
-        Some(Answer::Seven(numbers)) => print!(rt; " {word}={numbers:?}"),
+        None => tell_text(rt, word, " ", "failed"),
+        Some(Answer::Nothing) => tell_text(rt, word, "", ""),
+        Some(Answer::Says(text)) => tell_text(rt, word, "=", text),
+        Some(Answer::One(number)) => tell_number(rt, word, number),
+        Some(Answer::Two(numbers)) => tell_numbers(rt, word, &numbers),
+        Some(Answer::Five(numbers)) => tell_numbers(rt, word, &numbers),
+        Some(Answer::Seven(numbers)) => tell_numbers(rt, word, &numbers),
     }
 }
 

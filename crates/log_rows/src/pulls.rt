@@ -1,6 +1,6 @@
 //! Records that are pulled for a Form.
 
-ghost use Rattle.std.specs.Prelude.{◌≡◌, ◌×◌, ◌<◌, ◌≤◌, IfSome, OnSome};
+ghost use Rattle.std.specs.Prelude.{◌≡◌, ◌<◌, ◌≤◌, IfSome, OnSome};
 ghost use Rattle.group_rules.specs.Names.{place_of};
 ghost use Rattle.idle_log.specs.Kept.{plan_of};
 ghost use Rattle.idle_log.specs.Pulls.{CanTake, IsFor};
@@ -14,8 +14,8 @@ use idle_log::{Form, Kept};
 use std::alloc::Global;
 use volatile_log::Staged;
 
-/// The records that a server pulls, with the index of the record that it wanted first, and of the one
-/// behind those that it pulled.
+/// The records that a server pulls, with the index of the record that it wanted first, and of the
+/// one behind those that it pulled.
 pub(crate) fn pulled(
     alloc: Global,
     kept: &Kept,

@@ -27,6 +27,30 @@ fn booted(now: u64, longest: u64, own: u64) -> Option<Horizon> {
     Some(Horizon::boot(now, longest, own))
 }
 
+/// Whether a view opens at a moment with a horizon.
+fn opens(now: u64, horizon: u64) -> Option<Answer> {
+    Some(Answer::of(may_open(now, Deadline::of(horizon)?)))
+}
+
+/// The longer of the first length and another.
+fn longer(millis: u64) -> Option<Answer> {
+    Some(Answer::One(u64::from(Delta::first().longer(length(millis)?).get())))
+}
+
+/// A leader that takes a promise.
+fn take(grant: &mut Grant, until: u64) -> Option<Answer> {
+    grant.take(Deadline::of(until)?);
+    Some(Answer::Nothing)
+}
+
+/// A server that promises at a moment.
+fn promise(horizon: &mut Horizon, now: u64) -> Option<Answer> {
+    if now >= 1 << 62 {
+        return None;
+    }
+    Some(Answer::One(horizon.give(now).get()))
+}
+
 impl Promises {
     /// No promise.
     pub(crate) fn new() -> Promises {
@@ -36,6 +60,12 @@ impl Promises {
         }
     }
 
+    /// A server that boots.
+    fn boot(&mut self, now: u64, longest: u64, own: u64) -> Option<Answer> {
+        self.horizon = booted(now, longest, own)?;
+        Some(Answer::Nothing)
+    }
+
     /// Whether a view `opens` at a moment with a horizon; whether there is a `length` or a
     /// `deadline`; the `longer` of the first length and another; a leader that `takes` a promise,
     /// and whether it `allows` a read; a server that `boots`, `promises` at a moment, and `until`
@@ -43,20 +73,14 @@ impl Promises {
     pub(crate) fn step(&mut self, name: &str, numbers: [u64; 7]) -> Option<Answer> {
         let [first, second, third, ..] = numbers;
         match name {
-            "opens" => Some(Answer::of(may_open(first, Deadline::of(second)?))),
+            "opens" => opens(first, second),
             "length" => Some(Answer::of(length(first).is_some())),
             "deadline" => Some(Answer::of(Deadline::of(first).is_some())),
-            "longer" => Some(Answer::One(u64::from(Delta::first().longer(length(first)?).get()))),
-            "takes" => {
-                self.grant.take(Deadline::of(first)?);
-                Some(Answer::Nothing)
-            }
+            "longer" => longer(first),
+            "takes" => take(&mut self.grant, first),
             "allows" => Some(Answer::of(self.grant.allows(first))),
-            "boots" => {
-                self.horizon = booted(first, second, third)?;
-                Some(Answer::Nothing)
-            }
-            "promises" if first < 1 << 62 => Some(Answer::One(self.horizon.give(first).get())),
+            "boots" => self.boot(first, second, third),
+            "promises" => promise(&mut self.horizon, first),
             "until" => Some(Answer::One(self.horizon.until().get())),
             _ => None,
         }
@@ -87,6 +111,30 @@ fn told(choice: Option<Plan>) -> Answer {
     ])
 }
 
+/// What a server tells that joins: behind its number the count of the view that it accepted of
+/// server 0, base, CP, top and horizon.
+fn info_of(held: Held, numbers: [u64; 7]) -> Option<JoinInfo> {
+    let [_, count, base, cp, top, horizon, _] = numbers;
+    Some(JoinInfo {
+        held,
+        accepted: ViewNo::of(count, ServerId::Zero)?,
+        base,
+        lb: base,
+        cp,
+        top,
+        horizon: Deadline::of(horizon)?,
+    })
+}
+
+/// Keeps the join of a server.
+fn put(joins: &mut Trio<Option<JoinInfo>>, from: ServerId, info: JoinInfo) {
+    match from {
+        ServerId::Zero => joins.zero = Some(info),
+        ServerId::One => joins.one = Some(info),
+        ServerId::Two => joins.two = Some(info),
+    }
+}
+
 impl Choices {
     /// No join.
     pub(crate) fn new() -> Choices {
@@ -97,8 +145,8 @@ impl Choices {
         }
     }
 
-    /// A server that `joins-held`, `joins-lost` or `joins-empty`, with the count of the view that it
-    /// accepted of server 0, base, CP, top and horizon; what the joins `choose`; and a coordinator
+    /// A server that `joins-held`, `joins-lost` or `joins-empty`, with the count of the view that
+    /// it accepted of server 0, base, CP, top and horizon; what the joins `choose`; and a coordinator
     /// that `collects` joins for its view, server 0's from the first on.
     pub(crate) fn step(&mut self, name: &str, numbers: [u64; 7]) -> Option<Answer> {
         match name {
@@ -113,25 +161,15 @@ impl Choices {
 
     /// Adds a join, and tells the choice that a coordinator makes by it.
     fn add(&mut self, held: Held, numbers: [u64; 7]) -> Option<Answer> {
-        let [from, count, base, cp, top, horizon, _] = numbers;
-        let info = JoinInfo {
-            held,
-            accepted: ViewNo::of(count, ServerId::Zero)?,
-            base,
-            lb: base,
-            cp,
-            top,
-            horizon: Deadline::of(horizon)?,
-        };
-        if let Some(collector) = &mut self.collector {
-            return Some(told(collector.join(server(from), info)));
+        let info = info_of(held, numbers)?;
+        let from = server(numbers[0]);
+        match &mut self.collector {
+            Some(collector) => Some(told(collector.join(from, info))),
+            None => {
+                put(&mut self.joins, from, info);
+                Some(Answer::Nothing)
+            }
         }
-        match from {
-            0 => self.joins.zero = Some(info),
-            1 => self.joins.one = Some(info),
-            _ => self.joins.two = Some(info),
-        }
-        Some(Answer::Nothing)
     }
 
     /// Begins a collector, and tells the count of its view and how many joins it has of server 0.

@@ -4,7 +4,7 @@ use harp_base::FieldFault;
 use harp_cells::CellFault;
 use schedule_text::TextFault;
 use std::alloc::AllocError;
-use text_writer::put_named;
+use text_writer::put_number;
 
 /// Why a row comes to nothing.
 #[derive(Clone, Copy)]
@@ -50,15 +50,37 @@ impl From<FieldFault> for Fault {
     }
 }
 
+/// What it is.
+fn name(fault: Fault) -> &'static [u8] {
+    match fault {
+        Fault::Grammar(_) => b"grammar",
+        Fault::Bounds => b"bounds",
+        Fault::Store => b"store",
+        Fault::Bytes(FieldFault::Short(_)) => b"short",
+        Fault::Bytes(FieldFault::BadTag(_)) => b"tag",
+        Fault::Bytes(FieldFault::TooLong(_)) => b"long",
+        Fault::Bytes(FieldFault::NoMemory) => b"memory",
+        Fault::NoMemory => b"memory",
+    }
+}
+
+/// Its place, where it has one.
+fn place(fault: Fault) -> Option<usize> {
+    match fault {
+        Fault::Grammar(at) => Some(at),
+        Fault::Bytes(FieldFault::Short(at)) => Some(at),
+        Fault::Bytes(FieldFault::BadTag(at)) => Some(at),
+        Fault::Bytes(FieldFault::TooLong(at)) => Some(at),
+        Fault::Bytes(FieldFault::NoMemory) => None,
+        Fault::Bounds | Fault::Store | Fault::NoMemory => None,
+    }
+}
+
 /// A fault, and its place where it has one.
 pub fn put_fault(out: &mut Vec<u8>, fault: Fault) -> Result<(), AllocError> {
-    match fault {
-        Fault::Grammar(at) => put_named(out, b"grammar", at as u64),
-        Fault::Bounds => out.extend_from_slice(b"bounds"),
-        Fault::Store => out.extend_from_slice(b"store"),
-        Fault::Bytes(FieldFault::Short(at)) => put_named(out, b"short", at as u64),
-        Fault::Bytes(FieldFault::BadTag(at)) => put_named(out, b"tag", at as u64),
-        Fault::Bytes(FieldFault::TooLong(at)) => put_named(out, b"long", at as u64),
-        Fault::Bytes(FieldFault::NoMemory) | Fault::NoMemory => out.extend_from_slice(b"memory"),
+    out.extend_from_slice(name(fault))?;
+    if let Some(at) = place(fault) {
+        put_number(out, at as u64)?;
     }
+    out.extend_from_slice(b"\n")
 }

@@ -19,29 +19,34 @@ mod table;
 mod watched;
 
 use crate::fault::put_fault;
-use crate::rows::{play, unrolled};
+use crate::rows::play;
 use crate::table::Table;
-use harp_types::{WriterSink, write_all};
-use std::io::{self, BufRead, BufReader};
+use std::alloc::{AllocError, Global};
+use std::io::{self, BufRead, BufReader, Write};
+
+/// What comes of a row.
+fn outcome(alloc: Global, table: &mut Table, line: &str) -> Result<Vec<u8>, AllocError> {
+    let mut out = Vec::new(alloc);
+    match play(alloc, &mut out, table, line) {
+        Ok(()) => Ok(out),
+        Err(fault) => {
+            put_fault(&mut out, fault)?;
+            Ok(out)
+        }
+    }
+}
+
+/// Plays a row.
+fn step(rt: HostRuntime, table: &mut Table, line: &str) -> io::Result<()> {
+    println!(rt; "> {line}")?;
+    let out = outcome(rt.alloc(), table, line)?;
+    io::writer(&rt).write_all(out.as_slice())
+}
 
 fn main(rt: HostRuntime) -> io::Result<()> {
-    let alloc = rt.alloc();
-    let mut sink = WriterSink::new(io::writer(&rt));
-    let Ok(mut table) = Table::new(alloc) else {
-        return Ok(());
-    };
-    for line in BufReader::new(alloc, rt.reader())?.lines(alloc) {
-        let line = line?;
-        println!(rt; "> {line}")?;
-        let mut out = Vec::new(alloc);
-        let row = unrolled(alloc, line.as_str())?;
-        if let Err(fault) = play(alloc, &mut out, &mut table, row.as_slice()) {
-            put_fault(&mut out, fault)?;
-            out.extend_from_slice(b"\n")?;
-        }
-        if write_all(&mut sink, out.as_slice()).is_err() {
-            return Ok(());
-        }
+    let mut table = Table::new(rt.alloc())?;
+    for line in BufReader::new(rt.alloc(), rt.reader())?.lines(rt.alloc()) {
+        step(rt, &mut table, line?.as_str())?;
     }
     Ok(())
 }

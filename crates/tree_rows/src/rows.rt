@@ -3,67 +3,120 @@
 use crate::fault::Fault;
 use crate::shown::put_shown;
 use crate::table::Table;
+use crate::watched::Watched;
 use dedup::Seen;
-use harp_base::{read_call, read_reply, write_call, write_reply};
-use harp_cells::{Cell, CellRead, Inode, Moment, Value};
+use harp_base::{FieldFault, read_call, read_reply, write_call, write_reply};
+use harp_cells::{Cell, CellFault, CellRead, Inode, MemCells, Moment, Value};
 use harp_types::{Bytes, Call, Reply};
-use schedule_text::{end_at, spaced_count_at, spaced_server_at, spaced_u32_at};
+use schedule_text::{TextFault, end_at, spaced_count_at, spaced_server_at, spaced_u32_at};
 use std::alloc::{AllocError, Global};
 use text_fields::{all_hex_at, space_at, word_at};
 use text_writer::{put_call, put_name, put_named};
 
-/// A row in which `HH*N` is written out as N times HH.
-pub fn unrolled(alloc: Global, line: &str) -> Result<Vec<u8>, AllocError> {
-    let mut out = Vec::new(alloc);
-    for (place, word) in line.split(' ').enumerate() {
-        if place > 0 {
-            out.extend_from_slice(b" ")?;
-        }
-        let (digits, times) = word.split_once('*').unwrap_or((word, "1"));
-        for _ in 0..times.parse::<u32>().unwrap_or(0) {
-            out.extend_from_slice(digits.as_bytes())?;
-        }
+/// A word in which `HH*N` is written out as N times HH.
+fn put_word(out: &mut Vec<u8>, word: &str) -> Result<(), AllocError> {
+    let (digits, times) = word.split_once('*').unwrap_or((word, "1"));
+    for _ in 0..times.parse::<u32>().unwrap_or(0) {
+        out.extend_from_slice(digits.as_bytes())?;
     }
+    Ok(())
+}
+
+/// The words of a row, written out.
+fn put_words(out: &mut Vec<u8>, line: &str) -> Result<(), AllocError> {
+    let mut words = line.split(' ');
+    if let Some(word) = words.next() {
+        put_word(out, word)?;
+    }
+    for word in words {
+        out.extend_from_slice(b" ")?;
+        put_word(out, word)?;
+    }
+    Ok(())
+}
+
+/// A row in which `HH*N` is written out as N times HH.
+fn unrolled(alloc: Global, line: &str) -> Result<Vec<u8>, AllocError> {
+    let mut out = Vec::new(alloc);
+    put_words(&mut out, line)?;
     Ok(out)
 }
 
-fn set_clock(table: &mut Table, line: &[u8]) -> Result<(), Fault> {
+/// What the clock is set to.
+fn reading_of(line: &[u8]) -> Result<u64, TextFault> {
     let (_, at) = spaced_server_at(line, 5)?;
     let (reading, at) = spaced_count_at(line, at)?;
     end_at(line, at)?;
-    let Some(now) = Moment::of(reading) else {
+    Ok(reading)
+}
+
+fn set_clock(table: &mut Table, line: &[u8]) -> Result<(), Fault> {
+    let Some(now) = Moment::of(reading_of(line)?) else {
         return Err(Fault::Bounds);
     };
     table.now = now;
     Ok(())
 }
 
-fn seen(alloc: Global, out: &mut Vec<u8>, table: &mut Table, line: &[u8]) -> Result<(), Fault> {
+/// A client, a number and how many updates are committed.
+fn counts_of(line: &[u8]) -> Result<(u32, u64, u64), TextFault> {
     let (client, at) = spaced_u32_at(line, 4)?;
     let (number, at) = spaced_count_at(line, at)?;
     let (cp, at) = spaced_count_at(line, at)?;
     end_at(line, at)?;
-    match dedup::seen(alloc, &mut table.cells, client, number, cp)? {
-        Seen::New => out.extend_from_slice(b"new")?,
-        Seen::Pending => out.extend_from_slice(b"pending")?,
-        Seen::Old => out.extend_from_slice(b"old")?,
-        Seen::Kept { index, reply } => {
-            put_named(out, b"kept", index)?;
-            put_shown(alloc, out, &reply)?;
-        }
+    Ok((client, number, cp))
+}
+
+/// What an update is.
+fn seen_in(alloc: Global, cells: &mut Watched, counts: (u32, u64, u64)) -> Result<Seen, CellFault> {
+    let (client, number, cp) = counts;
+    dedup::seen(alloc, cells, client, number, cp)
+}
+
+fn put_kept(alloc: Global, out: &mut Vec<u8>, index: u64, reply: &Reply) -> Result<(), AllocError> {
+    put_named(out, b"kept", index)?;
+    put_shown(alloc, out, reply)?;
+    out.extend_from_slice(b"\n")
+}
+
+fn put_seen(alloc: Global, out: &mut Vec<u8>, seen: &Seen) -> Result<(), AllocError> {
+    match seen {
+        Seen::New => out.extend_from_slice(b"new\n"),
+        Seen::Pending => out.extend_from_slice(b"pending\n"),
+        Seen::Old => out.extend_from_slice(b"old\n"),
+        Seen::Kept { index, reply } => put_kept(alloc, out, *index, reply),
     }
-    Ok(out.extend_from_slice(b"\n")?)
+}
+
+fn seen(alloc: Global, out: &mut Vec<u8>, table: &mut Table, line: &[u8]) -> Result<(), Fault> {
+    let counts = counts_of(line)?;
+    let seen = seen_in(alloc, &mut table.cells, counts)?;
+    Ok(put_seen(alloc, out, &seen)?)
+}
+
+/// Two numbers that end a row.
+fn pair_of(line: &[u8], at: usize) -> Result<(u32, u32), TextFault> {
+    let (first, at) = spaced_u32_at(line, at)?;
+    let (second, at) = spaced_u32_at(line, at)?;
+    end_at(line, at)?;
+    Ok((first, second))
+}
+
+/// What a cell holds of an object.
+fn inode_in(cells: &mut MemCells, object: u32) -> Result<Option<Inode>, CellFault> {
+    cells.fetch(Cell::Object { object })?;
+    match cells.value() {
+        Some(Value::Object { inode }) => Ok(Some(*inode)),
+        _ => Ok(None),
+    }
 }
 
 /// Makes another directory a directory's parent, in the cells alone.
 fn set_parent(table: &mut Table, line: &[u8]) -> Result<(), Fault> {
-    let (object, at) = spaced_u32_at(line, 6)?;
-    let (parent, at) = spaced_u32_at(line, at)?;
-    end_at(line, at)?;
+    let (object, parent) = pair_of(line, 6)?;
     let cells = &mut table.cells.cells;
-    cells.fetch(Cell::Object { object })?;
-    if let Some(Value::Object { inode }) = cells.value() {
-        let inode = Inode { parent, ..*inode };
+    if let Some(inode) = inode_in(cells, object)? {
+        let inode = Inode { parent, ..inode };
         cells.put(Cell::Object { object }, Value::Object { inode })?;
     }
     Ok(())
@@ -80,22 +133,22 @@ fn cell_of(kind: &[u8], object: u32, slot: u32) -> Cell {
     Cell::Object { object }
 }
 
-fn break_cell(table: &mut Table, line: &[u8]) -> Result<(), Fault> {
+/// The cell that a row names.
+fn broken_of(line: &[u8]) -> Result<Cell, TextFault> {
     let at = space_at(line, 6)?;
     let kind = word_at(line, at);
-    let (object, at) = spaced_u32_at(line, at + kind.len())?;
-    let (place, at) = spaced_u32_at(line, at)?;
-    end_at(line, at)?;
-    table.cells.broken = Some(cell_of(kind, object, place));
-    Ok(())
+    let (object, place) = pair_of(line, at + kind.len())?;
+    Ok(cell_of(kind, object, place))
 }
 
-/// The bytes of a row.
-fn given(alloc: Global, line: &[u8], at: usize) -> Result<Bytes, Fault> {
+/// The bytes that end a row.
+fn given(alloc: Global, line: &[u8], at: usize) -> Result<Bytes, TextFault> {
     let at = space_at(line, at)?;
     let (bytes, at) = all_hex_at(alloc, line, at)?;
-    end_at(line, at)?;
-    Ok(bytes)
+    match end_at(line, at) {
+        Ok(()) => Ok(bytes),
+        Err(fault) => Err(fault),
+    }
 }
 
 /// The bytes of a copy.
@@ -105,60 +158,128 @@ fn put_copy(alloc: Global, out: &mut Vec<u8>, written: &Bytes) -> Result<(), All
     out.extend_from_slice(b"\n")
 }
 
-/// Which call it is, and the bytes of a copy.
-fn put_read_call(alloc: Global, out: &mut Vec<u8>, call: &Call) -> Result<(), AllocError> {
+/// The call that these bytes begin with, and how many they are.
+fn call_in(alloc: Global, bytes: &[u8]) -> Result<(Call, usize), FieldFault> {
+    read_call(alloc, bytes)
+}
+
+fn call_bytes(alloc: Global, call: &Call) -> Result<Bytes, AllocError> {
+    let mut written = Bytes::new(alloc);
+    write_call(alloc, call, &mut written)?;
+    Ok(written)
+}
+
+/// The bytes of a copy of a call.
+fn copied_call(alloc: Global, call: &Call) -> Result<Bytes, AllocError> {
+    let copy = call.copy(alloc)?;
+    call_bytes(alloc, &copy)
+}
+
+/// From how many bytes a call is read, which one it is, and the bytes of a copy.
+fn put_read_call(
+    alloc: Global,
+    out: &mut Vec<u8>,
+    call: &Call,
+    length: usize,
+) -> Result<(), AllocError> {
+    put_named(out, b"read", length as u64)?;
     out.extend_from_slice(b" ")?;
     put_call(alloc, out, call)?;
-    let copy = call.copy(alloc)?;
-    let mut written = Bytes::new(alloc);
-    write_call(alloc, &copy, &mut written)?;
+    let written = copied_call(alloc, call)?;
     put_copy(alloc, out, &written)
 }
 
-/// Which reply it is, and the bytes of a copy.
-fn put_read_reply(alloc: Global, out: &mut Vec<u8>, reply: &Reply) -> Result<(), AllocError> {
-    put_shown(alloc, out, reply)?;
-    let copy = reply.copy(alloc)?;
-    let mut written = Bytes::new(alloc);
-    write_reply(alloc, &copy, &mut written)?;
-    put_copy(alloc, out, &written)
+fn play_call(alloc: Global, out: &mut Vec<u8>, bytes: &[u8]) -> Result<(), Fault> {
+    let (call, length) = call_in(alloc, bytes)?;
+    Ok(put_read_call(alloc, out, &call, length)?)
 }
 
-/// How many bytes a call is read from, and which call it is.
 fn call(alloc: Global, out: &mut Vec<u8>, line: &[u8]) -> Result<(), Fault> {
     let bytes = given(alloc, line, 4)?;
-    let (call, length) = read_call(alloc, bytes.as_slice())?;
-    put_named(out, b"read", length as u64)?;
-    Ok(put_read_call(alloc, out, &call)?)
+    play_call(alloc, out, bytes.as_slice())
 }
 
-/// How many bytes a reply is read from, and which reply it is.
+/// The reply that these bytes begin with, and how many they are.
+fn reply_in(alloc: Global, bytes: &[u8]) -> Result<(Reply, usize), FieldFault> {
+    read_reply(alloc, bytes)
+}
+
+fn reply_bytes(alloc: Global, reply: &Reply) -> Result<Bytes, AllocError> {
+    let mut written = Bytes::new(alloc);
+    write_reply(alloc, reply, &mut written)?;
+    Ok(written)
+}
+
+/// The bytes of a copy of a reply.
+fn copied_reply(alloc: Global, reply: &Reply) -> Result<Bytes, AllocError> {
+    let copy = reply.copy(alloc)?;
+    reply_bytes(alloc, &copy)
+}
+
+/// From how many bytes a reply is read, which one it is, and the bytes of a copy.
+fn put_read_reply(
+    alloc: Global,
+    out: &mut Vec<u8>,
+    reply: &Reply,
+    length: usize,
+) -> Result<(), AllocError> {
+    put_named(out, b"read", length as u64)?;
+    put_shown(alloc, out, reply)?;
+    let written = copied_reply(alloc, reply)?;
+    put_copy(alloc, out, &written)
+}
+
+fn play_reply(alloc: Global, out: &mut Vec<u8>, bytes: &[u8]) -> Result<(), Fault> {
+    let (reply, length) = reply_in(alloc, bytes)?;
+    Ok(put_read_reply(alloc, out, &reply, length)?)
+}
+
 fn reply(alloc: Global, out: &mut Vec<u8>, line: &[u8]) -> Result<(), Fault> {
     let bytes = given(alloc, line, 5)?;
-    let (reply, length) = read_reply(alloc, bytes.as_slice())?;
-    put_named(out, b"read", length as u64)?;
-    Ok(put_read_reply(alloc, out, &reply)?)
+    play_reply(alloc, out, bytes.as_slice())
+}
+
+fn break_cell(table: &mut Table, line: &[u8]) -> Result<(), Fault> {
+    table.cells.broken = Some(broken_of(line)?);
+    Ok(())
+}
+
+fn mend(table: &mut Table) -> Result<(), Fault> {
+    table.cells.broken = None;
+    Ok(())
+}
+
+fn begin(alloc: Global, table: &mut Table) -> Result<(), Fault> {
+    *table = Table::new(alloc)?;
+    Ok(())
+}
+
+/// Plays a row with this name, and writes what came of it.
+fn play_named(
+    alloc: Global,
+    out: &mut Vec<u8>,
+    table: &mut Table,
+    name: &str,
+    line: &[u8],
+) -> Result<(), Fault> {
+    match name {
+        "" | "#" => Ok(()),
+        "new" => begin(alloc, table),
+        "clock" => set_clock(table, line),
+        "ask" => table.ask(alloc, out, line),
+        "seen" => seen(alloc, out, table, line),
+        "parent" => set_parent(table, line),
+        "broken" => break_cell(table, line),
+        "mended" => mend(table),
+        "call" => call(alloc, out, line),
+        "reply" => reply(alloc, out, line),
+        _ => Err(Fault::Grammar(0)),
+    }
 }
 
 /// Plays a row, and writes what came of it.
-pub fn play(alloc: Global, out: &mut Vec<u8>, table: &mut Table, line: &[u8]) -> Result<(), Fault> {
-    match word_at(line, 0) {
-        b"" | b"#" => Ok(()),
-        b"new" => {
-            *table = Table::new(alloc)?;
-            Ok(())
-        }
-        b"clock" => set_clock(table, line),
-        b"ask" => table.ask(alloc, out, line),
-        b"seen" => seen(alloc, out, table, line),
-        b"parent" => set_parent(table, line),
-        b"broken" => break_cell(table, line),
-        b"mended" => {
-            table.cells.broken = None;
-            Ok(())
-        }
-        b"call" => call(alloc, out, line),
-        b"reply" => reply(alloc, out, line),
-        _ => Err(Fault::Grammar(0)),
-    }
+pub fn play(alloc: Global, out: &mut Vec<u8>, table: &mut Table, line: &str) -> Result<(), Fault> {
+    let name = line.split(' ').next().unwrap_or("");
+    let row = unrolled(alloc, line)?;
+    play_named(alloc, out, table, name, row.as_slice())
 }

@@ -85,6 +85,25 @@ fn put_cell(out: &mut Vec<u8>, cell: Cell) -> Result<(), AllocError> {
     }
 }
 
+/// The object that a slot names, and its name.
+fn put_slot(alloc: Global, out: &mut Vec<u8>, object: u32, name: &[u8]) -> Result<(), AllocError> {
+    put_number(out, u64::from(object))?;
+    put_name(alloc, out, name)
+}
+
+/// The last update of a client.
+fn put_client(
+    alloc: Global,
+    out: &mut Vec<u8>,
+    number: u64,
+    index: u64,
+    reply: &Reply,
+) -> Result<(), AllocError> {
+    put_number(out, number)?;
+    put_number(out, index)?;
+    put_shown(alloc, out, reply)
+}
+
 fn put_value(alloc: Global, out: &mut Vec<u8>, value: &Value) -> Result<(), AllocError> {
     match value {
         Value::Meta { next, used, stamp } => {
@@ -92,36 +111,64 @@ fn put_value(alloc: Global, out: &mut Vec<u8>, value: &Value) -> Result<(), Allo
         }
         Value::Object { inode } => put_inode(out, inode),
         Value::Block { bytes } => put_runs(alloc, out, bytes.as_slice()),
-        Value::Slot { object, name } => {
-            put_number(out, u64::from(*object))?;
-            put_name(alloc, out, name.as_slice())
-        }
+        Value::Slot { object, name } => put_slot(alloc, out, *object, name.as_slice()),
         Value::Client {
             number,
             index,
             reply,
-        } => {
-            put_number(out, *number)?;
-            put_number(out, *index)?;
-            put_shown(alloc, out, reply)
-        }
+        } => put_client(alloc, out, *number, *index, reply),
         _ => out.extend_from_slice(b" other"),
     }
 }
 
-/// A change on a line of its own.
-pub fn put_change(alloc: Global, out: &mut Vec<u8>, change: &Change) -> Result<(), AllocError> {
+/// A cell, and the value that it gets.
+fn put_put(alloc: Global, out: &mut Vec<u8>, cell: Cell, value: &Value) -> Result<(), AllocError> {
+    out.extend_from_slice(b"put")?;
+    put_cell(out, cell)?;
+    put_value(alloc, out, value)
+}
+
+/// A cell that is erased.
+fn put_erase(out: &mut Vec<u8>, cell: Cell) -> Result<(), AllocError> {
+    out.extend_from_slice(b"erase")?;
+    put_cell(out, cell)
+}
+
+fn put_change(alloc: Global, out: &mut Vec<u8>, change: &Change) -> Result<(), AllocError> {
     match change {
-        Change::Put { cell, value } => {
-            out.extend_from_slice(b"put")?;
-            put_cell(out, *cell)?;
-            put_value(alloc, out, value)?;
-        }
-        Change::Erase { cell } => {
-            out.extend_from_slice(b"erase")?;
-            put_cell(out, *cell)?;
-        }
-        Change::EraseFrom { object, first } => put_pair(out, b"erase blocks", *object, *first)?,
+        Change::Put { cell, value } => put_put(alloc, out, *cell, value),
+        Change::Erase { cell } => put_erase(out, *cell),
+        Change::EraseFrom { object, first } => put_pair(out, b"erase blocks", *object, *first),
     }
+}
+
+/// Changes, each on a line of its own.
+pub fn put_changes(alloc: Global, out: &mut Vec<u8>, changes: &[Change]) -> Result<(), AllocError> {
+    for change in changes {
+        put_change(alloc, out, change)?;
+        out.extend_from_slice(b"\n")?;
+    }
+    Ok(())
+}
+
+/// Whose reply it is, and the reply.
+pub fn put_answer(
+    alloc: Global,
+    out: &mut Vec<u8>,
+    whose: &[u8],
+    reply: Reply,
+) -> Result<(), AllocError> {
+    put_line(alloc, out, whose, &reply)
+}
+
+/// A line with a word and a reply.
+fn put_line(
+    alloc: Global,
+    out: &mut Vec<u8>,
+    word: &[u8],
+    reply: &Reply,
+) -> Result<(), AllocError> {
+    out.extend_from_slice(word)?;
+    put_shown(alloc, out, reply)?;
     out.extend_from_slice(b"\n")
 }

@@ -1,105 +1,202 @@
 //! A tree in cells and the same one as a plain list, and the calls that are made on them.
 
-ghost use Rattle.std.specs.Prelude.{◌≡◌, true};
+ghost use Rattle.std.specs.Prelude.{◌≡◌, ◌≤◌, length, true, false};
 ghost use Rattle.harp_types.specs.Update.{is_update};
 
 use crate::fault::Fault;
-use crate::shown::{put_change, put_shown};
+use crate::shown::{put_answer, put_changes};
 use crate::watched::Watched;
-use event_record::{Index, read_item, write_item};
-use harp_cells::{MemCells, Moment};
+use event_record::{Changes, Index, Record, RecordFields, read_item, write_item};
+use harp_base::FieldFault;
+use harp_cells::{CellFault, MemCells, Moment};
 use harp_types::{Bytes, Call, Cred, Reply, ServerId, ViewNo, is_update};
 use nfs_calls::answer;
 use plain_tree::PlainTree;
-use schedule_text::{asked_at, asker_at, end_at};
-use std::alloc::Global;
+use schedule_text::{TextFault, asked_at, asker_at, end_at};
+use std::alloc::{AllocError, Global};
 use text_writer::put_named;
 use tree_log::new_record;
 
-/// Both trees, what the clock reads, the view of the records, and the index of the next one.
+/// Who asks: the client, the number that it gives its call, and for whom.
+#[derive(Clone, Copy)]
+struct Asker {
+    client: u32,
+    number: u64,
+    cred: Cred,
+}
+
+/// Both trees, what the clock reads, and the index of the next record.
 #[derive(Drop)]
 pub struct Table {
     pub cells: Watched,
     plain: PlainTree,
     pub now: Moment,
-    view: ViewNo,
     index: Index,
 }
 
 impl Table {
     /// Two trees with the root alone, at time 0.
-    pub fn new(alloc: Global) -> Result<Table, Fault> {
-        let Some(view) = ViewNo::of(3, ServerId::Zero) else {
-            return Err(Fault::Bounds);
-        };
-        let cells = Watched {
-            cells: MemCells::new(alloc),
-            broken: None,
-            fetched: 0,
-            has_failed: false,
-            faults: 0,
-        };
+    pub fn new(alloc: Global) -> Result<Table, AllocError> {
+        let plain = PlainTree::new(alloc)?;
         Ok(Table {
-            cells,
-            plain: PlainTree::new(alloc)?,
+            cells: Watched::new(alloc),
+            plain,
             now: Moment::new(0),
-            view,
             index: Index::new(1),
         })
     }
 
-    /// Makes an update of a client with its number. The changes are those of its record, as it is
-    /// read back from its bytes.
+    /// The record of an update.
+    fn recorded(&mut self, alloc: Global, asker: Asker, call: &Call) -> Result<Record, CellFault>
+        requires { is_update call.now ≡ true }
+    {
+        let Asker {
+            client,
+            number,
+            cred,
+        } = asker;
+        let view = ViewNo::new(3, ServerId::Zero);
+        let cells = &mut self.cells;
+        new_record(
+            alloc, cells, view, self.index, client, number, cred, call, self.now,
+        )
+    }
+
+    /// The bytes of an update's record.
+    fn spelled(&mut self, alloc: Global, asker: Asker, call: &Call) -> Result<Bytes, Fault>
+        requires { is_update call.now ≡ true }
+    {
+        let made = self.recorded(alloc, asker, call)?;
+        Ok(bytes_of(alloc, &made)?)
+    }
+
+    /// Makes an update. The changes are those of its record, as it is read back from its bytes.
     fn update(
         &mut self,
         alloc: Global,
         out: &mut Vec<u8>,
-        asker: (u32, u64),
-        cred: Cred,
+        asker: Asker,
         call: &Call,
     ) -> Result<Reply, Fault>
         requires { is_update call.now ≡ true }
     {
-        let (client, number) = asker;
-        let (view, index, now) = (self.view, self.index, self.now);
-        let cells = &mut self.cells;
-        let made = new_record(alloc, cells, view, index, client, number, cred, call, now)?;
-        let mut bytes = Bytes::new(alloc);
-        write_item(alloc, &made, &mut bytes)?;
-        let (record, length) = read_item(alloc, bytes.as_slice())?;
-        let fields = record.fields();
-        for change in fields.changes.as_slice() {
-            put_change(alloc, out, change)?;
-        }
+        let bytes = self.spelled(alloc, asker, call)?;
+        self.make(alloc, out, bytes.as_slice())
+    }
+
+    /// Reads a record, and makes it.
+    fn make(&mut self, alloc: Global, out: &mut Vec<u8>, bytes: &[u8]) -> Result<Reply, Fault> {
+        let (record, length) = record_of(alloc, bytes)?;
+        self.make_record(alloc, out, record.fields(), length)
+    }
+
+    /// Makes the changes of a record that has so many bytes, and gives its reply.
+    fn make_record(
+        &mut self,
+        alloc: Global,
+        out: &mut Vec<u8>,
+        fields: &RecordFields,
+        length: usize,
+    ) -> Result<Reply, Fault> {
+        put_changes(alloc, out, fields.changes.as_slice())?;
         put_named(out, b"bytes", length as u64)?;
         out.extend_from_slice(b"\n")?;
-        let changes = fields.changes.copy(alloc)?;
-        self.cells.cells.apply(alloc, changes.as_slice())?;
-        let Some(index) = Index::of(index.get() + 1) else {
-            return Err(Fault::Bounds);
-        };
-        self.index = index;
+        change(alloc, &mut self.cells.cells, &fields.changes)?;
+        self.count()?;
         Ok(fields.reply.copy(alloc)?)
     }
 
-    /// Makes the call of an ask: of an update its changes and the bytes of its record, the replies
-    /// over the cells and of the plain tree, and how many blocks and slots were fetched.
-    pub fn ask(&mut self, alloc: Global, out: &mut Vec<u8>, line: &[u8]) -> Result<(), Fault> {
-        let (((_, client), number), at) = asker_at(line, 3)?;
-        let ((cred, call), at) = asked_at(alloc, line, at)?;
-        end_at(line, at)?;
-        self.cells.fetched = 0;
-        let reply = if is_update(&call) {
-            self.update(alloc, out, (client, number), cred, &call)?
-        } else {
-            answer(alloc, &mut self.cells, cred, &call)?
+    /// The next record has the next index.
+    fn count(&mut self) -> Result<(), Fault> {
+        let Some(index) = Index::of(self.index.get() + 1) else {
+            return Err(Fault::Bounds);
         };
-        let plain = self.plain.apply(alloc, cred, &call, self.now.get())?;
-        out.extend_from_slice(b"cells")?;
-        put_shown(alloc, out, &reply)?;
-        out.extend_from_slice(b"\nplain")?;
-        put_shown(alloc, out, &plain)?;
-        put_named(out, b"\nfetched", u64::from(self.cells.fetched))?;
+        self.index = index;
+        Ok(())
+    }
+
+    /// The reply to a read over the cells.
+    fn read(&mut self, alloc: Global, cred: Cred, call: &Call) -> Result<Reply, CellFault>
+        requires { is_update call.now ≡ false }
+    {
+        answer(alloc, &mut self.cells, cred, call)
+    }
+
+    /// The reply over the cells.
+    fn reply(
+        &mut self,
+        alloc: Global,
+        out: &mut Vec<u8>,
+        asker: Asker,
+        call: &Call,
+    ) -> Result<Reply, Fault> {
+        if is_update(call) {
+            return self.update(alloc, out, asker, call);
+        }
+        Ok(self.read(alloc, asker.cred, call)?)
+    }
+
+    /// The reply of the plain tree.
+    fn plain_reply(&mut self, alloc: Global, cred: Cred, call: &Call) -> Result<Reply, AllocError> {
+        self.plain.apply(alloc, cred, call, self.now.get())
+    }
+
+    /// Makes a call: of an update its changes and the bytes of its record, the replies over the
+    /// cells and of the plain tree, and how many blocks and slots were fetched.
+    fn call(
+        &mut self,
+        alloc: Global,
+        out: &mut Vec<u8>,
+        asker: Asker,
+        call: &Call,
+    ) -> Result<(), Fault> {
+        self.cells.fetched = 0;
+        let reply = self.reply(alloc, out, asker, call)?;
+        put_answer(alloc, out, b"cells", reply)?;
+        let reply = self.plain_reply(alloc, asker.cred, call)?;
+        put_answer(alloc, out, b"plain", reply)?;
+        put_named(out, b"fetched", u64::from(self.cells.fetched))?;
         Ok(out.extend_from_slice(b"\n")?)
     }
+
+    /// Makes the call of an ask.
+    pub fn ask(&mut self, alloc: Global, out: &mut Vec<u8>, line: &[u8]) -> Result<(), Fault> {
+        let (((_, client), number), at) = asker_at(line, 3)?;
+        let (cred, call) = asked(alloc, line, at)?;
+        let asker = Asker {
+            client,
+            number,
+            cred,
+        };
+        self.call(alloc, out, asker, &call)
+    }
+}
+
+/// The call that ends a row, and for whom it is made.
+fn asked(alloc: Global, line: &[u8], at: usize) -> Result<(Cred, Call), TextFault>
+    requires { at ≤ length line.now }
+{
+    let (asked, at) = asked_at(alloc, line, at)?;
+    match end_at(line, at) {
+        Ok(()) => Ok(asked),
+        Err(fault) => Err(fault),
+    }
+}
+
+/// The bytes of a record.
+fn bytes_of(alloc: Global, made: &Record) -> Result<Bytes, AllocError> {
+    let mut bytes = Bytes::new(alloc);
+    write_item(alloc, made, &mut bytes)?;
+    Ok(bytes)
+}
+
+/// The record that these bytes begin with, and how many they are.
+fn record_of(alloc: Global, bytes: &[u8]) -> Result<(Record, usize), FieldFault> {
+    read_item(alloc, bytes)
+}
+
+/// Makes equal changes.
+fn change(alloc: Global, cells: &mut MemCells, changes: &Changes) -> Result<(), AllocError> {
+    let copy = changes.copy(alloc)?;
+    cells.apply(alloc, copy.as_slice())
 }

@@ -1,6 +1,7 @@
 //! Cells whose fetches are counted, and of which one can be broken.
 
 use harp_cells::{Cell, CellFault, CellRead, MemCells, Value};
+use std::alloc::Global;
 
 /// Cells in memory. A fetch of the broken one fails.
 #[derive(Drop)]
@@ -9,8 +10,21 @@ pub struct Watched {
     pub broken: Option<Cell>,
     /// The fetches of blocks and slots since this was set to 0.
     pub fetched: u32,
-    pub has_failed: bool,
-    pub faults: u64,
+    has_failed: bool,
+    faults: u64,
+}
+
+impl Watched {
+    /// No cells, of which none is broken.
+    pub fn new(alloc: Global) -> Watched {
+        Watched {
+            cells: MemCells::new(alloc),
+            broken: None,
+            fetched: 0,
+            has_failed: false,
+            faults: 0,
+        }
+    }
 }
 
 impl CellRead for Watched {
