@@ -7,7 +7,7 @@ ghost use Rattle.idle_log.specs.Pulls.{CanTake, IsFor};
 ghost use Rattle.volatile_log.specs.Log.{next};
 
 use crate::logs::{active, served};
-use crate::placed::{can_take, form_of};
+use crate::placed::{can_take, form_of, is_placed};
 use crate::pulls::pulled;
 use crate::words::{Answer, server};
 use harp_cells::ChangeLog;
@@ -128,7 +128,11 @@ fn serve(alloc: Global, kept: &Kept, first: u64, last: u64) -> Option<Answer> {
 /// Whether what a server holds fits a Form.
 fn fits(kept: &Kept, numbers: [u64; 7]) -> Option<Answer> {
     let (me, form) = form_of(numbers)?;
-    Some(Answer::of(can_take(me, kept, &form)?))
+    if is_placed(me, kept) {
+        Some(Answer::of(kept.fits(me, form.base, &form)))
+    } else {
+        None
+    }
 }
 
 /// The `item` of an index of a frozen log, and its `ends`.
@@ -197,7 +201,7 @@ fn accept(
     numbers: [u64; 7],
 ) -> Option<Answer> {
     let (me, form) = form_of(numbers)?;
-    if !can_take(me, kept, &form)? {
+    if !can_take(me, kept, &form) {
         return None;
     }
     let (staged, answer) = pulled(alloc, kept, me, &form)?;

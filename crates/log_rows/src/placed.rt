@@ -1,6 +1,6 @@
 //! Forms, and what a server can hold.
 
-ghost use Rattle.std.specs.Prelude.{◌≡◌, Some, true};
+ghost use Rattle.std.specs.Prelude.{◌≡◌, true};
 ghost use Rattle.group_rules.specs.Names.{place_of};
 ghost use Rattle.idle_log.specs.Kept.{IsPlaced, plan_of};
 ghost use Rattle.idle_log.specs.Pulls.{CanTake};
@@ -26,7 +26,7 @@ pub(crate) fn form_of(numbers: [u64; 7]) -> Option<(ServerId, Form)> {
 }
 
 /// Whether a server can hold this: the witness alone nothing, and a log with LB and AP at its base.
-fn is_placed(me: ServerId, kept: &Kept) -> bool
+pub(crate) fn is_placed(me: ServerId, kept: &Kept) -> bool
     ensures { result ≡ true → IsPlaced (place_of me) kept.now }
 {
     match me {
@@ -40,13 +40,12 @@ fn is_placed(me: ServerId, kept: &Kept) -> bool
     }
 }
 
-/// Whether what a server holds fits a Form. None where it can't hold that.
-pub(crate) fn can_take(me: ServerId, kept: &Kept, form: &Form) -> Option<bool>
-    ensures { result ≡ Some true → CanTake (place_of me) kept.now (plan_of form.now) }
+/// Whether a server can hold this, and it fits a Form.
+pub(crate) fn can_take(me: ServerId, kept: &Kept, form: &Form) -> bool
+    ensures { result ≡ true → CanTake (place_of me) kept.now (plan_of form.now) }
 {
-    if is_placed(me, kept) {
-        Some(kept.fits(me, form.base, form))
-    } else {
-        None
+    if !is_placed(me, kept) {
+        return false;
     }
+    kept.fits(me, form.base, form)
 }

@@ -54,9 +54,10 @@ fn promise(horizon: &mut Horizon, now: u64) -> Option<Answer> {
 impl Promises {
     /// No promise.
     pub(crate) fn new() -> Promises {
+        let first = Delta::first();
         Promises {
             grant: Grant::none(),
-            horizon: Horizon::boot(0, Delta::first(), Delta::first()),
+            horizon: Horizon::boot(0, first, first),
         }
     }
 
