@@ -1,0 +1,16 @@
+pub mod Lookups
+pub mod Alike
+pub mod Bodies
+pub mod Names
+pub mod Ways
+pub mod Whole
+pub mod Gathered
+pub mod Back
+pub mod Searches
+pub mod Steps
+pub mod Twins
+pub mod Shape
+pub mod NamedReads
+pub mod NamedLaw
+pub mod Listed
+pub mod Rescued

@@ -1,0 +1,63 @@
+//! The objects of a picture by their numbers, and the ways up from them.
+
+ghost use Rattle.std.specs.Prelude.{◌≡◌, ℕ, ◌+◌, ◌≤◌, ◌<◌, ◌==◌, ◌∷◌, List, length, map, Option};
+ghost use Rattle.std.specs.Prelude.{IfOk, Some};
+ghost use Rattle.std.specs.Option.{option_copied};
+ghost use Rattle.audit.specs.Entries.{AreByNumber, AreWays, IsPlace, ways_after};
+ghost use Rattle.audit.specs.Flaws.{above, ancestor, portrait_at};
+
+use crate::attributes::attributes_in;
+use crate::picture::Portrait;
+use std::alloc::{AllocError, Global};
+
+/// The place of the object of a number.
+pub(crate) fn place_of(objects: &[Portrait], number: u32) -> Option<usize>
+    requires { AreByNumber objects.now }
+    ensures { IsPlace objects.now number result }
+{
+    match objects.binary_search_by_key(&number, |object| object.number) {
+        Ok(place) => Some(place),
+        Err(_) => None,
+    }
+}
+
+/// The object of a number.
+pub(crate) fn at(objects: &[Portrait], number: u32) -> Option<&Portrait>
+    requires { AreByNumber objects.now }
+    ensures { option_copied result ≡ portrait_at objects.now number }
+{
+    match place_of(objects, number) {
+        Some(place) => Some(&objects[place]),
+        None => None,
+    }
+}
+
+/// The number one step up from an object by the stored parents.
+pub(crate) fn above(object: &Portrait) -> u32
+    ensures { (objects : List Portrait)
+        → portrait_at objects object.now.number ≡ Some object.now
+        → result ≡ above objects object.now.number }
+{
+    if object.number == 1 {
+        1
+    } else {
+        attributes_in(&object.object).parent
+    }
+}
+
+/// The number twice as many steps up as this one, by the numbers so many steps up from each object.
+pub(crate) fn twice(objects: &[Portrait], ways: &[u32], way: u32) -> u32
+    requires order { AreByNumber objects.now }
+    requires length { length ways.now ≡ length objects.now }
+    ensures { (steps n : ℕ) → 1 ≤ steps → ways.now ≡ ways_after steps objects.now
+        → way ≡ ancestor steps objects.now n
+        → result ≡ ancestor (steps + steps) objects.now n }
+{
+    if way <= 1 {
+        return way;
+    }
+    match place_of(objects, way) {
+        Some(place) => ways[place],
+        None => 0,
+    }
+}
