@@ -1,0 +1,3 @@
+pub mod TreesOfCells
+pub mod Verdicts
+pub mod ListingTexts
