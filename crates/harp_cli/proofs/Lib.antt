@@ -1,3 +1,4 @@
+pub mod AuditLaws
 pub mod WordLaws
 pub mod Checks
 pub mod ServeLaws

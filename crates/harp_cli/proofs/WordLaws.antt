@@ -12,7 +12,7 @@ use Rattle.harp_cli.specs.declared.loop_words.Loop.{Loop}
 use Rattle.harp_cli.specs.declared.words.Command.{Command}
 use Rattle.harp_cli.specs.declared.words.Command.TheVariants as command
 use Rattle.harp_cli.specs.Words.{IsGen, IsGroup, IsNode, IsSweep}
-use Rattle.harp_cli.specs.Words.{AsksFor, IsForm, LoopWords, Named, NodeWords, delta_of}
+use Rattle.harp_cli.specs.Words.{AsksFor, AuditWords, IsForm, LoopWords, Named, NodeWords, delta_of}
 use Rattle.harp_cli.specs.Words.{delta_words, texts}
 
 -- ---- lists of words
@@ -111,6 +111,9 @@ named ws name rest are (command.Node place runs) p =
 named ws name rest are (command.Group runs) p =
     let same = front (texts ws) name rest (codes "group") p.rest are p.are in
     (same.0, subst (LoopWords runs) same.1 p.loop_words)
+named ws name rest are command.Audit p =
+    let same = front (texts ws) name rest (codes "audit") p.rest are p.are in
+    (same.0, subst AuditWords same.1 p.audit_words)
 
 asks : (ws : List (String Global)) (name : List ℕ) (rest : List (List ℕ)) → texts ws ≡ name ∷ rest
     → (c : Command) → Named name rest c → AsksFor ws c
@@ -134,6 +137,8 @@ asks ws name rest are (command.Node place runs) p =
     record { rest = rest; are = are ∙ ap (λ t. t ∷ rest) (sym p.0); node_words = p.1 }
 asks ws name rest are (command.Group runs) p =
     record { rest = rest; are = are ∙ ap (λ t. t ∷ rest) (sym p.0); loop_words = p.1 }
+asks ws name rest are command.Audit p =
+    record { rest = rest; are = are ∙ ap (λ t. t ∷ rest) (sym p.0); audit_words = p.1 }
 
 pub by_name : (ws : List (String Global)) (name : List ℕ) (rest : List (List ℕ))
     → texts ws ≡ name ∷ rest → (r : Option Command)
@@ -158,6 +163,7 @@ only_play rest (command.Node place runs) p =
     let e : 111 ≡ 108 = ap second p.0 in absurd (omega (arith, e))
 only_play rest (command.Group runs) p =
     let e : 114 ≡ 108 = ap second p.0 in absurd (omega (arith, e))
+only_play rest command.Audit p = let e : 117 ≡ 108 = ap second p.0 in absurd (omega (arith, e))
 
 only_check : (rest : List (List ℕ)) (c : Command) → Named (codes "check") rest c → rest ≡ []
 unfolding second
@@ -171,6 +177,7 @@ only_check rest (command.Node place runs) p =
     let e : 111 ≡ 104 = ap second p.0 in absurd (omega (arith, e))
 only_check rest (command.Group runs) p =
     let e : 114 ≡ 104 = ap second p.0 in absurd (omega (arith, e))
+only_check rest command.Audit p = let e : 117 ≡ 104 = ap second p.0 in absurd (omega (arith, e))
 
 pub play_alone : (rest : List (List ℕ)) (r : Option Command)
     → MatchOption r (rest ≡ [] → ⊥) (λ c. (c ≡ command.Play) × (rest ≡ []))
@@ -202,6 +209,41 @@ no_loop words rest word are none (command.Node place runs) p =
     none runs (subst (LoopWords runs) same.1 p.1.loop_words)
 no_loop words rest word are none (command.Group runs) p =
     let e : 114 ≡ 111 = ap second p.0 in absurd (omega (arith, e))
+no_loop words rest word are none command.Audit p =
+    let e : 117 ≡ 111 = ap second p.0 in absurd (omega (arith, e))
+
+-- words behind `audit` that aren't a folder's name
+pub no_folder : (words : List (List ℕ)) → (AuditWords words → ⊥) → (c : Command)
+    → Named (codes "audit") words c → ⊥
+unfolding second
+no_folder words none command.Play p =
+    let e : 108 ≡ 117 = ap second p.0 in absurd (omega (arith, e))
+no_folder words none command.Check p =
+    let e : 104 ≡ 117 = ap second p.0 in absurd (omega (arith, e))
+no_folder words none (command.Gen s n) p =
+    let e : 101 ≡ 117 = ap second p.0 in absurd (omega (arith, e))
+no_folder words none (command.Sweep s k n) p =
+    let e : 119 ≡ 117 = ap second p.0 in absurd (omega (arith, e))
+no_folder words none (command.Node place runs) p =
+    let e : 111 ≡ 117 = ap second p.0 in absurd (omega (arith, e))
+no_folder words none (command.Group runs) p =
+    let e : 114 ≡ 117 = ap second p.0 in absurd (omega (arith, e))
+no_folder words none command.Audit p = none p.1
+
+-- several words are no folder's name, and neither is none, nor an empty one
+pub no_one_word : (words : List (List ℕ)) → (length words ≡ 1 → ⊥) → AuditWords words → ⊥
+no_one_word words other is = other (ap length is.are)
+
+pub no_name : (words : List (List ℕ)) (word : List ℕ) → words ≡ word ∷ [] → word ≡ []
+    → AuditWords words → ⊥
+no_name words word are empty is =
+    is.named (ap (λ (ts : List (List ℕ)). get_or ts 0 []) (sym is.are ∙ are) ∙ empty)
+
+pub one_word : (ws : List (String Global)) (a : String Global) → 1 ≤ length ws → length ws < 2
+    → a ≡ get_or ws 0 a → texts ws ≡ string_bytes a ∷ []
+one_word [] a some few p = absurd (omega (arith, some))
+one_word (x ∷ []) a some few p = rw p refl
+one_word (x ∷ y ∷ ws) a some few p = absurd (omega (arith, few))
 
 -- ---- words ask for one thing
 

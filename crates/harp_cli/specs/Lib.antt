@@ -5,3 +5,4 @@ pub mod Check
 pub mod Gen
 pub mod Sweep
 pub mod Serve
+pub mod Audit

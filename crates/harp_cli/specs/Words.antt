@@ -88,6 +88,20 @@ pub record IsGroup (runs : Loop) (words : List (String Global)) : Type 0 where
   pub are : texts words ≡ codes "group" ∷ rest
   pub loop_words : LoopWords runs rest
 
+-- ---- how a folder is audited
+
+-- the words are the name of a folder
+pub record AuditWords (words : List (List ℕ)) : Type 0 where
+  pub folder : List ℕ
+  pub are : words ≡ folder ∷ []
+  pub named : folder ≢ []
+
+-- the words are `audit`, and the name of a folder
+pub record IsAudit (words : List (String Global)) : Type 0 where
+  pub rest : List (List ℕ)
+  pub are : texts words ≡ codes "audit" ∷ rest
+  pub audit_words : AuditWords rest
+
 -- ---- all forms
 
 -- the words ask for this
@@ -98,6 +112,7 @@ AsksFor words (command.Gen seed lines) = IsGen seed lines words
 AsksFor words (command.Sweep seed runs lines) = IsSweep seed runs lines words
 AsksFor words (command.Node place runs) = IsNode place runs words
 AsksFor words (command.Group runs) = IsGroup runs words
+AsksFor words command.Audit = IsAudit words
 
 -- the words are one of these forms
 abbrev pub IsForm : List (String Global) → Type 0
@@ -118,6 +133,7 @@ name_of (command.Gen seed lines) = codes "gen"
 name_of (command.Sweep seed runs lines) = codes "sweep"
 name_of (command.Node place runs) = codes "node"
 name_of (command.Group runs) = codes "group"
+name_of command.Audit = codes "audit"
 
 abbrev pub Behind : List (List ℕ) → Command → Type 0
 Behind rest command.Play = rest ≡ []
@@ -129,6 +145,7 @@ Behind rest (command.Sweep seed runs lines) =
     × (seed < 10 ^ 18) × (1 ≤ runs) × (runs ≤ 10000) × (lines ≤ 40000)
 Behind rest (command.Node place runs) = NodeWords place runs rest
 Behind rest (command.Group runs) = LoopWords runs rest
+Behind rest command.Audit = AuditWords rest
 
 -- a command with this name asks for the words behind it
 abbrev pub Named : List ℕ → List (List ℕ) → Command → Type 0
@@ -143,6 +160,7 @@ usage_text =
     ++ codes "usage: harp sweep SEED RUNS LINES\n"
     ++ codes "usage: harp node S PORT DIR TURNS\nusage: harp group PORT DIR TURNS\n"
     ++ codes "usage: harp node S PORT DIR TURNS DELTA\nusage: harp group PORT DIR TURNS DELTA\n"
+    ++ codes "usage: harp audit DIR\n"
 
 -- on other words the usage text is written, or a first part of it
 abbrev pub UsageEnds : Option (List ℕ) → Option (List ℕ) → Exit → Type 0

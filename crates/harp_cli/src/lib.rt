@@ -7,13 +7,15 @@
 //! of the one line of a verdict (`TellsWhole`, `TellsPart`), and `generate` of the schedule of a
 //! seed. `sweep` hands on what `sweep_player` says. `node` and `group` hand on what `node_loop`
 //! says of its loops: with status 0 the run was made whole (`IsRun`) and its line written, with 7
-//! and 8 it was cut off (`IsCutOff`) and nothing written (`ServeEnds`). Not pinned: to which folder
-//! a disk is attached, and at which port the link is opened. The words are exactly `play`, `check`,
-//! `gen` with the decimal spellings of two numbers, `sweep` with three, `node` with a server, and
-//! `group`, both with a port, a folder that isn't empty, turns and perhaps the length of promises,
-//! each number within its bounds (`IsForm`).
+//! and 8 it was cut off (`IsCutOff`) and nothing written (`ServeEnds`). `audit` hands on what
+//! `audit_verdict` says: with status 0 and 1 the verdict was written, with 7 nothing (`AuditEnds`).
+//! Not pinned: to which folder a disk is attached, and at which port the link is opened. The words
+//! are exactly `play`, `check`, `gen` with the decimal spellings of two numbers, `sweep` with three,
+//! `node` with a server, and `group`, both with a port, a folder that isn't empty, turns and perhaps
+//! the length of promises, each number within its bounds, and `audit` with such a folder (`IsForm`).
 #![tactic(auto)]
 
+mod auditing;
 mod check;
 mod exit;
 mod generate;

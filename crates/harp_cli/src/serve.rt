@@ -55,8 +55,8 @@ fn exit_of_loop(fault: LoopFault) -> Exit
     }
 }
 
-/// How a command ends whose disk wasn't attached.
-fn exit_of_store(fault: StoreFault) -> Exit
+/// How a command ends whose disk failed.
+pub fn exit_of_store(fault: StoreFault) -> Exit
     ensures { result ≡ exit_of_store fault }
 {
     match fault {

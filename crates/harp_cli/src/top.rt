@@ -10,6 +10,11 @@ ghost use Rattle.schedule_play.specs.Trace.{group_left, trace_of};
 ghost use Rattle.group_trace.specs.Run.{AreTaken};
 ghost use Rattle.group_trace.specs.Scene.{first_scene};
 ghost use Rattle.world.specs.World.{IsWorld};
+ghost use Rattle.audit.specs.Laws.{WellCellsStandForOne};
+ghost use Rattle.audit_verdict.specs.Left.{IsLeftByPower};
+ghost use Rattle.file_tree.specs.Book.{Entry};
+ghost use Rattle.harp_store.specs.Disk.{Moments};
+ghost use Rattle.volatile_log.specs.Log.{LogValue};
 ghost use Rattle.harp_types.specs.Streams.{Rose};
 ghost use Rattle.harp_types.specs.Trio.{value_of, with_value};
 ghost use Rattle.harp_types.specs.declared.server.ServerId.{ServerId as Place};
@@ -28,14 +33,16 @@ ghost use Rattle.trace_laws.specs.Laws.{StandsInGroup};
 ghost use Rattle.harp_cli.specs.declared.exit.Exit.{Exit};
 ghost use Rattle.harp_cli.specs.declared.loop_words.Loop.{Loop as Runs};
 ghost use Rattle.harp_cli.specs.Exit.{status_of};
+ghost use Rattle.harp_cli.specs.Audit.{AuditEnds, WritesTree};
 ghost use Rattle.harp_cli.specs.Check.{CheckEnds, StatusAgrees};
 ghost use Rattle.harp_cli.specs.Gen.{GenEnds};
 ghost use Rattle.harp_cli.specs.Play.{HasPlayed, WroteRightText, exit_of_play, sizes};
 ghost use Rattle.harp_cli.specs.Serve.{ServeEnds, outside};
 ghost use Rattle.harp_cli.specs.Sweep.{SweepEnds};
-ghost use Rattle.harp_cli.specs.Words.{IsCheck, IsForm, IsGen, IsGroup, IsNode, IsPlay, Serves};
-ghost use Rattle.harp_cli.specs.Words.{IsSweep, UsageEnds};
+ghost use Rattle.harp_cli.specs.Words.{IsAudit, IsCheck, IsForm, IsGen, IsGroup, IsNode, IsPlay};
+ghost use Rattle.harp_cli.specs.Words.{IsSweep, Serves, UsageEnds};
 
+use crate::auditing::audit_folder;
 use crate::check::check;
 use crate::generate::generate;
 use crate::play::play;
@@ -43,6 +50,7 @@ use crate::serve::{serve_group, serve_node};
 use crate::sweeping::sweep;
 use crate::words::{Command, command_of, write_usage};
 use accept_laws::accepted_texts;
+use audit::audit_laws;
 use harp_store::Store;
 use harp_types::{Sink, Source, Trio};
 use node_link::{Clock, Link};
@@ -52,9 +60,9 @@ use std::thread::Threads;
 use sweep_player::{GroupPlayer, swept_texts};
 use world::World;
 
-/// Does what the words ask for, and gives the exit status: 0 done, 1 a trace breaks something, 2
-/// the words are refused, 3 the source failed, 4 the sink failed, 5 a line is refused, 6 there was
-/// no memory, 7 a disk failed, 8 the link failed.
+/// Does what the words ask for, and gives the exit status: 0 done, 1 a trace breaks something or a
+/// folder has no sound tree, 2 the words are refused, 3 the source failed, 4 the sink failed, 5 a
+/// line is refused, 6 there was no memory, 7 a disk failed, 8 the link failed.
 ///
 /// `play` plays the schedule of the source in the world, which is new, and writes its trace to the
 /// sink. `check` judges the trace of the source, and writes `yes`, or `no L CAUSE` where line L is
@@ -66,7 +74,12 @@ use world::World;
 /// `node` runs a server over the disk of its place, which is attached to a folder, and `group` all
 /// three over theirs, in the folders 0, 1 and 2 of one. Place s of the link has the given port plus
 /// s. After the given turns they write `turns T taken N sent M`: the turns, and how many datagrams
-/// were taken and sent. All other words leave disks, link and clock.
+/// were taken and sent.
+///
+/// `audit` attaches the disk of place 0 to a folder, and writes the verdict on it: `sound CP N` and
+/// the lines of its N objects after CP updates, or `unsound M` and M lines `fault NUMBER FLAW`, or
+/// `unsaved` where the disk alone has no tree. It changes nothing. All words but these three leave
+/// disks, link and clock.
 ///
 /// Want of memory ends each of them. Nothing is said of the bytes of a source or a sink that
 /// doesn't tell them, nor of what a disk, a link or a clock doesn't tell.
@@ -140,14 +153,29 @@ pub fn harp<R: Threads + Sync, S: Source, K: Sink, L: Link, D: Store, C: Clock>(
         (outside (each D.told disks.new) (L.told link.new) (C.told clock.new))
         (K.written sink.old) (K.written sink.new) exit
         × (world.new ≡ world.old) × (source.new ≡ source.old) }
-    ensures apart { (Serves words.now → ⊥)
+    // The verdict on the disk of place 0, as far as it tells it, and what was written of it.
+    ensures audit { IsAudit words.now → (exit : Exit) × (result ≡ status_of exit)
+        × AuditEnds (D.told disks.old.zero) (K.written sink.old) (K.written sink.new) exit
+        × (D.told disks.new.zero ≡ D.told disks.old.zero)
+        × (disks.new ≡ record disks.old { zero = disks.new.zero })
+        × (link.new ≡ link.old) × (clock.new ≡ clock.old)
+        × (world.new ≡ world.old) × (source.new ≡ source.old) }
+    // Cells of which nothing is found stand for a tree, where each is absent or of its own kind and
+    // no file has bytes past its end: the verdict's text is that of the one that they stand for.
+    ensures audit_one { WellCellsStandForOne }
+    // Of a disk that a whole power failure left, it is the tree after the committed updates.
+    ensures audit_left { IsAudit words.now → (list : List Entry) (log : LogValue) (h : Moments)
+        → D.told disks.old.zero ≡ Some h → IsLeftByPower list log h
+        → (exit : Exit) × (result ≡ status_of exit)
+        × WritesTree list log (K.written sink.old) (K.written sink.new) exit }
+    ensures apart { (Serves words.now → ⊥) → (IsAudit words.now → ⊥)
         → (link.new ≡ link.old) × (disks.new ≡ disks.old) × (clock.new ≡ clock.old) }
     ensures usage { (IsForm words.now → ⊥)
         → (exit : Exit) × (result ≡ status_of exit)
         × UsageEnds (K.written sink.old) (K.written sink.new) exit
         × (world.new ≡ world.old) × (source.new ≡ source.old) }
     // The causes that hold of a source that tells no bytes too.
-    ensures says_no { result ≡ 1 → IsCheck words.now }
+    ensures says_no { result ≡ 1 → IsCheck words.now ⊎ IsAudit words.now }
     ensures refused_words { result ≡ 2 → IsForm words.now → ⊥ }
     ensures source_failed { result ≡ 3 → Rose (S.faults source.old) (S.faults source.new) }
     ensures sink_failed { result ≡ 4 → Rose (K.faults sink.old) (K.faults sink.new) }
@@ -173,6 +201,7 @@ pub fn harp<R: Threads + Sync, S: Source, K: Sink, L: Link, D: Store, C: Clock>(
 {
     every_text();
     accepted_texts();
+    audit_laws();
     swept_texts();
     match command_of(words) {
         Some(Command::Play) => play(alloc, world, source, sink).status(),
@@ -189,6 +218,10 @@ pub fn harp<R: Threads + Sync, S: Source, K: Sink, L: Link, D: Store, C: Clock>(
         Some(Command::Group { runs }) => {
             let folder = words[2].as_str();
             serve_group(alloc, runs, folder, sink, link, disks, clock).status()
+        }
+        Some(Command::Audit) => {
+            let folder = words[1].as_str();
+            audit_folder(rt, alloc, folder, sink, &mut disks.zero).status()
         }
         None => write_usage(sink).status(),
     }

@@ -32,6 +32,8 @@ pub enum Command {
     Node { place: ServerId, runs: Loop },
     /// All three servers.
     Group { runs: Loop },
+    /// The audit of a folder.
+    Audit,
 }
 
 /// The command of this one name, where no words stand behind it.
@@ -82,6 +84,21 @@ fn sweep_of(words: &[String]) -> Option<Command>
     })
 }
 
+/// The audit that the words behind `audit` ask for.
+fn audit_of(words: &[String]) -> Option<Command>
+    ensures { MatchOption result
+        ((c : Asked) → Named (codes "audit") (texts words.now) c → ⊥)
+        (Named (codes "audit") (texts words.now)) }
+{
+    let [folder] = words else {
+        return None;
+    };
+    if folder.is_empty() {
+        return None;
+    }
+    Some(Command::Audit)
+}
+
 /// What the words ask for, if they are one of the forms.
 pub fn command_of(words: &[String]) -> Option<Command>
     ensures { MatchOption result (IsForm words.now → ⊥) (AsksFor words.now) }
@@ -102,6 +119,8 @@ pub fn command_of(words: &[String]) -> Option<Command>
         node_of(rest)
     } else if word == "group" {
         group_of(rest)
+    } else if word == "audit" {
+        audit_of(rest)
     } else {
         None
     }
@@ -120,6 +139,7 @@ usage: harp node S PORT DIR TURNS
 usage: harp group PORT DIR TURNS
 usage: harp node S PORT DIR TURNS DELTA
 usage: harp group PORT DIR TURNS DELTA
+usage: harp audit DIR
 "
 }
 

@@ -110,6 +110,16 @@ returns-in-Some-Group-clause-group g c = λ runs is.
       refl,
     )
 
+pub returns-in-None-clause-play : goal.returns-in-None-clause-play
+returns-in-None-clause-play g c = λ is. absurd (c.in-None.ensures (command.Play, is))
+
+pub returns-in-None-clause-complete : goal.returns-in-None-clause-complete
+returns-in-None-clause-complete g c = λ is text told source sink.
+    absurd (c.in-None.ensures (command.Play, is))
+
+pub returns-in-None-clause-check : goal.returns-in-None-clause-check
+returns-in-None-clause-check g c = λ is. absurd (c.in-None.ensures (command.Check, is))
+
 pub returns-in-None-clause-generate : goal.returns-in-None-clause-generate
 returns-in-None-clause-generate g c = λ seed lines is.
     absurd (c.in-None.ensures (command.Gen seed lines, is))
@@ -244,3 +254,48 @@ returns-in-None-clause-views g c = c.every_text.ensures.views sizes
 
 pub returns-in-None-clause-parts : goal.returns-in-None-clause-parts
 returns-in-None-clause-parts g c = c.every_text.ensures.parts sizes
+
+pub returns-in-None-clause-audit : goal.returns-in-None-clause-audit
+returns-in-None-clause-audit g c = λ is. absurd (c.in-None.ensures (command.Audit, is))
+
+pub returns-in-None-clause-audit_left : goal.returns-in-None-clause-audit_left
+returns-in-None-clause-audit_left g c = λ is list log h told left.
+    absurd (c.in-None.ensures (command.Audit, is))
+
+pub returns-in-Some-Audit-clause-taken : goal.returns-in-Some-Audit-clause-taken
+returns-in-Some-Audit-clause-taken g c = c.every_text.ensures.taken sizes
+
+pub returns-in-Some-Audit-clause-right : goal.returns-in-Some-Audit-clause-right
+returns-in-Some-Audit-clause-right g c = c.every_text.ensures.right sizes
+
+pub returns-in-Some-Audit-clause-events : goal.returns-in-Some-Audit-clause-events
+returns-in-Some-Audit-clause-events g c = c.every_text.ensures.events sizes
+
+pub returns-in-Some-Audit-clause-book : goal.returns-in-Some-Audit-clause-book
+returns-in-Some-Audit-clause-book g c = c.every_text.ensures.book sizes
+
+pub returns-in-Some-Audit-clause-views : goal.returns-in-Some-Audit-clause-views
+returns-in-Some-Audit-clause-views g c = c.every_text.ensures.views sizes
+
+pub returns-in-Some-Audit-clause-parts : goal.returns-in-Some-Audit-clause-parts
+returns-in-Some-Audit-clause-parts g c = c.every_text.ensures.parts sizes
+
+pub returns-in-Some-Audit-clause-audit : goal.returns-in-Some-Audit-clause-audit
+returns-in-Some-Audit-clause-audit g c = λ is. (
+  c.audit_folder.result,
+  c.status-in-Some-Audit.ensures,
+  c.audit_folder.ensures.ends,
+  c.audit_folder.ensures.kept,
+  refl,
+  refl,
+  refl,
+  refl,
+  refl,
+)
+
+pub returns-in-Some-Audit-clause-audit_left : goal.returns-in-Some-Audit-clause-audit_left
+returns-in-Some-Audit-clause-audit_left g c = λ is list log h told left. (
+  c.audit_folder.result,
+  c.status-in-Some-Audit.ensures,
+  c.audit_folder.ensures.tree list log h told left,
+)

@@ -79,3 +79,13 @@ returns-then-eq-6 c =
     by_name words (codes "group") (rest words)
     (begin_with words c.word-item.result text (codes "group") c.in-len1-up.len_at_least
     c.word-item.is c.as_str-word.ensures.value named) c.group_of.result c.group_of.ensures
+
+pub returns-then-eq-7 : goal.returns-then-eq-7
+unfolding rest
+returns-then-eq-7 c =
+    let words = c.args.words.now in
+    let text = c.as_str-word.result.now in
+    let named = same_text text (codes "audit") c.if-eq-7.ensures in
+    by_name words (codes "audit") (rest words)
+    (begin_with words c.word-item.result text (codes "audit") c.in-len1-up.len_at_least
+    c.word-item.is c.as_str-word.ensures.value named) c.audit_of.result c.audit_of.ensures
