@@ -36,7 +36,7 @@ pub struct Clocks<'a, R> {
 
 impl<'a, R> Clocks<'a, R> {
     /// Clocks that weren't read. The day is one after September 2020.
-    pub fn new(rt: R, alloc: Global, seconds: &'a cell::Cell<u64>) -> Clocks<'a, R> {
+    pub(crate) fn new(rt: R, alloc: Global, seconds: &'a cell::Cell<u64>) -> Clocks<'a, R> {
         Clocks {
             list: ListClock::new(alloc, Vec::new(alloc)),
             day: WallClock::new(rt),
@@ -102,7 +102,7 @@ fn tell_seconds<R>(
 }
 
 /// What came of a line about clocks.
-pub fn clock_answer<R: time::Clock>(
+pub(crate) fn clock_answer<R: time::Clock>(
     alloc: Global,
     clocks: &mut Clocks<'_, R>,
     line: &str,

@@ -140,7 +140,7 @@ fn cell_answer<D: Store>(
 }
 
 /// What came of a line about a store.
-pub fn store_answer<F: DiskFiles + Drop>(
+pub(crate) fn store_answer<F: DiskFiles + Drop>(
     alloc: Global,
     store: &mut FolderStore<F>,
     line: &str,

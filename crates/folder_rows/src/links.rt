@@ -29,7 +29,7 @@ pub struct Links<R> {
 
 impl<R: Net + Copy> Links<R> {
     /// Links without a datagram or an open place.
-    pub fn new(rt: R, alloc: Global) -> Result<Links<R>, AllocError> {
+    pub(crate) fn new(rt: R, alloc: Global) -> Result<Links<R>, AllocError> {
         Ok(Links {
             memory: MemLink::new(alloc, Vec::new(alloc), Vec::new(alloc))?,
             udp: UdpLink::new(rt),
@@ -278,7 +278,7 @@ fn tell_counts(memory: &MemLink, text: &mut String) -> Answer {
 }
 
 /// What came of a line about links.
-pub fn links_answer<N: Net, R: Net>(
+pub(crate) fn links_answer<N: Net, R: Net>(
     rt: &N,
     alloc: Global,
     links: &mut Links<R>,

@@ -17,7 +17,7 @@ pub enum Answer {
 }
 
 /// The bytes of hexadecimal digits, a dash for none.
-pub fn bytes_of(alloc: Global, digits: &str) -> Option<Vec<u8>> {
+pub(crate) fn bytes_of(alloc: Global, digits: &str) -> Option<Vec<u8>> {
     if digits == "-" {
         return Some(Vec::new(alloc));
     }
@@ -25,7 +25,7 @@ pub fn bytes_of(alloc: Global, digits: &str) -> Option<Vec<u8>> {
 }
 
 /// A line's first word, and what stands behind it.
-pub fn halves(line: &str) -> (&str, &str) {
+pub(crate) fn halves(line: &str) -> (&str, &str) {
     match line.split_once(' ') {
         Some(halves) => halves,
         None => (line, ""),
@@ -33,12 +33,12 @@ pub fn halves(line: &str) -> (&str, &str) {
 }
 
 /// The number of decimal digits.
-pub fn number(word: &str) -> Option<u64> {
+pub(crate) fn number(word: &str) -> Option<u64> {
     word.parse::<u64>().ok()
 }
 
 /// What came of a call that gives nothing.
-pub fn came<T: Drop, E: Drop>(outcome: Result<T, E>) -> Answer {
+pub(crate) fn came<T: Drop, E: Drop>(outcome: Result<T, E>) -> Answer {
     match outcome {
         Ok(_) => Answer::Done,
         Err(_) => Answer::Failed,
@@ -46,7 +46,7 @@ pub fn came<T: Drop, E: Drop>(outcome: Result<T, E>) -> Answer {
 }
 
 /// What came of writing to a line's text.
-pub fn told(outcome: Result<(), AllocError>) -> Answer {
+pub(crate) fn told(outcome: Result<(), AllocError>) -> Answer {
     match outcome {
         Ok(()) => Answer::Told,
         Err(_) => Answer::NoMemory,
@@ -54,12 +54,12 @@ pub fn told(outcome: Result<(), AllocError>) -> Answer {
 }
 
 /// Writes words to a line's text.
-pub fn tell(text: &mut String, words: &str) -> Answer {
+pub(crate) fn tell(text: &mut String, words: &str) -> Answer {
     told(text.push_str(words))
 }
 
 /// Writes bytes to a line's text as hexadecimal digits, a dash for none.
-pub fn tell_bytes(alloc: Global, text: &mut String, bytes: &[u8]) -> Answer {
+pub(crate) fn tell_bytes(alloc: Global, text: &mut String, bytes: &[u8]) -> Answer {
     if bytes.is_empty() {
         return tell(text, "-");
     }
