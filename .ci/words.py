@@ -8,7 +8,9 @@ runs `PROGRAM WORD.. ..`, in a fresh folder, with each of
 - the words of `.ci/cases/refused`, a line each, which are refused with the text of `usage`;
 - the words of `.ci/cases/*.words` behind their status, which write what stands in `*.stdout`;
 - schedules that are too large for a file, whose traces are made here by the rules;
-- running servers: at free ports, at one that is taken, and over folders.
+- a schedule whose next line is written once the lines of the last one came;
+- running servers: at free ports, at one that is taken, over folders, and under datagrams from a
+  port that none can be sent to.
 
 It prints what goes wrong, and how many were tried. The exit status is 0 where all is well, else 1.
 """
@@ -18,15 +20,18 @@ import glob
 import os
 import shlex
 import socket
+import struct
 import subprocess
 import sys
 import tempfile
+import threading
+import time
 
 sys.dont_write_bytecode = True
 TOP = os.path.dirname(os.path.dirname(os.path.abspath(__file__)))
 CASES = os.path.join(TOP, ".ci", "cases")
 sys.path.insert(0, os.path.join(TOP, "examples"))
-from nodes import free_port
+from nodes import ask, free_port, lookup
 
 DONE, REFUSED_WORDS, REFUSED_LINE, DISK_FAILED, LINK_FAILED = 0, 2, 5, 7, 8
 ATTEMPTS = 20
@@ -123,6 +128,28 @@ def full_log(tries):
     tries.expect_run("a full log", ["play"], DONE, trace, OPENING + b"".join(asks))
 
 
+# ---- who waits for an answer
+
+
+def line_by_line(tries):
+    """What a line leads to is handed on before the next line is waited for."""
+    answers = []
+    words = [*tries.program, "play"]
+    with subprocess.Popen(words, stdin=subprocess.PIPE, stdout=subprocess.PIPE) as play:
+        late = threading.Timer(60, play.kill)
+        late.start()
+        for _ in range(3):
+            play.stdin.write(b"clock 0 0\n")
+            play.stdin.flush()
+            answers.append(play.stdout.readline())
+        play.stdin.close()
+        answers.append(play.stdout.read())
+        ended = play.wait()
+        late.cancel()
+    wanted = [b"> clock 0 0\n"] * 3 + [b"end 0\n"]
+    tries.expect("a play line by line", (DONE, wanted), (ended, answers))
+
+
 # ---- running servers
 
 
@@ -168,6 +195,33 @@ def a_taken_port(tries):
     tries.expect("a taken port", [LINK_FAILED, DONE], ends)
 
 
+def from_port_0(tries):
+    """An answer to port 0 can't be sent, and is lost; the server goes on."""
+    port = free_port()
+    words = [*tries.program, "node", "0", str(port), "asked", "2000"]
+    with subprocess.Popen(words, stdout=subprocess.PIPE) as node:
+        late = threading.Timer(60, node.kill)
+        late.start()
+        with contextlib.suppress(PermissionError):
+            ask_from_port_0(port, node)
+        output = node.stdout.read()
+        ended = node.wait()
+        late.cancel()
+    tries.expect("asks from port 0", (DONE, b"turns 2000 taken "), (ended, output[:17]))
+
+
+def ask_from_port_0(port, node):
+    """Asks a server by datagrams of UDP that say they come from port 0."""
+    asked = ask(1, 1, lookup(b"a"))
+    datagram = struct.pack(">HHHH", 0, port, 8 + len(asked), 0) + asked
+    with socket.socket(socket.AF_INET, socket.SOCK_RAW, socket.IPPROTO_UDP) as raw:
+        for _ in range(20):
+            raw.sendto(datagram, ("127.0.0.1", 0))
+            time.sleep(0.05)
+            if node.poll() is not None:
+                break
+
+
 def no_folder(tries):
     """No folder can be made where a file stands."""
     with open("file", "wb"):
@@ -188,9 +242,11 @@ def main():
             same_sweep_again,
             one_line_too_many,
             full_log,
+            line_by_line,
             a_group,
             a_node,
             a_taken_port,
+            from_port_0,
             no_folder,
         ):
             part(tries)

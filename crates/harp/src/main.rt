@@ -11,7 +11,8 @@ use harp_store::Store;
 use harp_types::{ReaderSource, Sink, Source, Trio, WriterSink};
 use node_link::{Clock, Link, UdpLink, WallClock};
 use std::alloc::{AllocError, Global};
-use std::io::{BufWriter, Input, Write};
+use std::cell::RefCell;
+use std::io::{BufWriter, ErrorKind, Input, Read, Write};
 use std::net::Net;
 use std::process::ExitCode;
 use std::rt::{Env, Files};
@@ -31,6 +32,46 @@ fn words<R: Env + AllocGlobal>(rt: &R) -> io::Result<Vec<String>> {
         words.push(word)?;
     }
     Ok(words)
+}
+
+/// The output, which the input hands on too.
+#[derive(Drop)]
+struct SharedOutput<'a, W> {
+    output: &'a RefCell<W>,
+}
+
+impl<'a, W: Write> Write for SharedOutput<'a, W> {
+    fn write(&mut self, piece: &[u8]) -> io::Result<usize> {
+        match self.output.try_borrow_mut() {
+            Ok(mut output) => output.write(piece),
+            Err(_) => Err(io::Error::from(ErrorKind::Other)),
+        }
+    }
+
+    fn flush(&mut self) -> io::Result<()> {
+        match self.output.try_borrow_mut() {
+            Ok(mut output) => output.flush(),
+            Err(_) => Err(io::Error::from(ErrorKind::Other)),
+        }
+    }
+}
+
+/// The input. What was written is handed on before more is read, so that a program that waits for
+/// an answer before it writes on gets it.
+#[derive(Drop)]
+struct AnsweredInput<'a, R, W> {
+    input: R,
+    output: &'a RefCell<W>,
+}
+
+impl<'a, R: Read, W: Write> Read for AnsweredInput<'a, R, W> {
+    fn read(&mut self, piece: &mut [u8]) -> io::Result<usize> {
+        // What can't be handed on stays in memory, so the next write or the last flush fails.
+        if let Ok(mut output) = self.output.try_borrow_mut() {
+            let _ = output.flush();
+        }
+        self.input.read(piece)
+    }
 }
 
 /// What a command reads and writes beside its words.
@@ -65,14 +106,17 @@ impl<S: Source, K: Sink, L: Link, D: Store, C: Clock> Outside<S, K, L, D, C> {
 }
 
 /// Does what the words say, writes to the output, and returns the exit status.
-fn run<R, W: Write>(rt: &R, output: &mut W, words: &[String]) -> u8
+fn run<R, W: Write>(rt: &R, output: &RefCell<W>, words: &[String]) -> u8
 where
     R: Input + Files + Net + Threads + DayClock + AllocGlobal + Sync,
     R::Reader: Drop,
 {
     let mut outside = Outside {
-        source: ReaderSource::new(rt.reader()),
-        sink: WriterSink::new(output),
+        source: ReaderSource::new(AnsweredInput {
+            input: rt.reader(),
+            output,
+        }),
+        sink: WriterSink::new(SharedOutput { output }),
         link: UdpLink::new(rt),
         disks: Trio {
             zero: FolderStore::new(rt),
@@ -95,15 +139,16 @@ fn words_or_none<R: Env + AllocGlobal>(rt: &R) -> Result<Vec<String>, AllocError
 }
 
 fn main(rt: HostRuntime) -> ExitCode {
-    let Ok(mut output) = BufWriter::with_capacity(rt.alloc(), PIECE, io::writer(&rt)) else {
+    let Ok(output) = BufWriter::with_capacity(rt.alloc(), PIECE, io::writer(&rt)) else {
         return ExitCode::from(Exit::NoMemory.status());
     };
+    let output = RefCell::new(output);
     let Ok(words) = words_or_none(&rt) else {
         return ExitCode::from(Exit::NoMemory.status());
     };
-    let status = run(&rt, &mut output, words.as_slice());
+    let status = run(&rt, &output, words.as_slice());
     // What still stands in memory is written however the words ended.
-    match output.flush() {
+    match output.into_inner().flush() {
         Ok(()) => ExitCode::from(status),
         Err(_) => ExitCode::from(Exit::SinkFailed.status()),
     }
