@@ -3,8 +3,10 @@ pub mod Alike
 pub mod Bodies
 pub mod Names
 pub mod Ways
+pub mod Flawless
 pub mod Whole
 pub mod Gathered
+pub mod NoFlaw
 pub mod Back
 pub mod Searches
 pub mod Steps
@@ -13,4 +15,5 @@ pub mod Shape
 pub mod NamedReads
 pub mod NamedLaw
 pub mod Listed
+pub mod Contents
 pub mod Rescued
