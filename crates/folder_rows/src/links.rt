@@ -110,6 +110,7 @@ fn tell_datagram(alloc: Global, datagram: &Datagram, text: &mut String) -> Answe
             let server = server.number();
             told(write!(text, " from server {server}"))
         }
+        Peer::Local => tell(text, " from this program"),
         Peer::Other { .. } => tell(text, " from another host"),
     }
 }

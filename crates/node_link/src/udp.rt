@@ -5,7 +5,7 @@ ghost use Rattle.harp_types.specs.Streams.{Rose};
 ghost use Rattle.node_link.specs.Traffic.{last_port};
 
 use crate::link::{Datagram, Link, LinkFault};
-use crate::peers::{address_of, peer_at};
+use crate::peers::{address_of, peer_at, place_address};
 use harp_types::{Bytes, Failed, Peer, ServerId, Trio};
 use std::alloc::Global;
 use std::io::ErrorKind;
@@ -16,8 +16,8 @@ use std::time::Duration;
 const LONGEST: usize = 65_535;
 
 /// Datagrams over UDP: place s of a group has the port that was given plus s, at 127.0.0.1. It
-/// tells no datagrams; each error of a socket is a fault, and so is a call at a place that isn't
-/// open.
+/// tells no datagrams. A datagram that can't be sent to its peer is lost, as one to port 0; each
+/// other error of a socket is a fault, and so is a call at a place that isn't open.
 #[derive(Drop)]
 pub struct UdpLink<R> {
     rt: R,
@@ -56,11 +56,8 @@ impl<R> UdpLink<R> {
     }
 }
 
-// The address of a peer, where place 0 has this port.
-fn socket_address(base: u16, peer: Peer) -> SocketAddr
-    requires { base ≤ last_port }
-{
-    let (address, port) = address_of(base, peer);
+// An address and a port as sockets take them.
+fn socket_address(address: u32, port: u16) -> SocketAddr {
     SocketAddr::V4(SocketAddrV4::new(Ipv4Addr::from_bits(address), port))
 }
 
@@ -99,14 +96,6 @@ fn received(
     }
 }
 
-// Whether a socket sends the whole datagram.
-fn is_sent(socket: &UdpSocket, to: SocketAddr, bytes: &[u8]) -> bool {
-    match socket.send_to(bytes, to) {
-        Ok(count) => count == bytes.len(),
-        Err(_) => false,
-    }
-}
-
 impl<R: Net> Link for UdpLink<R> {
     ghost use Rattle.node_link.specs.Adapters.{link_faults};
 
@@ -119,8 +108,8 @@ impl<R: Net> Link for UdpLink<R> {
         ensures rose { OnErr result (Rose (link_faults self.old) (link_faults self.new)) }
         ensures count { link_faults self.old ≤ link_faults self.new }
     {
-        let address = socket_address(port, Peer::Server(place));
-        let Ok(socket) = UdpSocket::bind(&self.rt, address) else {
+        let (address, at) = place_address(port, place);
+        let Ok(socket) = UdpSocket::bind(&self.rt, socket_address(address, at)) else {
             return Err(self.fault());
         };
         self.port = port;
@@ -159,15 +148,16 @@ impl<R: Net> Link for UdpLink<R> {
             → Rose (link_faults self.old) (link_faults self.new) }
         ensures count { link_faults self.old ≤ link_faults self.new }
     {
-        let to = socket_address(self.port, to);
-        let is_sent = match self.sockets.get(place) {
-            Some(socket) => is_sent(socket, to, bytes),
-            None => false,
+        // The own program has no address, so what is sent to it is lost.
+        let Some((address, port)) = address_of(self.port, to) else {
+            return Ok(());
         };
-        if !is_sent {
+        let Some(socket) = self.sockets.get(place) else {
             self.fault();
             return Err(LinkFault::Failed);
-        }
+        };
+        // Whoever sends datagrams doesn't learn whether they come.
+        let _ = socket.send_to(bytes, socket_address(address, port));
         Ok(())
     }
 }

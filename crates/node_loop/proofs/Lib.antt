@@ -3,3 +3,4 @@ mod Chains
 mod Fronts
 mod Results
 mod Scenes
+pub mod HeardLaws

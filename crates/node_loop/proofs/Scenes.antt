@@ -1,6 +1,7 @@
 -- Servers in a scene.
-use Rattle.std.proofs.Common.{◌≡◌, ℕ, zero, suc, ◌+◌, List, [], ◌∷◌, ◌++◌, Option, None, ap, arith, inl, inr, refl, subst, sym}
-use Rattle.harp_types.specs.Trio.{value_of}
+use Rattle.std.proofs.Common.{◌≡◌, ℕ, zero, suc, ◌+◌, List, [], ◌∷◌, ◌++◌, ◌∙◌, ◌≤◌, Option, None, Some, ap, arith, inl, inr, refl, subst, sym}
+use Rattle.harp_types.specs.Trio.{value_of, with_value}
+use Rattle.node.specs.declared.input.Input.{Input}
 use Rattle.harp_types.specs.declared.server.ServerId.{ServerId}
 use Rattle.harp_types.specs.declared.trio.Trio.{Trio}
 use Rattle.harp_types.specs.declared.server.ServerId.TheVariants.{Zero, One, Two}
@@ -9,10 +10,12 @@ use Rattle.node_link.specs.Traffic.{Traffic}
 use Rattle.node_link.specs.declared.clock.Reading.{Reading}
 use Rattle.node_link.specs.declared.link.SentDatagram.{SentDatagram}
 use Rattle.node_loop.specs.declared.counts.Counts.{Counts}
+use Rattle.node_loop.specs.declared.heard.Heard.{Heard}
+use Rattle.node_loop.specs.declared.ledger.Ledger.{Ledger}
 use Rattle.node_loop.specs.declared.running.Running.{Running}
 use Rattle.node_loop.specs.Chain.{Chain, Stops}
-use Rattle.node_loop.specs.Run.{BootsAt, IsBooted, IsTurnInPart, Turns, TurnsAt, TurnsAtInPart, rounds}
-use Rattle.node_loop.specs.Scene.{Scene, Spot, all_places, alone, nobody, only, scene, spot, start, with_spot}
+use Rattle.node_loop.specs.Run.{BootsAt, Gives, GivesAt, GivesAtInPart, GivesInPart, IsBooted, IsTurnInPart, Turns, TurnsAt, TurnsAtInPart, rounds}
+use Rattle.node_loop.specs.Scene.{AreUp, IsUp, NoneFell, Scene, Spot, all_places, alone, each, nobody, only, scene, spot, start, with_spot}
 use Rattle.node_loop.proofs.Chains.{stops-front}
 
 -- the last one counts
@@ -47,26 +50,67 @@ disk_of Zero disk = refl
 disk_of One disk = refl
 disk_of Two disk = refl
 
-alone_from : (place : ServerId) (s : Spot) (disk : Option Moments) (clock : Option (List Reading))
-    → alone place s ≡ with_spot place s (start (only place disk) s.link clock)
-alone_from Zero s disk clock = refl
-alone_from One s disk clock = refl
-alone_from Two s disk clock = refl
+-- before anything was counted
+abbrev pub none : Counts
+none = record { taken = 0; sent = 0 }
+
+-- a server that was just booted alone
+abbrev new_spot : Running → Option Moments → Option Traffic → Option (List Reading) → Spot
+new_spot r disk link clock =
+    record { server = r; disk = disk; link = link; clock = clock; counts = none; heard = [] }
+
+spot_is_new : (r : Running) (disk : Option Moments) (link : Option Traffic)
+    (clock : Option (List Reading)) (k : Ledger) → k.counts ≡ none → k.heard.items ≡ []
+    → spot r disk link clock k ≡ new_spot r disk link clock
+spot_is_new r disk link clock k counts heard =
+    ap (λ (n : Counts). record {
+      server = r;
+      disk = disk;
+      link = link;
+      clock = clock;
+      counts = n;
+      heard = k.heard.items;
+    }) counts
+    ∙ ap (λ (hs : List Heard). record {
+      server = r;
+      disk = disk;
+      link = link;
+      clock = clock;
+      counts = none;
+      heard = hs;
+    }) heard
+
+-- what a boot makes of a scene
+abbrev booted_in : ServerId → Running → Option Moments → Option (List Reading) → Scene → Scene
+booted_in place r disk clock a = record a {
+  servers = with_value a.servers place (Some r);
+  disks = with_value a.disks place disk;
+  clock = clock;
+}
+
+alone_from : (place : ServerId) (r : Running) (old new : Option Moments) (link : Option Traffic)
+    (before after : Option (List Reading))
+    → alone place (new_spot r new link after)
+    ≡ booted_in place r new after (start (only place old) link before)
+alone_from Zero r old new link before after = refl
+alone_from One r old new link before after = refl
+alone_from Two r old new link before after = refl
 
 pub boots-alone : (delta : ℕ) (place : ServerId) (r : Running) (old new : Option Moments)
-    (link : Option Traffic) (before after : Option (List Reading))
-    → IsBooted place delta r old new before after
+    (link : Option Traffic) (before after : Option (List Reading)) (k : Ledger)
+    → k.counts ≡ none → k.heard.items ≡ [] → IsBooted place delta r old new before after
     → Chain (BootsAt delta) (place ∷ []) (start (only place old) link before)
-    (alone place (spot r new link after (record { taken = 0; sent = 0 })))
-boots-alone delta place r old new link before after h =
-    let s = spot r new link after (record { taken = 0; sent = 0 }) in (
-      alone place s,
+    (alone place (spot r new link after k))
+boots-alone delta place r old new link before after k counts heard h =
+    subst (λ s. Chain (BootsAt delta) (place ∷ []) (start (only place old) link before)
+    (alone place s)) (sym (spot_is_new r new link after k counts heard)) (
+      alone place (new_spot r new link after),
       record {
         server = r;
         disk = new;
         clock = after;
         boots = subst (λ d. IsBooted place delta r d new before after) (sym (disk_of place old)) h;
-        is = alone_from place s old before;
+        is = alone_from place r old new link before after;
       },
       refl,
     )
@@ -94,19 +138,53 @@ stops-sooner P places a left (suc more) n m is h =
 
 -- ---- three servers
 
+-- three that were just booted
+abbrev new_scene : Trio Running → Trio (Option Moments) → Option Traffic → Option (List Reading)
+    → Scene
+new_scene r disks link clock = record {
+  servers = each Some r;
+  disks = disks;
+  link = link;
+  clock = clock;
+  counts = none;
+  heard = [];
+}
+
+scene_is_new : (r : Trio Running) (disks : Trio (Option Moments)) (link : Option Traffic)
+    (clock : Option (List Reading)) (k : Ledger) → k.counts ≡ none → k.heard.items ≡ []
+    → scene r disks link clock k ≡ new_scene r disks link clock
+scene_is_new r disks link clock k counts heard =
+    ap (λ (n : Counts). record {
+      servers = each Some r;
+      disks = disks;
+      link = link;
+      clock = clock;
+      counts = n;
+      heard = k.heard.items;
+    }) counts
+    ∙ ap (λ (hs : List Heard). record {
+      servers = each Some r;
+      disks = disks;
+      link = link;
+      clock = clock;
+      counts = none;
+      heard = hs;
+    }) heard
+
 pub boots-three : (delta : ℕ) (r : Trio Running) (old new : Trio (Option Moments))
-    (link : Option Traffic) (before first second after : Option (List Reading))
+    (link : Option Traffic) (before first second after : Option (List Reading)) (k : Ledger)
+    → k.counts ≡ none → k.heard.items ≡ []
     → IsBooted Zero delta r.zero old.zero new.zero before first
     → IsBooted One delta r.one old.one new.one first second
     → IsBooted Two delta r.two old.two new.two second after
-    → Chain (BootsAt delta) all_places (start old link before)
-    (scene r new link after (record { taken = 0; sent = 0 }))
-boots-three delta r old new link before first second after h0 h1 h2 =
-    let none : Counts = record { taken = 0; sent = 0 } in
+    → Chain (BootsAt delta) all_places (start old link before) (scene r new link after k)
+boots-three delta r old new link before first second after k counts heard h0 h1 h2 =
     let a = start old link before in
-    let b = with_spot Zero (spot r.zero new.zero link first none) a in
-    let c = with_spot One (spot r.one new.one link second none) b in
-    let d = with_spot Two (spot r.two new.two link after none) c in (
+    let b = booted_in Zero r.zero new.zero first a in
+    let c = booted_in One r.one new.one second b in
+    let d = booted_in Two r.two new.two after c in
+    subst (λ end. Chain (BootsAt delta) all_places a end)
+    (sym (scene_is_new r new link after k counts heard)) (
       b,
       record { server = r.zero; disk = new.zero; clock = first; boots = h0; is = refl },
       (
@@ -120,101 +198,158 @@ boots-three delta r old new link before first second after h0 h1 h2 =
       ),
     )
 
--- the server of a place, with its disk, in a scene of three
-abbrev spot_of : ServerId → Trio Running → Trio (Option Moments) → Option Traffic
-    → Option (List Reading) → Counts → Spot
-spot_of place s d link clock counts =
-    spot (value_of s place) (value_of d place) link clock counts
+-- a server with its disk, which shares what is shared at a spot
+abbrev pub beside : Running → Option Moments → Spot → Spot
+beside r disk s = record s { server = r; disk = disk }
 
-stands : (place : ServerId) (s : Trio Running) (d : Trio (Option Moments)) (link : Option Traffic)
-    (clock : Option (List Reading)) (counts : Counts)
-    → scene s d link clock counts
-    ≡ with_spot place (spot_of place s d link clock counts) (scene s d link clock counts)
-stands Zero s d link clock counts = refl
-stands One s d link clock counts = refl
-stands Two s d link clock counts = refl
+-- three that share it
+abbrev pub sharing : Trio Running → Trio (Option Moments) → Spot → Scene
+sharing r disks s = record {
+  servers = each Some r;
+  disks = disks;
+  link = s.link;
+  clock = s.clock;
+  counts = s.counts;
+  heard = s.heard;
+}
 
-turn_in : (place : ServerId) (s : Trio Running) (d : Trio (Option Moments)) (link : Option Traffic)
-    (clock : Option (List Reading)) (counts : Counts) (t : Spot)
-    → Turns place (spot_of place s d link clock counts) t
-    → TurnsAt place (scene s d link clock counts)
-    (with_spot place t (scene s d link clock counts))
-turn_in place s d link clock counts t h = record {
-  old = spot_of place s d link clock counts;
+stands : (place : ServerId) (r : Trio Running) (d : Trio (Option Moments)) (s : Spot)
+    → sharing r d s
+    ≡ with_spot place (beside (value_of r place) (value_of d place) s) (sharing r d s)
+stands Zero r d s = refl
+stands One r d s = refl
+stands Two r d s = refl
+
+turn_in : (place : ServerId) (r : Trio Running) (d : Trio (Option Moments)) (s t : Spot)
+    → Turns place (beside (value_of r place) (value_of d place) s) t
+    → TurnsAt place (sharing r d s) (with_spot place t (sharing r d s))
+turn_in place r d s t h = record {
+  old = beside (value_of r place) (value_of d place) s;
   new = t;
-  was = stands place s d link clock counts;
+  was = stands place r d s;
   turns = h;
   is = refl;
 }
 
-part_in : (place : ServerId) (s : Trio Running) (d : Trio (Option Moments)) (link : Option Traffic)
-    (clock : Option (List Reading)) (counts : Counts) (sent : Option (List SentDatagram))
-    → IsTurnInPart place (spot_of place s d link clock counts) sent
-    → TurnsAtInPart place (scene s d link clock counts) sent
-part_in place s d link clock counts sent h = record {
-  old = spot_of place s d link clock counts;
-  was = stands place s d link clock counts;
+part_in : (place : ServerId) (r : Trio Running) (d : Trio (Option Moments)) (s : Spot)
+    (sent : Option (List SentDatagram))
+    → IsTurnInPart place (beside (value_of r place) (value_of d place) s) sent
+    → TurnsAtInPart place (sharing r d s) sent
+part_in place r d s sent h = record {
+  old = beside (value_of r place) (value_of d place) s;
+  was = stands place r d s;
   turns = h;
 }
 
-module _ (s : Trio Running) (d : Trio (Option Moments)) (link : Option Traffic)
-    (clock : Option (List Reading)) (counts : Counts) where
-  -- once server 0 has turned
-  abbrev servers_1 : Spot → Trio Running
-  servers_1 t = record { zero = t.server; one = s.one; two = s.two }
+-- an input between turns
+pub gives-in : (place here : ServerId) → here ≡ place → (input : Input) (r : Trio Running)
+    (d : Trio (Option Moments)) (s t : Spot)
+    → Gives place input (beside (value_of r place) (value_of d place) s) t
+    → GivesAt here input (sharing r d s) (with_spot place t (sharing r d s))
+gives-in place here is input r d s t h =
+    subst (λ p. GivesAt p input (sharing r d s) (with_spot place t (sharing r d s))) (sym is)
+    (record {
+      old = beside (value_of r place) (value_of d place) s;
+      new = t;
+      was = stands place r d s;
+      gives = h;
+      is = refl;
+    })
 
-  abbrev disks_1 : Spot → Trio (Option Moments)
-  disks_1 t = record { zero = t.disk; one = d.one; two = d.two }
+pub gives-part : (place here : ServerId) → here ≡ place → (input : Input) (r : Trio Running)
+    (d : Trio (Option Moments)) (s : Spot) (sent : Option (List SentDatagram))
+    → GivesInPart place input (beside (value_of r place) (value_of d place) s) sent
+    → GivesAtInPart here input (sharing r d s) sent
+gives-part place here is input r d s sent h =
+    subst (λ p. GivesAtInPart p input (sharing r d s) sent) (sym is) (record {
+      old = beside (value_of r place) (value_of d place) s;
+      was = stands place r d s;
+      gives = h;
+    })
+
+module _ (r : Trio Running) (d : Trio (Option Moments)) (s : Spot) where
+  -- once server 0 has turned
+  abbrev scene_1 : Spot → Scene
+  scene_1 t = sharing (record { zero = t.server; one = r.one; two = r.two })
+      (record { zero = t.disk; one = d.one; two = d.two }) t
 
   -- and once server 1 has
-  abbrev servers_2 : Spot → Spot → Trio Running
-  servers_2 t u = record { zero = t.server; one = u.server; two = s.two }
+  abbrev scene_2 : Spot → Spot → Scene
+  scene_2 t u = sharing (record { zero = t.server; one = u.server; two = r.two })
+      (record { zero = t.disk; one = u.disk; two = d.two }) u
 
-  abbrev disks_2 : Spot → Spot → Trio (Option Moments)
-  disks_2 t u = record { zero = t.disk; one = u.disk; two = d.two }
+  first_turn : (t : Spot) → Turns Zero (beside r.zero d.zero s) t
+      → TurnsAt Zero (sharing r d s) (scene_1 t)
+  first_turn t h = turn_in Zero r d s t h
 
-  pub round-turns : (t u v : Spot) → Turns Zero (spot s.zero d.zero link clock counts) t
-      → Turns One (spot s.one d.one t.link t.clock t.counts) u
-      → Turns Two (spot s.two d.two u.link u.clock u.counts) v
-      → Chain TurnsAt all_places (scene s d link clock counts)
-      (scene (record { zero = t.server; one = u.server; two = v.server })
-      (record { zero = t.disk; one = u.disk; two = v.disk }) v.link v.clock v.counts)
+  second_turn : (t u : Spot) → Turns One (beside r.one d.one t) u
+      → TurnsAt One (scene_1 t) (scene_2 t u)
+  second_turn t u h = turn_in One (record { zero = t.server; one = r.one; two = r.two })
+      (record { zero = t.disk; one = d.one; two = d.two }) t u h
+
+  pub round-turns : (t u v : Spot) → Turns Zero (beside r.zero d.zero s) t
+      → Turns One (beside r.one d.one t) u → Turns Two (beside r.two d.two u) v
+      → Chain TurnsAt all_places (sharing r d s)
+      (sharing (record { zero = t.server; one = u.server; two = v.server })
+      (record { zero = t.disk; one = u.disk; two = v.disk }) v)
   round-turns t u v h0 h1 h2 = (
-    scene (servers_1 t) (disks_1 t) t.link t.clock t.counts,
-    turn_in Zero s d link clock counts t h0,
+    scene_1 t,
+    first_turn t h0,
     (
-      scene (servers_2 t u) (disks_2 t u) u.link u.clock u.counts,
-      turn_in One (servers_1 t) (disks_1 t) t.link t.clock t.counts u h1,
+      scene_2 t u,
+      second_turn t u h1,
       (
-        scene (record { zero = t.server; one = u.server; two = v.server })
-            (record { zero = t.disk; one = u.disk; two = v.disk }) v.link v.clock v.counts,
-        turn_in Two (servers_2 t u) (disks_2 t u) u.link u.clock u.counts v h2,
+        sharing (record { zero = t.server; one = u.server; two = v.server })
+            (record { zero = t.disk; one = u.disk; two = v.disk }) v,
+        turn_in Two (record { zero = t.server; one = u.server; two = r.two })
+            (record { zero = t.disk; one = u.disk; two = d.two }) u v h2,
         refl,
       ),
     ),
   )
 
+  pub round-first : (sent : Option (List SentDatagram))
+      → IsTurnInPart Zero (beside r.zero d.zero s) sent
+      → Stops TurnsAt TurnsAtInPart all_places (sharing r d s) sent
+  round-first sent h0 = inl (part_in Zero r d s sent h0)
+
   pub round-second : (t : Spot) (sent : Option (List SentDatagram))
-      → Turns Zero (spot s.zero d.zero link clock counts) t
-      → IsTurnInPart One (spot s.one d.one t.link t.clock t.counts) sent
-      → Stops TurnsAt TurnsAtInPart all_places (scene s d link clock counts) sent
+      → Turns Zero (beside r.zero d.zero s) t → IsTurnInPart One (beside r.one d.one t) sent
+      → Stops TurnsAt TurnsAtInPart all_places (sharing r d s) sent
   round-second t sent h0 h1 = inr (
-    scene (servers_1 t) (disks_1 t) t.link t.clock t.counts,
-    turn_in Zero s d link clock counts t h0,
-    inl (part_in One (servers_1 t) (disks_1 t) t.link t.clock t.counts sent h1),
+    scene_1 t,
+    first_turn t h0,
+    inl (part_in One (record { zero = t.server; one = r.one; two = r.two })
+        (record { zero = t.disk; one = d.one; two = d.two }) t sent h1),
   )
 
   pub round-third : (t u : Spot) (sent : Option (List SentDatagram))
-      → Turns Zero (spot s.zero d.zero link clock counts) t
-      → Turns One (spot s.one d.one t.link t.clock t.counts) u
-      → IsTurnInPart Two (spot s.two d.two u.link u.clock u.counts) sent
-      → Stops TurnsAt TurnsAtInPart all_places (scene s d link clock counts) sent
+      → Turns Zero (beside r.zero d.zero s) t → Turns One (beside r.one d.one t) u
+      → IsTurnInPart Two (beside r.two d.two u) sent
+      → Stops TurnsAt TurnsAtInPart all_places (sharing r d s) sent
   round-third t u sent h0 h1 h2 = inr (
-    scene (servers_1 t) (disks_1 t) t.link t.clock t.counts,
-    turn_in Zero s d link clock counts t h0,
+    scene_1 t,
+    first_turn t h0,
     inr (
-      scene (servers_2 t u) (disks_2 t u) u.link u.clock u.counts,
-      turn_in One (servers_1 t) (disks_1 t) t.link t.clock t.counts u h1,
-      inl (part_in Two (servers_2 t u) (disks_2 t u) u.link u.clock u.counts sent h2),
+      scene_2 t u,
+      second_turn t u h1,
+      inl (part_in Two (record { zero = t.server; one = u.server; two = r.two })
+          (record { zero = t.disk; one = u.disk; two = d.two }) u sent h2),
     ),
   )
+
+-- ---- of each place
+
+-- no count fell
+pub none-fell : (old new : Trio ℕ) → old.zero ≤ new.zero → old.one ≤ new.one → old.two ≤ new.two
+    → NoneFell old new
+none-fell old new h0 h1 h2 Zero = h0
+none-fell old new h0 h1 h2 One = h1
+none-fell old new h0 h1 h2 Two = h2
+
+-- each server is up
+pub are-up : (r : Trio Running) (d : Trio (Option Moments)) → IsUp r.zero.node d.zero
+    → IsUp r.one.node d.one → IsUp r.two.node d.two → AreUp r d
+are-up r d h0 h1 h2 Zero = h0
+are-up r d h0 h1 h2 One = h1
+are-up r d h0 h1 h2 Two = h2

@@ -1,7 +1,7 @@
 -- What a datagram gives to a server.
 use Rattle.std.specs.Prelude.{◌≡◌, ◌⊎◌, ℕ, List, Option, Some, None}
 use Rattle.harp_types.specs.declared.peer.Peer.{Peer}
-use Rattle.harp_types.specs.declared.peer.Peer.TheVariants.{Server, Other}
+use Rattle.harp_types.specs.declared.peer.Peer.TheVariants.{Local, Server, Other}
 use Rattle.node_link.specs.declared.link.Datagram.{Datagram}
 use Rattle.wire.specs.Messages.{MessageFits, message_bytes}
 use Rattle.wire.specs.declared.message.Message.{Message}
@@ -11,6 +11,7 @@ use Rattle.node.specs.declared.input.Input.TheVariants as input
 
 -- a server's message counts only where a server sent it
 abbrev pub from_server : Peer → Message → Option Input
+from_server Local m = None
 from_server (Server s) m = Some (input.Message s m)
 from_server (Other address port) m = None
 

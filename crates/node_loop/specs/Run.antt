@@ -1,22 +1,27 @@
 -- THE NODE RUN: what servers are given and send, turn by turn, from their boots on.
-use Rattle.std.specs.Prelude.{◌≡◌, ◌⊎◌, ℕ, zero, suc, List, [], ◌++◌, Option}
-use Rattle.harp_types.specs.Trio.{value_of}
+use Rattle.std.specs.Prelude.{◌≡◌, ◌⊎◌, ℕ, zero, suc, List, [], ◌++◌, Option, Some}
+use Rattle.harp_types.specs.Trio.{value_of, with_value}
+use Rattle.harp_types.specs.declared.call.Call.{Call}
+use Rattle.harp_types.specs.declared.cred.Cred.{Cred}
+use Rattle.harp_types.specs.declared.peer.Peer.TheVariants.{Local}
 use Rattle.harp_types.specs.declared.server.ServerId.{ServerId}
 use Rattle.harp_types.specs.declared.trio.Trio.{Trio}
 use Rattle.harp_store.specs.Disk.{Moments}
 use Rattle.node.specs.Node.{NodeValue}
 use Rattle.node.specs.declared.input.Input.{Input}
+use Rattle.node.specs.declared.input.Input.TheVariants.{Ask}
 use Rattle.node_link.specs.Readings.{MayTell}
 use Rattle.node_link.specs.Traffic.{Traffic}
 use Rattle.node_link.specs.declared.clock.Reading.{Reading}
 use Rattle.node_link.specs.declared.link.SentDatagram.{SentDatagram}
 use Rattle.node_outputs.specs.declared.outputs.Outputs.{Outputs}
 use Rattle.node_loop.specs.declared.counts.Served.{Served}
+use Rattle.node_loop.specs.declared.heard.Heard.{Heard}
 use Rattle.node_loop.specs.declared.running.Running.{Running}
 use Rattle.node_loop.specs.declared.turned.Turned.{Turned}
 use Rattle.node_loop.specs.Chain.{Chain, Stops}
-use Rattle.node_loop.specs.Outgoing.{datagrams}
-use Rattle.node_loop.specs.Scene.{AtWork, Scene, Spot, at_work, sent_after, spot, taken_after, with_all_sent, with_spot}
+use Rattle.node_loop.specs.Outgoing.{datagrams, heards}
+use Rattle.node_loop.specs.Scene.{AtWork, Scene, Spot, all_places, at_work, sent_after, taken_after, with_all_sent, with_heard, with_spot}
 use Rattle.node_loop.specs.Step.{IsBoot, IsStep}
 use Rattle.node_loop.specs.Turn.{IsTurn, LinkTurns, MayTellAll, readings_of, sent_of}
 use Rattle.node_loop.specs.Turns.{Pacing, first_pace}
@@ -34,12 +39,13 @@ pub record IsBooted (place : ServerId) (delta : ℕ) (server : Running) (old new
 -- ---- one input
 
 -- A node is given an input at a reading of its clock: it takes a step, and what goes out of it is
--- sent, in its order
+-- sent and heard, in its order
 pub record IsGiven (place : ServerId) (now : ℕ) (input : Input) (a b : AtWork) : Type 0 where
   pub outs : Outputs
   pub step : IsStep input now a.node b.node a.disk b.disk outs
   pub link : b.link ≡ with_all_sent (datagrams place outs) a.link
   pub sent : b.sent ≡ sent_after (datagrams place outs) a.sent
+  pub heard : b.heard ≡ a.heard ++ heards outs
 
 -- a front of these datagrams was sent
 pub record SendsInPart (all : List SentDatagram) (old new : Option Traffic) : Type 0 where
@@ -91,15 +97,33 @@ pub record GivesAFront (place : ServerId) (a : Spot) (sent : Option (List SentDa
 abbrev pub IsTurnInPart : ServerId → Spot → Option (List SentDatagram) → Type 0
 IsTurnInPart place a sent = (sent ≡ sent_of a.link) ⊎ GivesAFront place a sent
 
+-- ---- between turns
+
+-- A server is given an input between its turns, at a reading of its clock
+pub record Gives (place : ServerId) (input : Input) (a c : Spot) : Type 0 where
+  pub now : ℕ
+  pub clock : MayTell (record { place = place; millis = now }) a.clock c.clock
+  pub given : IsGiven place now input (at_work a) (at_work c)
+  pub pace : c.server.pace ≡ a.server.pace
+  pub taken : c.counts.taken ≡ a.counts.taken
+
+-- or it is given in part
+abbrev pub GivesInPart : ServerId → Input → Spot → Option (List SentDatagram) → Type 0
+GivesInPart place input a sent = (now : ℕ) × IsGivenInPart place now input (at_work a) sent
+
 -- ---- in a scene
 
--- the server of a place is booted from its disk; nothing is taken or sent
+-- the server of a place is booted from its disk; nothing is taken, sent or heard
 pub record BootsAt (delta : ℕ) (place : ServerId) (a c : Scene) : Type 0 where
   pub server : Running
   pub disk : Option Moments
   pub clock : Option (List Reading)
   pub boots : IsBooted place delta server (value_of a.disks place) disk a.clock clock
-  pub is : c ≡ with_spot place (spot server disk a.link clock a.counts) a
+  pub is : c ≡ record a {
+    servers = with_value a.servers place (Some server);
+    disks = with_value a.disks place disk;
+    clock = clock;
+  }
 
 -- the server of a place takes a turn
 pub record TurnsAt (place : ServerId) (a c : Scene) : Type 0 where
@@ -116,12 +140,50 @@ pub record TurnsAtInPart (place : ServerId) (a : Scene)
   pub was : a ≡ with_spot place old a
   pub turns : IsTurnInPart place old sent
 
+-- the server of a place is given an input between its turns
+pub record GivesAt (place : ServerId) (input : Input) (a c : Scene) : Type 0 where
+  pub old : Spot
+  pub new : Spot
+  pub was : a ≡ with_spot place old a
+  pub gives : Gives place input old new
+  pub is : c ≡ with_spot place new a
+
+-- or in part
+pub record GivesAtInPart (place : ServerId) (input : Input) (a : Scene)
+    (sent : Option (List SentDatagram)) : Type 0 where
+  pub old : Spot
+  pub was : a ≡ with_spot place old a
+  pub gives : GivesInPart place input old sent
+
+-- a call, as a client's program asks it under a number
+pub record Asked : Type 0 where
+  pub client : ℕ
+  pub number : ℕ
+  pub cred : Cred
+  pub call : Call
+
+-- as it is given to a server by the program that the server runs in
+abbrev pub ask_of : Asked → Input
+ask_of q = Ask Local q.client q.number q.cred q.call
+
+-- THE SERVER OF A PLACE IS ASKED a call by the program that it runs in, between its turns
+abbrev pub AsksAt : ServerId → Asked → Scene → Scene → Type 0
+AsksAt place q a c = GivesAt place (ask_of q) a c
+
+abbrev pub AsksAtInPart : ServerId → Asked → Scene → Option (List SentDatagram) → Type 0
+AsksAtInPart place q a sent = GivesAtInPart place (ask_of q) a sent
+
 -- ---- the run
 
 -- so many rounds of turns at these places
 abbrev pub rounds : ℕ → List ServerId → List ServerId
 rounds zero places = []
 rounds (suc n) places = rounds n places ++ places
+
+-- so many rounds of the three servers lead here, and what was heard in them may be dropped
+abbrev pub TakesTurns : ℕ → Scene → Scene → Type 0
+TakesTurns turns a c =
+    (hs : List Heard) × Chain TurnsAt (rounds turns all_places) a (with_heard hs c)
 
 -- THE RUN: the server of each place is booted, in their order, and then they take so many rounds of
 -- turns. This is where it led, and what was counted

@@ -1,4 +1,4 @@
--- Servers that run, what they share, and what each counts.
+-- Servers that run, what they share, and what is counted and heard.
 use Rattle.std.specs.Prelude.{◌≡◌, ◌≤◌, ℕ, ◌+◌, ◌-◌, ◌^◌, min, false, List, [], ◌∷◌, ◌++◌, length, Option, None, Some}
 use Rattle.cell_cache.specs.Entries.{AreOf}
 use Rattle.harp_types.specs.Memory.{raised}
@@ -14,7 +14,10 @@ use Rattle.node_link.specs.declared.clock.Reading.{Reading}
 use Rattle.node_link.specs.declared.link.Datagram.{Datagram}
 use Rattle.node_link.specs.declared.link.SentDatagram.{SentDatagram}
 use Rattle.node_loop.specs.declared.counts.Counts.{Counts}
+use Rattle.node_loop.specs.declared.heard.Heard.{Heard}
+use Rattle.node_loop.specs.declared.ledger.Ledger.{Ledger}
 use Rattle.node_loop.specs.declared.running.Running.{Running}
+use Rattle.node_loop.specs.declared.three.Three.{Three}
 
 -- ---- counts
 
@@ -34,36 +37,52 @@ with_all_sent ds (Some t) = Some (record { taken = t.taken; sent = t.sent ++ ds;
 
 -- ---- one server
 
--- a node at work: it, its disk, the link that it sends over, and how many datagrams were sent
+-- a node at work: it, its disk, the link that it sends over, how many datagrams were sent, and what
+-- the program that it runs in has heard
 pub record AtWork : Type 0 where
   pub node : NodeValue
   pub disk : Option Moments
   pub link : Option Traffic
   pub sent : ℕ
+  pub heard : List Heard
 
-abbrev pub work : NodeValue → Option Moments → Option Traffic → Counts → AtWork
-work node disk link counts = record { node = node; disk = disk; link = link; sent = counts.sent }
+abbrev pub work : NodeValue → Option Moments → Option Traffic → Ledger → AtWork
+work node disk link ledger = record {
+  node = node;
+  disk = disk;
+  link = link;
+  sent = ledger.counts.sent;
+  heard = ledger.heard.items;
+}
 
 -- A server at its place: it and its disk; and what it shares with others, the link, the readings of
--- the clock, and the counts
+-- the clock, the counts, and what the program that they run in has heard
 pub record Spot : Type 0 where
   pub server : Running
   pub disk : Option Moments
   pub link : Option Traffic
   pub clock : Option (List Reading)
   pub counts : Counts
+  pub heard : List Heard
 
-abbrev pub spot : Running → Option Moments → Option Traffic → Option (List Reading) → Counts → Spot
-spot server disk link clock counts = record {
+abbrev pub spot : Running → Option Moments → Option Traffic → Option (List Reading) → Ledger → Spot
+spot server disk link clock ledger = record {
   server = server;
   disk = disk;
   link = link;
   clock = clock;
-  counts = counts;
+  counts = ledger.counts;
+  heard = ledger.heard.items;
 }
 
 abbrev pub at_work : Spot → AtWork
-at_work s = work s.server.node s.disk s.link s.counts
+at_work s = record {
+  node = s.server.node;
+  disk = s.disk;
+  link = s.link;
+  sent = s.counts.sent;
+  heard = s.heard;
+}
 
 -- no step of it failed, and the cells that it keeps in memory are those of its disk
 pub record IsUp (n : NodeValue) (disk : Option Moments) : Type 0 where
@@ -79,6 +98,7 @@ pub record Scene : Type 0 where
   pub link : Option Traffic
   pub clock : Option (List Reading)
   pub counts : Counts
+  pub heard : List Heard
 
 -- a server at its place in the scene; the others stay
 abbrev pub with_spot : ServerId → Spot → Scene → Scene
@@ -88,7 +108,12 @@ with_spot place s a = record {
   link = s.link;
   clock = s.clock;
   counts = s.counts;
+  heard = s.heard;
 }
+
+-- it is the same but for what is heard
+abbrev pub with_heard : List Heard → Scene → Scene
+with_heard hs a = record a { heard = hs }
 
 abbrev pub nobody : {T : Type 0} → Trio (Option T)
 nobody = record { zero = None; one = None; two = None }
@@ -112,18 +137,24 @@ start disks link clock = record {
   link = link;
   clock = clock;
   counts = record { taken = 0; sent = 0 };
+  heard = [];
 }
 
 -- three servers that run
 abbrev pub scene : Trio Running → Trio (Option Moments) → Option Traffic → Option (List Reading)
-    → Counts → Scene
-scene servers disks link clock counts = record {
+    → Ledger → Scene
+scene servers disks link clock ledger = record {
   servers = each Some servers;
   disks = disks;
   link = link;
   clock = clock;
-  counts = counts;
+  counts = ledger.counts;
+  heard = ledger.heard.items;
 }
+
+abbrev pub scene_of : Three → Trio (Option Moments) → Option Traffic → Option (List Reading)
+    → Scene
+scene_of three disks link clock = scene three.servers disks link clock three.ledger
 
 -- one that runs alone
 abbrev pub alone : ServerId → Spot → Scene

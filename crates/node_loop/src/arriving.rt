@@ -15,7 +15,7 @@ fn from_server(from: Peer, message: Message) -> Option<Input>
 {
     match from {
         Peer::Server(from) => Some(Input::Message { from, message }),
-        Peer::Other { .. } => None,
+        Peer::Local | Peer::Other { .. } => None,
     }
 }
 

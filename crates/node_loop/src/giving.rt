@@ -9,6 +9,7 @@ ghost use Rattle.node_loop.specs.Turn.{sent_of};
 
 use crate::counts::Counts;
 use crate::fault::{LoopFault, of_link};
+use crate::ledger::Ledger;
 use crate::outgoing::datagrams_of;
 use harp_store::Store;
 use harp_types::ServerId;
@@ -46,8 +47,9 @@ fn send_all<L: Link>(
     Ok(())
 }
 
-/// Gives an input to a server at a reading of its clock, and sends what goes out.
-fn give<L: Link, D: Store>(
+/// Gives an input to a server at a reading of its clock, and sends what goes out; what goes to the
+/// own program is heard.
+pub fn give<L: Link, D: Store>(
     alloc: Global,
     me: ServerId,
     now: u64,
@@ -55,18 +57,18 @@ fn give<L: Link, D: Store>(
     node: &mut Node,
     link: &mut L,
     store: &mut D,
-    counts: &mut Counts,
+    ledger: &mut Ledger,
 ) -> Result<(), LoopFault>
     requires up { IsUp node.old (D.told store.old) }
     requires now { now < 2 ^ 62 }
     ensures given { OnOk result (IsGiven me now input
-        (work node.old (D.told store.old) (L.told link.old) counts.old)
-        (work node.new (D.told store.new) (L.told link.new) counts.new)) }
+        (work node.old (D.told store.old) (L.told link.old) ledger.old)
+        (work node.new (D.told store.new) (L.told link.new) ledger.new)) }
     ensures part { OnErr result (IsGivenInPart me now input
-        (work node.old (D.told store.old) (L.told link.old) counts.old)
+        (work node.old (D.told store.old) (L.told link.old) ledger.old)
         (sent_of (L.told link.new))) }
     ensures up { OnOk result (IsUp node.new (D.told store.new)) }
-    ensures taken { counts.new.taken ≡ counts.old.taken }
+    ensures taken { ledger.new.counts.taken ≡ ledger.old.counts.taken }
     ensures link_rose { result ≡ Err LoopFault.LinkFailed
         → Rose (L.faults link.old) (L.faults link.new) }
     ensures link_count { L.faults link.old ≤ L.faults link.new }
@@ -76,8 +78,8 @@ fn give<L: Link, D: Store>(
 {
     match node.step(alloc, input, now, store) {
         Ok(outs) => {
-            let datagrams = datagrams_of(alloc, me, outs)?;
-            send_all(alloc, datagrams, link, counts)
+            let datagrams = datagrams_of(alloc, me, outs, &mut ledger.heard)?;
+            send_all(alloc, datagrams, link, &mut ledger.counts)
         }
         Err(NodeFault::StoreFailed) => Err(LoopFault::StoreFailed),
         Err(NodeFault::Halted) => unreachable!(),
@@ -95,18 +97,18 @@ pub fn give_all<L: Link, D: Store>(
     node: &mut Node,
     link: &mut L,
     store: &mut D,
-    counts: &mut Counts,
+    ledger: &mut Ledger,
 ) -> Result<(), LoopFault>
     requires up { IsUp node.old (D.told store.old) }
     requires now { now < 2 ^ 62 }
     ensures given { OnOk result (Chain (IsGiven me now) inputs.items
-        (work node.old (D.told store.old) (L.told link.old) counts.old)
-        (work node.new (D.told store.new) (L.told link.new) counts.new)) }
+        (work node.old (D.told store.old) (L.told link.old) ledger.old)
+        (work node.new (D.told store.new) (L.told link.new) ledger.new)) }
     ensures part { OnErr result (Stops (IsGiven me now) (IsGivenInPart me now) inputs.items
-        (work node.old (D.told store.old) (L.told link.old) counts.old)
+        (work node.old (D.told store.old) (L.told link.old) ledger.old)
         (sent_of (L.told link.new))) }
     ensures up { OnOk result (IsUp node.new (D.told store.new)) }
-    ensures taken { counts.new.taken ≡ counts.old.taken }
+    ensures taken { ledger.new.counts.taken ≡ ledger.old.counts.taken }
     ensures link_rose { result ≡ Err LoopFault.LinkFailed
         → Rose (L.faults link.old) (L.faults link.new) }
     ensures link_count { L.faults link.old ≤ L.faults link.new }
@@ -115,7 +117,7 @@ pub fn give_all<L: Link, D: Store>(
     ensures disk_count { D.faults store.old ≤ D.faults store.new }
 {
     for input in inputs {
-        match give(alloc, me, now, input, node, link, store, counts) {
+        match give(alloc, me, now, input, node, link, store, ledger) {
             Ok(()) => {}
             Err(fault) => return Err(fault),
         }

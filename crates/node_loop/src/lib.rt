@@ -1,5 +1,6 @@
-//! A running server: what it is given when its clock reads a time and when a datagram comes, what it
-//! sends, and its turns, alone or as one of three.
+//! A running server: what it is given when its clock reads a time and when a datagram comes, what
+//! it sends, and its turns, alone or as one of three; and three that a program runs, asks and
+//! hears.
 //!
 //! # What is proved
 //!
@@ -14,6 +15,13 @@
 //! what is counted is right up to 2^64 - 1. After an error what was sent is a front of that
 //! (`cut`); a failed disk or link is told only where its count rose. What a step makes of the tree
 //! has `Node::step`'s premise, at each step. Not said: what an error leaves on a disk.
+//!
+//! `Three` is the loop of three in parts, by the same definitions: `start` boots them (`boots`),
+//! `turn` is a turn of each (`turns`), and `ask` gives the server of a place a call at a reading of
+//! its clock, as one step of its node (`asks`). Answers and refusals of such a call are no
+//! datagrams: `heard` gives them, in the order of the steps and of their outputs, each once
+//! (`next`). What was heard before makes no difference to a turn or an ask (`HeardLaws`).
+//! `serve_three` is made of these parts, and drops what is heard.
 #![tactic(auto)]
 
 mod arriving;
@@ -22,19 +30,24 @@ mod booting;
 mod counts;
 mod fault;
 mod giving;
+mod heard;
+mod ledger;
 mod outgoing;
 mod pace;
 mod rounds;
 mod running;
 mod serving;
+mod three;
 mod turn;
 mod turned;
 
 pub use arriving::arrived;
 pub use counts::{Counts, Served};
 pub use fault::LoopFault;
+pub use heard::Heard;
 pub use pace::{APPLIED_AT_ONCE, Pace, TICK};
 pub use running::Running;
 pub use serving::{serve_one, serve_three};
+pub use three::Three;
 pub use turn::take_turn;
 pub use turned::Turned;

@@ -1,12 +1,15 @@
 //! What goes out of a step.
 
-ghost use Rattle.std.specs.Prelude.{◌≡◌, ◌++◌, ◌∷◌, [], map, IfOk, OnOk};
-ghost use Rattle.node_loop.specs.Outgoing.{answer_sent, datagram, datagrams, message_sent, refusal_sent};
+ghost use Rattle.std.specs.Prelude.{◌≡◌, ◌++◌, ◌∷◌, [], flat_map, map, IfOk, OnOk};
+ghost use Rattle.node_loop.specs.Outgoing.{answer_sent, datagram, datagrams, heard_answer, heard_by};
+ghost use Rattle.node_loop.specs.Outgoing.{heard_refusal, heards, message_sent, refusal_sent, sent_to};
 
+use crate::heard::Heard;
 use harp_types::{Peer, ServerId};
 use node_link::SentDatagram;
 use node_outputs::{Answered, Outputs, Refused, Sent};
 use std::alloc::{AllocError, Global};
+use std::collections::VecDeque;
 use wire::{Message, encode};
 
 /// The datagram of a message.
@@ -18,96 +21,88 @@ fn datagram(
 ) -> Result<SentDatagram, AllocError>
     ensures { IfOk result (λ d. d ≡ datagram place to message.now) }
 {
-    Ok(SentDatagram {
-        place,
-        to,
-        bytes: encode(alloc, message)?,
-    })
+    let bytes = encode(alloc, message)?;
+    Ok(SentDatagram { place, to, bytes })
 }
 
-/// An answer goes to who asked.
-fn put_answer(
+/// A message goes out to a peer.
+fn put(
     alloc: Global,
     place: ServerId,
-    answer: Answered,
+    to: Peer,
+    message: Message,
     out: &mut Vec<SentDatagram>,
 ) -> Result<(), AllocError>
-    ensures { OnOk result (out.new.items ≡ out.old.items ++ answer_sent place answer ∷ []) }
+    ensures { OnOk result (out.new.items ≡ out.old.items ++ datagram place to message ∷ []) }
 {
-    let message = Message::Answer {
-        client: answer.client,
-        number: answer.number,
-        index: answer.index,
-        reply: answer.reply,
-    };
-    out.push(datagram(alloc, place, answer.peer, &message)?)?;
+    let datagram = datagram(alloc, place, to, &message)?;
+    out.push(datagram)?;
     Ok(())
 }
 
-/// The answers go out.
-fn put_answers(
+/// Says something to who asked: the own program hears it, and another one gets a datagram.
+fn tell(
+    alloc: Global,
+    place: ServerId,
+    to: Peer,
+    said: Heard,
+    out: &mut Vec<SentDatagram>,
+    heard: &mut VecDeque<Heard>,
+) -> Result<(), AllocError>
+    ensures sent { OnOk result (out.new.items ≡ out.old.items ++ sent_to place to said) }
+    ensures heard { OnOk result (heard.new.items ≡ heard.old.items ++ heard_by to said) }
+{
+    match to {
+        Peer::Local => {
+            heard.push_back(said)?;
+            Ok(())
+        }
+        Peer::Server(_) | Peer::Other { .. } => put(alloc, place, to, said.told(), out),
+    }
+}
+
+/// The answers go to who asked.
+fn tell_answers(
     alloc: Global,
     place: ServerId,
     answers: Vec<Answered>,
     out: &mut Vec<SentDatagram>,
+    heard: &mut VecDeque<Heard>,
 ) -> Result<(), AllocError>
-    ensures { OnOk result (out.new.items ≡ out.old.items
-        ++ map (answer_sent place) answers.items) }
+    ensures sent { OnOk result (out.new.items ≡ out.old.items
+        ++ flat_map (answer_sent place) answers.items) }
+    ensures heard { OnOk result (heard.new.items ≡ heard.old.items
+        ++ flat_map heard_answer answers.items) }
 {
     for answer in answers {
-        put_answer(alloc, place, answer, out)?;
+        let to = answer.peer;
+        let said = Heard::answer(answer);
+        tell(alloc, place, to, said, out, heard)?;
     }
     Ok(())
 }
 
-/// A refusal goes to who asked.
-fn put_refusal(
-    alloc: Global,
-    place: ServerId,
-    refusal: Refused,
-    out: &mut Vec<SentDatagram>,
-) -> Result<(), AllocError>
-    ensures { OnOk result (out.new.items ≡ out.old.items ++ refusal_sent place refusal ∷ []) }
-{
-    let message = Message::CannotServe {
-        client: refusal.client,
-        number: refusal.number,
-        cause: refusal.cause,
-    };
-    out.push(datagram(alloc, place, refusal.peer, &message)?)?;
-    Ok(())
-}
-
-/// The refusals go out.
-fn put_refusals(
+/// The refusals go to who asked.
+fn tell_refusals(
     alloc: Global,
     place: ServerId,
     refusals: Vec<Refused>,
     out: &mut Vec<SentDatagram>,
+    heard: &mut VecDeque<Heard>,
 ) -> Result<(), AllocError>
-    ensures { OnOk result (out.new.items ≡ out.old.items
-        ++ map (refusal_sent place) refusals.items) }
+    ensures sent { OnOk result (out.new.items ≡ out.old.items
+        ++ flat_map (refusal_sent place) refusals.items) }
+    ensures heard { OnOk result (heard.new.items ≡ heard.old.items
+        ++ flat_map heard_refusal refusals.items) }
 {
     for refusal in refusals {
-        put_refusal(alloc, place, refusal, out)?;
+        let said = Heard::refusal(refusal);
+        tell(alloc, place, refusal.peer, said, out, heard)?;
     }
     Ok(())
 }
 
-/// A message goes to its server.
-fn put_message(
-    alloc: Global,
-    place: ServerId,
-    sent: Sent,
-    out: &mut Vec<SentDatagram>,
-) -> Result<(), AllocError>
-    ensures { OnOk result (out.new.items ≡ out.old.items ++ message_sent place sent ∷ []) }
-{
-    out.push(datagram(alloc, place, Peer::Server(sent.to), &sent.message)?)?;
-    Ok(())
-}
-
-/// The messages go out.
+/// The messages go to their servers.
 fn put_messages(
     alloc: Global,
     place: ServerId,
@@ -118,19 +113,21 @@ fn put_messages(
         ++ map (message_sent place) sends.items) }
 {
     for sent in sends {
-        put_message(alloc, place, sent, out)?;
+        put(alloc, place, Peer::Server(sent.to), sent.message, out)?;
     }
     Ok(())
 }
 
 /// The datagrams of a step's outputs, in the order in which they are sent: answers, refusals, and
-/// messages to other servers.
+/// messages to other servers. What goes to the own program is heard.
 pub fn datagrams_of(
     alloc: Global,
     place: ServerId,
     outs: Outputs,
+    heard: &mut VecDeque<Heard>,
 ) -> Result<Vec<SentDatagram>, AllocError>
-    ensures { IfOk result (λ out. out.items ≡ datagrams place outs) }
+    ensures sent { IfOk result (λ out. out.items ≡ datagrams place outs) }
+    ensures heard { OnOk result (heard.new.items ≡ heard.old.items ++ heards outs) }
 {
     let Outputs {
         answers,
@@ -139,8 +136,8 @@ pub fn datagrams_of(
         ..
     } = outs;
     let mut out = Vec::new(alloc);
-    put_answers(alloc, place, answers, &mut out)?;
-    put_refusals(alloc, place, refusals, &mut out)?;
+    tell_answers(alloc, place, answers, &mut out, heard)?;
+    tell_refusals(alloc, place, refusals, &mut out, heard)?;
     put_messages(alloc, place, sends, &mut out)?;
     Ok(out)
 }

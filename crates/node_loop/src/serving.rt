@@ -1,20 +1,19 @@
 //! Running servers over a link, disks and a clock.
 
-ghost use Rattle.std.specs.Prelude.{◌≡◌, ◌≤◌, ◌∷◌, [], Option, IfOk, OnErr, Err};
+ghost use Rattle.std.specs.Prelude.{◌≡◌, ◌≤◌, ◌∷◌, [], IfOk, OnErr, Err};
 ghost use Rattle.harp_types.specs.Streams.{Rose};
-ghost use Rattle.node_link.specs.Traffic.{Traffic, last_port};
-ghost use Rattle.node_loop.specs.Chain.{Chain};
-ghost use Rattle.node_loop.specs.Run.{BootsAt, IsCutOff, IsRun};
-ghost use Rattle.node_loop.specs.Scene.{AreUp, NoneFell, OneRose, all_places, each, only, scene};
-ghost use Rattle.node_loop.specs.Scene.{start};
+ghost use Rattle.node_link.specs.Traffic.{last_port};
+ghost use Rattle.node_loop.specs.Run.{IsCutOff, IsRun};
+ghost use Rattle.node_loop.specs.Scene.{NoneFell, OneRose, all_places, each, only, start};
 ghost use Rattle.node_loop.specs.Turn.{sent_of};
 
-use crate::binding::{open, open_all};
+use crate::binding::open;
 use crate::booting::boot;
-use crate::counts::{Counts, Served};
+use crate::counts::Served;
 use crate::fault::LoopFault;
-use crate::rounds::{turns_alone, turns_together};
-use crate::running::Running;
+use crate::ledger::Ledger;
+use crate::rounds::turns_alone;
+use crate::three::Three;
 use harp_store::Store;
 use harp_types::{ServerId, Trio};
 use node_link::{Clock, Link};
@@ -49,7 +48,7 @@ pub fn serve_one<L: Link, D: Store, C: Clock>(
 {
     open(me, port, link)?;
     let mut running = boot(alloc, me, delta, store, clock)?;
-    let mut counts = Counts { taken: 0, sent: 0 };
+    let mut ledger = Ledger::new(alloc);
     turns_alone(
         alloc,
         me,
@@ -58,37 +57,13 @@ pub fn serve_one<L: Link, D: Store, C: Clock>(
         link,
         store,
         clock,
-        &mut counts,
+        &mut ledger,
     )?;
     Ok(Served {
         turns,
-        taken: counts.taken,
-        sent: counts.sent,
+        taken: ledger.counts.taken,
+        sent: ledger.counts.sent,
     })
-}
-
-/// Boots the three servers, in the order of their places.
-fn boot_all<D: Store, C: Clock>(
-    alloc: Global,
-    delta: Delta,
-    stores: &mut Trio<D>,
-    clock: &mut C,
-) -> Result<Trio<Running>, LoopFault>
-    ensures boots { (link : Option Traffic) → IfOk result (λ servers.
-        Chain (BootsAt delta) all_places
-        (start (each D.told stores.old) link (C.told clock.old))
-        (scene servers (each D.told stores.new) link (C.told clock.new)
-        (record { taken = 0; sent = 0 }))) }
-    ensures up { IfOk result (λ servers. AreUp servers (each D.told stores.new)) }
-    ensures disk_rose { result ≡ Err LoopFault.StoreFailed
-        → OneRose (each D.faults stores.old) (each D.faults stores.new) }
-    ensures disk_count { NoneFell (each D.faults stores.old) (each D.faults stores.new) }
-    ensures link { result ≡ Err LoopFault.LinkFailed → ⊥ }
-{
-    let zero = boot(alloc, ServerId::Zero, delta, &mut stores.zero, clock)?;
-    let one = boot(alloc, ServerId::One, delta, &mut stores.one, clock)?;
-    let two = boot(alloc, ServerId::Two, delta, &mut stores.two, clock)?;
-    Ok(Trio { zero, one, two })
 }
 
 /// Runs three servers for so many turns, each of which is a turn of server 0, of 1 and of 2. Their
@@ -116,13 +91,7 @@ pub fn serve_three<L: Link, D: Store, C: Clock>(
         → OneRose (each D.faults stores.old) (each D.faults stores.new) }
     ensures disk_count { NoneFell (each D.faults stores.old) (each D.faults stores.new) }
 {
-    open_all(port, link)?;
-    let mut servers = boot_all(alloc, delta, stores, clock)?;
-    let mut counts = Counts { taken: 0, sent: 0 };
-    turns_together(alloc, turns, &mut servers, link, stores, clock, &mut counts)?;
-    Ok(Served {
-        turns,
-        taken: counts.taken,
-        sent: counts.sent,
-    })
+    let mut three = Three::start(alloc, port, delta, link, stores, clock)?;
+    three.take_turns(alloc, turns, link, stores, clock)?;
+    Ok(three.served(turns))
 }

@@ -24,7 +24,7 @@ fn line_of(alloc: Global, sent: &SentDatagram) -> Result<String, AllocError> {
     let digits = hex::encode(alloc, sent.bytes.as_slice())?;
     match sent.to {
         Peer::Server(to) => format!(in alloc; "sent {place} {} {digits}\n", to.number()),
-        Peer::Other { .. } => format!(in alloc; "sent {place} - {digits}\n"),
+        Peer::Local | Peer::Other { .. } => format!(in alloc; "sent {place} - {digits}\n"),
     }
 }
 

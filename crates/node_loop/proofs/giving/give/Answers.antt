@@ -17,9 +17,10 @@ returns-in_ok-datagrams-in-Ok-clause-given g c =
         mark = c.in-Ok.ensures.mark;
         written = c.in-Ok.ensures.written;
       };
-      link = all ∙ ap (λ ds. with_all_sent ds old) out;
+      link = all ∙ ap (λ ds. with_all_sent ds old) out.sent;
       sent = ap (λ (n : Counts). n.sent) counts
-          ∙ ap (λ ds. sent_after ds c.args.counts.now.sent) out;
+          ∙ ap (λ ds. sent_after ds c.args.ledger.now.counts.sent) out.sent;
+      heard = out.heard;
     }) c.send_all.ensures.all c.send_all.ensures.counts
 
 pub returns-in_ok-datagrams-in-Ok-clause-part : goal.returns-in_ok-datagrams-in-Ok-clause-part
@@ -37,6 +38,6 @@ returns-in_ok-datagrams-in-Ok-clause-part g c =
         mark = c.in-Ok.ensures.mark;
         written = c.in-Ok.ensures.written;
       };
-      sends = subst (λ ds. SendsInPart ds old new) c.in_ok-datagrams-in-Ok.ensures part;
+      sends = subst (λ ds. SendsInPart ds old new) c.in_ok-datagrams-in-Ok.ensures.sent part;
       sent_is = refl;
     })) c.send_all.ensures.part

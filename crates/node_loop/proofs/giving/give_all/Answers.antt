@@ -13,11 +13,11 @@ pub loop-input-preserved : goal.loop-input-preserved
 loop-input-preserved g c = record {
   given = chain-push (IsGiven c.args.me c.args.now) c.loop-input.yielded c.in-Some.input
       (work c.args.node.now (g.D.Store.told c.args.store.now)
-      (g.L.Link.told c.args.link.now) c.args.counts.now)
+      (g.L.Link.told c.args.link.now) c.args.ledger.now)
       (work c.loop-input.node (g.D.Store.told c.loop-input.store)
-      (g.L.Link.told c.loop-input.link) c.loop-input.counts)
+      (g.L.Link.told c.loop-input.link) c.loop-input.ledger)
       (work c.give.new.node (g.D.Store.told c.give.new.store)
-      (g.L.Link.told c.give.new.link) c.give.new.counts)
+      (g.L.Link.told c.give.new.link) c.give.new.ledger)
       c.loop-input.invariant.given c.in-Ok.ensures.given;
   up = c.in-Ok.ensures.up;
   taken = c.in-Ok.ensures.taken ∙ c.loop-input.invariant.taken;
@@ -34,9 +34,9 @@ returns-in-Err-clause-part g c =
     let turn = YieldsList-turn from so_far c.loop-input.input-iterator c.loop-input.yielded_by
     c.next.result c.next.new.self c.in-Some.input c.in-Some.is c.next.ensures.steps in
     let start = work c.args.node.now (g.D.Store.told c.args.store.now)
-    (g.L.Link.told c.args.link.now) c.args.counts.now in
+    (g.L.Link.told c.args.link.now) c.args.ledger.now in
     let here = work c.loop-input.node (g.D.Store.told c.loop-input.store)
-    (g.L.Link.told c.loop-input.link) c.loop-input.counts in
+    (g.L.Link.told c.loop-input.link) c.loop-input.ledger in
     let sent = sent_of (g.L.Link.told c.give.new.link) in
     subst (λ xs. Stops (IsGiven c.args.me c.args.now) (IsGivenInPart c.args.me c.args.now) xs start
     sent)

@@ -19,10 +19,15 @@ returns-clause-turns g c =
       clock = c.in_ok-turned.ensures.clock;
       taken = c.give_all.ensures.taken ∙ ap (λ (n : Counts). n.taken) c.take.ensures;
       given = subst (λ n. Chain (IsGiven c.args.me t.now) t.inputs.items
-          (work c.args.running.now.node (g.D.Store.told c.args.store.now)
-          (g.L.Link.told c.take_turn.new.link) (record { taken = 0; sent = n }))
+          (record {
+            node = c.args.running.now.node;
+            disk = g.D.Store.told c.args.store.now;
+            link = g.L.Link.told c.take_turn.new.link;
+            sent = n;
+            heard = c.args.ledger.now.heard.items;
+          })
           (work c.give_all.new.node (g.D.Store.told c.give_all.new.store)
-          (g.L.Link.told c.give_all.new.link) c.give_all.new.counts))
+          (g.L.Link.told c.give_all.new.link) c.give_all.new.ledger))
           (ap (λ (n : Counts). n.sent) c.take.ensures) given;
     }) c.give_all.ensures.given
 
@@ -38,8 +43,13 @@ returns-clause-part g c =
       link = c.in_ok-turned.ensures.link;
       given = subst (λ n. Stops (IsGiven c.args.me t.now) (IsGivenInPart c.args.me t.now)
           t.inputs.items
-          (work c.args.running.now.node (g.D.Store.told c.args.store.now)
-          (g.L.Link.told c.take_turn.new.link) (record { taken = 0; sent = n }))
+          (record {
+            node = c.args.running.now.node;
+            disk = g.D.Store.told c.args.store.now;
+            link = g.L.Link.told c.take_turn.new.link;
+            sent = n;
+            heard = c.args.ledger.now.heard.items;
+          })
           (sent_of (g.L.Link.told c.give_all.new.link)))
           (ap (λ (n : Counts). n.sent) c.take.ensures) part;
     })) c.give_all.ensures.part

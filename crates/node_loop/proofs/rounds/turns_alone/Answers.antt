@@ -11,11 +11,11 @@ pub loop-preserved : goal.loop-preserved
 loop-preserved g c =
     let me = c.args.me in
     let before = spot c.args.running.now (g.D.Store.told c.args.store.now)
-    (g.L.Link.told c.args.link.now) (g.C.Clock.told c.args.clock.now) c.args.counts.now in
+    (g.L.Link.told c.args.link.now) (g.C.Clock.told c.args.clock.now) c.args.ledger.now in
     let here = spot c.loop.running (g.D.Store.told c.loop.store)
-    (g.L.Link.told c.loop.link) (g.C.Clock.told c.loop.clock) c.loop.counts in
+    (g.L.Link.told c.loop.link) (g.C.Clock.told c.loop.clock) c.loop.ledger in
     let next = spot c.turn.new.running (g.D.Store.told c.turn.new.store)
-    (g.L.Link.told c.turn.new.link) (g.C.Clock.told c.turn.new.clock) c.turn.new.counts in
+    (g.L.Link.told c.turn.new.link) (g.C.Clock.told c.turn.new.clock) c.turn.new.ledger in
     record {
       turned = subst (λ xs. Chain TurnsAt xs (alone me before) (alone me next))
           (sym (rounds-more c.loop.counter (me ∷ [])))
@@ -31,9 +31,9 @@ pub returns-in-Err-clause-part : goal.returns-in-Err-clause-part
 returns-in-Err-clause-part g c =
     let me = c.args.me in
     let before = spot c.args.running.now (g.D.Store.told c.args.store.now)
-    (g.L.Link.told c.args.link.now) (g.C.Clock.told c.args.clock.now) c.args.counts.now in
+    (g.L.Link.told c.args.link.now) (g.C.Clock.told c.args.clock.now) c.args.ledger.now in
     let here = spot c.loop.running (g.D.Store.told c.loop.store)
-    (g.L.Link.told c.loop.link) (g.C.Clock.told c.loop.clock) c.loop.counts in
+    (g.L.Link.told c.loop.link) (g.C.Clock.told c.loop.clock) c.loop.ledger in
     let sent = sent_of (g.L.Link.told c.turn.new.link) in
     let n = c.loop.counter in
     stops-sooner TurnsAtInPart (me ∷ []) (alone me before) sent (c.args.turns - (n + 1)) (n + 1)

@@ -1,10 +1,19 @@
-use Rattle.std.proofs.Common.{◌∷◌, [], inr, refl, subst}
+use Rattle.std.proofs.Common.{◌∷◌, [], ap, inl, inr, refl, subst}
 use Rattle.node_loop.specs.Chain.{Chain}
 use Rattle.node_loop.specs.Run.{BootsAt}
 use Rattle.node_loop.specs.Scene.{alone, only, spot, start}
+use Rattle.node_loop.specs.Turn.{sent_of}
 use Rattle.node_loop.proofs.Results.{on_err}
 use Rattle.node_loop.proofs.Scenes.{boots-alone}
 use Rattle.node_loop.proofs.serving.serve_one.Goals as goal
+
+pub returns-in_err-open-clause-cut : goal.returns-in_err-open-clause-cut
+returns-in_err-open-clause-cut g c =
+    on_err c.from_residual.result (inl (ap sent_of c.open.ensures.kept))
+
+pub returns-in_err-running-clause-cut : goal.returns-in_err-running-clause-cut
+returns-in_err-running-clause-cut g c =
+    on_err c.from_residual-in_err-running.result (inl (ap sent_of c.open.ensures.kept))
 
 pub returns-in_err-turns_alone-clause-cut : goal.returns-in_err-turns_alone-clause-cut
 returns-in_err-turns_alone-clause-cut g c =
@@ -16,12 +25,14 @@ returns-in_err-turns_alone-clause-cut g c =
     let r = c.in_ok-running.running in
     let new = g.D.Store.told c.boot.new.store in
     let after = g.C.Clock.told c.boot.new.clock in
-    let booted = alone me (spot r new link after (record { taken = 0; sent = 0 })) in
+    let k = c.new-ledger.result in
+    let booted = alone me (spot r new link after k) in
     on_err c.from_residual-in_err-turns_alone.result (inr (
       booted,
       subst (λ l. Chain (BootsAt delta) (me ∷ []) (start (only me old) l before) booted)
           c.open.ensures.kept
-          (boots-alone delta me r old new link before after c.in_ok-running.ensures.boots),
+          (boots-alone delta me r old new link before after k c.new-ledger.ensures.counts
+          c.new-ledger.ensures.heard c.in_ok-running.ensures.boots),
       c.in_err-turns_alone.ensures.part,
     ))
 
@@ -35,15 +46,17 @@ returns-clause-run g c =
     let r = c.in_ok-running.running in
     let new = g.D.Store.told c.boot.new.store in
     let after = g.C.Clock.told c.boot.new.clock in
-    let booted = alone me (spot r new link after (record { taken = 0; sent = 0 })) in
+    let k = c.new-ledger.result in
+    let booted = alone me (spot r new link after k) in
     record {
       booted = booted;
       end = alone me (spot c.turns_alone.new.running (g.D.Store.told c.turns_alone.new.store)
           (g.L.Link.told c.turns_alone.new.link) (g.C.Clock.told c.turns_alone.new.clock)
-          c.turns_alone.new.counts);
+          c.turns_alone.new.ledger);
       boots = subst (λ l. Chain (BootsAt delta) (me ∷ []) (start (only me old) l before) booted)
           c.open.ensures.kept
-          (boots-alone delta me r old new link before after c.in_ok-running.ensures.boots);
+          (boots-alone delta me r old new link before after k c.new-ledger.ensures.counts
+          c.new-ledger.ensures.heard c.in_ok-running.ensures.boots);
       turned = c.in_ok-turns_alone.ensures.turns;
       disks_are = refl;
       link_is = refl;

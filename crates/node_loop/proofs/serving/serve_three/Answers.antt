@@ -1,43 +1,35 @@
-use Rattle.std.proofs.Common.{inr, refl, subst}
-use Rattle.node_loop.specs.Chain.{Chain}
-use Rattle.node_loop.specs.Run.{BootsAt}
-use Rattle.node_loop.specs.Scene.{all_places, each, scene, start}
+use Rattle.std.proofs.Common.{ap, inl, inr, refl}
+use Rattle.node_loop.specs.Scene.{each, scene_of, with_heard}
+use Rattle.node_loop.specs.Turn.{sent_of}
 use Rattle.node_loop.proofs.Results.{on_err}
 use Rattle.node_loop.proofs.serving.serve_three.Goals as goal
 
-pub returns-in_err-turns_together-clause-cut : goal.returns-in_err-turns_together-clause-cut
-returns-in_err-turns_together-clause-cut g c =
-    let old = each g.D.Store.told c.args.stores.now in
-    let before = g.C.Clock.told c.args.clock.now in
-    let link = g.L.Link.told c.open_all.new.link in
-    let booted = scene c.in_ok-servers.servers
-    (each g.D.Store.told c.boot_all.new.stores) link (g.C.Clock.told c.boot_all.new.clock)
-    (record { taken = 0; sent = 0 }) in
-    let boots = subst (λ l. Chain (BootsAt c.args.delta) all_places (start old l before) booted)
-    c.open_all.ensures.kept (c.in_ok-servers.ensures.boots link) in
-    on_err c.from_residual-in_err-turns_together.result
-    (inr (booted, boots, c.in_err-turns_together.ensures.part))
+pub returns-in_err-three-clause-cut : goal.returns-in_err-three-clause-cut
+returns-in_err-three-clause-cut g c =
+    on_err c.from_residual.result (inl (ap sent_of c.start.ensures.sent))
+
+pub returns-in_err-take_turns-clause-cut : goal.returns-in_err-take_turns-clause-cut
+returns-in_err-take_turns-clause-cut g c =
+    on_err c.from_residual-in_err-take_turns.result (inr (
+      scene_of c.in_ok-three.three (each g.D.Store.told c.start.new.stores)
+          (g.L.Link.told c.start.new.link) (g.C.Clock.told c.start.new.clock),
+      c.in_ok-three.ensures.boots,
+      c.in_err-take_turns.ensures.part,
+    ))
 
 pub returns-clause-run : goal.returns-clause-run
 returns-clause-run g c =
-    let old = each g.D.Store.told c.args.stores.now in
-    let before = g.C.Clock.told c.args.clock.now in
-    let link = g.L.Link.told c.open_all.new.link in
-    let booted = scene c.in_ok-servers.servers
-    (each g.D.Store.told c.boot_all.new.stores) link (g.C.Clock.told c.boot_all.new.clock)
-    (record { taken = 0; sent = 0 }) in
-    let boots = subst (λ l. Chain (BootsAt c.args.delta) all_places (start old l before) booted)
-    c.open_all.ensures.kept (c.in_ok-servers.ensures.boots link) in
+    let turned = c.in_ok-take_turns.ensures.turns in
     record {
-      booted = booted;
-      end = scene c.turns_together.new.servers
-          (each g.D.Store.told c.turns_together.new.stores)
-          (g.L.Link.told c.turns_together.new.link) (g.C.Clock.told c.turns_together.new.clock)
-          c.turns_together.new.counts;
-      boots = boots;
-      turned = c.in_ok-turns_together.ensures.turns;
+      booted = scene_of c.in_ok-three.three (each g.D.Store.told c.start.new.stores)
+          (g.L.Link.told c.start.new.link) (g.C.Clock.told c.start.new.clock);
+      end = with_heard turned.0 (scene_of c.take_turns.new.self
+          (each g.D.Store.told c.take_turns.new.stores) (g.L.Link.told c.take_turns.new.link)
+          (g.C.Clock.told c.take_turns.new.clock));
+      boots = c.in_ok-three.ensures.boots;
+      turned = turned.1;
       disks_are = refl;
       link_is = refl;
       clock_is = refl;
-      served_is = refl;
+      served_is = c.served.ensures;
     }
