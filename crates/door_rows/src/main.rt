@@ -1,0 +1,47 @@
+//! Tries each row of standard input, and writes what came of it. Bytes are in hexadecimal, a dash
+//! for none; CALL and REPLY are spelled as in the group's own messages. A row begins with
+//!
+//! - `read HEX`: a record, of which is written what it means: `silent`, `fixed HEX` with the
+//!   answer, or `ask XID CALL`;
+//! - `write XID CALL REPLY`: a call and its reply, of which the answer is written;
+//! - `input N HEX`: so many times, these are the next bytes of an input;
+//! - `reply REPLY`: the next reply of a group, which fails where it has none that the call can get;
+//! - `group N WHY`: its call with this number, from 1, is given up (`spent`), has no memory
+//!   (`memory`), or fails (`failed`);
+//! - `source N`, `sink N`: the call with this number, from 1, fails;
+//! - `serve UID GID NAME`: the input is served for a user and a group. The name and how it ended
+//!   are written, who asked the group which calls, and what was written to the sink.
+#![tactic(auto)]
+
+mod group;
+mod rows;
+mod stream;
+mod words;
+
+use crate::rows::{put_answer, put_meaning};
+use crate::stream::Stream;
+use std::alloc::{AllocError, Global};
+use std::io::{self, BufRead, BufReader};
+
+/// What came of a row: lines, or nothing.
+fn outcome(alloc: Global, stream: &mut Stream, row: &str) -> Result<String, AllocError> {
+    let (word, rest) = row.split_once(' ').unwrap_or((row, ""));
+    let mut out = String::new(alloc);
+    match word {
+        "read" => put_meaning(alloc, &mut out, rest)?,
+        "write" => put_answer(alloc, &mut out, rest)?,
+        "serve" => stream.serve(alloc, &mut out, rest)?,
+        _ => stream.take(alloc, word, rest)?,
+    }
+    Ok(out)
+}
+
+fn main(rt: HostRuntime) -> io::Result<()> {
+    let alloc = rt.alloc();
+    let mut stream = Stream::new(alloc);
+    for line in BufReader::new(alloc, rt.reader())?.lines(alloc) {
+        let text = outcome(alloc, &mut stream, line?.as_str())?;
+        print!(rt; "{text}")?;
+    }
+    Ok(())
+}
