@@ -1,0 +1,10 @@
+pub mod Servers
+pub mod Scenes
+pub mod Answered
+pub mod Readings
+pub mod Ready
+pub mod ReadCalls
+pub mod Upkeep
+pub mod Opening
+pub mod Door
+pub mod Forms
