@@ -35,3 +35,5 @@ tree_ends laws list log (verdict.Sound l) before after exit.SourceFailed tells e
 tree_ends laws list log (verdict.Sound l) before after exit.RefusedLine tells ends = ends
 tree_ends laws list log (verdict.Sound l) before after exit.DiskFailed tells ends = absurd ends
 tree_ends laws list log (verdict.Sound l) before after exit.LinkFailed tells ends = ends
+tree_ends laws list log (verdict.Sound l) before after exit.RefusedRecord tells ends = ends
+tree_ends laws list log (verdict.Sound l) before after exit.NetFull tells ends = ends

@@ -64,3 +64,5 @@ agrees text source before after exit.NoMemory h = (
 agrees text source before after exit.RefusedWords h = absurd h
 agrees text source before after exit.DiskFailed h = absurd h
 agrees text source before after exit.LinkFailed h = absurd h
+agrees text source before after exit.RefusedRecord h = absurd h
+agrees text source before after exit.NetFull h = absurd h

@@ -30,6 +30,8 @@ VerdictEnds v before after exit.NoMemory = GrewByPart before after (verdict_text
 VerdictEnds v before after exit.RefusedWords = ⊥
 VerdictEnds v before after exit.SourceFailed = ⊥
 VerdictEnds v before after exit.RefusedLine = ⊥
+VerdictEnds v before after exit.RefusedRecord = ⊥
+VerdictEnds v before after exit.NetFull = ⊥
 VerdictEnds v before after exit.DiskFailed = ⊥
 VerdictEnds v before after exit.LinkFailed = ⊥
 
@@ -52,6 +54,8 @@ AuditEnds told before after exit.DiskFailed = after ≡ before
 AuditEnds told before after exit.RefusedWords = ⊥
 AuditEnds told before after exit.SourceFailed = ⊥
 AuditEnds told before after exit.RefusedLine = ⊥
+AuditEnds told before after exit.RefusedRecord = ⊥
+AuditEnds told before after exit.NetFull = ⊥
 AuditEnds told before after exit.LinkFailed = ⊥
 
 -- the text of the tree after the committed updates was written whole with 0, and it isn't called
@@ -64,6 +68,8 @@ WritesTree list log before after exit.RefusedWords = ⊥
 WritesTree list log before after exit.SourceFailed = ⊥
 WritesTree list log before after exit.SinkFailed = Unit {0}
 WritesTree list log before after exit.RefusedLine = ⊥
+WritesTree list log before after exit.RefusedRecord = ⊥
+WritesTree list log before after exit.NetFull = ⊥
 WritesTree list log before after exit.NoMemory = Unit {0}
 WritesTree list log before after exit.DiskFailed = Unit {0}
 WritesTree list log before after exit.LinkFailed = ⊥

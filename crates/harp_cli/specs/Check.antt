@@ -50,6 +50,8 @@ CheckEnds text source before after exit.NoMemory =
 CheckEnds text source before after exit.RefusedWords = ⊥
 CheckEnds text source before after exit.DiskFailed = ⊥
 CheckEnds text source before after exit.LinkFailed = ⊥
+CheckEnds text source before after exit.RefusedRecord = ⊥
+CheckEnds text source before after exit.NetFull = ⊥
 
 -- of a right text alone the status is 0, and of one it isn't 1 or 5
 abbrev pub StatusAgrees : List ℕ → ℕ → Type 0

@@ -14,9 +14,11 @@ status_of exit.RefusedWords = 2
 status_of exit.SourceFailed = 3
 status_of exit.SinkFailed = 4
 status_of exit.RefusedLine = 5
+status_of exit.RefusedRecord = 5
 status_of exit.NoMemory = 6
 status_of exit.DiskFailed = 7
 status_of exit.LinkFailed = 8
+status_of exit.NetFull = 10
 
 abbrev pub exit_of_store : StoreFault → Exit
 exit_of_store store.Failed = exit.DiskFailed

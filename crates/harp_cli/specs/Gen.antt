@@ -19,5 +19,7 @@ GenEnds seed lines before after exit.SaysNo = ⊥
 GenEnds seed lines before after exit.RefusedWords = ⊥
 GenEnds seed lines before after exit.SourceFailed = ⊥
 GenEnds seed lines before after exit.RefusedLine = ⊥
+GenEnds seed lines before after exit.RefusedRecord = ⊥
+GenEnds seed lines before after exit.NetFull = ⊥
 GenEnds seed lines before after exit.DiskFailed = ⊥
 GenEnds seed lines before after exit.LinkFailed = ⊥

@@ -6,3 +6,4 @@ pub mod Gen
 pub mod Sweep
 pub mod Serve
 pub mod Audit
+pub mod Door

@@ -59,6 +59,8 @@ WriteEnds served before after exit.SaysNo = ⊥
 WriteEnds served before after exit.RefusedWords = ⊥
 WriteEnds served before after exit.SourceFailed = ⊥
 WriteEnds served before after exit.RefusedLine = ⊥
+WriteEnds served before after exit.RefusedRecord = ⊥
+WriteEnds served before after exit.NetFull = ⊥
 WriteEnds served before after exit.DiskFailed = ⊥
 WriteEnds served before after exit.LinkFailed = ⊥
 
@@ -89,3 +91,5 @@ ServeEnds places runs old new before after exit.SaysNo = ⊥
 ServeEnds places runs old new before after exit.RefusedWords = ⊥
 ServeEnds places runs old new before after exit.SourceFailed = ⊥
 ServeEnds places runs old new before after exit.RefusedLine = ⊥
+ServeEnds places runs old new before after exit.RefusedRecord = ⊥
+ServeEnds places runs old new before after exit.NetFull = ⊥

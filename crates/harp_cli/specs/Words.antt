@@ -102,6 +102,14 @@ pub record IsAudit (words : List (String Global)) : Type 0 where
   pub are : texts words ≡ codes "audit" ∷ rest
   pub audit_words : AuditWords rest
 
+-- ---- for whom a door is
+
+-- the words are `door`, `play`, a user and a group below 2^32, in decimal without leading zeros
+abbrev pub IsDoorPlay : ℕ → ℕ → List (String Global) → Type 0
+IsDoorPlay uid gid words =
+    (texts words ≡ codes "door" ∷ codes "play" ∷ decimal uid ∷ decimal gid ∷ [])
+    × (uid < 2 ^ 32) × (gid < 2 ^ 32)
+
 -- ---- all forms
 
 -- the words ask for this
@@ -113,6 +121,7 @@ AsksFor words (command.Sweep seed runs lines) = IsSweep seed runs lines words
 AsksFor words (command.Node place runs) = IsNode place runs words
 AsksFor words (command.Group runs) = IsGroup runs words
 AsksFor words command.Audit = IsAudit words
+AsksFor words (command.DoorPlay uid gid) = IsDoorPlay uid gid words
 
 -- the words are one of these forms
 abbrev pub IsForm : List (String Global) → Type 0
@@ -134,6 +143,7 @@ name_of (command.Sweep seed runs lines) = codes "sweep"
 name_of (command.Node place runs) = codes "node"
 name_of (command.Group runs) = codes "group"
 name_of command.Audit = codes "audit"
+name_of (command.DoorPlay uid gid) = codes "door"
 
 abbrev pub Behind : List (List ℕ) → Command → Type 0
 Behind rest command.Play = rest ≡ []
@@ -146,6 +156,8 @@ Behind rest (command.Sweep seed runs lines) =
 Behind rest (command.Node place runs) = NodeWords place runs rest
 Behind rest (command.Group runs) = LoopWords runs rest
 Behind rest command.Audit = AuditWords rest
+Behind rest (command.DoorPlay uid gid) =
+    (rest ≡ codes "play" ∷ decimal uid ∷ decimal gid ∷ []) × (uid < 2 ^ 32) × (gid < 2 ^ 32)
 
 -- a command with this name asks for the words behind it
 abbrev pub Named : List ℕ → List (List ℕ) → Command → Type 0
@@ -160,7 +172,7 @@ usage_text =
     ++ codes "usage: harp sweep SEED RUNS LINES\n"
     ++ codes "usage: harp node S PORT DIR TURNS\nusage: harp group PORT DIR TURNS\n"
     ++ codes "usage: harp node S PORT DIR TURNS DELTA\nusage: harp group PORT DIR TURNS DELTA\n"
-    ++ codes "usage: harp audit DIR\n"
+    ++ codes "usage: harp door play U G\nusage: harp audit DIR\n"
 
 -- on other words the usage text is written, or a first part of it
 abbrev pub UsageEnds : Option (List ℕ) → Option (List ℕ) → Exit → Type 0
@@ -170,6 +182,8 @@ UsageEnds before after exit.NoMemory = GrewByPart before after usage_text
 UsageEnds before after exit.Done = ⊥
 UsageEnds before after exit.SaysNo = ⊥
 UsageEnds before after exit.RefusedLine = ⊥
+UsageEnds before after exit.RefusedRecord = ⊥
+UsageEnds before after exit.NetFull = ⊥
 UsageEnds before after exit.SourceFailed = ⊥
 UsageEnds before after exit.DiskFailed = ⊥
 UsageEnds before after exit.LinkFailed = ⊥

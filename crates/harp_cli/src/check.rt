@@ -28,6 +28,7 @@ pub fn check<S: Source, K: Sink>(alloc: Global, source: &mut S, sink: &mut K) ->
     ensures words { result ≢ Exit.RefusedWords }
     ensures disk { result ≢ Exit.DiskFailed }
     ensures link { result ≢ Exit.LinkFailed }
+    ensures net { result ≢ Exit.NetFull }
     ensures source_rose { result ≡ Exit.SourceFailed
         → Rose (S.faults source.old) (S.faults source.new) }
     ensures sink_rose { result ≡ Exit.SinkFailed → Rose (K.faults sink.old) (K.faults sink.new) }

@@ -18,12 +18,16 @@ pub enum Exit {
     SinkFailed,
     /// A line was refused, or the trace that was checked lacks its last line.
     RefusedLine,
+    /// A record was refused.
+    RefusedRecord,
     /// There was no memory.
     NoMemory,
     /// A disk failed.
     DiskFailed,
     /// The link failed.
     LinkFailed,
+    /// The network of the servers in memory was full.
+    NetFull,
 }
 
 impl Exit {
@@ -38,9 +42,11 @@ impl Exit {
             Exit::SourceFailed => 3,
             Exit::SinkFailed => 4,
             Exit::RefusedLine => 5,
+            Exit::RefusedRecord => 5,
             Exit::NoMemory => 6,
             Exit::DiskFailed => 7,
             Exit::LinkFailed => 8,
+            Exit::NetFull => 10,
         }
     }
 }

@@ -49,6 +49,7 @@ pub fn play<S: Source, K: Sink>(
     ensures judges { result ≢ Exit.SaysNo }
     ensures disk { result ≢ Exit.DiskFailed }
     ensures link { result ≢ Exit.LinkFailed }
+    ensures net { result ≢ Exit.NetFull }
     ensures source_rose { result ≡ Exit.SourceFailed
         → Rose (S.faults source.old) (S.faults source.new) }
     ensures sink_rose { result ≡ Exit.SinkFailed → Rose (K.faults sink.old) (K.faults sink.new) }

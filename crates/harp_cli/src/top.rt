@@ -35,15 +35,17 @@ ghost use Rattle.harp_cli.specs.declared.loop_words.Loop.{Loop as Runs};
 ghost use Rattle.harp_cli.specs.Exit.{status_of};
 ghost use Rattle.harp_cli.specs.Audit.{AuditEnds, WritesTree};
 ghost use Rattle.harp_cli.specs.Check.{CheckEnds, StatusAgrees};
+ghost use Rattle.harp_cli.specs.Door.{DoorPlayed};
 ghost use Rattle.harp_cli.specs.Gen.{GenEnds};
 ghost use Rattle.harp_cli.specs.Play.{HasPlayed, WroteRightText, exit_of_play, sizes};
 ghost use Rattle.harp_cli.specs.Serve.{ServeEnds, outside};
 ghost use Rattle.harp_cli.specs.Sweep.{SweepEnds};
-ghost use Rattle.harp_cli.specs.Words.{IsAudit, IsCheck, IsForm, IsGen, IsGroup, IsNode, IsPlay};
-ghost use Rattle.harp_cli.specs.Words.{IsSweep, Serves, UsageEnds};
+ghost use Rattle.harp_cli.specs.Words.{IsAudit, IsCheck, IsDoorPlay, IsForm, IsGen, IsGroup, IsNode};
+ghost use Rattle.harp_cli.specs.Words.{IsPlay, IsSweep, Serves, UsageEnds};
 
 use crate::auditing::audit_folder;
 use crate::check::check;
+use crate::door::door_play;
 use crate::generate::generate;
 use crate::play::play;
 use crate::serve::{serve_group, serve_node};
@@ -52,7 +54,7 @@ use crate::words::{Command, command_of, write_usage};
 use accept_laws::accepted_texts;
 use audit::audit_laws;
 use harp_store::Store;
-use harp_types::{Sink, Source, Trio};
+use harp_types::{Cred, Sink, Source, Trio};
 use node_link::{Clock, Link};
 use schedule_play::every_text;
 use std::alloc::Global;
@@ -62,14 +64,21 @@ use world::World;
 
 /// Does what the words ask for, and gives the exit status: 0 done, 1 a trace breaks something or a
 /// folder has no sound tree, 2 the words are refused, 3 the source failed, 4 the sink failed, 5 a
-/// line is refused, 6 there was no memory, 7 a disk failed, 8 the link failed.
+/// line or a record is refused, 6 there was no memory, 7 a disk failed, 8 the link failed, 10 the
+/// network of the servers in memory was full. Status 9 isn't given.
 ///
 /// `play` plays the schedule of the source in the world, which is new, and writes its trace to the
 /// sink. `check` judges the trace of the source, and writes `yes`, or `no L CAUSE` where line L is
 /// the first that breaks something, or `bad L CAUSE` where no trace is read at line L. `gen` writes
 /// the schedule of a seed. `sweep` plays the schedules of many seeds, each in a world of its own,
 /// and writes what their traces come to. On words of no form the usage text is written. All but
-/// `play` leave the world.
+/// `play` and `door play` leave the world.
+///
+/// `door play` opens a view in the world, which is new, and is its door: the source is a client's
+/// side of a connection of ONC RPC, whose calls of NFS version 2 are made of the servers in memory
+/// for one user and group, one after the other, and the sink is the other side. Each record's answer
+/// is written before the next one is answered. Status 5 comes at a record that is too large, or cut
+/// off, or one too many; status 10 where a call got no answer, of which nothing is written.
 ///
 /// `node` runs a server over the disk of its place, which is attached to a folder, and `group` all
 /// three over theirs, in the folders 0, 1 and 2 of one. Place s of the link has the given port plus
@@ -78,8 +87,8 @@ use world::World;
 ///
 /// `audit` attaches the disk of place 0 to a folder, and writes the verdict on it: `sound CP N` and
 /// the lines of its N objects after CP updates, or `unsound M` and M lines `fault NUMBER FLAW`, or
-/// `unsaved` where the disk alone has no tree. It changes nothing. All words but these three leave
-/// disks, link and clock.
+/// `unsaved` where the disk alone has no tree. It changes nothing. All words but `node`, `group` and
+/// `audit` leave disks, link and clock.
 ///
 /// Want of memory ends each of them. Nothing is said of the bytes of a source or a sink that
 /// doesn't tell them, nor of what a disk, a link or a clock doesn't tell.
@@ -168,6 +177,12 @@ pub fn harp<R: Threads + Sync, S: Source, K: Sink, L: Link, D: Store, C: Clock>(
         → D.told disks.old.zero ≡ Some h → IsLeftByPower list log h
         → (exit : Exit) × (result ≡ status_of exit)
         × WritesTree list log (K.written sink.old) (K.written sink.new) exit }
+    // Which calls a door made by then, how they were answered, and which world is left.
+    ensures door_play { (uid gid : ℕ) → IsDoorPlay uid gid words.now
+        → (exit : Exit) × (result ≡ status_of exit)
+        × ((input : List ℕ) → S.left source.old ≡ Some input
+        → DoorPlayed (record { uid = uid; gid = gid }) input (S.left source.new)
+        (K.written sink.old) (K.written sink.new) world.new exit) }
     ensures apart { (Serves words.now → ⊥) → (IsAudit words.now → ⊥)
         → (link.new ≡ link.old) × (disks.new ≡ disks.old) × (clock.new ≡ clock.old) }
     ensures usage { (IsForm words.now → ⊥)
@@ -182,6 +197,7 @@ pub fn harp<R: Threads + Sync, S: Source, K: Sink, L: Link, D: Store, C: Clock>(
     ensures disk_failed { result ≡ 7
         → OneRose (each D.faults disks.old) (each D.faults disks.new) }
     ensures link_failed { result ≡ 8 → Rose (L.faults link.old) (L.faults link.new) }
+    ensures net_full { result ≡ 10 → (uid : ℕ) × (gid : ℕ) × IsDoorPlay uid gid words.now }
     // What each line of a text means, by the grammar of steps, and that no step that is read of one
     // is refused.
     ensures meaning { (line : List ℕ) → Explains line (meaning_of line) }
@@ -222,6 +238,9 @@ pub fn harp<R: Threads + Sync, S: Source, K: Sink, L: Link, D: Store, C: Clock>(
         Some(Command::Audit) => {
             let folder = words[1].as_str();
             audit_folder(rt, alloc, folder, sink, &mut disks.zero).status()
+        }
+        Some(Command::DoorPlay { uid, gid }) => {
+            door_play(alloc, Cred { uid, gid }, world, source, sink).status()
         }
         None => write_usage(sink).status(),
     }

@@ -34,6 +34,8 @@ pub enum Command {
     Group { runs: Loop },
     /// The audit of a folder.
     Audit,
+    /// A door to servers in memory, for this user and group.
+    DoorPlay { uid: u32, gid: u32 },
 }
 
 /// The command of this one name, where no words stand behind it.
@@ -99,6 +101,26 @@ fn audit_of(words: &[String]) -> Option<Command>
     Some(Command::Audit)
 }
 
+/// The door that the words behind `door` ask for.
+fn door_of(words: &[String]) -> Option<Command>
+    ensures { MatchOption result
+        ((c : Asked) → Named (codes "door") (texts words.now) c → ⊥)
+        (Named (codes "door") (texts words.now)) }
+{
+    let [kind, uid, gid] = words else {
+        return None;
+    };
+    if kind.as_str() != "play" {
+        return None;
+    }
+    let uid = number_within(uid.as_str(), 0, u64::from(u32::MAX))?;
+    let gid = number_within(gid.as_str(), 0, u64::from(u32::MAX))?;
+    Some(Command::DoorPlay {
+        uid: uid as u32,
+        gid: gid as u32,
+    })
+}
+
 /// What the words ask for, if they are one of the forms.
 pub fn command_of(words: &[String]) -> Option<Command>
     ensures { MatchOption result (IsForm words.now → ⊥) (AsksFor words.now) }
@@ -121,6 +143,8 @@ pub fn command_of(words: &[String]) -> Option<Command>
         group_of(rest)
     } else if word == "audit" {
         audit_of(rest)
+    } else if word == "door" {
+        door_of(rest)
     } else {
         None
     }
@@ -139,6 +163,7 @@ usage: harp node S PORT DIR TURNS
 usage: harp group PORT DIR TURNS
 usage: harp node S PORT DIR TURNS DELTA
 usage: harp group PORT DIR TURNS DELTA
+usage: harp door play U G
 usage: harp audit DIR
 "
 }

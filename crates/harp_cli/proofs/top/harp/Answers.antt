@@ -11,7 +11,8 @@ use Rattle.harp_cli.proofs.Checks.{agrees}
 use Rattle.harp_cli.proofs.PlayLaws.{TellsWhole, wrote_right}
 use Rattle.harp_cli.proofs.ServeLaws.{node_ends, same_ends}
 use Rattle.harp_cli.proofs.SweepLaws.{same_sweep}
-use Rattle.harp_cli.proofs.WordLaws.{one_gen, one_group, one_node, one_sweep}
+use Rattle.harp_cli.proofs.DoorLaws.{same_door}
+use Rattle.harp_cli.proofs.WordLaws.{one_door_play, one_gen, one_group, one_node, one_sweep}
 use Rattle.harp_cli.proofs.top.harp.Goals as goal
 
 pub returns-in-Some-Play-clause-complete : goal.returns-in-Some-Play-clause-complete
@@ -299,3 +300,38 @@ returns-in-Some-Audit-clause-audit_left g c = λ is list log h told left. (
   c.status-in-Some-Audit.ensures,
   c.audit_folder.ensures.tree list log h told left,
 )
+
+pub returns-in-None-clause-door_play : goal.returns-in-None-clause-door_play
+returns-in-None-clause-door_play g c = λ uid gid is.
+    absurd (c.in-None.ensures (command.DoorPlay uid gid, is))
+
+pub returns-in-Some-DoorPlay-clause-door_play : goal.returns-in-Some-DoorPlay-clause-door_play
+returns-in-Some-DoorPlay-clause-door_play g c = λ uid gid is.
+    let u = c.in-Some-DoorPlay.uid in
+    let h = c.in-Some-DoorPlay.gid in
+    let asked : AsksFor c.args.words.now (command.DoorPlay u h) =
+    subst (AsksFor c.args.words.now) c.in-Some-DoorPlay.field-0-is c.in-Some-DoorPlay.ensures in
+    let once = one_door_play c.args.words.now u h uid gid asked is in (
+      c.door_play.result,
+      c.status-in-Some-DoorPlay.ensures,
+      λ input left. same_door u h uid gid input _ _ _ _ c.door_play.result once.0 once.1
+          (c.door_play.ensures.ends input left),
+    )
+
+pub returns-in-Some-DoorPlay-clause-taken : goal.returns-in-Some-DoorPlay-clause-taken
+returns-in-Some-DoorPlay-clause-taken g c = c.every_text.ensures.taken sizes
+
+pub returns-in-Some-DoorPlay-clause-right : goal.returns-in-Some-DoorPlay-clause-right
+returns-in-Some-DoorPlay-clause-right g c = c.every_text.ensures.right sizes
+
+pub returns-in-Some-DoorPlay-clause-events : goal.returns-in-Some-DoorPlay-clause-events
+returns-in-Some-DoorPlay-clause-events g c = c.every_text.ensures.events sizes
+
+pub returns-in-Some-DoorPlay-clause-book : goal.returns-in-Some-DoorPlay-clause-book
+returns-in-Some-DoorPlay-clause-book g c = c.every_text.ensures.book sizes
+
+pub returns-in-Some-DoorPlay-clause-views : goal.returns-in-Some-DoorPlay-clause-views
+returns-in-Some-DoorPlay-clause-views g c = c.every_text.ensures.views sizes
+
+pub returns-in-Some-DoorPlay-clause-parts : goal.returns-in-Some-DoorPlay-clause-parts
+returns-in-Some-DoorPlay-clause-parts g c = c.every_text.ensures.parts sizes

@@ -89,3 +89,13 @@ returns-then-eq-7 c =
     by_name words (codes "audit") (rest words)
     (begin_with words c.word-item.result text (codes "audit") c.in-len1-up.len_at_least
     c.word-item.is c.as_str-word.ensures.value named) c.audit_of.result c.audit_of.ensures
+
+pub returns-then-eq-8 : goal.returns-then-eq-8
+unfolding rest
+returns-then-eq-8 c =
+    let words = c.args.words.now in
+    let text = c.as_str-word.result.now in
+    let named = same_text text (codes "door") c.if-eq-8.ensures in
+    by_name words (codes "door") (rest words)
+    (begin_with words c.word-item.result text (codes "door") c.in-len1-up.len_at_least
+    c.word-item.is c.as_str-word.ensures.value named) c.door_of.result c.door_of.ensures
