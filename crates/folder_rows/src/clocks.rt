@@ -7,20 +7,42 @@ use std::alloc::{AllocError, Global};
 use std::time::Duration;
 use std::{cell, io, time};
 
-/// A clock of so many seconds, which can't be read at 0.
+/// So many seconds on a clock, which can't be read at 0.
+fn of_seconds(seconds: u64) -> io::Result<Duration> {
+    match seconds {
+        0 => Err(io::Error::from(io::ErrorKind::Unsupported)),
+        n => Ok(Duration::from_secs(n)),
+    }
+}
+
+/// The seconds that the day's clock and the monotonic one are told to read.
 #[derive(Drop)]
-struct Told<'a>(&'a cell::Cell<u64>);
+pub(crate) struct Seconds {
+    day: cell::Cell<u64>,
+    steady: cell::Cell<u64>,
+}
+
+impl Seconds {
+    /// Neither can be read.
+    pub(crate) fn new() -> Seconds {
+        Seconds {
+            day: cell::Cell::new(0),
+            steady: cell::Cell::new(0),
+        }
+    }
+}
+
+/// A clock that reads what it is told.
+#[derive(Drop)]
+struct Told<'a>(&'a Seconds);
 
 impl time::Clock for Told<'_> {
     fn monotonic(&self) -> io::Result<Duration> {
-        Err(io::Error::from(io::ErrorKind::Unsupported))
+        of_seconds(self.0.steady.get())
     }
 
     fn since_1970(&self) -> io::Result<Duration> {
-        match self.0.get() {
-            0 => Err(io::Error::from(io::ErrorKind::Unsupported)),
-            n => Ok(Duration::from_secs(n)),
-        }
+        of_seconds(self.0.day.get())
     }
 }
 
@@ -30,13 +52,13 @@ pub struct Clocks<'a, R> {
     list: ListClock,
     day: WallClock<R>,
     least: u64,
-    seconds: &'a cell::Cell<u64>,
+    seconds: &'a Seconds,
     told: WallClock<Told<'a>>,
 }
 
 impl<'a, R> Clocks<'a, R> {
     /// Clocks that weren't read. The day is one after September 2020.
-    pub(crate) fn new(rt: R, alloc: Global, seconds: &'a cell::Cell<u64>) -> Clocks<'a, R> {
+    pub(crate) fn new(rt: R, alloc: Global, seconds: &'a Seconds) -> Clocks<'a, R> {
         Clocks {
             list: ListClock::new(alloc, Vec::new(alloc)),
             day: WallClock::new(rt),
@@ -96,7 +118,7 @@ fn tell_seconds<R>(
     number: u64,
     text: &mut String,
 ) -> Answer {
-    clocks.seconds.set(number);
+    clocks.seconds.day.set(number);
     let (now, faults) = (clocks.told.now(place), clocks.told.faults());
     told(write!(text, "{now}, {faults} faults"))
 }
@@ -124,6 +146,10 @@ pub(crate) fn clock_answer<R: time::Clock>(
         "reading" => tell_reading(&mut clocks.list, place, text),
         "day" => tell_day(clocks, place, text),
         "seconds" => tell_seconds(clocks, place, number, text),
+        "steady" => {
+            clocks.seconds.steady.set(number);
+            Answer::Done
+        }
         _ => Answer::Nothing,
     }
 }

@@ -8,14 +8,14 @@ mod disk;
 mod links;
 mod words;
 
-use crate::clocks::{Clocks, clock_answer};
+use crate::clocks::{Clocks, Seconds, clock_answer};
 use crate::disk::store_answer;
 use crate::links::{Links, links_answer};
 use crate::words::{Answer, bytes_of, came, halves};
 use std::alloc::{AllocError, Global};
+use std::fs;
 use std::io::{self, BufRead, BufReader};
 use std::rt::Files;
-use std::{cell, fs};
 use store_folder::{FolderStore, SystemFiles};
 
 /// What the lines are about.
@@ -99,7 +99,7 @@ fn play(rt: HostRuntime, player: &mut Player<'_>, line: &str) -> io::Result<()> 
 
 fn main(rt: HostRuntime) -> io::Result<()> {
     let alloc = rt.alloc();
-    let seconds = cell::Cell::new(0);
+    let seconds = Seconds::new();
     let links = Links::new(rt, alloc)?;
     let mut player = Player {
         store: FolderStore::new(rt),

@@ -25,7 +25,7 @@ pub struct Server {
 
 impl Server {
     /// A server that is down, over a new disk.
-    pub fn new(alloc: Global, me: ServerId) -> Server {
+    pub(crate) fn new(alloc: Global, me: ServerId) -> Server {
         Server {
             me,
             node: None,
@@ -39,7 +39,7 @@ impl Server {
     }
 
     /// Boots at a reading of its clock.
-    pub fn boot(&mut self, alloc: Global, now: u64, delta: Delta) -> Result<(), NodeFault> {
+    pub(crate) fn boot(&mut self, alloc: Global, now: u64, delta: Delta) -> Result<(), NodeFault> {
         self.node = None;
         if now < 1 << 62 {
             let (me, disk, seen) = (self.me, &mut self.disk, &mut self.seen);
@@ -66,7 +66,7 @@ impl Server {
     }
 
     /// The lines that a step gives, or its fault.
-    pub fn take(
+    pub(crate) fn take(
         &mut self,
         alloc: Global,
         input: Input,
@@ -87,7 +87,7 @@ impl Server {
     }
 
     /// The line of what it shows: that it is down where it isn't booted, or a step failed.
-    pub fn shown(&self) -> Line {
+    pub(crate) fn shown(&self) -> Line {
         let server = self.me;
         let Some(node) = &self.node else {
             return Line::Down { server };
@@ -103,7 +103,7 @@ impl Server {
 }
 
 /// What a step of a schedule gives to its server. None where it gives nothing.
-pub fn input_of(step: Step) -> Option<Input> {
+pub(crate) fn input_of(step: Step) -> Option<Input> {
     match step {
         Step::Ask {
             client,

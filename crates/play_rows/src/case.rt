@@ -31,7 +31,7 @@ fn owned(alloc: Global, words: &str) -> Result<Vec<String>, AllocError> {
 
 impl Case {
     /// A case of which nothing has come.
-    pub fn new(alloc: Global) -> Case {
+    pub(crate) fn new(alloc: Global) -> Case {
         Case {
             name: String::new(alloc),
             words: Vec::new(alloc),
@@ -45,7 +45,7 @@ impl Case {
     }
 
     /// Takes a line, and says whether the case is whole.
-    pub fn take(&mut self, alloc: Global, line: &[u8]) -> Result<bool, AllocError> {
+    pub(crate) fn take(&mut self, alloc: Global, line: &[u8]) -> Result<bool, AllocError> {
         if self.is_told {
             self.add(line)?;
         } else if let Ok(line) = str::from_utf8(line) {

@@ -63,7 +63,7 @@ fn waiting_of(alloc: Global, words: &str) -> Option<Waiting> {
 }
 
 impl Given {
-    pub fn new(alloc: Global) -> Given {
+    pub(crate) fn new(alloc: Global) -> Given {
         Given {
             source_fails: Vec::new(alloc),
             sink_fails: Vec::new(alloc),
@@ -80,7 +80,7 @@ impl Given {
     }
 
     /// Takes what a line tells behind its first word.
-    pub fn take(&mut self, alloc: Global, line: &str) -> Result<(), AllocError> {
+    pub(crate) fn take(&mut self, alloc: Global, line: &str) -> Result<(), AllocError> {
         let Some((word, rest)) = line.split_once(' ') else {
             return Ok(());
         };

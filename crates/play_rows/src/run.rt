@@ -118,7 +118,7 @@ fn told(alloc: Global, name: &str, output: &[u8], status: &str) -> Result<Bytes,
 
 /// What a case comes to. What the first of two commands writes is given to the next one, and both
 /// statuses are told.
-pub fn outcome_of<R: Threads + Sync>(
+pub(crate) fn outcome_of<R: Threads + Sync>(
     rt: &R,
     alloc: Global,
     case: Case,
