@@ -1,6 +1,6 @@
 //! The group of a door, in a world in memory.
 
-ghost use Rattle.std.specs.Prelude.{◌≡◌, ◌≤◌, ◌++◌, ◌∷◌, [], ℕ, List, IfOk, IfSome, MatchResult, Err, Some, false, true};
+ghost use Rattle.std.specs.Prelude.{◌≡◌, ◌≤◌, ◌++◌, ◌∷◌, [], ℕ, List, IfOk, IfSome, MatchResult, Err, Some, false, true, ⊤};
 ghost use Rattle.harp_types.specs.Streams.{Rose};
 ghost use Rattle.harp_types.specs.declared.cred.Cred.{Cred as By};
 ghost use Rattle.harp_types.specs.declared.reply.Reply.{Reply as Told};
@@ -151,6 +151,11 @@ impl<W: Stage> Group for PlayedGroup<W> {
     ghost runs = { λ g. (g.is_open ≡ true) × AreReadings (W.clocks g.world) };
 
     ghost counts = { λ g. record { failed = g.faults; spent = 0 } };
+
+    // Nothing was lent to it.
+    ghost Basis = { ⊤ };
+
+    ghost on = { λ g o. ⊤ };
 
     fn call(&mut self, alloc: Global, cred: Cred, call: &Call) -> Result<Reply, GroupFault> {
         played_calls();

@@ -92,6 +92,10 @@ impl Group for ToldGroup {
 
     ghost counts = { λ g. record { failed = g.failed; spent = g.spent } };
 
+    ghost Basis = { Unit {0} };
+
+    ghost on = { λ _ _. Unit {0} };
+
     fn call(&mut self, alloc: Global, cred: Cred, call: &Call) -> Result<Reply, GroupFault> {
         match self.script.next_reply(alloc, cred, call) {
             Ok(reply) => Ok(reply),

@@ -1,5 +1,5 @@
 -- HOW A CALL IS ASKED until it ends: where, and when again.
-use Rattle.std.specs.Prelude.{◌≡◌, ℕ, zero, suc, ◌+◌, ◌==◌, ◌&&◌, Bool, true, List, [], ◌∷◌, ◌++◌, fold, Some, None, ⊤, if◌then◌else◌}
+use Rattle.std.specs.Prelude.{◌≡◌, ◌⊎◌, ℕ, zero, suc, ◌+◌, ◌==◌, ◌&&◌, Bool, true, List, [], ◌∷◌, ◌++◌, fold, Some, None, ⊤, if◌then◌else◌}
 use Rattle.harp_types.specs.declared.call.Call.{Call}
 use Rattle.harp_types.specs.declared.reply.Reply.{Reply}
 use Rattle.harp_types.specs.declared.server.ServerId.{ServerId}
@@ -7,6 +7,8 @@ use Rattle.harp_types.specs.declared.server.ServerId.TheVariants.{Zero, One, Two
 use Rattle.harp_types.specs.Memory.{raised}
 use Rattle.harp_types.specs.Streams.{Rose}
 use Rattle.rpc_door.specs.declared.group.Exchange.{Exchange}
+use Rattle.rpc_door.specs.declared.group.GroupFault.{GroupFault}
+use Rattle.rpc_door.specs.declared.group.GroupFault.TheVariants as group
 use Rattle.rpc_door.specs.Results.{is_reply_to}
 use Rattle.harp_types.specs.declared.cause.Cause.{Cause}
 use Rattle.harp_types.specs.declared.cause.Cause.TheVariants as cause
@@ -106,43 +108,56 @@ follow place quiet Nothing = if quiet + 1 == 50 then AsksAt (next_place place) e
 
 -- ---- a call
 
--- What becomes of it: it is answered, and its answer came from here and left the servers so, or the
--- turns that it has are over
-pub data Outcome (W : Type 0) : Type 0 where
-  Done : Reply → ServerId → W → Outcome W
-  Spent : Outcome W
+-- What becomes of it: it is answered, and its answer came from here and left the servers so; or the
+-- turns that it has are over, and left them so; or a turn or an ask of it failed, with this trail
+pub data Outcome (W T : Type 0) : Type 0 where
+  Done : Reply → ServerId → W → Outcome W T
+  Spent : W → Outcome W T
+  Broken : T → Outcome W T
 
-module _ {W : Type 0} (turns : W → List Heard → W → Type 0)
-    (asks : ServerId → Asked → W → List Heard → W → Type 0) where
-  -- it is asked at a place, and what follows is told by what was heard
-  abbrev pub Asks : (List Heard → ServerId → W → Type 0) → Asked → ServerId → W → Type 0
-  Asks after q place w = (said : List Heard) × (v : W) × asks place q w said v × after said place v
+-- what becomes of one that is given up for this reason, where the servers stand so and show this
+abbrev pub GivesUp : {W T : Type 0} → (W → Type 0) → T → (Outcome W T → Type 0) → GroupFault
+    → Type 0
+GivesUp stands trail becomes group.Failed = becomes (Broken trail)
+GivesUp {W = W} stands trail becomes group.Spent = (v : W) × becomes (Spent v) × stands v
+GivesUp stands trail becomes group.NoMemory = becomes (Broken trail)
+
+module _ {W T : Type 0} (turns : W → List Heard → W → Type 0)
+    (asks : ServerId → Asked → W → List Heard → W → Type 0) (turn_breaks : W → T → Type 0)
+    (ask_breaks : ServerId → Asked → W → T → Type 0) where
+  -- it is asked at a place, and what follows is told by what was heard; or the ask fails
+  abbrev pub Asks : (List Heard → ServerId → W → Type 0) → Asked → Outcome W T → ServerId → W
+      → Type 0
+  Asks after q o place w =
+      ((said : List Heard) × (v : W) × asks place q w said v × after said place v)
+      ⊎ ((trail : T) × (o ≡ Broken trail) × ask_breaks place q w trail)
 
   -- so it is again, unless no turns are left
-  abbrev pub AsksAgain : ℕ → (List Heard → ServerId → W → Type 0) → Asked → Outcome W → ServerId
+  abbrev pub AsksAgain : ℕ → (List Heard → ServerId → W → Type 0) → Asked → Outcome W T → ServerId
       → W → Type 0
-  AsksAgain zero after q o place w = o ≡ Spent
-  AsksAgain (suc left) after q o place w = Asks after q place w
+  AsksAgain zero after q o place w = o ≡ Spent w
+  AsksAgain (suc left) after q o place w = Asks after q o place w
 
   -- after a turn, where so many are left and so many before it brought nothing
-  abbrev pub Follows : ℕ → ℕ → (ℕ → List Heard → ServerId → W → Type 0) → Asked → Outcome W
+  abbrev pub Follows : ℕ → ℕ → (ℕ → List Heard → ServerId → W → Type 0) → Asked → Outcome W T
       → Next → ServerId → W → Type 0
   Follows left quiet waits q o (Ends reply) place w = o ≡ Done reply place w
   Follows left quiet waits q o (AsksAt next) place w = AsksAgain left (waits 0) q o next w
   Follows left quiet waits q o WaitsOn place w = waits (quiet + 1) [] place w
 
-  -- THE TURNS OF A CALL, at most so many, until it ends. So many since its last ask brought
-  -- nothing, and this was heard since the last turn
-  abbrev pub Waits : ℕ → Asked → Outcome W → ℕ → List Heard → ServerId → W → Type 0
-  Waits zero q o quiet before place w = o ≡ Spent
+  -- THE TURNS OF A CALL, at most so many, until it ends or one fails. So many since its last ask
+  -- brought nothing, and this was heard since the last turn
+  abbrev pub Waits : ℕ → Asked → Outcome W T → ℕ → List Heard → ServerId → W → Type 0
+  Waits zero q o quiet before place w = o ≡ Spent w
   Waits (suc left) q o quiet before place w =
-      (said : List Heard) × (v : W) × turns w said v
+      ((said : List Heard) × (v : W) × turns w said v
       × Follows left quiet (Waits left q o) q o
-      (follow place quiet (brings q.client q.number q.call (before ++ said))) place v
+      (follow place quiet (brings q.client q.number q.call (before ++ said))) place v)
+      ⊎ ((trail : T) × (o ≡ Broken trail) × turn_breaks w trail)
 
   -- A CALL IS MADE: it is asked at a place, and then has so many turns
-  abbrev pub IsMade : ℕ → Asked → Outcome W → ServerId → W → Type 0
-  IsMade most q o place w = Asks (Waits most q o 0) q place w
+  abbrev pub IsMade : ℕ → Asked → Outcome W T → ServerId → W → Type 0
+  IsMade most q o place w = Asks (Waits most q o 0) q o place w
 
 -- ---- the calls of a client
 
@@ -152,19 +167,21 @@ pub record Before (W : Type 0) : Type 0 where
   pub place : ServerId
   pub scene : W
 
--- before the first call of a client: what the servers run on, and the call
-pub record Beginning (B W : Type 0) : Type 0 where
+-- Whose calls they are, how many turns each has, and what the servers run on
+pub record Standing (B : Type 0) : Type 0 where
+  pub client : ℕ
+  pub turns : ℕ
   pub basis : B
-  pub first : Before W
 
-module _ {W : Type 0} (turns : W → List Heard → W → Type 0)
-    (asks : ServerId → Asked → W → List Heard → W → Type 0) (client most : ℕ) where
+module _ {W T : Type 0} (turns : W → List Heard → W → Type 0)
+    (asks : ServerId → Asked → W → List Heard → W → Type 0) (turn_breaks : W → T → Type 0)
+    (ask_breaks : ServerId → Asked → W → T → Type 0) (client most : ℕ) where
   -- these calls are made one after the other, each where the one before was answered
   abbrev pub AreMade : List Exchange → Before W → Before W → Type 0
   AreMade [] a c = c ≡ a
   AreMade (x ∷ xs) a c =
       (b : Before W) × (b.number ≡ raised a.number)
-      × IsMade turns asks most
+      × IsMade turns asks turn_breaks ask_breaks most
       (record { client = client; number = a.number; cred = x.cred; call = x.call })
       (Done x.reply b.place b.scene) a.place a.scene
       × AreMade xs b c

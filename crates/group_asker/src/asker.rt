@@ -1,13 +1,13 @@
 //! The calls of one client.
 
-ghost use Rattle.std.specs.Prelude.{◌≡◌, ◌≤◌, ◌<◌, ℕ, List, [], false, true, Err, IfOk, OnErr, OnOk};
+ghost use Rattle.std.specs.Prelude.{◌≡◌, ◌≤◌, ◌<◌, ℕ, List, [], false, true, Err, IfErr, IfOk, OnErr, OnOk};
 ghost use Rattle.harp_types.specs.declared.server.ServerId.TheVariants.{Zero};
 ghost use Rattle.rpc_door.specs.Results.{is_reply_to};
 ghost use Rattle.rpc_door.specs.declared.group.Exchange.{Exchange as Made};
 ghost use Rattle.rpc_door.specs.declared.group.GroupFault.TheVariants as group;
-ghost use Rattle.group_asker.specs.Rule.{AreMade, AreReady, Before, Beginning, EndsRightly, Fails};
-ghost use Rattle.group_asker.specs.Rule.{IsMade, LeadsOn, TurnBrings, asked, brings};
-ghost use Rattle.group_asker.specs.Rule.Outcome.{Done, Spent};
+ghost use Rattle.group_asker.specs.Rule.{AreMade, AreReady, Before, EndsRightly, Fails, GivesUp};
+ghost use Rattle.group_asker.specs.Rule.{IsMade, LeadsOn, Standing, TurnBrings, asked, brings};
+ghost use Rattle.group_asker.specs.Rule.Outcome.{Done};
 
 use crate::brought::{Brought, Next, follow, hear};
 use crate::servers::{Servers, ServersFault};
@@ -36,6 +36,8 @@ fn ask<S: Servers>(
     ensures asks { OnOk result ((w : S.Scene) → S.stands servers.old w
         → LeadsOn (S.asks place (asked ticket call.now)) (S.stands servers.new)
         (S.said servers.old) (S.said servers.new) w) }
+    ensures broken { OnErr result ((w : S.Scene) → S.stands servers.old w
+        → S.ask_breaks place (asked ticket call.now) w (S.trail servers.new)) }
     ensures failed { result ≡ Err ServersFault.Failed
         → Fails (S.failed servers.new) (S.faults servers.old) (S.faults servers.new) }
     ensures count { S.faults servers.old ≤ S.faults servers.new }
@@ -81,6 +83,8 @@ fn take_turn<S: Servers>(
     ensures turn { IfOk result (λ b. (w : S.Scene) → S.stands servers.old w
         → TurnBrings S.turns (S.stands servers.new) ticket.client ticket.number call.now
         (S.said servers.old) b w) }
+    ensures broken { OnErr result ((w : S.Scene) → S.stands servers.old w
+        → S.turn_breaks w (S.trail servers.new)) }
     ensures form { IfOk result (λ b. EndsRightly call.now b) }
     ensures ready { IfOk result (λ _. AreReady S.runs S.said servers.new) }
     ensures failed { result ≡ Err ServersFault.Failed
@@ -117,11 +121,14 @@ fn make_call<S: Servers>(
     requires { AreReady S.runs S.said servers.old }
     ensures ready { IfOk result (λ _. AreReady S.runs S.said servers.new) }
     ensures done { IfOk result (λ x. (w : S.Scene) → S.stands servers.old w
-        → (v : S.Scene) × IsMade S.turns S.asks turns (asked ticket call.now)
+        → (v : S.Scene)
+        × IsMade S.turns S.asks S.turn_breaks S.ask_breaks turns (asked ticket call.now)
         (Done x.0 x.1 v) place w × S.stands servers.new v) }
     ensures form { IfOk result (λ x. is_reply_to call.now x.0 ≡ true) }
-    ensures spent { result ≡ Err GroupFault.Spent → (w : S.Scene) → S.stands servers.old w
-        → IsMade S.turns S.asks turns (asked ticket call.now) Spent place w }
+    ensures given_up { IfErr result (λ why. (w : S.Scene) → S.stands servers.old w
+        → GivesUp (S.stands servers.new) (S.trail servers.new)
+        (λ o. IsMade S.turns S.asks S.turn_breaks S.ask_breaks turns (asked ticket call.now) o
+        place w) why) }
     ensures failed { result ≡ Err GroupFault.Failed
         → Fails (S.failed servers.new) (S.faults servers.old) (S.faults servers.new) }
     ensures count { S.faults servers.old ≤ S.faults servers.new }
@@ -210,23 +217,29 @@ impl<S: Servers> Asker<S> {
 }
 
 impl<S: Servers> Group for Asker<S> {
-    ghost Start = { Beginning S.Basis S.Scene };
+    ghost Start = { Before S.Scene };
 
-    ghost told = { λ a start made. (c : Before S.Scene)
-        × AreMade S.turns S.asks a.client a.turns made start.first c
+    ghost told = { λ a first made. (c : Before S.Scene)
+        × AreMade S.turns S.asks S.turn_breaks S.ask_breaks a.client a.turns made first c
         × (a.next ≡ c.number) × (a.place ≡ c.place)
-        × (a.stopped ≡ false → S.stands a.servers c.scene) × S.on a.servers start.basis };
+        × (a.stopped ≡ false → S.stands a.servers c.scene) };
 
     // A call that was given up was asked just by the rule too.
-    ghost unanswered = { λ a why start made cred call. (c : Before S.Scene)
-        × AreMade S.turns S.asks a.client a.turns made start.first c
-        × (why ≡ group.Spent → IsMade S.turns S.asks a.turns
+    ghost unanswered = { λ a why first made cred call. (c : Before S.Scene)
+        × AreMade S.turns S.asks S.turn_breaks S.ask_breaks a.client a.turns made first c
+        × GivesUp (S.stands a.servers) (S.trail a.servers)
+        (λ o. IsMade S.turns S.asks S.turn_breaks S.ask_breaks a.turns
         (record { client = a.client; number = c.number; cred = cred; call = call })
-        Spent c.place c.scene) × (why ≡ group.Failed → S.failed a.servers) };
+        o c.place c.scene) why
+        × (why ≡ group.Failed → S.failed a.servers) };
 
     ghost runs = { λ a. (a.stopped ≡ false) × AreReady S.runs S.said a.servers };
 
     ghost counts = { λ a. record { failed = S.faults a.servers; spent = a.spent } };
+
+    ghost Basis = { Standing S.Basis };
+
+    ghost on = { λ a o. (a.client ≡ o.client) × (a.turns ≡ o.turns) × S.on a.servers o.basis };
 
     fn call(&mut self, alloc: Global, cred: Cred, call: &Call) -> Result<Reply, GroupFault> {
         let ticket = Ticket {

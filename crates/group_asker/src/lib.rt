@@ -4,8 +4,9 @@
 //!
 //! An `Asker` over any `Servers` is a `Group` of which it is told that its asks and turns since its
 //! start are, call by call, just those of the rule (`AreMade`); and where it gave up a call, that
-//! the turns of this one were so too (`IsMade`). What the servers run on is the same all along,
-//! after a fault too (`on`), and where it failed they show that (`failed`).
+//! those of this one were so too (`IsMade`), up to the ask or the turn that was cut off where it
+//! failed. Whose calls they are, how many turns each has and what the servers run on is the same all
+//! along, after a fault too (`on`), and where it failed they show that (`failed`).
 #![tactic(auto)]
 
 mod asker;

@@ -1,6 +1,6 @@
 //! Servers that are asked.
 
-ghost use Rattle.std.specs.Prelude.{◌≡◌, ◌≤◌, ℕ, List, Err, OnOk};
+ghost use Rattle.std.specs.Prelude.{◌≡◌, ◌≤◌, ℕ, List, Err, OnErr, OnOk};
 ghost use Rattle.harp_types.specs.declared.server.ServerId.{ServerId as Place};
 ghost use Rattle.node_loop.specs.declared.heard.Heard.{Heard as Said};
 ghost use Rattle.node_loop.specs.Outgoing.{IsNext};
@@ -48,6 +48,18 @@ pub trait Servers {
     // So does an ask at a server.
     ghost asks: { Place → Asked → Self.Scene → List Said → Self.Scene → Type 0 };
 
+    // What shows of them where a turn or an ask fails.
+    ghost Trail: { Type 0 };
+
+    // It is this.
+    ghost trail: { Self → Self.Trail };
+
+    // A turn from this scene fails so.
+    ghost turn_breaks: { Self.Scene → Self.Trail → Type 0 };
+
+    // So does an ask at a server.
+    ghost ask_breaks: { Place → Asked → Self.Scene → Self.Trail → Type 0 };
+
     // How many calls failed of what they run on, which never falls.
     ghost faults: { Self → ℕ };
 
@@ -66,6 +78,8 @@ pub trait Servers {
         ensures runs { OnOk result (runs self.new) }
         ensures turns { OnOk result ((w : Self.Scene) → stands self.old w
             → LeadsOn turns (stands self.new) (said self.old) (said self.new) w) }
+        ensures broken { OnErr result ((w : Self.Scene) → stands self.old w
+            → turn_breaks w (trail self.new)) }
         ensures failed { result ≡ Err ServersFault.Failed
             → Fails (failed self.new) (faults self.old) (faults self.new) }
         ensures count { faults self.old ≤ faults self.new }
@@ -90,6 +104,13 @@ pub trait Servers {
               cred = cred;
               call = call.now;
             })) (stands self.new) (said self.old) (said self.new) w) }
+        ensures broken { OnErr result ((w : Self.Scene) → stands self.old w
+            → ask_breaks place (record {
+              client = client;
+              number = number;
+              cred = cred;
+              call = call.now;
+            }) w (trail self.new)) }
         ensures failed { result ≡ Err ServersFault.Failed
             → Fails (failed self.new) (faults self.old) (faults self.new) }
         ensures count { faults self.old ≤ faults self.new }

@@ -1,10 +1,11 @@
 //! Three servers that run in this process.
 
-ghost use Rattle.std.specs.Prelude.{◌≡◌, ◌≤◌, ℕ, [], Option, None, Some, Err, OnOk};
-ghost use Rattle.node_loop.specs.Chain.{Chain};
-ghost use Rattle.node_loop.specs.Run.{AsksAt, TurnsAt};
-ghost use Rattle.node_loop.specs.Scene.{AreUp, Scene, all_places, each, scene_of, with_heard};
-ghost use Rattle.local_servers.specs.Local.{Basis, HasFailed, IsLater, IsLent, all_faults, of_loop};
+ghost use Rattle.std.specs.Prelude.{◌≡◌, ◌≤◌, ℕ, List, [], Option, None, Some, Err, OnErr, OnOk};
+ghost use Rattle.node_link.specs.declared.link.SentDatagram.{SentDatagram};
+ghost use Rattle.node_loop.specs.Scene.{AreUp, Scene, each, scene_of, with_heard};
+ghost use Rattle.node_loop.specs.Turn.{sent_of};
+ghost use Rattle.local_servers.specs.Local.{AskBreaks, AskedAt, Basis, HasFailed, IsLater, IsLent};
+ghost use Rattle.local_servers.specs.Local.{TurnBreaks, Turned, all_faults, of_loop};
 
 use group_asker::{Servers, ServersFault};
 use harp_store::Store;
@@ -78,9 +79,18 @@ impl<L: Link, D: Store, C: Clock> Servers for LocalServers<'_, L, D, C> {
 
     ghost said = { λ s. s.three.now.ledger.heard.items };
 
-    ghost turns = { λ w said v. Chain TurnsAt all_places w (with_heard said v) };
+    ghost turns = { Turned };
 
-    ghost asks = { λ place q w said v. AsksAt place q w (with_heard said v) };
+    ghost asks = { AskedAt };
+
+    // Which datagrams were sent, as far as the link tells.
+    ghost Trail = { Option (List SentDatagram) };
+
+    ghost trail = { λ s. sent_of (L.told s.link.now) };
+
+    ghost turn_breaks = { TurnBreaks };
+
+    ghost ask_breaks = { AskBreaks };
 
     ghost faults = { λ s. all_faults (L.faults s.link.now) (each D.faults s.disks.now) };
 

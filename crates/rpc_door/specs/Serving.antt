@@ -73,6 +73,10 @@ pub record Side (S : Type 0) : Type 1 where
 abbrev pub side : {S : Type 0} → Tells S → Unanswered S → Option (List ℕ) → Side S
 side told unanswered written = record { told = told; unanswered = unanswered; written = written }
 
+-- before a door was opened there was no call
+abbrev pub closed : Option (List ℕ) → Side ⊤
+closed written = side (λ start made. made ≡ []) (λ why start made by call. ⊥) written
+
 -- ---- one record
 
 -- These calls were made for a record that means this, and this is its answer as it is sent

@@ -47,6 +47,12 @@ pub trait Group {
     // How many calls failed, and how many it gave up.
     ghost counts: { Self → Counts };
 
+    // What it can run on, as it was before.
+    ghost Basis: { Type 0 };
+
+    // It runs on it. That stays so after a fault.
+    ghost on: { Self → Self.Basis → Type 0 };
+
     /// The reply to a call by this user and group, of a form that the call can get.
     fn call(&mut self, alloc: Global, cred: Cred, call: &Call) -> Result<Reply, GroupFault>
         requires { runs self.old }
@@ -58,5 +64,6 @@ pub trait Group {
             (unanswered self.new) why cred call.now) }
         ensures counted { IfErr result (λ why. IsCounted why (counts self.old)
             (counts self.new)) }
-        ensures counts { NoneFell (counts self.old) (counts self.new) };
+        ensures counts { NoneFell (counts self.old) (counts self.new) }
+        ensures on { (o : Self.Basis) → on self.old o → on self.new o };
 }

@@ -104,6 +104,7 @@ fn answer_call<G: Group>(
     ensures counted { IfErr result (λ why. IsCounted why (G.counts group.old)
         (G.counts group.new)) }
     ensures counts { NoneFell (G.counts group.old) (G.counts group.new) }
+    ensures on { (o : G.Basis) → G.on group.old o → G.on group.new o }
 {
     let reply = match group.call(alloc, cred, call) {
         Ok(reply) => reply,
@@ -131,6 +132,7 @@ fn answer_record<G: Group>(
     ensures counted { IfErr result (λ why. IsCounted why (G.counts group.old)
         (G.counts group.new)) }
     ensures counts { NoneFell (G.counts group.old) (G.counts group.new) }
+    ensures on { (o : G.Basis) → G.on group.old o → G.on group.new o }
 {
     room.sent.clear();
     match read_rpc(alloc, room.record.as_slice()) {
@@ -171,6 +173,7 @@ fn serve_record<S: Source, K: Sink, G: Group>(
     ensures counts { FaultsStay
         (faults (S.faults source.old) (K.faults sink.old) (G.counts group.old))
         (faults (S.faults source.new) (K.faults sink.new) (G.counts group.new)) }
+    ensures on { (o : G.Basis) → G.on group.old o → G.on group.new o }
 {
     match desk.reader.next(source, &mut desk.room.record) {
         Ok(Next::Record) => {}
@@ -215,6 +218,7 @@ fn serve_next<S: Source, K: Sink, G: Group>(
     ensures counts { FaultsStay
         (faults (S.faults source.old) (K.faults sink.old) (G.counts group.old))
         (faults (S.faults source.new) (K.faults sink.new) (G.counts group.new)) }
+    ensures on { (o : G.Basis) → G.on group.old o → G.on group.new o }
 {
     match desk.reader.begins(source) {
         Ok(true) => {}
@@ -258,6 +262,7 @@ pub fn serve_rpc<S: Source, K: Sink, G: Group>(
     ensures counts { FaultsStay
         (faults (S.faults source.old) (K.faults sink.old) (G.counts group.old))
         (faults (S.faults source.new) (K.faults sink.new) (G.counts group.new)) }
+    ensures on { (o : G.Basis) → G.on group.old o → G.on group.new o }
 {
     let mut desk = match Desk::new(alloc) {
         Ok(desk) => desk,

@@ -7,7 +7,8 @@ use Rattle.group_asker.proofs.asker.make_call.Given as goal
 abbrev pub invariant-loop-left : goal.invariant-loop-left
 invariant-loop-left g l = record {
   waits : (w : g.S.Servers.Scene) → g.S.Servers.stands l.fn.servers w
-      → IsWaiting g.S.Servers.turns g.S.Servers.asks l.turns
+      → IsWaiting g.S.Servers.turns g.S.Servers.asks g.S.Servers.turn_breaks g.S.Servers.ask_breaks
+      l.turns
       (asked l.ticket l.call)
       l.fn.place w (g.S.Servers.stands l.servers) (g.S.Servers.said l.servers) l.left l.quiet l.place;
   few : l.quiet + l.left ≤ l.turns;

@@ -17,6 +17,7 @@ loop-number-init g c = record {
   some = omega arith;
   few = omega arith;
   stay = (omega arith, omega arith, (omega arith, omega arith));
+  on = λ o h. h;
 }
 
 pub loop-number-preserved : goal.loop-number-preserved
@@ -43,6 +44,7 @@ loop-number-preserved g c =
       some = omega arith;
       few = omega (arith, few);
       stay = stays_then _ _ _ inv.stay e.counts;
+      on = λ o h. e.on o (inv.on o h);
     }
 
 pub returns-in-Ok-Ended-clause-ends : goal.returns-in-Ok-Ended-clause-ends

@@ -16,6 +16,7 @@ invariant-loop-number g l = record {
   stay : FaultsStay
       (faults (g.S.Source.faults l.fn.source) (g.K.Sink.faults l.fn.sink) (g.G.Group.counts l.fn.group))
       (faults (g.S.Source.faults l.source) (g.K.Sink.faults l.sink) (g.G.Group.counts l.group));
+  on : (o : g.G.Group.Basis) → g.G.Group.on l.fn.group o → g.G.Group.on l.group o;
 }
 
 abbrev pub decreases-loop-number : goal.decreases-loop-number

@@ -45,3 +45,7 @@ returns-in-Err-clause-count g c =
     all_grow (g.L.Link.faults s.link.now) (g.L.Link.faults c.ask.new.link)
     (each g.D.Store.faults s.disks.now) (each g.D.Store.faults c.ask.new.stores)
     c.in-Err.ensures.link_count c.in-Err.ensures.disk_count
+
+pub returns-in-Err-clause-broken : goal.returns-in-Err-clause-broken
+returns-in-Err-clause-broken g c w is =
+    rw is (c.args.self.now.three.now.ledger.heard.items, c.in-Err.ensures.part)
