@@ -1,11 +1,13 @@
 #!/usr/bin/env python3
-"""Gives the streams of clients to the program that was built, as to the door of a played group.
+"""Gives the streams of clients to the program that was built, as to a door of a group.
 
     python3 .ci/doors.py PROGRAM [WORD..]
 
 runs `PROGRAM WORD.. ..` with the words of each `.ci/cases/doors/*.words` behind their status, gives
 it the bytes of `*.stdin`, and compares what it writes with `*.stdout`; a file whose name ends with
-`.gz` is packed. Then it waits for the answer to each of a few calls before it sends the next one.
+`.gz` is packed. Of words of running servers, `PORT` stands for a free port, in a new folder. It waits
+for the answer to each of a few calls before it sends the next one. And some of the streams of a
+played group are sent to running servers too, which give the same answers but for the times.
 
 It prints what goes wrong, and how many were tried. The exit status is 0 where all is well, else 1.
 """
@@ -15,11 +17,24 @@ import gzip
 import os
 import subprocess
 import sys
+import tempfile
 import threading
+from concurrent.futures import ThreadPoolExecutor
 
+sys.dont_write_bytecode = True
 TOP = os.path.dirname(os.path.dirname(os.path.abspath(__file__)))
 CASES = os.path.join(TOP, ".ci", "cases", "doors")
 SECONDS = 110
+
+sys.path.insert(0, os.path.join(TOP, "examples"))
+from nodes import free_port
+
+ATTEMPTS, LINK_FAILED = 20, 8
+
+# Streams of a played group that running servers answer too, with times of their own.
+RUN_TOO = ["calls_65", "create", "ends_in_record", "fragments", "getattr_of_each_kind", "link"]
+RUN_TOO += ["readdir_pages", "readlink", "record_20001", "rename", "setattr", "write"]
+PLAYED_TIME = (2).to_bytes(4, "big") + (50_000).to_bytes(4, "big")
 
 
 def content(path):
@@ -47,14 +62,46 @@ def records(stream):
         stream = stream[length:]
 
 
+def run(program, words, stream):
+    """The status and the answers, at a free port in a new folder where the words have `PORT`."""
+    for _ in range(ATTEMPTS):
+        at_port = [str(free_port()) if word == "PORT" else word for word in words]
+        with tempfile.TemporaryDirectory() as folder:
+            ended = subprocess.run(
+                [*program, *at_port],
+                input=stream,
+                stdout=subprocess.PIPE,
+                timeout=SECONDS,
+                check=False,
+                cwd=folder,
+            )
+        if "PORT" not in words or ended.returncode != LINK_FAILED:
+            break
+    return ended.returncode, ended.stdout
+
+
 def as_wanted(program, status, words, stream, answers):
-    ended = subprocess.run(
-        [*program, *words], input=stream, stdout=subprocess.PIPE, timeout=SECONDS, check=False
-    )
-    return (ended.returncode, ended.stdout) == (status, answers)
+    return run(program, words, stream) == (status, answers)
 
 
-def one_by_one(program, words, stream, answers):
+def but_for_times(played, answers):
+    """The answers, with the times of a played group where that gave them."""
+    parts = played.split(PLAYED_TIME)
+    at = len(parts[0])
+    for part in parts[1:]:
+        answers = answers[:at] + PLAYED_TIME + answers[at + len(PLAYED_TIME) :]
+        at += len(PLAYED_TIME) + len(part)
+    return answers
+
+
+def as_played(program, status, words, stream, played):
+    """Running servers answer as a played group does."""
+    _, _, uid, gid = words
+    ended, answers = run(program, ["door", uid, gid, "7", "PORT", "d", "100000"], stream)
+    return (ended, but_for_times(played, answers)) == (status, played)
+
+
+def one_by_one(program, status, words, stream, answers):
     """Each call is answered before the next one is sent."""
     with subprocess.Popen(
         [*program, *words], stdin=subprocess.PIPE, stdout=subprocess.PIPE
@@ -69,7 +116,7 @@ def one_by_one(program, words, stream, answers):
         door.stdin.close()
         ended = door.wait()
         late.cancel()
-    return same and ended == 0
+    return same and ended == status
 
 
 def main():
@@ -77,17 +124,17 @@ def main():
         print(__doc__)
         return 1
     program = [os.path.abspath(sys.argv[1]), *sys.argv[2:]]
+    tries = [(as_wanted, case) for case in cases()]
+    tries += [(one_by_one, case) for case in cases() if case[0] == "create"]
+    tries += [(as_played, case) for case in cases() if case[0] in RUN_TOO]
     tried = failed = 0
-    for name, *case in cases():
-        tried += 1
-        if not as_wanted(program, *case):
-            failed += 1
-            print(f"doors: {name}: ended or wrote otherwise")
-        if name == "create":
+    with ThreadPoolExecutor(os.cpu_count()) as pool:
+        ends = [(test, case[0], pool.submit(test, program, *case[1:])) for test, case in tries]
+        for test, name, end in ends:
             tried += 1
-            if not one_by_one(program, *case[1:]):
+            if not end.result():
                 failed += 1
-                print(f"doors: {name}: a call wasn't answered before the next one")
+                print(f"doors: {name}: not {test.__name__}")
     print(f"doors: {tried} tried, {failed} failed")
     return 0 if failed == 0 and tried > 1 else 1
 

@@ -1,9 +1,9 @@
 #!/usr/bin/env python3
-"""Speaks NFS over RPC to `harp door play`: makes a directory, looks for it, and lists the root.
+"""Speaks NFS over RPC to a door: makes a directory twice, looks for it, and lists the root.
 
-    python3 examples/rpc.py PROGRAM [WORD..]
+    python3 examples/rpc.py PROGRAM WORD..
 
-Each call is a record (RFC 1057, section 10) whose answer is awaited before the next one is sent.
+runs a door, as by `harp door play 0 0`, and is its client. Each call is a record (RFC 1057, section 10) whose answer is awaited before the next one is sent.
 """
 
 import struct
@@ -22,10 +22,9 @@ def counted(data):
 
 
 class Door:
-    """A connection to a group that is played, as user 0 and group 0."""
+    """A connection to a door."""
 
-    def __init__(self, program):
-        words = [*program, "door", "play", "0", "0"]
+    def __init__(self, words):
         self.program = subprocess.Popen(words, stdin=subprocess.PIPE, stdout=subprocess.PIPE)
         self.xid = 0
 
@@ -57,7 +56,7 @@ def names(page):
 
 
 def main():
-    if len(sys.argv) < 2:
+    if len(sys.argv) < 3:
         print(__doc__)
         return 1
     door = Door(sys.argv[1:])

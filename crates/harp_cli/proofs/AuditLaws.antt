@@ -37,3 +37,4 @@ tree_ends laws list log (verdict.Sound l) before after exit.DiskFailed tells end
 tree_ends laws list log (verdict.Sound l) before after exit.LinkFailed tells ends = ends
 tree_ends laws list log (verdict.Sound l) before after exit.RefusedRecord tells ends = ends
 tree_ends laws list log (verdict.Sound l) before after exit.NetFull tells ends = ends
+tree_ends laws list log (verdict.Sound l) before after exit.CallSpent tells ends = ends

@@ -66,3 +66,4 @@ agrees text source before after exit.DiskFailed h = absurd h
 agrees text source before after exit.LinkFailed h = absurd h
 agrees text source before after exit.RefusedRecord h = absurd h
 agrees text source before after exit.NetFull h = absurd h
+agrees text source before after exit.CallSpent h = absurd h

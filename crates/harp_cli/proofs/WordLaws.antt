@@ -11,7 +11,7 @@ use Rattle.harp_types.specs.declared.server.ServerId.TheVariants.{Zero, One, Two
 use Rattle.harp_cli.specs.declared.loop_words.Loop.{Loop}
 use Rattle.harp_cli.specs.declared.words.Command.{Command}
 use Rattle.harp_cli.specs.declared.words.Command.TheVariants as command
-use Rattle.harp_cli.specs.Words.{IsDoorPlay, IsGen, IsGroup, IsNode, IsSweep}
+use Rattle.harp_cli.specs.Words.{DoorWords, IsGen, IsGroup, IsNode, IsSweep}
 use Rattle.harp_cli.specs.Words.{AsksFor, AuditWords, IsForm, LoopWords, Named, NodeWords, delta_of}
 use Rattle.harp_cli.specs.Words.{delta_words, texts}
 
@@ -83,7 +83,7 @@ no_delta words port folder turns word are none runs told =
 
 -- ---- a command by its first word
 
-front : (ws : List (List ℕ)) (name : List ℕ) (rest : List (List ℕ)) (other : List ℕ)
+pub front : (ws : List (List ℕ)) (name : List ℕ) (rest : List (List ℕ)) (other : List ℕ)
     (more : List (List ℕ)) → ws ≡ name ∷ rest → ws ≡ other ∷ more → (other ≡ name) × (more ≡ rest)
 front ws name rest other more p q =
     let same = sym q ∙ p in
@@ -118,6 +118,9 @@ named ws name rest are (command.DoorPlay uid gid) p =
     let same = front (texts ws) name rest (codes "door")
     (codes "play" ∷ decimal uid ∷ decimal gid ∷ []) are p.0 in
     (same.0, (sym same.1, p.1, p.2))
+named ws name rest are (command.Door door) p =
+    let same = front (texts ws) name rest (codes "door") p.rest are p.are in
+    (same.0, subst (DoorWords door) same.1 p.door_words)
 
 asks : (ws : List (String Global)) (name : List ℕ) (rest : List (List ℕ)) → texts ws ≡ name ∷ rest
     → (c : Command) → Named name rest c → AsksFor ws c
@@ -148,6 +151,8 @@ asks ws name rest are (command.DoorPlay uid gid) p = (
   p.1.1,
   p.1.2,
 )
+asks ws name rest are (command.Door door) p =
+    record { rest = rest; are = are ∙ ap (λ t. t ∷ rest) (sym p.0); door_words = p.1 }
 
 pub by_name : (ws : List (String Global)) (name : List ℕ) (rest : List (List ℕ))
     → texts ws ≡ name ∷ rest → (r : Option Command)
@@ -161,7 +166,7 @@ second : List ℕ → ℕ
 second name = get_or name 1 0
 
 -- no other name has the first letter of `node` or `door`
-first : List ℕ → ℕ
+unfoldable pub first : List ℕ → ℕ
 first name = get_or name 0 0
 
 only_play : (rest : List (List ℕ)) (c : Command) → Named (codes "play") rest c → rest ≡ []
@@ -179,6 +184,8 @@ only_play rest (command.Group runs) p =
 only_play rest command.Audit p = let e : 117 ≡ 108 = ap second p.0 in absurd (omega (arith, e))
 only_play rest (command.DoorPlay uid gid) p =
     let e : 111 ≡ 108 = ap second p.0 in absurd (omega (arith, e))
+only_play rest (command.Door door) p =
+    let e : 111 ≡ 108 = ap second p.0 in absurd (omega (arith, e))
 
 only_check : (rest : List (List ℕ)) (c : Command) → Named (codes "check") rest c → rest ≡ []
 unfolding second
@@ -194,6 +201,8 @@ only_check rest (command.Group runs) p =
     let e : 114 ≡ 104 = ap second p.0 in absurd (omega (arith, e))
 only_check rest command.Audit p = let e : 117 ≡ 104 = ap second p.0 in absurd (omega (arith, e))
 only_check rest (command.DoorPlay uid gid) p =
+    let e : 111 ≡ 104 = ap second p.0 in absurd (omega (arith, e))
+only_check rest (command.Door door) p =
     let e : 111 ≡ 104 = ap second p.0 in absurd (omega (arith, e))
 
 pub play_alone : (rest : List (List ℕ)) (r : Option Command)
@@ -230,6 +239,8 @@ no_loop words rest word are none command.Audit p =
     let e : 117 ≡ 111 = ap second p.0 in absurd (omega (arith, e))
 no_loop words rest word are none (command.DoorPlay uid gid) p =
     let e : 100 ≡ 110 = ap first p.0 in absurd (omega (arith, e))
+no_loop words rest word are none (command.Door door) p =
+    let e : 100 ≡ 110 = ap first p.0 in absurd (omega (arith, e))
 
 -- words behind `audit` that aren't a folder's name
 pub no_folder : (words : List (List ℕ)) → (AuditWords words → ⊥) → (c : Command)
@@ -250,27 +261,8 @@ no_folder words none (command.Group runs) p =
 no_folder words none command.Audit p = none p.1
 no_folder words none (command.DoorPlay uid gid) p =
     let e : 111 ≡ 117 = ap second p.0 in absurd (omega (arith, e))
-
--- words behind `door` that aren't `play`, a user and a group
-pub no_door : (words : List (List ℕ)) → ((uid gid : ℕ)
-    → words ≡ codes "play" ∷ decimal uid ∷ decimal gid ∷ [] → uid < 2 ^ 32 → gid < 2 ^ 32 → ⊥)
-    → (c : Command) → Named (codes "door") words c → ⊥
-unfolding first
-no_door words none command.Play p =
-    let e : 112 ≡ 100 = ap first p.0 in absurd (omega (arith, e))
-no_door words none command.Check p =
-    let e : 99 ≡ 100 = ap first p.0 in absurd (omega (arith, e))
-no_door words none (command.Gen s n) p =
-    let e : 103 ≡ 100 = ap first p.0 in absurd (omega (arith, e))
-no_door words none (command.Sweep s k n) p =
-    let e : 115 ≡ 100 = ap first p.0 in absurd (omega (arith, e))
-no_door words none (command.Node place runs) p =
-    let e : 110 ≡ 100 = ap first p.0 in absurd (omega (arith, e))
-no_door words none (command.Group runs) p =
-    let e : 103 ≡ 100 = ap first p.0 in absurd (omega (arith, e))
-no_door words none command.Audit p =
-    let e : 97 ≡ 100 = ap first p.0 in absurd (omega (arith, e))
-no_door words none (command.DoorPlay uid gid) p = none uid gid p.1.0 p.1.1 p.1.2
+no_folder words none (command.Door door) p =
+    let e : 111 ≡ 117 = ap second p.0 in absurd (omega (arith, e))
 
 -- several words are no folder's name, and neither is none, nor an empty one
 pub no_one_word : (words : List (List ℕ)) → (length words ≡ 1 → ⊥) → AuditWords words → ⊥
@@ -368,15 +360,5 @@ one_sweep ws s k n t j m p q =
       decimal_injective k j (omega (arith, p.3)) (omega (arith, q.3))
           (ap (λ (ts : List (List ℕ)). get_or ts 2 []) e),
       decimal_injective n m (omega (arith, p.4)) (omega (arith, q.4))
-          (ap (λ (ts : List (List ℕ)). get_or ts 3 []) e),
-    )
-
-pub one_door_play : (ws : List (String Global)) (u g v h : ℕ) → IsDoorPlay u g ws
-    → IsDoorPlay v h ws → (u ≡ v) × (g ≡ h)
-one_door_play ws u g v h p q =
-    let e = sym p.0 ∙ q.0 in (
-      decimal_injective u v (omega (arith, p.1)) (omega (arith, q.1))
-          (ap (λ (ts : List (List ℕ)). get_or ts 2 []) e),
-      decimal_injective g h (omega (arith, p.2)) (omega (arith, q.2))
           (ap (λ (ts : List (List ℕ)). get_or ts 3 []) e),
     )

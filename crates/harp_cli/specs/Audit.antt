@@ -32,6 +32,7 @@ VerdictEnds v before after exit.SourceFailed = ⊥
 VerdictEnds v before after exit.RefusedLine = ⊥
 VerdictEnds v before after exit.RefusedRecord = ⊥
 VerdictEnds v before after exit.NetFull = ⊥
+VerdictEnds v before after exit.CallSpent = ⊥
 VerdictEnds v before after exit.DiskFailed = ⊥
 VerdictEnds v before after exit.LinkFailed = ⊥
 
@@ -56,6 +57,7 @@ AuditEnds told before after exit.SourceFailed = ⊥
 AuditEnds told before after exit.RefusedLine = ⊥
 AuditEnds told before after exit.RefusedRecord = ⊥
 AuditEnds told before after exit.NetFull = ⊥
+AuditEnds told before after exit.CallSpent = ⊥
 AuditEnds told before after exit.LinkFailed = ⊥
 
 -- the text of the tree after the committed updates was written whole with 0, and it isn't called
@@ -70,6 +72,7 @@ WritesTree list log before after exit.SinkFailed = Unit {0}
 WritesTree list log before after exit.RefusedLine = ⊥
 WritesTree list log before after exit.RefusedRecord = ⊥
 WritesTree list log before after exit.NetFull = ⊥
+WritesTree list log before after exit.CallSpent = ⊥
 WritesTree list log before after exit.NoMemory = Unit {0}
 WritesTree list log before after exit.DiskFailed = Unit {0}
 WritesTree list log before after exit.LinkFailed = ⊥

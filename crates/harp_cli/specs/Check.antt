@@ -1,5 +1,5 @@
 -- How a check ends.
-use Rattle.std.specs.Prelude.{◌≡◌, ◌≢◌, ◌⊎◌, ℕ, List, [], Option, Some}
+use Rattle.std.specs.Prelude.{◌≡◌, ◌≢◌, ◌⊎◌, ℕ, List, [], Option, Some, ⊤}
 use Rattle.std.specs.Io.KnownBytes.{Appends}
 use Rattle.harp_types.specs.Streams.{GrewByPart}
 use Rattle.trace_verdict.specs.Verdicts.{IsRightText, IsVerdictOn}
@@ -52,8 +52,24 @@ CheckEnds text source before after exit.DiskFailed = ⊥
 CheckEnds text source before after exit.LinkFailed = ⊥
 CheckEnds text source before after exit.RefusedRecord = ⊥
 CheckEnds text source before after exit.NetFull = ⊥
+CheckEnds text source before after exit.CallSpent = ⊥
 
 -- of a right text alone the status is 0, and of one it isn't 1 or 5
 abbrev pub StatusAgrees : List ℕ → ℕ → Type 0
 StatusAgrees text status =
     (status ≡ 0 → IsRightText text) × (IsRightText text → (status ≢ 1) × (status ≢ 5))
+
+-- a check can end so
+abbrev pub EndsCheck : Exit → Type 0
+EndsCheck exit.Done = ⊤
+EndsCheck exit.SaysNo = ⊤
+EndsCheck exit.RefusedWords = ⊥
+EndsCheck exit.SourceFailed = ⊤
+EndsCheck exit.SinkFailed = ⊤
+EndsCheck exit.RefusedLine = ⊤
+EndsCheck exit.RefusedRecord = ⊥
+EndsCheck exit.NoMemory = ⊤
+EndsCheck exit.DiskFailed = ⊥
+EndsCheck exit.LinkFailed = ⊥
+EndsCheck exit.CallSpent = ⊥
+EndsCheck exit.NetFull = ⊥

@@ -1,13 +1,18 @@
--- How a door to servers in memory ends.
+-- How doors end.
 use Rattle.std.specs.Prelude.{◌≡◌, ◌⊎◌, ℕ, List, [], ◌∷◌, ◌++◌, Option, Some, Result, Ok, Err, ⊤}
 use Rattle.harp_types.specs.declared.cred.Cred.{Cred}
 use Rattle.door_run.specs.Played.{HasAnswered, HasGivenUp, IsLeft, calls_of}
 use Rattle.rpc_door.specs.Group.{Tells, Unanswered}
-use Rattle.rpc_door.specs.Serving.{DoorEnds, Side, side}
+use Rattle.rpc_door.specs.Serving.{DoorEnds, closed, side}
 use Rattle.rpc_door.specs.declared.fault.DoorFault.{DoorFault}
 use Rattle.rpc_door.specs.declared.fault.DoorFault.TheVariants as door
 use Rattle.world.specs.World.{IsWorld, WorldValue}
 use Rattle.world_rules.specs.Spellings.{spellings}
+use Rattle.door_group.specs.Served.{DoorServed}
+use Rattle.door_group.specs.declared.fault.ServedFault.{ServedFault}
+use Rattle.door_group.specs.declared.fault.ServedFault.TheVariants as served
+use Rattle.door_group.specs.declared.served.Caller.{Caller}
+use Rattle.node_loop.specs.Scene.{Scene}
 use Rattle.harp_cli.specs.declared.exit.Exit.{Exit}
 use Rattle.harp_cli.specs.declared.exit.Exit.TheVariants as exit
 
@@ -36,10 +41,6 @@ AnsweredIn cred world start made =
 abbrev pub GivenUpIn : Cred → WorldValue → Unanswered ⊤
 GivenUpIn cred world why start made by call =
     HasGivenUp spellings cred (calls_of made ++ call ∷ []) (λ w. IsWorld w world)
-
--- before a door was opened there was no call
-abbrev pub closed : Option (List ℕ) → Side ⊤
-closed written = side (λ start made. made ≡ []) (λ why start made by call. ⊥) written
 
 -- A DOOR ENDED SO, where the calls so far are told like this
 abbrev pub EndsIn : Cred → List ℕ → Option (List ℕ) → Option (List ℕ) → Option (List ℕ)
@@ -80,17 +81,54 @@ DoorPlayed cred input source before after world exit.RefusedWords = ⊥
 DoorPlayed cred input source before after world exit.RefusedLine = ⊥
 DoorPlayed cred input source before after world exit.DiskFailed = ⊥
 DoorPlayed cred input source before after world exit.LinkFailed = ⊥
+DoorPlayed cred input source before after world exit.CallSpent = ⊥
 
 -- a door in memory can end so
+abbrev pub EndsDoorPlay : Exit → Type 0
+EndsDoorPlay exit.Done = ⊤
+EndsDoorPlay exit.SaysNo = ⊥
+EndsDoorPlay exit.RefusedWords = ⊥
+EndsDoorPlay exit.SourceFailed = ⊤
+EndsDoorPlay exit.SinkFailed = ⊤
+EndsDoorPlay exit.RefusedLine = ⊥
+EndsDoorPlay exit.RefusedRecord = ⊤
+EndsDoorPlay exit.NoMemory = ⊤
+EndsDoorPlay exit.DiskFailed = ⊥
+EndsDoorPlay exit.LinkFailed = ⊥
+EndsDoorPlay exit.CallSpent = ⊥
+EndsDoorPlay exit.NetFull = ⊤
+
+-- ---- three servers
+
+-- how a command ends whose door to three servers ended so
+abbrev pub exit_of_served : Result ℕ ServedFault → Exit
+exit_of_served (Ok number) = exit.Done
+exit_of_served (Err served.SourceFailed) = exit.SourceFailed
+exit_of_served (Err served.SinkFailed) = exit.SinkFailed
+exit_of_served (Err (served.BadRecord number)) = exit.RefusedRecord
+exit_of_served (Err served.DiskFailed) = exit.DiskFailed
+exit_of_served (Err served.LinkFailed) = exit.LinkFailed
+exit_of_served (Err served.CallSpent) = exit.CallSpent
+exit_of_served (Err served.NoMemory) = exit.NoMemory
+
+-- HOW A DOOR TO THREE SERVERS ENDS: with this exit, and what it is that of
+abbrev pub DoorServes : Caller → List ℕ → Option (List ℕ) → Option (List ℕ) → Option (List ℕ)
+    → Scene → Scene → Exit → Type 0
+DoorServes caller input source before after a now e =
+    (ended : Result ℕ ServedFault) × (e ≡ exit_of_served ended)
+    × DoorServed caller input source before after a now ended
+
+-- it can end so
 abbrev pub EndsDoor : Exit → Type 0
 EndsDoor exit.Done = ⊤
-EndsDoor exit.SourceFailed = ⊤
-EndsDoor exit.SinkFailed = ⊤
-EndsDoor exit.RefusedRecord = ⊤
-EndsDoor exit.NetFull = ⊤
-EndsDoor exit.NoMemory = ⊤
 EndsDoor exit.SaysNo = ⊥
 EndsDoor exit.RefusedWords = ⊥
+EndsDoor exit.SourceFailed = ⊤
+EndsDoor exit.SinkFailed = ⊤
 EndsDoor exit.RefusedLine = ⊥
-EndsDoor exit.DiskFailed = ⊥
-EndsDoor exit.LinkFailed = ⊥
+EndsDoor exit.RefusedRecord = ⊤
+EndsDoor exit.NoMemory = ⊤
+EndsDoor exit.DiskFailed = ⊤
+EndsDoor exit.LinkFailed = ⊤
+EndsDoor exit.CallSpent = ⊤
+EndsDoor exit.NetFull = ⊥

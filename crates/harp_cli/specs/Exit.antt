@@ -18,6 +18,7 @@ status_of exit.RefusedRecord = 5
 status_of exit.NoMemory = 6
 status_of exit.DiskFailed = 7
 status_of exit.LinkFailed = 8
+status_of exit.CallSpent = 9
 status_of exit.NetFull = 10
 
 abbrev pub exit_of_store : StoreFault → Exit

@@ -21,5 +21,6 @@ GenEnds seed lines before after exit.SourceFailed = ⊥
 GenEnds seed lines before after exit.RefusedLine = ⊥
 GenEnds seed lines before after exit.RefusedRecord = ⊥
 GenEnds seed lines before after exit.NetFull = ⊥
+GenEnds seed lines before after exit.CallSpent = ⊥
 GenEnds seed lines before after exit.DiskFailed = ⊥
 GenEnds seed lines before after exit.LinkFailed = ⊥

@@ -1,5 +1,5 @@
 -- How a play of a schedule ends, on three servers with the disks and the packets of real ones.
-use Rattle.std.specs.Prelude.{◌≡◌, ℕ, List, Option}
+use Rattle.std.specs.Prelude.{◌≡◌, ℕ, List, Option, ⊤}
 use Rattle.std.specs.Io.KnownBytes.{Appends}
 use Rattle.group_disks.specs.Calls.{measures_of}
 use Rattle.schedule_play.specs.Ends.{PlayEnds}
@@ -36,3 +36,18 @@ pub record WroteRightText (before after : Option (List ℕ)) : Type 0 where
   pub text : List ℕ
   pub wrote : Appends before after text
   pub right : IsRightText text
+
+-- a play can end so
+abbrev pub EndsPlay : Exit → Type 0
+EndsPlay exit.Done = ⊤
+EndsPlay exit.SaysNo = ⊥
+EndsPlay exit.RefusedWords = ⊥
+EndsPlay exit.SourceFailed = ⊤
+EndsPlay exit.SinkFailed = ⊤
+EndsPlay exit.RefusedLine = ⊤
+EndsPlay exit.RefusedRecord = ⊥
+EndsPlay exit.NoMemory = ⊤
+EndsPlay exit.DiskFailed = ⊥
+EndsPlay exit.LinkFailed = ⊥
+EndsPlay exit.CallSpent = ⊥
+EndsPlay exit.NetFull = ⊥

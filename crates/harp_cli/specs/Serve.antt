@@ -61,6 +61,7 @@ WriteEnds served before after exit.SourceFailed = ⊥
 WriteEnds served before after exit.RefusedLine = ⊥
 WriteEnds served before after exit.RefusedRecord = ⊥
 WriteEnds served before after exit.NetFull = ⊥
+WriteEnds served before after exit.CallSpent = ⊥
 WriteEnds served before after exit.DiskFailed = ⊥
 WriteEnds served before after exit.LinkFailed = ⊥
 
@@ -93,3 +94,4 @@ ServeEnds places runs old new before after exit.SourceFailed = ⊥
 ServeEnds places runs old new before after exit.RefusedLine = ⊥
 ServeEnds places runs old new before after exit.RefusedRecord = ⊥
 ServeEnds places runs old new before after exit.NetFull = ⊥
+ServeEnds places runs old new before after exit.CallSpent = ⊥

@@ -28,5 +28,6 @@ SweepEnds summary_of seed runs lines before after exit.SourceFailed = ⊥
 SweepEnds summary_of seed runs lines before after exit.RefusedLine = ⊥
 SweepEnds summary_of seed runs lines before after exit.RefusedRecord = ⊥
 SweepEnds summary_of seed runs lines before after exit.NetFull = ⊥
+SweepEnds summary_of seed runs lines before after exit.CallSpent = ⊥
 SweepEnds summary_of seed runs lines before after exit.DiskFailed = ⊥
 SweepEnds summary_of seed runs lines before after exit.LinkFailed = ⊥

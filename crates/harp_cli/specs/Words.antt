@@ -9,6 +9,7 @@ use Rattle.harp_types.specs.Streams.{GrewByPart}
 use Rattle.harp_types.specs.declared.server.ServerId.{ServerId}
 use Rattle.node_link.specs.Traffic.{last_port}
 use Rattle.promise.specs.Promise.{IsDelta}
+use Rattle.harp_cli.specs.declared.door_words.Doorway.{Doorway}
 use Rattle.harp_cli.specs.declared.exit.Exit.{Exit}
 use Rattle.harp_cli.specs.declared.exit.Exit.TheVariants as exit
 use Rattle.harp_cli.specs.declared.loop_words.Loop.{Loop}
@@ -104,11 +105,43 @@ pub record IsAudit (words : List (String Global)) : Type 0 where
 
 -- ---- for whom a door is
 
--- the words are `door`, `play`, a user and a group below 2^32, in decimal without leading zeros
+-- the words are `play`, a user and a group below 2^32, in decimal without leading zeros
+abbrev pub PlayWords : ℕ → ℕ → List (List ℕ) → Type 0
+PlayWords uid gid words =
+    (words ≡ codes "play" ∷ decimal uid ∷ decimal gid ∷ []) × (uid < 2 ^ 32) × (gid < 2 ^ 32)
+
+-- the words are `door`, and those
 abbrev pub IsDoorPlay : ℕ → ℕ → List (String Global) → Type 0
 IsDoorPlay uid gid words =
     (texts words ≡ codes "door" ∷ codes "play" ∷ decimal uid ∷ decimal gid ∷ [])
     × (uid < 2 ^ 32) × (gid < 2 ^ 32)
+
+-- the user and group are below 2^32, the client is from 0 to 4095, the ports are from 1024 on, and
+-- the turns from 1 to 10^9
+pub record IsWithin (door : Doorway) : Type 0 where
+  pub uid : door.caller.cred.uid < 2 ^ 32
+  pub gid : door.caller.cred.gid < 2 ^ 32
+  pub client : door.caller.client ≤ 4095
+  pub low : 1024 ≤ door.port
+  pub high : door.port ≤ last_port
+  pub some : 1 ≤ door.caller.turns
+  pub most : door.caller.turns ≤ 10 ^ 9
+
+-- the words are a user, a group, a client, a port, the name of a folder and a number of turns, the
+-- numbers in decimal without leading zeros
+pub record DoorWords (door : Doorway) (words : List (List ℕ)) : Type 0 where
+  pub folder : List ℕ
+  pub are : words
+      ≡ decimal door.caller.cred.uid ∷ decimal door.caller.cred.gid ∷ decimal door.caller.client
+      ∷ decimal door.port ∷ folder ∷ decimal door.caller.turns ∷ []
+  pub named : folder ≢ []
+  pub within : IsWithin door
+
+-- the words are `door`, who makes its calls, and where its servers are
+pub record IsDoor (door : Doorway) (words : List (String Global)) : Type 0 where
+  pub rest : List (List ℕ)
+  pub are : texts words ≡ codes "door" ∷ rest
+  pub door_words : DoorWords door rest
 
 -- ---- all forms
 
@@ -122,6 +155,7 @@ AsksFor words (command.Node place runs) = IsNode place runs words
 AsksFor words (command.Group runs) = IsGroup runs words
 AsksFor words command.Audit = IsAudit words
 AsksFor words (command.DoorPlay uid gid) = IsDoorPlay uid gid words
+AsksFor words (command.Door door) = IsDoor door words
 
 -- the words are one of these forms
 abbrev pub IsForm : List (String Global) → Type 0
@@ -131,7 +165,7 @@ IsForm words = (command : Command) × AsksFor words command
 abbrev pub Serves : List (String Global) → Type 0
 Serves words =
     ((place : ServerId) × (runs : Loop) × IsNode place runs words)
-    ⊎ ((runs : Loop) × IsGroup runs words)
+    ⊎ ((runs : Loop) × IsGroup runs words) ⊎ ((door : Doorway) × IsDoor door words)
 
 -- ---- the first word, and those behind it
 
@@ -144,6 +178,7 @@ name_of (command.Node place runs) = codes "node"
 name_of (command.Group runs) = codes "group"
 name_of command.Audit = codes "audit"
 name_of (command.DoorPlay uid gid) = codes "door"
+name_of (command.Door door) = codes "door"
 
 abbrev pub Behind : List (List ℕ) → Command → Type 0
 Behind rest command.Play = rest ≡ []
@@ -156,8 +191,8 @@ Behind rest (command.Sweep seed runs lines) =
 Behind rest (command.Node place runs) = NodeWords place runs rest
 Behind rest (command.Group runs) = LoopWords runs rest
 Behind rest command.Audit = AuditWords rest
-Behind rest (command.DoorPlay uid gid) =
-    (rest ≡ codes "play" ∷ decimal uid ∷ decimal gid ∷ []) × (uid < 2 ^ 32) × (gid < 2 ^ 32)
+Behind rest (command.DoorPlay uid gid) = PlayWords uid gid rest
+Behind rest (command.Door door) = DoorWords door rest
 
 -- a command with this name asks for the words behind it
 abbrev pub Named : List ℕ → List (List ℕ) → Command → Type 0
@@ -172,7 +207,8 @@ usage_text =
     ++ codes "usage: harp sweep SEED RUNS LINES\n"
     ++ codes "usage: harp node S PORT DIR TURNS\nusage: harp group PORT DIR TURNS\n"
     ++ codes "usage: harp node S PORT DIR TURNS DELTA\nusage: harp group PORT DIR TURNS DELTA\n"
-    ++ codes "usage: harp door play U G\nusage: harp audit DIR\n"
+    ++ codes "usage: harp door play U G\nusage: harp door U G CLIENT PORT DIR TURNS\n"
+    ++ codes "usage: harp audit DIR\n"
 
 -- on other words the usage text is written, or a first part of it
 abbrev pub UsageEnds : Option (List ℕ) → Option (List ℕ) → Exit → Type 0
@@ -184,6 +220,7 @@ UsageEnds before after exit.SaysNo = ⊥
 UsageEnds before after exit.RefusedLine = ⊥
 UsageEnds before after exit.RefusedRecord = ⊥
 UsageEnds before after exit.NetFull = ⊥
+UsageEnds before after exit.CallSpent = ⊥
 UsageEnds before after exit.SourceFailed = ⊥
 UsageEnds before after exit.DiskFailed = ⊥
 UsageEnds before after exit.LinkFailed = ⊥

@@ -1,8 +1,8 @@
 //! Checking a trace: the verdict on what is read is written as one line.
 
-ghost use Rattle.std.specs.Prelude.{◌≡◌, ◌≢◌, ℕ, List, Some};
+ghost use Rattle.std.specs.Prelude.{◌≡◌, ℕ, List, Some};
 ghost use Rattle.harp_types.specs.Streams.{Rose};
-ghost use Rattle.harp_cli.specs.Check.{CheckEnds, exit_after};
+ghost use Rattle.harp_cli.specs.Check.{CheckEnds, EndsCheck, exit_after};
 
 use crate::exit::Exit;
 use harp_types::{Sink, SinkFault, Source};
@@ -25,10 +25,7 @@ fn exit_after(verdict: Verdict) -> Exit
 pub fn check<S: Source, K: Sink>(alloc: Global, source: &mut S, sink: &mut K) -> Exit
     ensures ends { (text : List ℕ) → S.left source.old ≡ Some text
         → CheckEnds text (S.left source.new) (K.written sink.old) (K.written sink.new) result }
-    ensures words { result ≢ Exit.RefusedWords }
-    ensures disk { result ≢ Exit.DiskFailed }
-    ensures link { result ≢ Exit.LinkFailed }
-    ensures net { result ≢ Exit.NetFull }
+    ensures kind { EndsCheck result }
     ensures source_rose { result ≡ Exit.SourceFailed
         → Rose (S.faults source.old) (S.faults source.new) }
     ensures sink_rose { result ≡ Exit.SinkFailed → Rose (K.faults sink.old) (K.faults sink.new) }

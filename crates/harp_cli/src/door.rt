@@ -4,7 +4,7 @@ ghost use Rattle.std.specs.Prelude.{◌≡◌, ℕ, List, Some};
 ghost use Rattle.harp_types.specs.Streams.{Rose};
 ghost use Rattle.group_disks.specs.Run.{first_disk_scene};
 ghost use Rattle.world.specs.World.{IsWorld};
-ghost use Rattle.harp_cli.specs.Door.{DoorPlayed, EndsDoor, exit_of_door};
+ghost use Rattle.harp_cli.specs.Door.{DoorPlayed, EndsDoorPlay, exit_of_door};
 
 use crate::exit::Exit;
 use door_play::PlayedGroup;
@@ -41,7 +41,7 @@ fn serve_played<S: Source, K: Sink>(
     ensures ends { (input : List ℕ) → S.left source.old ≡ Some input
         → DoorPlayed cred input (S.left source.new) (K.written sink.old) (K.written sink.new)
         group.new.world result }
-    ensures kind { EndsDoor result }
+    ensures kind { EndsDoorPlay result }
     ensures source_rose { result ≡ Exit.SourceFailed
         → Rose (S.faults source.old) (S.faults source.new) }
     ensures sink_rose { result ≡ Exit.SinkFailed → Rose (K.faults sink.old) (K.faults sink.new) }
@@ -67,7 +67,7 @@ pub fn door_play<S: Source, K: Sink>(
     ensures ends { (input : List ℕ) → S.left source.old ≡ Some input
         → DoorPlayed cred input (S.left source.new) (K.written sink.old) (K.written sink.new)
         world.new result }
-    ensures kind { EndsDoor result }
+    ensures kind { EndsDoorPlay result }
     ensures source_rose { result ≡ Exit.SourceFailed
         → Rose (S.faults source.old) (S.faults source.new) }
     ensures sink_rose { result ≡ Exit.SinkFailed → Rose (K.faults sink.old) (K.faults sink.new) }

@@ -26,6 +26,8 @@ pub enum Exit {
     DiskFailed,
     /// The link failed.
     LinkFailed,
+    /// The turns of a call are over, and it isn't answered.
+    CallSpent,
     /// The network of the servers in memory was full.
     NetFull,
 }
@@ -46,6 +48,7 @@ impl Exit {
             Exit::NoMemory => 6,
             Exit::DiskFailed => 7,
             Exit::LinkFailed => 8,
+            Exit::CallSpent => 9,
             Exit::NetFull => 10,
         }
     }

@@ -9,17 +9,21 @@
 //! says of its loops: with status 0 the run was made whole (`IsRun`) and its line written, with 7
 //! and 8 it was cut off (`IsCutOff`) and nothing written (`ServeEnds`). `audit` hands on what
 //! `audit_verdict` says: with status 0 and 1 the verdict was written, with 7 nothing (`AuditEnds`).
-//! `door play` hands on what `rpc_door` says of a door and `door_play` of its calls (`DoorPlayed`).
+//! `door play` hands on what `rpc_door` says of a door and `door_play` of its calls (`DoorPlayed`),
+//! and `door` what `door_group` says of a door to three servers (`DoorServes`).
 //! Not pinned: to which folder a disk is attached, and at which port the link is opened. The words
 //! are exactly `play`, `check`, `gen` with the decimal spellings of two numbers, `sweep` with three,
 //! `node` with a server, and `group`, both with a port, a folder that isn't empty, turns and perhaps
-//! the length of promises, each number within its bounds, `audit` with such a folder, and
-//! `door play` with a user and a group below 2^32 (`IsForm`).
+//! the length of promises, each number within its bounds, `audit` with such a folder, `door play`
+//! with a user and a group below 2^32, and `door` with such a user and group, a client, a port, a
+//! folder and turns (`IsForm`).
 #![tactic(auto)]
 
 mod auditing;
 mod check;
 mod door;
+mod door_servers;
+mod door_words;
 mod exit;
 mod generate;
 mod loop_words;

@@ -15,10 +15,10 @@ use node_link::LAST_PORT;
 use promise::Delta;
 
 /// No server has a lower port.
-const FIRST_PORT: u16 = 1024;
+pub(crate) const FIRST_PORT: u16 = 1024;
 
 /// The most turns of a server.
-const MOST_TURNS: u64 = 1_000_000_000;
+pub(crate) const MOST_TURNS: u64 = 1_000_000_000;
 
 /// How servers are run: place s has this port plus s, each server takes so many turns, and promises
 /// last so long, where it is told.

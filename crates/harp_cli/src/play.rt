@@ -1,12 +1,12 @@
 //! Playing a schedule on three servers.
 
-ghost use Rattle.std.specs.Prelude.{◌≡◌, ◌≢◌, ◌⊎◌, ℕ, List, Some};
+ghost use Rattle.std.specs.Prelude.{◌≡◌, ◌⊎◌, ℕ, List, Some};
 ghost use Rattle.harp_types.specs.Streams.{Rose};
 ghost use Rattle.group_disks.specs.Run.{first_disk_scene};
 ghost use Rattle.schedule_play.specs.Exit.{whole_exit};
 ghost use Rattle.schedule_play.specs.Reading.{reading};
 ghost use Rattle.world.specs.World.{IsWorld};
-ghost use Rattle.harp_cli.specs.Play.{HasPlayed, exit_of_play, sizes};
+ghost use Rattle.harp_cli.specs.Play.{EndsPlay, HasPlayed, exit_of_play, sizes};
 
 use crate::exit::Exit;
 use harp_types::{Sink, Source};
@@ -45,11 +45,7 @@ pub fn play<S: Source, K: Sink>(
         → (Rose (K.faults sink.old) (K.faults sink.new) → ⊥)
         → (result ≡ exit_of_play (whole_exit (reading sizes text).refused))
         ⊎ (result ≡ Exit.NoMemory) }
-    ensures words { result ≢ Exit.RefusedWords }
-    ensures judges { result ≢ Exit.SaysNo }
-    ensures disk { result ≢ Exit.DiskFailed }
-    ensures link { result ≢ Exit.LinkFailed }
-    ensures net { result ≢ Exit.NetFull }
+    ensures kind { EndsPlay result }
     ensures source_rose { result ≡ Exit.SourceFailed
         → Rose (S.faults source.old) (S.faults source.new) }
     ensures sink_rose { result ≡ Exit.SinkFailed → Rose (K.faults sink.old) (K.faults sink.new) }

@@ -123,7 +123,11 @@ fn attach_in<D: Store>(
 }
 
 /// Attaches the disk of each place to its folder in the group's.
-fn attach_all<D: Store>(alloc: Global, folder: &str, disks: &mut Trio<D>) -> Result<(), StoreFault>
+pub fn attach_all<D: Store>(
+    alloc: Global,
+    folder: &str,
+    disks: &mut Trio<D>,
+) -> Result<(), StoreFault>
     ensures kept { each D.told disks.new ≡ each D.told disks.old }
     ensures rose { result ≡ Err StoreFault.Failed
         → OneRose (each D.faults disks.old) (each D.faults disks.new) }

@@ -19,7 +19,7 @@ ghost use Rattle.harp_types.specs.Streams.{Rose};
 ghost use Rattle.harp_types.specs.Trio.{value_of, with_value};
 ghost use Rattle.harp_types.specs.declared.server.ServerId.{ServerId as Place};
 ghost use Rattle.world_rules.specs.Spellings.{spellings};
-ghost use Rattle.node_loop.specs.Scene.{OneRose, all_places, each, only};
+ghost use Rattle.node_loop.specs.Scene.{OneRose, all_places, each, only, start};
 ghost use Rattle.schedule_text.specs.Grammar.{Explains};
 ghost use Rattle.schedule_text.specs.Reading.{meaning_of};
 ghost use Rattle.sweep.specs.Lines.{generated};
@@ -35,17 +35,19 @@ ghost use Rattle.harp_cli.specs.declared.loop_words.Loop.{Loop as Runs};
 ghost use Rattle.harp_cli.specs.Exit.{status_of};
 ghost use Rattle.harp_cli.specs.Audit.{AuditEnds, WritesTree};
 ghost use Rattle.harp_cli.specs.Check.{CheckEnds, StatusAgrees};
-ghost use Rattle.harp_cli.specs.Door.{DoorPlayed};
+ghost use Rattle.harp_cli.specs.declared.door_words.Doorway.{Doorway as Way};
+ghost use Rattle.harp_cli.specs.Door.{DoorPlayed, DoorServes};
 ghost use Rattle.harp_cli.specs.Gen.{GenEnds};
 ghost use Rattle.harp_cli.specs.Play.{HasPlayed, WroteRightText, exit_of_play, sizes};
 ghost use Rattle.harp_cli.specs.Serve.{ServeEnds, outside};
 ghost use Rattle.harp_cli.specs.Sweep.{SweepEnds};
-ghost use Rattle.harp_cli.specs.Words.{IsAudit, IsCheck, IsDoorPlay, IsForm, IsGen, IsGroup, IsNode};
-ghost use Rattle.harp_cli.specs.Words.{IsPlay, IsSweep, Serves, UsageEnds};
+ghost use Rattle.harp_cli.specs.Words.{IsAudit, IsCheck, IsDoor, IsDoorPlay, IsForm, IsGen};
+ghost use Rattle.harp_cli.specs.Words.{IsGroup, IsNode, IsPlay, IsSweep, Serves, UsageEnds};
 
 use crate::auditing::audit_folder;
 use crate::check::check;
 use crate::door::door_play;
+use crate::door_servers::door_to_servers;
 use crate::generate::generate;
 use crate::play::play;
 use crate::serve::{serve_group, serve_node};
@@ -64,8 +66,8 @@ use world::World;
 
 /// Does what the words ask for, and gives the exit status: 0 done, 1 a trace breaks something or a
 /// folder has no sound tree, 2 the words are refused, 3 the source failed, 4 the sink failed, 5 a
-/// line or a record is refused, 6 there was no memory, 7 a disk failed, 8 the link failed, 10 the
-/// network of the servers in memory was full. Status 9 isn't given.
+/// line or a record is refused, 6 there was no memory, 7 a disk failed, 8 the link failed, 9 the turns
+/// of a call were over, 10 the network of the servers in memory was full.
 ///
 /// `play` plays the schedule of the source in the world, which is new, and writes its trace to the
 /// sink. `check` judges the trace of the source, and writes `yes`, or `no L CAUSE` where line L is
@@ -80,6 +82,10 @@ use world::World;
 /// is written before the next one is answered. Status 5 comes at a record that is too large, or cut
 /// off, or one too many; status 10 where a call got no answer, of which nothing is written.
 ///
+/// `door` is that of three servers, which it runs as `group` does, each of whose calls has the given
+/// turns until it is answered; status 9 comes where they are over. The calls are those of the given
+/// client, and their numbers go on from those of its earlier doors, as far as the clock does.
+///
 /// `node` runs a server over the disk of its place, which is attached to a folder, and `group` all
 /// three over theirs, in the folders 0, 1 and 2 of one. Place s of the link has the given port plus
 /// s. After the given turns they write `turns T taken N sent M`: the turns, and how many datagrams
@@ -87,8 +93,8 @@ use world::World;
 ///
 /// `audit` attaches the disk of place 0 to a folder, and writes the verdict on it: `sound CP N` and
 /// the lines of its N objects after CP updates, or `unsound M` and M lines `fault NUMBER FLAW`, or
-/// `unsaved` where the disk alone has no tree. It changes nothing. All words but `node`, `group` and
-/// `audit` leave disks, link and clock.
+/// `unsaved` where the disk alone has no tree. It changes nothing. All words but `node`, `group`,
+/// `door` and `audit` leave disks, link and clock.
 ///
 /// Want of memory ends each of them. Nothing is said of the bytes of a source or a sink that
 /// doesn't tell them, nor of what a disk, a link or a clock doesn't tell.
@@ -183,6 +189,14 @@ pub fn harp<R: Threads + Sync, S: Source, K: Sink, L: Link, D: Store, C: Clock>(
         × ((input : List ℕ) → S.left source.old ≡ Some input
         → DoorPlayed (record { uid = uid; gid = gid }) input (S.left source.new)
         (K.written sink.old) (K.written sink.new) world.new exit) }
+    // So of a door to three servers; and how they were started, and what they run on by then.
+    ensures door { (door : Way) → IsDoor door words.now
+        → (exit : Exit) × (result ≡ status_of exit) × (world.new ≡ world.old)
+        × ((input : List ℕ) → S.left source.old ≡ Some input
+        → DoorServes door.caller input (S.left source.new)
+        (K.written sink.old) (K.written sink.new)
+        (start (each D.told disks.old) (L.told link.old) (C.told clock.old))
+        (start (each D.told disks.new) (L.told link.new) (C.told clock.new)) exit) }
     ensures apart { (Serves words.now → ⊥) → (IsAudit words.now → ⊥)
         → (link.new ≡ link.old) × (disks.new ≡ disks.old) × (clock.new ≡ clock.old) }
     ensures usage { (IsForm words.now → ⊥)
@@ -197,6 +211,7 @@ pub fn harp<R: Threads + Sync, S: Source, K: Sink, L: Link, D: Store, C: Clock>(
     ensures disk_failed { result ≡ 7
         → OneRose (each D.faults disks.old) (each D.faults disks.new) }
     ensures link_failed { result ≡ 8 → Rose (L.faults link.old) (L.faults link.new) }
+    ensures spent { result ≡ 9 → (door : Way) × IsDoor door words.now }
     ensures net_full { result ≡ 10 → (uid : ℕ) × (gid : ℕ) × IsDoorPlay uid gid words.now }
     // What each line of a text means, by the grammar of steps, and that no step that is read of one
     // is refused.
@@ -241,6 +256,10 @@ pub fn harp<R: Threads + Sync, S: Source, K: Sink, L: Link, D: Store, C: Clock>(
         }
         Some(Command::DoorPlay { uid, gid }) => {
             door_play(alloc, Cred { uid, gid }, world, source, sink).status()
+        }
+        Some(Command::Door { door }) => {
+            let folder = words[5].as_str();
+            door_to_servers(alloc, door, folder, source, sink, link, disks, clock).status()
         }
         None => write_usage(sink).status(),
     }

@@ -5,6 +5,7 @@ ghost use Rattle.harp_types.specs.Streams.{Rose};
 ghost use Rattle.harp_cli.specs.declared.words.Command.{Command as Asked};
 ghost use Rattle.harp_cli.specs.Words.{AsksFor, IsForm, Named, UsageEnds, texts, usage_text};
 
+use crate::door_words::{Doorway, door_of};
 use crate::exit::Exit;
 use crate::loop_words::{Loop, group_of, node_of};
 use crate::number::number_within;
@@ -36,6 +37,8 @@ pub enum Command {
     Audit,
     /// A door to servers in memory, for this user and group.
     DoorPlay { uid: u32, gid: u32 },
+    /// A door to all three servers.
+    Door { door: Doorway },
 }
 
 /// The command of this one name, where no words stand behind it.
@@ -101,26 +104,6 @@ fn audit_of(words: &[String]) -> Option<Command>
     Some(Command::Audit)
 }
 
-/// The door that the words behind `door` ask for.
-fn door_of(words: &[String]) -> Option<Command>
-    ensures { MatchOption result
-        ((c : Asked) → Named (codes "door") (texts words.now) c → ⊥)
-        (Named (codes "door") (texts words.now)) }
-{
-    let [kind, uid, gid] = words else {
-        return None;
-    };
-    if kind.as_str() != "play" {
-        return None;
-    }
-    let uid = number_within(uid.as_str(), 0, u64::from(u32::MAX))?;
-    let gid = number_within(gid.as_str(), 0, u64::from(u32::MAX))?;
-    Some(Command::DoorPlay {
-        uid: uid as u32,
-        gid: gid as u32,
-    })
-}
-
 /// What the words ask for, if they are one of the forms.
 pub fn command_of(words: &[String]) -> Option<Command>
     ensures { MatchOption result (IsForm words.now → ⊥) (AsksFor words.now) }
@@ -164,6 +147,7 @@ usage: harp group PORT DIR TURNS
 usage: harp node S PORT DIR TURNS DELTA
 usage: harp group PORT DIR TURNS DELTA
 usage: harp door play U G
+usage: harp door U G CLIENT PORT DIR TURNS
 usage: harp audit DIR
 "
 }

@@ -1,4 +1,4 @@
-use Rattle.std.proofs.Common.{◌∙◌, ap, arith, length, sym}
+use Rattle.std.proofs.Common.{◌∙◌, ap, arith, length}
 use Rattle.harp_cli.proofs.SweepLaws.{grew_none, swept_length}
 use Rattle.harp_cli.proofs.sweeping.sweep.Goals as goal
 

@@ -12,7 +12,9 @@ use Rattle.harp_cli.proofs.PlayLaws.{TellsWhole, wrote_right}
 use Rattle.harp_cli.proofs.ServeLaws.{node_ends, same_ends}
 use Rattle.harp_cli.proofs.SweepLaws.{same_sweep}
 use Rattle.harp_cli.proofs.DoorLaws.{same_door}
-use Rattle.harp_cli.proofs.WordLaws.{one_door_play, one_gen, one_group, one_node, one_sweep}
+use Rattle.harp_cli.proofs.DoorServerLaws.{same_servers}
+use Rattle.harp_cli.proofs.DoorWordLaws.{one_door, one_door_play}
+use Rattle.harp_cli.proofs.WordLaws.{one_gen, one_group, one_node, one_sweep}
 use Rattle.harp_cli.proofs.top.harp.Goals as goal
 
 pub returns-in-Some-Play-clause-complete : goal.returns-in-Some-Play-clause-complete
@@ -335,3 +337,37 @@ returns-in-Some-DoorPlay-clause-views g c = c.every_text.ensures.views sizes
 
 pub returns-in-Some-DoorPlay-clause-parts : goal.returns-in-Some-DoorPlay-clause-parts
 returns-in-Some-DoorPlay-clause-parts g c = c.every_text.ensures.parts sizes
+
+pub returns-in-None-clause-door : goal.returns-in-None-clause-door
+returns-in-None-clause-door g c = λ door is. absurd (c.in-None.ensures (command.Door door, is))
+
+pub returns-in-Some-Door-clause-door : goal.returns-in-Some-Door-clause-door
+returns-in-Some-Door-clause-door g c = λ door is.
+    let d = c.in-Some-Door.door in
+    let asked : AsksFor c.args.words.now (command.Door d) =
+    subst (AsksFor c.args.words.now) c.in-Some-Door.field-0-is c.in-Some-Door.ensures in
+    let once = one_door c.args.words.now d door asked is in (
+      c.door_to_servers.result,
+      c.status-in-Some-Door.ensures,
+      refl,
+      λ input left. same_servers d door input _ _ _ _ _ c.door_to_servers.result once
+          (c.door_to_servers.ensures.ends input left),
+    )
+
+pub returns-in-Some-Door-clause-taken : goal.returns-in-Some-Door-clause-taken
+returns-in-Some-Door-clause-taken g c = c.every_text.ensures.taken sizes
+
+pub returns-in-Some-Door-clause-right : goal.returns-in-Some-Door-clause-right
+returns-in-Some-Door-clause-right g c = c.every_text.ensures.right sizes
+
+pub returns-in-Some-Door-clause-events : goal.returns-in-Some-Door-clause-events
+returns-in-Some-Door-clause-events g c = c.every_text.ensures.events sizes
+
+pub returns-in-Some-Door-clause-book : goal.returns-in-Some-Door-clause-book
+returns-in-Some-Door-clause-book g c = c.every_text.ensures.book sizes
+
+pub returns-in-Some-Door-clause-views : goal.returns-in-Some-Door-clause-views
+returns-in-Some-Door-clause-views g c = c.every_text.ensures.views sizes
+
+pub returns-in-Some-Door-clause-parts : goal.returns-in-Some-Door-clause-parts
+returns-in-Some-Door-clause-parts g c = c.every_text.ensures.parts sizes
