@@ -16,3 +16,4 @@ pub mod Cached
 pub mod Stored
 pub mod Asking
 pub mod Stock
+pub mod Wants

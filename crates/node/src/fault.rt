@@ -1,4 +1,4 @@
-//! Why a step of a server gives nothing.
+//! Why a call of a server gives nothing.
 
 ghost use Rattle.std.specs.Prelude.{◌≡◌};
 
@@ -6,12 +6,12 @@ use harp_cells::CellFault;
 use harp_store::StoreFault;
 use std::alloc::AllocError;
 
-/// Why a step fails. The server is halted then.
+/// Why a call fails. The server is halted then.
 #[derive(Clone, Copy, PartialEq, Eq)]
 pub enum NodeFault {
     /// A call of the store failed.
     StoreFailed,
-    /// An earlier step failed.
+    /// An earlier call failed.
     Halted,
     NoMemory,
 }

@@ -3,7 +3,7 @@
 //! # What is proved
 //!
 //! One server as a server of the group's machine, over any store. Its public calls are `boot`,
-//! `step`, `power`, `state_line` and `is_halted`. A step is of a tick, a suspicion, a server's
+//! `step`, `show`, `power`, `state_line` and `is_halted`. A step is of a tick, a suspicion, a server's
 //! message, a client's ask, an apply, a flush or a listing; a power failure takes the server with
 //! it.
 //!
@@ -24,6 +24,13 @@
 //!   keeps in memory are those of its store (`cached`). A client's message in place of a server's
 //!   changes nothing. Of a Fetch `steps` is said where the log is of the list, and where what is
 //!   served is within the log; of an ask, where the tree can be read if it is read (`FillsInput`).
+//! - `show` answers who keeps a copy of the tree, by what it wants (`shown`): a cell, at a settled
+//!   data server, with just the value that the log's records up to CP make of it over the store;
+//!   and records, at a server that holds a log, the committed ones from an index on, as many as a
+//!   Give has space for, or that they are gone. Nothing is shown of a cell by another server, of
+//!   records by one without a log, and of an index that is 0 or above CP; just then it is None. It
+//!   leaves the store and all of the server as they were, but for which cells it keeps in memory,
+//!   and halts it with an error (`leaves`).
 //! - `power` leaves the machine's mark (`machine`), with the whole saved log where one is due,
 //!   whose records are the server's (`saved`). After an error the disk is as a first part of the
 //!   save's calls leaves it, and at each moment it has no saved log or the whole one (`moments`).
@@ -39,8 +46,8 @@
 //!   (`done`), what an error leaves of that (`part`), and that the tree can still be read (`tree`);
 //!   `list` lists the tree at CP (`listing`). `step` doesn't hand on that the tree can still be
 //!   read.
-//! - After any error of `step` the server is halted, and every later one is Halted and changes
-//!   nothing; Halted comes exactly then. StoreFailed comes only where the store's count of faults
+//! - After any error of `step` or `show` the server is halted, and every later one is Halted and
+//!   changes nothing; Halted comes exactly then. StoreFailed comes only where the store's count of faults
 //!   rose. Not pinned: how wide the ring of a saved log in the mark is after a step; that want of
 //!   memory isn't told of a fault of the disk, which only tests show.
 #![tactic(auto)]
@@ -78,6 +85,7 @@ mod steps;
 mod taking;
 mod taking_views;
 mod ticking;
+mod wants;
 
 pub use fault::NodeFault;
 pub use input::Input;

@@ -64,7 +64,7 @@ impl Node {
         }
     }
 
-    /// Whether an earlier step failed. Then no step gives anything any more.
+    /// Whether an earlier call failed. Then none gives anything any more.
     pub fn is_halted(&self) -> bool
         ensures value { result ≡ self.now.halted }
         ensures is_server { IsServer self.now }

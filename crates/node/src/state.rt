@@ -28,7 +28,7 @@ pub(crate) struct Joining {
 /// What a server is doing.
 #[derive(Drop)]
 pub(crate) enum State {
-    /// Nothing any more: a step failed, or one is under way.
+    /// Nothing any more: a call failed, or one is under way.
     Gone,
     /// It takes part in no view since its boot or its demotion.
     Rests(Kept),

@@ -12,6 +12,7 @@ ghost use Rattle.volatile_log.specs.Log.{dropped_to, lowered_to, top};
 
 mod acks;
 mod asks;
+mod cells;
 mod listing;
 mod opening;
 mod reads;

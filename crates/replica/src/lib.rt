@@ -19,6 +19,8 @@
 //!   changes of a leader but its records, those cells and who waits (`grown`).
 //! - `list` gives the listing of the tree after CP updates of the list to the outputs (`listing`),
 //!   and is the machine's Saying of it (`makes`). After an error nothing is listed.
+//! - `cell` gives what a cell holds at CP, by the log over the store (`value`), and changes nothing
+//!   but which cells are kept in memory (`same`).
 //! - `apply` and `flush` leave what the log says of the disk, and are the machine's Applying and
 //!   Flushing; whether they are due is the caller's to test. Each call that changes the log says
 //!   that the tree can still be read (`tree`).

@@ -17,6 +17,7 @@ ghost use Rattle.replica.specs.Leading.{Outer, at_horizon};
 ghost use Rattle.replica.specs.Trees.{KeepsTree, KeepsTreeOfNext};
 ghost use Rattle.volatile_log.specs.Log.{dropped_to, lowered_to, top};
 
+mod cells;
 mod listing;
 mod storing;
 

@@ -418,3 +418,18 @@ pub stamp_read : (cells : Cells) (list : List Entry) → StandForBook cells list
     → stamp_found (cells cell.Meta) ≡ last_stamp list
 stamp_read cells list h =
     sym (stamp_itself (tree_after list) (cells cell.Meta)) ∙ ap stamp_found h.tree.meta
+
+-- ---- single cells
+
+-- each cell at CP, but those of a saved log, is the one after so many updates of the list
+pub alike_at_cp : (list : List Entry) (log : LogValue) (told : Option Moments)
+    → log.base ≤ log.ap → log.cp ≤ top log → (h : HoldsTree list log.cp log told)
+    → AreAlike (cells_over log.base (changes_in log.records) log.cp h.behind.cells)
+    (cells_at (history_of list) log.cp)
+alike_at_cp list log told low high h =
+    let b = h.behind in
+    let count = count_in log.records in
+    let from = b.from in
+    let within = b.within in
+    reads_exactly (history_of list) log.base (changes_in log.records) log.ap b.ahead log.cp b.cells
+    (log_of list log h.of_list) b.fuzzy low from within (omega (arith, high, count))

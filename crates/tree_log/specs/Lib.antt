@@ -5,3 +5,4 @@ pub mod Planning
 pub mod Records
 pub mod Sizes
 pub mod RecordLaws
+pub mod Committed

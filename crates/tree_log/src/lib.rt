@@ -24,6 +24,8 @@
 //!   disk that is fuzzy stays so at each moment (`fuzzy`, `reached`), and the premise is kept
 //!   either way (`tree`). `flush` syncs and then writes the mark (`done`, `moments`, `fuzzy`), or
 //!   makes a first part of these two calls (`part`).
+//! - `cell` gives what a cell holds after the committed records, over the store as it reads
+//!   (`value`).
 //! - `list` gives the listing of the tree after the first CP entries. `commit_to`, `lower_to` and
 //!   `drop_to` keep the premise.
 //! - Each call that is lent a store needs that each entry of the cache is the store's cell, and
@@ -42,6 +44,7 @@
 #![tactic(auto)]
 
 mod applying;
+mod cell_at_cp;
 mod listing;
 mod parts;
 mod planning;

@@ -22,3 +22,4 @@ mod Refusals
 mod Arrivals
 mod Hosted
 mod First
+mod Showings

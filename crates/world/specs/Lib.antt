@@ -5,3 +5,4 @@ pub mod Steps
 pub mod Hosts
 pub mod Deliveries
 pub mod Clocks
+pub mod Shows

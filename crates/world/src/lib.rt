@@ -13,6 +13,11 @@
 //!   lines behind the event line, the servers with their records, disks and stops, the packets and
 //!   their bytes, the book and the clocks. It refuses exactly where the run does, for the run's
 //!   reason; want of memory apart.
+//! - `show` answers what is wanted of a server (`shown`), and is refused just where the server is
+//!   down (`down`), want of memory apart. In each world that steps lead to it is what the group's
+//!   numbers say (`rule`: CP of a cell, the entries of records, or the base), and true of the book's
+//!   updates (`truly`): a cell, but of a saved log, as it is after CP of them, and the records of
+//!   them from an index on. The world stands where it stood (`stands`).
 //! - `next` gives the packet that a pump delivers next, and `entered` the length of the book.
 #![tactic(auto)]
 
@@ -24,6 +29,7 @@ mod falling;
 mod hosts;
 mod refusing;
 mod running;
+mod showing;
 mod stopping;
 mod taking;
 mod turn;

@@ -11,3 +11,4 @@ pub mod Starts
 pub mod Shown
 pub mod StopStores
 pub mod UntilStops
+pub mod Stills

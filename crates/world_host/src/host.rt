@@ -16,6 +16,8 @@ ghost use Rattle.world_rules.specs.Steps.{HostBoots, HostFails, HostFalls, HostT
 ghost use Rattle.world_host.specs.Starts.{HostStarts};
 ghost use Rattle.stopping_store.specs.Values.{stands, stored};
 
+mod showing;
+
 use harp_store::Pick;
 use harp_types::{ServerId, StateLine};
 use node::{Input, Node, NodeFault};

@@ -15,6 +15,8 @@
 //!   it is the server after the moves, over the run's disk. With a stop that comes in the step
 //!   nothing is put out, and the server falls over what the stop's pick leaves of the calls that
 //!   pass.
+//! - `show` answers what is wanted of the server by its node over its disk (`shown`), and leaves it
+//!   as it was, but for which cells its node keeps in memory (`still`).
 //! - `power` saves the log where one is due, or is cut (`fails`); `crash` leaves what its pick
 //!   keeps (`falls`); `boot` is the machine's boot from the mark and the saved log (`boots`). Each
 //!   leaves the run's disk, exactly. What a step and a power failure rest on beside the server

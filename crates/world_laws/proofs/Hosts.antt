@@ -95,7 +95,7 @@ can_fail w r q = record {
 -- ---- a node that runs
 
 -- its log is that of its server
-node_log : (s : Server Entry) (k : Stock) (saved : List RecordFields) (q : Place) (d : ToldDisk)
+pub node_log : (s : Server Entry) (k : Stock) (saved : List RecordFields) (q : Place) (d : ToldDisk)
     (n : NodeValue) → Runs s k saved q d n → log_of n ≡ log_with s k.log
 node_log s k saved q d n runs =
     ap (λ (x : Server Entry). log_with x n.records) runs.server
@@ -106,7 +106,7 @@ node_mode : (s : Server Entry) (k : Stock) (saved : List RecordFields) (q : Plac
 node_mode s k saved q d n runs = ap (λ (x : Server Entry). x.mode) runs.server
 
 -- whether it stores is a matter of its server
-node_stores : (s : Server Entry) (k : Stock) (saved : List RecordFields) (q : Place) (d : ToldDisk)
+pub node_stores : (s : Server Entry) (k : Stock) (saved : List RecordFields) (q : Place) (d : ToldDisk)
     (n : NodeValue) → Runs s k saved q d n → stores n ≡ true
     → all_of (settled_tests q s) ≡ true
 node_stores s k saved q d n runs h =
@@ -123,7 +123,7 @@ leads_data q S01 e = ap is_p2 e
 leads_data q S02 e = ap is_p2 e
 leads_data q S12 e = ap is_p2 e
 
-settled_active : (g : Group Entry) → Whole g → (q : Place)
+pub settled_active : (g : Group Entry) → Whole g → (q : Place)
     → all_of (settled_tests q (g.server q)) ≡ true → IsActive (g.server q).mode
 settled_active g w q t =
     settled_is (g.server q).mode (each_of (settled_tests q (g.server q)) t).0
@@ -228,7 +228,7 @@ node_fills w r q k saved d n runs of_disk has input.List = tt
 
 -- ---- a step
 
-runs_node : (s : Server Entry) (k : Stock) (saved : List RecordFields) (q p : Place) (d : ToldDisk)
+pub runs_node : (s : Server Entry) (k : Stock) (saved : List RecordFields) (q p : Place) (d : ToldDisk)
     (o : Option NodeValue) → p ≡ q → IsNodeOf s k saved p d o → (n : NodeValue) → o ≡ Some n
     → Runs s k saved q d n
 runs_node s k saved q p d o me is n e =

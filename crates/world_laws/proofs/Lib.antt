@@ -18,3 +18,5 @@ pub mod Starts
 pub mod Told
 pub mod Sends
 pub mod Trees
+pub mod Truths
+pub mod Outlines

@@ -6,3 +6,4 @@ pub mod Stocks
 pub mod StockLaws
 pub mod Sent
 pub mod Trees
+pub mod Shown

@@ -42,12 +42,18 @@
 //!   far it may be, the tree can be read in its records over the disk (`HoldsTree` of `tree_log`):
 //!   after each number of updates from there up to top, and after CP where it is settled (`held`).
 //!   The store may tell anything of the cells of saved logs.
+//! - `nodes_show_rightly`: in each scene to which steps lead, what a server's node shows over its
+//!   disk is what the group's numbers say (`shown_by`): CP of a cell, the entries of records, or the
+//!   base; and it is true of the records of the book's updates (`IsShownOf` of `shown`): a cell at
+//!   CP, but of a saved log, and the committed records from an index on (`right`).
 #![tactic(auto)]
 
 mod host_laws;
+mod show_laws;
 mod stock_laws;
 
 pub use host_laws::{hosts_can, messages_are_sized, steps_wait};
+pub use show_laws::nodes_show_rightly;
 pub use stock_laws::{
     logs_are_right, marks_keep_logs, sends_are_right, starts_are_right, steps_keep_stocks,
     stocks_stay,

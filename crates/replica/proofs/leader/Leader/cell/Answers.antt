@@ -1,0 +1,10 @@
+use Rattle.std.proofs.Common.{sym, subst}
+use Rattle.cell_cache.specs.Entries.{AreOf}
+use Rattle.harp_store.specs.Disk.{cells_told}
+use Rattle.replica.specs.Leading.{Leading}
+use Rattle.replica.proofs.leader.Leader.cell.Goals as goal
+
+pub cell-requires : goal.cell-requires
+cell-requires g c =
+    subst (λ (l : Leading). AreOf (cells_told (g.D.Store.told c.args.store.now)) l.cached)
+    (sym c.self.view_is) c.requires
