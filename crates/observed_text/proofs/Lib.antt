@@ -1,0 +1,4 @@
+pub mod ReadLaws
+pub mod ActLaws
+pub mod ObservedLaws
+pub mod OneObserved
