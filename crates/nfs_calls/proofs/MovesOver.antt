@@ -1,5 +1,5 @@
 -- An entry that takes the place of another one.
-use Rattle.std.proofs.Common.{◌≡◌, ℕ, ◌+◌, ◌*◌, ◌≤◌, ◌==◌, Bool, true, false, List, [], ◌∷◌, ◌++◌, length, set, None, Some, Ok, refl, sym, ap, ◌∙◌, subst, arith, inl, inr}
+use Rattle.std.proofs.Common.{◌≡◌, ℕ, ◌+◌, ◌*◌, ◌≤◌, ◌==◌, Bool, true, false, List, [], ◌∷◌, ◌++◌, length, set, None, Some, Ok, refl, sym, ap, ◌∙◌, subst, arith, inl, inr, le_refl}
 use Rattle.std.proofs.lemmas.Bool.{cases_eq, eq-eqb, ne_eqb, false_from_ne_true}
 use Rattle.std.proofs.lemmas.List.{length-set}
 use Rattle.harp_types.specs.declared.attr.Time.{Time}
@@ -105,6 +105,42 @@ pub over_names : (slots : Slots) (to_name : List ℕ) (y : ℕ × ℕ) (s : Slot
 over_names slots to_name y s k g =
     omega (arith, share_found slots to_name y k g, names_set slots y.0 (Some s) k g.within)
 
+-- ---- sums of entries and of blocks
+
+two_moved : (n0 n1 n2 a b c d s o l w y x : ℕ) → n1 + a ≡ n0 + b → n2 + c ≡ n1 + d → a ≡ s → b ≡ o
+    → c ≡ l → d ≡ w → o + y ≡ s + x → w + x ≡ l → n2 + y ≡ n0
+two_moved n0 n1 n2 a b c d s o l w y x first second at_a at_b at_c at_d over cleared = omega arith
+
+rest_moved : (n0 n2 n3 n4 y a b c : ℕ) → n2 + y ≡ n0 → n3 + a ≡ n2 + b → b ≡ 0 → a ≡ 0
+    → n4 + c ≡ n3 + c → n4 + y ≡ n0
+rest_moved n0 n2 n3 n4 y a b c moved lost at_b at_a kept = omega arith
+
+one_less : (n0 n2 y : ℕ) → n2 + y ≡ n0 → y ≡ 1 → n2 + 1 ≡ n0
+one_less n0 n2 y moved one = omega arith
+
+none_less : (n0 n2 y : ℕ) → n2 + y ≡ n0 → y ≡ 0 → n2 ≡ n0
+none_less n0 n2 y moved none = omega arith
+
+few_left : (n0 n2 y : ℕ) → n0 ≤ 1 → 1 ≤ n2 → n2 + y ≡ n0 → y ≡ 1 → ⊥
+few_left n0 n2 y few some moved one = omega arith
+
+two_used : (u0 u1 u2 a b c d s l : ℕ) → u1 + a ≡ u0 + b → u2 + c ≡ u1 + d → a ≡ s → b ≡ s → c ≡ l
+    → d ≡ l → u2 ≡ u0
+two_used u0 u1 u2 a b c d s l first second at_a at_b at_c at_d = omega arith
+
+same_used : (u v c : ℕ) → v + c ≡ u + c → u ≡ v
+same_used u v c kept = omega arith
+
+-- a place has no fewer entries where it loses none, and where it gets one
+no_fewer : (a b s w x : ℕ) → a ≡ s → b ≡ w → w + x ≡ s → x ≡ 0 → a ≤ b
+no_fewer a b s w x at_a at_b cleared none = omega arith
+
+no_fewer_over : (a b s o x y : ℕ) → a ≡ s → b ≡ o → o + y ≡ s + x → y ≡ 0 → a ≤ b
+no_fewer_over a b s o x y at_a at_b over none = omega arith
+
+none_at : (a b : ℕ) → b ≡ 0 → a ≡ 0 → a ≤ b
+none_at a b at_b at_a = omega arith
+
 pub replaces : (tree : Tree) (m : Relocation) (name to_name : List ℕ) (y : ℕ × ℕ) (j : Inode)
     (now : Time) (left after : Slots) (q : Object) → IsSound tree → IsMoving tree m name to_name
     → IsTarget tree m to_name y j → place (swapped tree m to_name y now) m.dir ≡ Some q
@@ -149,21 +185,12 @@ replaces tree m name to_name y j now left after q sound is target q_at q_body f 
     let b2 : (k : ℕ) → names_at k (Some (slot_changed now m.slot None q))
     ≡ names_in k without = λ (k : ℕ). ap (λ (r : Object). names_at k (Some r)) changed2 in
     let count : (k : ℕ) → names_of two_tree k + one y.1 k ≡ names_of tree k = λ (k : ℕ).
-    omega (
-      arith,
-      names_on s1 k,
-      names_on s2 k,
-      a1 k,
-      b1 k,
-      a2 k,
-      b2 k,
-      over_names to_slots to_name y s k g,
-      cleared_names left name x k f,
-    ) in
+    two_moved _ _ _ _ _ _ _ _ _ _ _ _ _ (names_on s1 k) (names_on s2 k) (a1 k) (b1 k) (a2 k) (b2 k)
+    (over_names to_slots to_name y s k g) (cleared_names left name x k f) in
     let y_there : place two_tree y.1 ≡ Some oy = place_other s2 y.1 aside.from
     ∙ place_other s1 y.1 aside.to ∙ target.object.at in
     let l = loss_of tree two_tree y.1 j now sound target.object target.bare y_there
-    (omega (arith, count y.1, one_itself y.1)) in
+    (one_less _ _ _ (count y.1) (one_itself y.1)) in
     let y_bare : (k : ℕ) → names_at k (Some oy)
     ≡ 0 = λ (k : ℕ). sym (ap (names_at k) target.object.at) ∙ target.bare k in
     let x_other : m.number ≡ y.1 → ⊥ = λ (h : m.number ≡ y.1). target.other (sym h) in
@@ -176,8 +203,8 @@ replaces tree m name to_name y j now left after q sound is target q_at q_body f 
     sound_moved_over tree m.dir m.to_dir o e slots to_slots name to_name x y now sound
     is.from.own.at body is.to.own.at to_body f0 g target.other target.bare is.apart in
     let all_names : (k : ℕ) → names_of new k + one y.1 k
-    ≡ names_of tree k = λ (k : ℕ). omega
-    (arith, count k, names_on l.sets k, l.bare k, y_bare k, names_on s4 k) in
+    ≡ names_of tree k = λ (k : ℕ). rest_moved _ _ _ _ _ _ _ (names_at k (Some ob)) (count k)
+    (names_on l.sets k) (l.bare k) (y_bare k) (names_on s4 k) in
     let same1 : is_directory_at (Some (slot_changed now y.0 (Some s) e))
     ≡ is_directory_at (Some e) = ap (λ (r : Object). is_directory r.body) changed1
     ∙ sym (ap is_directory to_body) in
@@ -198,10 +225,10 @@ replaces tree m name to_name y j now left after q sound is target q_at q_body f 
     ≡ blocks_of (264 * length left) =
     ap (λ (r : Object). blocks_of (size_of r.body)) changed2
     ∙ ap (λ (n : ℕ). blocks_of (264 * n)) long2 in
-    let blocks_4 : blocks_at (Some (set_ctime now ob)) ≡ blocks_at (Some ob) = refl in
     let used_two : used_blocks two_tree ≡ used_blocks tree =
-    omega (arith, used_on s1, used_on s2, blocks_e, blocks_1, blocks_q, blocks_2) in
-    let used_new : used_blocks three_tree ≡ used_blocks new = omega (arith, used_on s4, blocks_4) in
+    two_used _ _ _ _ _ _ _ _ _ (used_on s1) (used_on s2) blocks_e blocks_1 blocks_q blocks_2 in
+    let used_new : used_blocks three_tree ≡ used_blocks new =
+    same_used _ _ (blocks_at (Some ob)) (used_on s4) in
     let to_at : place new m.to_dir ≡ Some (reslotted now after e) =
     place_other s4 m.to_dir (λ h. apart.to (sym h))
     ∙ place_other l.sets m.to_dir (λ h. aside.to (sym h)) ∙ there in
@@ -213,41 +240,31 @@ replaces tree m name to_name y j now left after q sound is target q_at q_body f 
       moved = record {
         sound = whole;
         at = place_at s4;
-        names = omega (arith, all_names m.number, one_other y.1 m.number x_other);
+        names = none_less _ _ _ (all_names m.number) (one_other y.1 m.number x_other);
         kinds = λ k h. elim (cases_eq k y.1) [
           | inl same ↦
               let file : is_directory_at (place tree y.1) ≡ false = false_from_ne_true _ (λ d.
               let few = few_at y.1 (place tree y.1) (names_of tree y.1) d (sound.entries y.1) in
               let some : 1 ≤ names_of new y.1 = subst (λ (n : ℕ). 1 ≤ names_of new n) same h in
-              omega (arith, few, some, all_names y.1, one_itself y.1)) in
+              few_left _ _ _ few some (all_names y.1) (one_itself y.1)) in
               rw same (ap is_directory_at y_at ∙ l.file ∙ sym file)
           | inr ne ↦ kinds_on s4 refl k ∙ ap is_directory_at (place_other l.sets k ne)
               ∙ kinds_on s2 same2 k ∙ kinds_on s1 same1 k
         ];
-        held = let here = ap (names_at m.number) to_at in omega (arith, here, named);
+        held = subst (λ (n : ℕ). 1 ≤ n) (sym (ap (names_at m.number) to_at)) named;
       };
       to_at = to_at;
       from_at = place_other s4 m.dir (λ h. apart.from (sym h))
           ∙ place_other l.sets m.dir (λ h. aside.from (sym h)) ∙ place_at s2;
       kept = λ k nx ny d h.
-          holds_on s4 k (omega arith) d
-          (holds_on l.sets k (omega (arith, l.bare k, y_bare k)) d
-          (holds_on s2 k (omega (
-            arith,
-            a2 k,
-            b2 k,
-            cleared_names left name x k f,
-            one_other m.number k nx,
-          )) d
-          (holds_on s1 k (omega (
-            arith,
-            a1 k,
-            b1 k,
-            over_names to_slots to_name y s k g,
-            one_other y.1 k ny,
-          )) d h)));
+          holds_on s4 k (le_refl _) d
+          (holds_on l.sets k (none_at _ _ (l.bare k) (y_bare k)) d
+          (holds_on s2 k (no_fewer _ _ _ _ _ (a2 k) (b2 k) (cleared_names left name x k f)
+          (one_other m.number k nx)) d
+          (holds_on s1 k (no_fewer_over _ _ _ _ _ _ (a1 k) (b1 k)
+          (over_names to_slots to_name y s k g) (one_other y.1 k ny)) d h)));
       lost = loses_is tree two_tree three_tree new y.1 j now target.object l y_at
-          (omega (arith, all_names y.1, one_itself y.1));
+          (one_less _ _ _ (all_names y.1) (one_itself y.1));
       totals = ap (λ (t : Totals). after_loss t j) totals_two
           ∙ totals_lost tree two_tree three_tree y.1 j now target.object l ∙ totals_new;
     }
