@@ -1,7 +1,7 @@
 -- The records of a Give, at a storer that pulls.
 use Rattle.std.proofs.Common.{◌≡◌, ℕ, ◌+◌, ◌-◌, ◌<◌, ◌≤◌, ◌==◌, arith, Bool, true, false, List, [], ◌∷◌, ◌++◌, length, refl, ap, sym, ◌∙◌, subst, if◌then◌else◌}
 use Rattle.std.specs.Prelude.{map, nat_le}
-use Rattle.std.proofs.lemmas.Bool.{ne_eqb}
+use Rattle.std.proofs.lemmas.Bool.{eqb-true, ne_eqb}
 use Rattle.std.proofs.lemmas.List.{length-append, length-map, map-append}
 use Rattle.event_record.specs.Record.{entry_of}
 use Rattle.event_record.specs.declared.record.RecordFields.{RecordFields}
@@ -10,19 +10,20 @@ use Rattle.group_rules.proofs.Tests.{all_true, eq_is, if_is, if_not, is_le}
 use Rattle.group_rules.specs.Form.{accept_moves, on_give, pull_tests}
 use Rattle.group_rules.specs.Limits.{is_pulls}
 use Rattle.group_rules.specs.Moves.{Move, Sending, Staging}
-use Rattle.group_rules.specs.Names.{number_of_view}
+use Rattle.group_rules.specs.Names.{number_of_view, place_of}
 use Rattle.group_rules.specs.Places.{Place, all_of}
-use Rattle.group_rules.specs.State.{Fetch, Server}
+use Rattle.group_rules.specs.State.{Fetch, Plan, Server}
 use Rattle.harp_types.specs.declared.server.ServerId.{ServerId}
 use Rattle.harp_store.specs.Mark.{MarkFields}
 use Rattle.idle_log.specs.Kept.{plan_of}
+use Rattle.idle_log.specs.Pulls.{IsFor}
 use Rattle.idle_log.specs.declared.form.Form.{Form}
 use Rattle.idle_log.specs.declared.kept.Kept.{Kept}
 use Rattle.node.proofs.Calls.{mute}
 use Rattle.node.proofs.Saying.{makes_so, unsaid}
 use Rattle.node.specs.Forming.{joined_with, pulling_with}
 use Rattle.node.specs.Node.{NodeValue, server, value}
-use Rattle.node.specs.State.{IsKept}
+use Rattle.node.specs.State.{CollectsStill, Fits, HearsOthers, IsKept, IsPulling}
 use Rattle.node.specs.declared.pull.Pull.{Pull}
 use Rattle.node.specs.declared.state.Joining.{Joining}
 use Rattle.node.specs.declared.state.State.{State}
@@ -266,3 +267,119 @@ given_within me mark horizon served duty before n kept joining form staged v fir
     let fits = is_le (first + length (map entry_of items)) (form.start + 1) (told
     (all_true ((v == number_of_view mark.promised) ∷ true ∷ []) (same, (refl, tt)))) in
     omega (arith, fits, length-map items entry_of)) view within
+
+-- ---- the moves of a Give, by what its call tells
+
+pub some_first : (q : Place) (kept : Kept) (plan : Plan) (staged : StagedValue)
+    → IsPulling q kept plan staged → 1 ≤ staged.first
+some_first q kept plan staged h =
+    let first = h.list.0 in
+    omega (arith, first)
+
+whole_list : (old : StagedValue) (items : List RecordFields) (new : StagedValue) (start : ℕ)
+    → old.start ≡ start → new ≡ record old { records = old.records ++ items }
+    → new.start < next new → start < old.first + length (old.records ++ items)
+whole_list old items new start at is =
+    subst (λ (t : StagedValue). t.start < next t → start < old.first + length (old.records ++
+    items))
+    (sym is) (λ full. omega (arith, full, at))
+
+part_list : (old : StagedValue) (items : List RecordFields) (new : StagedValue) (start : ℕ)
+    → old.start ≡ start → new ≡ record old { records = old.records ++ items }
+    → (new.start < next new → ⊥) → start < old.first + length (old.records ++ items) → ⊥
+part_list old items new start at is =
+    subst (λ (t : StagedValue). (t.start < next t → ⊥)
+    → start < old.first + length (old.records ++ items) → ⊥)
+    (sym is) (λ part full. part (omega (arith, full, at)))
+
+pub unwanted : (q : Place) (s : Server Entry) (pull : Pull) (first : ℕ) (items : List Entry)
+    (taken : Bool) → IsPulling q pull.kept (plan_of pull.form) pull.staged
+    → taken ≡ (first == next pull.staged) → taken ≡ false
+    → on_give q (pulling_with s pull) s.promised first items ≡ []
+unwanted q s pull first items taken pulls is none =
+    given_none q s pull first items (some_first _ _ _ _ pulls) (sym is ∙ none)
+
+pub all_given : (q : Place) (s : Server Entry) (pull : Pull) (first : ℕ)
+    (items : List RecordFields) (taken : Bool) (new : StagedValue)
+    → IsPulling q pull.kept (plan_of pull.form) pull.staged
+    → first + length items ≤ pull.form.start + 1
+    → taken ≡ (first == next pull.staged) → taken ≡ true
+    → new ≡ (if taken then record (pull.staged) { records = pull.staged.records ++ items }
+    else pull.staged) → new.start < next new
+    → on_give q (pulling_with s pull) s.promised first (map entry_of items)
+    ≡ accept_moves q (joined_with s pull.kept pull.joining) (plan_of pull.form)
+    (map entry_of (pull.staged.records ++ items))
+all_given q s pull first items taken new pulls within is some staged full =
+    given_all q s pull first items (some_first _ _ _ _ pulls) (sym is ∙ some)
+    (subst (λ (n : ℕ). n + length items ≤ pull.form.start + 1)
+    (eqb-true first (next pull.staged) (sym is ∙ some)) within)
+    (whole_list pull.staged items new pull.form.start pulls.list.1
+    (staged_so taken pull.staged items new staged some) full)
+
+-- with the list after the Give
+pub whole_given : (q : Place) (s : Server Entry) (pull : Pull) (first : ℕ)
+    (items : List RecordFields) (taken : Bool) (new : StagedValue)
+    → IsPulling q pull.kept (plan_of pull.form) pull.staged
+    → first + length items ≤ pull.form.start + 1
+    → taken ≡ (first == next pull.staged) → taken ≡ true
+    → new ≡ (if taken then record (pull.staged) { records = pull.staged.records ++ items }
+    else pull.staged) → new.start < next new
+    → on_give q (pulling_with s pull) s.promised first (map entry_of items)
+    ≡ accept_moves q (joined_with s pull.kept pull.joining) (plan_of pull.form)
+    (map entry_of new.records)
+whole_given q s pull first items taken new pulls within is some staged full =
+    all_given q s pull first items taken new pulls within is some staged full
+    ∙ ap (λ (t : StagedValue). accept_moves q (joined_with s pull.kept pull.joining)
+    (plan_of pull.form) (map entry_of t.records))
+    (sym (staged_so taken pull.staged items new staged some))
+
+pub some_given : (q : Place) (s : Server Entry) (pull : Pull) (first : ℕ)
+    (items : List RecordFields) (taken : Bool) (new : StagedValue)
+    → IsPulling q pull.kept (plan_of pull.form) pull.staged
+    → taken ≡ (first == next pull.staged) → taken ≡ true
+    → new ≡ (if taken then record (pull.staged) { records = pull.staged.records ++ items }
+    else pull.staged) → (new.start < next new → ⊥)
+    → on_give q (pulling_with s pull) s.promised first (map entry_of items)
+    ≡ stages (pulling_with s pull) (map entry_of (pull.staged.records ++ items))
+some_given q s pull first items taken new pulls is some staged part =
+    given_part q s pull first items (some_first _ _ _ _ pulls) (sym is ∙ some)
+    (part_list pull.staged items new pull.form.start pulls.list.1
+    (staged_so taken pull.staged items new staged some) part)
+
+pub part_given : (q : Place) (s : Server Entry) (pull : Pull) (first : ℕ)
+    (items : List RecordFields) (taken : Bool) (new : StagedValue)
+    → IsPulling q pull.kept (plan_of pull.form) pull.staged
+    → taken ≡ (first == next pull.staged) → taken ≡ true
+    → new ≡ (if taken then record (pull.staged) { records = pull.staged.records ++ items }
+    else pull.staged) → (new.start < next new → ⊥)
+    → on_give q (pulling_with s pull) s.promised first (map entry_of items)
+    ≡ stages (pulling_with s pull) (map entry_of new.records)
+part_given q s pull first items taken new pulls is some staged part =
+    some_given q s pull first items taken new pulls is some staged part
+    ∙ ap (λ (t : StagedValue). stages (pulling_with s pull) (map entry_of t.records))
+    (sym (staged_so taken pull.staged items new staged some))
+
+-- the list is still one for the same records
+pub still_for : (q : Place) (kept : Kept) (plan : Plan) (old : StagedValue)
+    (items : List RecordFields) (new : StagedValue) → IsFor q kept plan old
+    → new ≡ record old { records = old.records ++ items } → IsFor q kept plan new
+still_for q kept plan old items new h is =
+    (ap (λ (t : StagedValue). t.first) is ∙ h.0, ap (λ (t : StagedValue). t.start) is ∙ h.1)
+
+-- a server that pulls so fits its mark
+pub pulls_fit : (me : ServerId) (mark : MarkFields) (horizon : HorizonValue) (served : ℕ)
+    (duty : Task) (before : State) (n : NodeValue) (kept : Kept) (joining : Joining)
+    (form : Form) (staged : StagedValue) → value me mark horizon served duty before ≡ n
+    → CollectsStill duty → IsKept n.me n.mark kept → HearsOthers n.me joining
+    → IsPulling n.me kept (plan_of form) staged
+    → CollectsStill duty × Fits (place_of me) mark (state.Pulls kept joining form staged)
+pulls_fit me mark horizon served duty before n kept joining form staged is collects at others
+    pulls = (
+      collects,
+      (
+        subst (λ (x : NodeValue). IsKept x.me x.mark kept) (sym is) at,
+        some_first _ _ _ _ pulls,
+        subst (λ (x : NodeValue). HearsOthers x.me joining) (sym is) others,
+        subst (λ (x : NodeValue). IsPulling x.me kept (plan_of form) staged) (sym is) pulls,
+      ),
+    )

@@ -39,3 +39,6 @@ pub mod Wholes
 pub mod Stocked
 pub mod Sizing
 pub mod Servers
+pub mod Unmoved
+pub mod Faults
+pub mod Pulled

@@ -1,4 +1,4 @@
-use Rattle.std.proofs.Common.{[], true, false, ap, rules, sym, ◌∙◌, ◌∷◌, refl}
+use Rattle.std.proofs.Common.{[], ap, false, inl, inr, le_refl, refl, rules, sym, true, ◌∙◌, ◌∷◌}
 use Rattle.group_rules.specs.Disk.{on_demote}
 use Rattle.group_rules.specs.Names.{number_of_view}
 use Rattle.group_rules.specs.Places.{is_p2}
@@ -8,6 +8,8 @@ use Rattle.node.specs.Node.{NodeValue, server}
 use Rattle.group_rules.specs.Moves.{Demoting}
 use Rattle.node.proofs.Stocks.{stocks_so}
 use Rattle.node.specs.Stock.{stock}
+use Rattle.std.proofs.lemmas.Result.{IfOk-from_err}
+use Rattle.node.proofs.Faults.{not_failed, store_halted, store_rose}
 use Rattle.node.proofs.node.Node.demote.Goals as goal
 
 pub returns-then-not-is_witness-clause-makes : goal.returns-then-not-is_witness-clause-makes
@@ -219,3 +221,127 @@ returns-clause-stock g c items = stocks_so [] c.args.self.now.me (server c.args.
     c.is_above.result true c.self.view_is c.accepted.ensures c.is_above.ensures
     c.if-not-is_above.false))
     (c.rest.ensures.stock items)
+
+pub returns-then-not-is_witness-clause-me : goal.returns-then-not-is_witness-clause-me
+returns-then-not-is_witness-clause-me g c = refl
+
+pub returns-then-not-is_witness-clause-cached : goal.returns-then-not-is_witness-clause-cached
+returns-then-not-is_witness-clause-cached g c = inl refl
+
+pub returns-then-not-is_witness-clause-up : goal.returns-then-not-is_witness-clause-up
+returns-then-not-is_witness-clause-up g c = c.requires
+
+pub returns-then-not-is_witness-clause-part : goal.returns-then-not-is_witness-clause-part
+returns-then-not-is_witness-clause-part g c = tt
+
+pub returns-then-not-is_witness-clause-running : goal.returns-then-not-is_witness-clause-running
+returns-then-not-is_witness-clause-running g c = not_failed _ _ _
+
+pub returns-then-not-is_witness-clause-rose : goal.returns-then-not-is_witness-clause-rose
+returns-then-not-is_witness-clause-rose g c = not_failed _ _ _
+
+pub returns-then-not-is_witness-clause-count : goal.returns-then-not-is_witness-clause-count
+returns-then-not-is_witness-clause-count g c = le_refl _
+
+pub returns-then-not-is_above-clause-me : goal.returns-then-not-is_above-clause-me
+returns-then-not-is_above-clause-me g c = refl
+
+pub returns-then-not-is_above-clause-cached : goal.returns-then-not-is_above-clause-cached
+returns-then-not-is_above-clause-cached g c = inl refl
+
+pub returns-then-not-is_above-clause-up : goal.returns-then-not-is_above-clause-up
+returns-then-not-is_above-clause-up g c = c.requires
+
+pub returns-then-not-is_above-clause-part : goal.returns-then-not-is_above-clause-part
+returns-then-not-is_above-clause-part g c = tt
+
+pub returns-then-not-is_above-clause-running : goal.returns-then-not-is_above-clause-running
+returns-then-not-is_above-clause-running g c = not_failed _ _ _
+
+pub returns-then-not-is_above-clause-rose : goal.returns-then-not-is_above-clause-rose
+returns-then-not-is_above-clause-rose g c = not_failed _ _ _
+
+pub returns-then-not-is_above-clause-count : goal.returns-then-not-is_above-clause-count
+returns-then-not-is_above-clause-count g c = le_refl _
+
+pub returns-in_err-write_mark-clause-makes : goal.returns-in_err-write_mark-clause-makes
+returns-in_err-write_mark-clause-makes g c = IfOk-from_err c.from_residual.result _
+    c.from_residual.ensures.0
+
+pub returns-in_err-write_mark-clause-stock : goal.returns-in_err-write_mark-clause-stock
+returns-in_err-write_mark-clause-stock g c = IfOk-from_err c.from_residual.result _
+    c.from_residual.ensures.0
+
+pub returns-in_err-write_mark-clause-cached : goal.returns-in_err-write_mark-clause-cached
+returns-in_err-write_mark-clause-cached g c = IfOk-from_err c.from_residual.result _
+    c.from_residual.ensures.0
+
+pub returns-in_err-write_mark-clause-mark : goal.returns-in_err-write_mark-clause-mark
+returns-in_err-write_mark-clause-mark g c = IfOk-from_err c.from_residual.result _
+    c.from_residual.ensures.0
+
+pub returns-in_err-write_mark-clause-up : goal.returns-in_err-write_mark-clause-up
+returns-in_err-write_mark-clause-up g c = IfOk-from_err c.from_residual.result _
+    c.from_residual.ensures.0
+
+pub returns-in_err-write_mark-clause-written : goal.returns-in_err-write_mark-clause-written
+returns-in_err-write_mark-clause-written g c = IfOk-from_err c.from_residual.result _
+    c.from_residual.ensures.0
+
+pub returns-in_err-write_mark-clause-me : goal.returns-in_err-write_mark-clause-me
+returns-in_err-write_mark-clause-me g c = refl
+
+pub returns-in_err-write_mark-clause-running : goal.returns-in_err-write_mark-clause-running
+returns-in_err-write_mark-clause-running g c = store_halted c.from_residual.result
+    c.in_err-write_mark.field-0.0
+    c.from_residual.ensures.1
+
+pub returns-in_err-write_mark-clause-rose : goal.returns-in_err-write_mark-clause-rose
+returns-in_err-write_mark-clause-rose g c = store_rose _ c.from_residual.result
+    c.in_err-write_mark.field-0.0 c.write_mark.result
+    c.from_residual.ensures.1 c.in_err-write_mark.was c.write_mark.ensures.rose
+
+pub returns-in_err-write_mark-clause-count : goal.returns-in_err-write_mark-clause-count
+returns-in_err-write_mark-clause-count g c = c.write_mark.ensures.count
+
+pub returns-then-is_above-clause-me : goal.returns-then-is_above-clause-me
+returns-then-is_above-clause-me g c = c.go_on.ensures.me
+
+pub returns-then-is_above-clause-cached : goal.returns-then-is_above-clause-cached
+returns-then-is_above-clause-cached g c = inr c.go_on.ensures.cached
+
+pub returns-then-is_above-clause-up : goal.returns-then-is_above-clause-up
+returns-then-is_above-clause-up g c = c.go_on.ensures.up
+
+pub returns-then-is_above-clause-part : goal.returns-then-is_above-clause-part
+returns-then-is_above-clause-part g c = tt
+
+pub returns-then-is_above-clause-running : goal.returns-then-is_above-clause-running
+returns-then-is_above-clause-running g c = not_failed _ _ _
+
+pub returns-then-is_above-clause-rose : goal.returns-then-is_above-clause-rose
+returns-then-is_above-clause-rose g c = not_failed _ _ _
+
+pub returns-then-is_above-clause-count : goal.returns-then-is_above-clause-count
+returns-then-is_above-clause-count g c = c.write_mark.ensures.count
+
+pub returns-clause-me : goal.returns-clause-me
+returns-clause-me g c = c.rest.ensures.me
+
+pub returns-clause-cached : goal.returns-clause-cached
+returns-clause-cached g c = inr c.rest.ensures.cached
+
+pub returns-clause-up : goal.returns-clause-up
+returns-clause-up g c = c.rest.ensures.up
+
+pub returns-clause-part : goal.returns-clause-part
+returns-clause-part g c = tt
+
+pub returns-clause-running : goal.returns-clause-running
+returns-clause-running g c = not_failed _ _ _
+
+pub returns-clause-rose : goal.returns-clause-rose
+returns-clause-rose g c = not_failed _ _ _
+
+pub returns-clause-count : goal.returns-clause-count
+returns-clause-count g c = c.write_mark.ensures.count

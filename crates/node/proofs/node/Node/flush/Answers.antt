@@ -1,4 +1,4 @@
-use Rattle.std.proofs.Common.{◌≡◌, ℕ, Some, refl, subst, sym, ◌∙◌, ap}
+use Rattle.std.proofs.Common.{Some, ap, le_refl, refl, subst, sym, ℕ, ◌∙◌, ◌≡◌}
 use Rattle.applier.specs.FuzzyDisk.{IsFuzzyByMark, IsFuzzyDisk}
 use Rattle.harp_store.specs.Disk.{AtEachMoment, cells_told}
 use Rattle.node.proofs.Asks.{cached_at}
@@ -9,6 +9,8 @@ use Rattle.node.specs.Stored.{log_in}
 use Rattle.volatile_log.specs.Log.{lowered_to}
 use Rattle.node.proofs.Stocked.{logged_stock}
 use Rattle.node.specs.Stock.{stock, stock_in}
+use Rattle.std.proofs.lemmas.Result.{IfOk-from_err}
+use Rattle.node.proofs.Faults.{not_failed, store_halted, store_rose}
 use Rattle.node.proofs.node.Node.flush.Goals as goal
 
 pub flush_log-requires-clause-active : goal.flush_log-requires-clause-active
@@ -72,3 +74,83 @@ returns-clause-stock g c =
     ap stock_in c.in_ok-flush_log.ensures.log
     ∙ logged_stock n.state (lowered_to log log.ap)
     (cached_in c.flush_log.new.state) refl ∙ ap stock c.self.view_is
+
+pub returns-then-not-flushes-clause-me : goal.returns-then-not-flushes-clause-me
+returns-then-not-flushes-clause-me g c = refl
+
+pub returns-then-not-flushes-clause-stock : goal.returns-then-not-flushes-clause-stock
+returns-then-not-flushes-clause-stock g c = refl
+
+pub returns-then-not-flushes-clause-up : goal.returns-then-not-flushes-clause-up
+returns-then-not-flushes-clause-up g c = c.requires.up
+
+pub returns-then-not-flushes-clause-cached : goal.returns-then-not-flushes-clause-cached
+returns-then-not-flushes-clause-cached g c = c.requires.cached
+
+pub returns-then-not-flushes-clause-running : goal.returns-then-not-flushes-clause-running
+returns-then-not-flushes-clause-running g c = not_failed _ _ _
+
+pub returns-then-not-flushes-clause-rose : goal.returns-then-not-flushes-clause-rose
+returns-then-not-flushes-clause-rose g c = not_failed _ _ _
+
+pub returns-then-not-flushes-clause-count : goal.returns-then-not-flushes-clause-count
+returns-then-not-flushes-clause-count g c = le_refl _
+
+pub returns-in_err-flush_log-clause-makes : goal.returns-in_err-flush_log-clause-makes
+returns-in_err-flush_log-clause-makes g c = IfOk-from_err c.from_residual.result _
+    c.from_residual.ensures.0
+
+pub returns-in_err-flush_log-clause-stock : goal.returns-in_err-flush_log-clause-stock
+returns-in_err-flush_log-clause-stock g c = IfOk-from_err c.from_residual.result _
+    c.from_residual.ensures.0
+
+pub returns-in_err-flush_log-clause-mark : goal.returns-in_err-flush_log-clause-mark
+returns-in_err-flush_log-clause-mark g c = IfOk-from_err c.from_residual.result _
+    c.from_residual.ensures.0
+
+pub returns-in_err-flush_log-clause-up : goal.returns-in_err-flush_log-clause-up
+returns-in_err-flush_log-clause-up g c = IfOk-from_err c.from_residual.result _
+    c.from_residual.ensures.0
+
+pub returns-in_err-flush_log-clause-done : goal.returns-in_err-flush_log-clause-done
+returns-in_err-flush_log-clause-done g c = IfOk-from_err c.from_residual.result _
+    c.from_residual.ensures.0
+
+pub returns-in_err-flush_log-clause-tree : goal.returns-in_err-flush_log-clause-tree
+returns-in_err-flush_log-clause-tree g c = IfOk-from_err c.from_residual.result _
+    c.from_residual.ensures.0
+
+pub returns-in_err-flush_log-clause-cached : goal.returns-in_err-flush_log-clause-cached
+returns-in_err-flush_log-clause-cached g c = IfOk-from_err c.from_residual.result _
+    c.from_residual.ensures.0
+
+pub returns-in_err-flush_log-clause-me : goal.returns-in_err-flush_log-clause-me
+returns-in_err-flush_log-clause-me g c = ap (λ (n : NodeValue). n.me) c.self.view_is
+
+pub returns-in_err-flush_log-clause-running : goal.returns-in_err-flush_log-clause-running
+returns-in_err-flush_log-clause-running g c = store_halted c.from_residual.result
+    c.in_err-flush_log.field-0.0
+    c.from_residual.ensures.1
+
+pub returns-in_err-flush_log-clause-rose : goal.returns-in_err-flush_log-clause-rose
+returns-in_err-flush_log-clause-rose g c = store_rose _ c.from_residual.result
+    c.in_err-flush_log.field-0.0 c.flush_log.result
+    c.from_residual.ensures.1 c.in_err-flush_log.was c.flush_log.ensures.rose
+
+pub returns-in_err-flush_log-clause-count : goal.returns-in_err-flush_log-clause-count
+returns-in_err-flush_log-clause-count g c = c.flush_log.ensures.count
+
+pub returns-clause-me : goal.returns-clause-me
+returns-clause-me g c = ap (λ (n : NodeValue). n.me) c.self.view_is
+
+pub returns-clause-cached : goal.returns-clause-cached
+returns-clause-cached g c = c.flush_log.ensures.cached
+
+pub returns-clause-running : goal.returns-clause-running
+returns-clause-running g c = not_failed _ _ _
+
+pub returns-clause-rose : goal.returns-clause-rose
+returns-clause-rose g c = not_failed _ _ _
+
+pub returns-clause-count : goal.returns-clause-count
+returns-clause-count g c = c.flush_log.ensures.count

@@ -1,4 +1,4 @@
-use Rattle.std.proofs.Common.{true, ap, subst, sym, ◌∙◌, []}
+use Rattle.std.proofs.Common.{[], ap, refl, subst, sym, true, ◌∙◌}
 use Rattle.group_rules.specs.Effects.{demoted}
 use Rattle.group_rules.specs.Names.{number_of_view, place_of}
 use Rattle.group_rules.specs.Places.{is_p2}
@@ -51,3 +51,15 @@ returns-clause-stock c items =
     (c.without_log.ensures.stock
     ∙ ap (λ (s : State). as_stock [] (pulled_in s) [])
     c.replace.ensures.value)
+
+pub returns-clause-me : goal.returns-clause-me
+returns-clause-me c = ap (λ (n : NodeValue). n.me) c.self.view_is
+
+pub returns-clause-cached : goal.returns-clause-cached
+returns-clause-cached c = c.without_log.ensures.cached
+
+pub returns-clause-mark : goal.returns-clause-mark
+returns-clause-mark c = refl
+
+pub returns-clause-up : goal.returns-clause-up
+returns-clause-up c = c.without_log.ensures.up

@@ -1,4 +1,4 @@
-use Rattle.std.proofs.Common.{◌≡◌, None, ap, refl, subst, sym, ◌∙◌}
+use Rattle.std.proofs.Common.{None, ap, refl, subst, sym, ◌∙◌, ◌≡◌}
 use Rattle.group_rules.specs.Names.{place_of}
 use Rattle.harp_types.specs.View.{View}
 use Rattle.harp_store.specs.Mark.{MarkFields}
@@ -8,6 +8,9 @@ use Rattle.node.specs.Disk.{promising}
 use Rattle.node.specs.State.{Fits, IsKept, heard_of}
 use Rattle.node.specs.declared.state.Joining.{Joining}
 use Rattle.node.specs.declared.state.State.{State}
+use Rattle.std.proofs.lemmas.Result.{IfOk-from_err}
+use Rattle.node.proofs.Faults.{not_failed, store_halted, store_rose}
+use Rattle.node.specs.Node.{NodeValue}
 use Rattle.node.proofs.node.Node.join.Goals as goal
 
 -- a mark that promises another view has the same LB
@@ -37,3 +40,68 @@ invariant_of-self g c = (
         c.first_joining.ensures ∙ heard_none (place_of c.self.inside.me),
   ),
 )
+
+pub returns-in_err-write_mark-clause-state : goal.returns-in_err-write_mark-clause-state
+returns-in_err-write_mark-clause-state g c = IfOk-from_err c.from_residual.result _
+    c.from_residual.ensures.0
+
+pub returns-in_err-write_mark-clause-stock : goal.returns-in_err-write_mark-clause-stock
+returns-in_err-write_mark-clause-stock g c = IfOk-from_err c.from_residual.result _
+    c.from_residual.ensures.0
+
+pub returns-in_err-write_mark-clause-cached : goal.returns-in_err-write_mark-clause-cached
+returns-in_err-write_mark-clause-cached g c = IfOk-from_err c.from_residual.result _
+    c.from_residual.ensures.0
+
+pub returns-in_err-write_mark-clause-mark : goal.returns-in_err-write_mark-clause-mark
+returns-in_err-write_mark-clause-mark g c = IfOk-from_err c.from_residual.result _
+    c.from_residual.ensures.0
+
+pub returns-in_err-write_mark-clause-up : goal.returns-in_err-write_mark-clause-up
+returns-in_err-write_mark-clause-up g c = IfOk-from_err c.from_residual.result _
+    c.from_residual.ensures.0
+
+pub returns-in_err-write_mark-clause-written : goal.returns-in_err-write_mark-clause-written
+returns-in_err-write_mark-clause-written g c = IfOk-from_err c.from_residual.result _
+    c.from_residual.ensures.0
+
+pub returns-in_err-write_mark-clause-me : goal.returns-in_err-write_mark-clause-me
+returns-in_err-write_mark-clause-me g c = refl
+
+pub returns-in_err-write_mark-clause-running : goal.returns-in_err-write_mark-clause-running
+returns-in_err-write_mark-clause-running g c = store_halted c.from_residual.result
+    c.in_err-write_mark.field-0.0
+    c.from_residual.ensures.1
+
+pub returns-in_err-write_mark-clause-rose : goal.returns-in_err-write_mark-clause-rose
+returns-in_err-write_mark-clause-rose g c = store_rose _ c.from_residual.result
+    c.in_err-write_mark.field-0.0 c.write_mark.result
+    c.from_residual.ensures.1 c.in_err-write_mark.was c.write_mark.ensures.rose
+
+pub returns-in_err-write_mark-clause-count : goal.returns-in_err-write_mark-clause-count
+returns-in_err-write_mark-clause-count g c = c.write_mark.ensures.count
+
+pub returns-clause-me : goal.returns-clause-me
+returns-clause-me g c = ap (λ (n : NodeValue). n.me) c.self.view_is
+
+pub returns-clause-cached : goal.returns-clause-cached
+returns-clause-cached g c = refl
+
+pub returns-clause-mark : goal.returns-clause-mark
+returns-clause-mark g c = c.promised_mark-mark.ensures
+    ∙ ap (λ (n : NodeValue). promising n.mark c.args.view) c.self.view_is
+
+pub returns-clause-up : goal.returns-clause-up
+returns-clause-up g c = refl
+
+pub returns-clause-part : goal.returns-clause-part
+returns-clause-part g c = tt
+
+pub returns-clause-running : goal.returns-clause-running
+returns-clause-running g c = not_failed _ _ _
+
+pub returns-clause-rose : goal.returns-clause-rose
+returns-clause-rose g c = not_failed _ _ _
+
+pub returns-clause-count : goal.returns-clause-count
+returns-clause-count g c = c.write_mark.ensures.count

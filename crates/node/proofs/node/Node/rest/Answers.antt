@@ -1,4 +1,4 @@
-use Rattle.std.proofs.Common.{false, ap, ◌∙◌, List, []}
+use Rattle.std.proofs.Common.{List, [], ap, false, refl, ◌∙◌}
 use Rattle.file_tree.specs.Book.{Entry}
 use Rattle.group_rules.specs.Effects.{demoted, down, first_mark}
 use Rattle.group_rules.specs.Names.{number_of_view, place_of}
@@ -44,3 +44,15 @@ returns-clause-stock c items =
     c.self.view_is c.requires.below)
     (ap (λ (xs : List RecordFields). as_stock xs [] [])
     c.forget.ensures.records)
+
+pub returns-clause-me : goal.returns-clause-me
+returns-clause-me c = ap (λ (n : NodeValue). n.me) c.self.view_is
+
+pub returns-clause-cached : goal.returns-clause-cached
+returns-clause-cached c = refl
+
+pub returns-clause-mark : goal.returns-clause-mark
+returns-clause-mark c = refl
+
+pub returns-clause-up : goal.returns-clause-up
+returns-clause-up c = refl

@@ -1,4 +1,4 @@
-use Rattle.std.proofs.Common.{◌+◌, ◌==◌, ◌≡◌, List, [], ap, arith, length, map, refl, subst, sym, true, true≢false, ℕ, ◌∙◌}
+use Rattle.std.proofs.Common.{List, [], ap, arith, inl, le_refl, length, map, refl, subst, sym, true, true≢false, ℕ, ◌+◌, ◌==◌, ◌∙◌, ◌≡◌}
 use Rattle.event_record.specs.Record.{entry_of}
 use Rattle.event_record.specs.declared.record.RecordFields.{RecordFields}
 use Rattle.group_rules.specs.Form.{accept_moves, wanted}
@@ -6,7 +6,7 @@ use Rattle.group_rules.specs.Names.{place_of}
 use Rattle.group_rules.specs.Places.{Place, is_in, partner, same}
 use Rattle.idle_log.specs.Kept.{plan_of, with_kept, log_in}
 use Rattle.node.proofs.Forms.{begins, begins_so, joined_is, no_test, none_at, not_source, part_at, pulling, stores_at, wanted_at, whole_at}
-use Rattle.node.proofs.Saying.{disk_so, makes_so, mark_so, on_err, on_ok, part_so, unsaid}
+use Rattle.node.proofs.Saying.{disk_so, err_so, makes_so, mark_so, on_err, on_ok, part_so, unsaid}
 use Rattle.node.specs.Forming.{joined_with}
 use Rattle.node.specs.Node.{NodeValue, server}
 use Rattle.node.specs.State.{IsPulling}
@@ -15,6 +15,8 @@ use Rattle.node.proofs.Stocked.{accepting_stock}
 use Rattle.node.proofs.Stocks.{as_stock, idle_if, stocks_so}
 use Rattle.node.specs.Stock.{stock, stock_kept}
 use Rattle.idle_log.specs.Pulls.{adopted_records}
+use Rattle.std.proofs.lemmas.Result.{IfOk-from_err}
+use Rattle.node.proofs.Faults.{not_failed, not_halted, not_stored}
 use Rattle.node.proofs.node.Node.take_part.Goals as goal
 
 pub returns-then-not-fits-clause-makes : goal.returns-then-not-fits-clause-makes
@@ -224,3 +226,157 @@ returns-clause-stock g c items =
     ((c.in_ok-staged.ensures.none s).0 whole)) ∙ c.if-full.false))))
     (λ clock list askers. c.in_ok-fetch.ensures.stock
     ∙ ap (stock_kept c.args.kept) c.in_ok-staged.ensures.list.1)
+
+pub returns-then-not-fits-clause-me : goal.returns-then-not-fits-clause-me
+returns-then-not-fits-clause-me g c = ap (λ (n : NodeValue). n.me) c.self.view_is
+
+pub returns-then-not-fits-clause-cached : goal.returns-then-not-fits-clause-cached
+returns-then-not-fits-clause-cached g c = refl
+
+pub returns-then-not-fits-clause-up : goal.returns-then-not-fits-clause-up
+returns-then-not-fits-clause-up g c = refl
+
+pub returns-then-not-fits-clause-part : goal.returns-then-not-fits-clause-part
+returns-then-not-fits-clause-part g c = tt
+
+pub returns-then-not-fits-clause-running : goal.returns-then-not-fits-clause-running
+returns-then-not-fits-clause-running g c = not_failed _ _ _
+
+pub returns-then-not-fits-clause-rose : goal.returns-then-not-fits-clause-rose
+returns-then-not-fits-clause-rose g c = not_failed _ _ _
+
+pub returns-then-not-fits-clause-count : goal.returns-then-not-fits-clause-count
+returns-then-not-fits-clause-count g c = le_refl _
+
+pub returns-in_err-staged-clause-makes : goal.returns-in_err-staged-clause-makes
+returns-in_err-staged-clause-makes g c = IfOk-from_err c.from_residual.result _
+    c.from_residual.ensures.0
+
+pub returns-in_err-staged-clause-stock : goal.returns-in_err-staged-clause-stock
+returns-in_err-staged-clause-stock g c = IfOk-from_err c.from_residual.result _
+    c.from_residual.ensures.0
+
+pub returns-in_err-staged-clause-cached : goal.returns-in_err-staged-clause-cached
+returns-in_err-staged-clause-cached g c = IfOk-from_err c.from_residual.result _
+    c.from_residual.ensures.0
+
+pub returns-in_err-staged-clause-mark : goal.returns-in_err-staged-clause-mark
+returns-in_err-staged-clause-mark g c = IfOk-from_err c.from_residual.result _
+    c.from_residual.ensures.0
+
+pub returns-in_err-staged-clause-up : goal.returns-in_err-staged-clause-up
+returns-in_err-staged-clause-up g c = IfOk-from_err c.from_residual.result _
+    c.from_residual.ensures.0
+
+pub returns-in_err-staged-clause-written : goal.returns-in_err-staged-clause-written
+returns-in_err-staged-clause-written g c = IfOk-from_err c.from_residual.result _
+    c.from_residual.ensures.0
+
+pub returns-in_err-staged-clause-me : goal.returns-in_err-staged-clause-me
+returns-in_err-staged-clause-me g c = refl
+
+pub returns-in_err-staged-clause-part : goal.returns-in_err-staged-clause-part
+returns-in_err-staged-clause-part g c = err_so _ _ (inl refl)
+
+pub returns-in_err-staged-clause-running : goal.returns-in_err-staged-clause-running
+returns-in_err-staged-clause-running g c = not_halted c.from_residual.result
+    c.from_residual.ensures.1
+
+pub returns-in_err-staged-clause-rose : goal.returns-in_err-staged-clause-rose
+returns-in_err-staged-clause-rose g c = not_stored _ c.from_residual.result
+    c.from_residual.ensures.1
+
+pub returns-in_err-staged-clause-count : goal.returns-in_err-staged-clause-count
+returns-in_err-staged-clause-count g c = le_refl _
+
+pub returns-then-full-clause-me : goal.returns-then-full-clause-me
+returns-then-full-clause-me g c = c.accept.ensures.me
+
+pub returns-then-full-clause-cached : goal.returns-then-full-clause-cached
+returns-then-full-clause-cached g c = c.accept.ensures.cached
+
+pub returns-then-full-clause-up : goal.returns-then-full-clause-up
+returns-then-full-clause-up g c = c.accept.ensures.up
+
+pub returns-then-full-clause-running : goal.returns-then-full-clause-running
+returns-then-full-clause-running g c = c.accept.ensures.running
+
+pub returns-then-full-clause-rose : goal.returns-then-full-clause-rose
+returns-then-full-clause-rose g c = c.accept.ensures.rose
+
+pub returns-then-full-clause-count : goal.returns-then-full-clause-count
+returns-then-full-clause-count g c = c.accept.ensures.count
+
+pub returns-in_err-fetch-clause-makes : goal.returns-in_err-fetch-clause-makes
+returns-in_err-fetch-clause-makes g c = IfOk-from_err c.from_residual-in_err-fetch.result _
+    c.from_residual-in_err-fetch.ensures.0
+
+pub returns-in_err-fetch-clause-stock : goal.returns-in_err-fetch-clause-stock
+returns-in_err-fetch-clause-stock g c = IfOk-from_err c.from_residual-in_err-fetch.result _
+    c.from_residual-in_err-fetch.ensures.0
+
+pub returns-in_err-fetch-clause-cached : goal.returns-in_err-fetch-clause-cached
+returns-in_err-fetch-clause-cached g c = IfOk-from_err c.from_residual-in_err-fetch.result _
+    c.from_residual-in_err-fetch.ensures.0
+
+pub returns-in_err-fetch-clause-mark : goal.returns-in_err-fetch-clause-mark
+returns-in_err-fetch-clause-mark g c = IfOk-from_err c.from_residual-in_err-fetch.result _
+    c.from_residual-in_err-fetch.ensures.0
+
+pub returns-in_err-fetch-clause-up : goal.returns-in_err-fetch-clause-up
+returns-in_err-fetch-clause-up g c = IfOk-from_err c.from_residual-in_err-fetch.result _
+    c.from_residual-in_err-fetch.ensures.0
+
+pub returns-in_err-fetch-clause-written : goal.returns-in_err-fetch-clause-written
+returns-in_err-fetch-clause-written g c = IfOk-from_err c.from_residual-in_err-fetch.result _
+    c.from_residual-in_err-fetch.ensures.0
+
+pub returns-in_err-fetch-clause-me : goal.returns-in_err-fetch-clause-me
+returns-in_err-fetch-clause-me g c = c.fetch.ensures.me
+
+pub returns-in_err-fetch-clause-part : goal.returns-in_err-fetch-clause-part
+returns-in_err-fetch-clause-part g c = err_so _ _ (inl refl)
+
+pub returns-in_err-fetch-clause-running : goal.returns-in_err-fetch-clause-running
+returns-in_err-fetch-clause-running g c = not_halted c.from_residual-in_err-fetch.result
+    c.from_residual-in_err-fetch.ensures.1
+
+pub returns-in_err-fetch-clause-rose : goal.returns-in_err-fetch-clause-rose
+returns-in_err-fetch-clause-rose g c = not_stored _ c.from_residual-in_err-fetch.result
+    c.from_residual-in_err-fetch.ensures.1
+
+pub returns-in_err-fetch-clause-count : goal.returns-in_err-fetch-clause-count
+returns-in_err-fetch-clause-count g c = le_refl _
+
+pub returns-clause-me : goal.returns-clause-me
+returns-clause-me g c = c.fetch.ensures.me
+
+pub returns-clause-cached : goal.returns-clause-cached
+returns-clause-cached g c = c.in_ok-fetch.ensures.cached
+
+pub returns-clause-up : goal.returns-clause-up
+returns-clause-up g c = c.in_ok-fetch.ensures.up
+
+pub returns-clause-part : goal.returns-clause-part
+returns-clause-part g c = tt
+
+pub returns-clause-running : goal.returns-clause-running
+returns-clause-running g c = not_failed _ _ _
+
+pub returns-clause-rose : goal.returns-clause-rose
+returns-clause-rose g c = not_failed _ _ _
+
+pub returns-clause-count : goal.returns-clause-count
+returns-clause-count g c = le_refl _
+
+pub accept-requires-clause-kept : goal.accept-requires-clause-kept
+accept-requires-clause-kept g c = c.requires.kept
+
+pub accept-requires-clause-others : goal.accept-requires-clause-others
+accept-requires-clause-others g c = c.requires.others
+
+pub fetch-requires-clause-kept : goal.fetch-requires-clause-kept
+fetch-requires-clause-kept g c = c.requires.kept
+
+pub fetch-requires-clause-others : goal.fetch-requires-clause-others
+fetch-requires-clause-others g c = c.requires.others

@@ -1,0 +1,82 @@
+use Rattle.std.proofs.Common.{◌∷◌, ◌≤◌, [], ap, arith, refl, subst, sym}
+use Rattle.std.proofs.lemmas.Result.{IfOk-from_err}
+use Rattle.group_rules.specs.Moves.{Sending}
+use Rattle.group_rules.specs.Names.{place_of}
+use Rattle.group_rules.specs.State.{Fetch}
+use Rattle.idle_log.specs.Kept.{plan_of}
+use Rattle.node.proofs.Given.{pulled_so}
+use Rattle.node.proofs.Sent.{sent_as}
+use Rattle.node.specs.Node.{NodeValue}
+use Rattle.node.specs.State.{HearsOthers, IsKept, IsPulling}
+use Rattle.volatile_log.specs.Log.{next}
+use Rattle.node.proofs.node.Node.fetch.Goals as goal
+
+pub returns-in_err-send-clause-sends : goal.returns-in_err-send-clause-sends
+returns-in_err-send-clause-sends c = IfOk-from_err c.from_residual.result _
+    c.from_residual.ensures.0
+
+pub returns-in_err-send-clause-state : goal.returns-in_err-send-clause-state
+returns-in_err-send-clause-state c = IfOk-from_err c.from_residual.result _
+    c.from_residual.ensures.0
+
+pub returns-in_err-send-clause-me : goal.returns-in_err-send-clause-me
+returns-in_err-send-clause-me c = refl
+
+pub returns-in_err-send-clause-stock : goal.returns-in_err-send-clause-stock
+returns-in_err-send-clause-stock c = IfOk-from_err c.from_residual.result _
+    c.from_residual.ensures.0
+
+pub returns-in_err-send-clause-cached : goal.returns-in_err-send-clause-cached
+returns-in_err-send-clause-cached c = IfOk-from_err c.from_residual.result _
+    c.from_residual.ensures.0
+
+pub returns-in_err-send-clause-mark : goal.returns-in_err-send-clause-mark
+returns-in_err-send-clause-mark c = refl
+
+pub returns-in_err-send-clause-up : goal.returns-in_err-send-clause-up
+returns-in_err-send-clause-up c = IfOk-from_err c.from_residual.result _
+    c.from_residual.ensures.0
+
+pub invariant_of-self : goal.invariant_of-self
+invariant_of-self c =
+    let is = sym c.self.view_is in
+    let p = c.args.pull in
+    let some : 1 ≤ p.staged.first = omega (arith, c.requires.pulls.list.0) in (
+      c.self.invariant.0,
+      (
+        subst (λ (n : NodeValue). IsKept n.me n.mark p.kept) is c.requires.kept,
+        some,
+        subst (λ (n : NodeValue). HearsOthers n.me p.joining) is c.requires.others,
+        subst (λ (n : NodeValue). IsPulling n.me p.kept (plan_of p.form) p.staged) is
+            c.requires.pulls,
+      ),
+    )
+
+pub returns-clause-sends : goal.returns-clause-sends
+returns-clause-sends c s clock =
+    let to = place_of c.args.pull.form.source in
+    sent_as c.args.self.now.me clock _ c.self.inside.mark.promised to c.promised-view.result
+    c.next-first.result (next c.args.pull.staged) s c.args.outs.now c.send.new.self (tt, tt)
+    (ap (λ (n : NodeValue). Sending to (Fetch n.plain.promised (next c.args.pull.staged)) ∷ [])
+    (sym c.self.view_is)) c.promised-view.ensures.value c.next-first.ensures.value
+    c.in_ok-send.ensures.said
+
+pub returns-clause-state : goal.returns-clause-state
+returns-clause-state c items = pulled_so c.self.inside.me c.self.inside.mark
+    c.self.inside.horizon c.self.inside.served c.self.inside.duty c.self.inside.state
+    c.args.self.now c.args.pull c.args.pull.staged items c.self.view_is c.requires.kept refl
+
+pub returns-clause-me : goal.returns-clause-me
+returns-clause-me c = ap (λ (n : NodeValue). n.me) c.self.view_is
+
+pub returns-clause-stock : goal.returns-clause-stock
+returns-clause-stock c = refl
+
+pub returns-clause-cached : goal.returns-clause-cached
+returns-clause-cached c = refl
+
+pub returns-clause-mark : goal.returns-clause-mark
+returns-clause-mark c = ap (λ (n : NodeValue). n.mark) c.self.view_is
+
+pub returns-clause-up : goal.returns-clause-up
+returns-clause-up c = refl
