@@ -38,7 +38,7 @@ impl From<CellFault> for Fault {
 }
 
 /// A fault, and its place where it has one.
-pub fn put_fault(out: &mut Vec<u8>, fault: Fault) -> Result<(), AllocError> {
+pub(crate) fn put_fault(out: &mut Vec<u8>, fault: Fault) -> Result<(), AllocError> {
     match fault {
         Fault::Grammar(at) => {
             out.extend_from_slice(b"grammar")?;

@@ -32,7 +32,7 @@ pub struct Group {
 
 impl Group {
     /// A group of which no update is committed, at time 0.
-    pub fn new(alloc: Global) -> Group {
+    pub(crate) fn new(alloc: Global) -> Group {
         Group {
             cells: MemCells::new(alloc),
             records: Vec::new(alloc),
@@ -64,7 +64,7 @@ impl Group {
     }
 
     /// Commits an update. A read changes nothing.
-    pub fn commit(&mut self, alloc: Global, asker: Asker, call: &Call) -> Result<(), Fault> {
+    pub(crate) fn commit(&mut self, alloc: Global, asker: Asker, call: &Call) -> Result<(), Fault> {
         if !is_update(call) {
             return Ok(());
         }
@@ -124,7 +124,7 @@ impl Group {
     }
 
     /// What is wanted, as a server would show it.
-    pub fn show(&mut self, alloc: Global, want: Want) -> Result<Option<Shown>, Fault> {
+    pub(crate) fn show(&mut self, alloc: Global, want: Want) -> Result<Option<Shown>, Fault> {
         match want {
             Want::Cell { cell } => {
                 let value = self.held(alloc, cell)?;

@@ -109,7 +109,12 @@ fn play_observer(
 }
 
 /// Plays a row.
-pub fn play(alloc: Global, out: &mut Vec<u8>, table: &mut Table, line: &[u8]) -> Result<(), Fault> {
+pub(crate) fn play(
+    alloc: Global,
+    out: &mut Vec<u8>,
+    table: &mut Table,
+    line: &[u8],
+) -> Result<(), Fault> {
     let word = word_at(line, 0);
     if word.is_empty() || word == b"#".as_slice() {
         return Ok(());

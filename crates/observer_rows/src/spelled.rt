@@ -43,7 +43,7 @@ fn put_told(out: &mut Vec<u8>, shown: &Shown) -> Result<(), AllocError> {
 }
 
 /// A line with what is shown, and its number.
-pub fn put_shown(out: &mut Vec<u8>, number: usize, shown: &Shown) -> Result<(), AllocError> {
+pub(crate) fn put_shown(out: &mut Vec<u8>, number: usize, shown: &Shown) -> Result<(), AllocError> {
     put_named(out, b"shown", number as u64)?;
     put_told(out, shown)?;
     out.extend_from_slice(b"\n")

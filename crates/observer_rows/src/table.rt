@@ -52,7 +52,7 @@ fn put_read(
 
 impl Table {
     /// A group of which no update is committed, and an observer without a copy.
-    pub fn new(alloc: Global) -> Table {
+    pub(crate) fn new(alloc: Global) -> Table {
         Table {
             group: Group::new(alloc),
             observer: Observer::new(alloc),
@@ -61,7 +61,7 @@ impl Table {
     }
 
     /// Shows what is wanted; whether it is there.
-    pub fn want(&mut self, alloc: Global, out: &mut Vec<u8>) -> Result<bool, Fault> {
+    pub(crate) fn want(&mut self, alloc: Global, out: &mut Vec<u8>) -> Result<bool, Fault> {
         let shown = match self.observer.want() {
             Some(want) => self.group.show(alloc, want)?,
             None => None,
@@ -94,7 +94,12 @@ impl Table {
     }
 
     /// The observer takes what was shown under a number.
-    pub fn take(&mut self, alloc: Global, out: &mut Vec<u8>, number: usize) -> Result<(), Fault> {
+    pub(crate) fn take(
+        &mut self,
+        alloc: Global,
+        out: &mut Vec<u8>,
+        number: usize,
+    ) -> Result<(), Fault> {
         let shown = self.copied(alloc, number)?;
         if !shown.is_low() {
             return Err(Fault::Bounds);
@@ -115,7 +120,12 @@ impl Table {
     }
 
     /// Shows and takes what is wanted, so many times, or until nothing is there.
-    pub fn drain(&mut self, alloc: Global, out: &mut Vec<u8>, times: u32) -> Result<(), Fault> {
+    pub(crate) fn drain(
+        &mut self,
+        alloc: Global,
+        out: &mut Vec<u8>,
+        times: u32,
+    ) -> Result<(), Fault> {
         for _ in 0..times {
             if !self.follow(alloc, out)? {
                 return Ok(());
@@ -132,7 +142,12 @@ impl Table {
     }
 
     /// What the observer answers to a read. An update is none.
-    pub fn peek(&mut self, alloc: Global, out: &mut Vec<u8>, call: &Call) -> Result<(), Fault> {
+    pub(crate) fn peek(
+        &mut self,
+        alloc: Global,
+        out: &mut Vec<u8>,
+        call: &Call,
+    ) -> Result<(), Fault> {
         if is_update(call) {
             return Err(Fault::Bounds);
         }
