@@ -1,0 +1,5 @@
+pub mod Scene
+pub mod Run
+pub mod Reading
+pub mod Trace
+pub mod Peeks
