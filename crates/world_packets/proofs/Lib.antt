@@ -1,4 +1,4 @@
-mod Spelled
+pub mod Sizes
 mod Firsts
 mod Ways
 pub mod Machine

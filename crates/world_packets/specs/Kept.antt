@@ -1,27 +1,10 @@
--- What a kept packet and the packets together hold true of their fields.
-use Rattle.std.specs.Prelude.{◌≡◌, ℕ, ◌-◌, ◌^◌, List, Option, Result, Ok, Err, min}
+-- What the packets together hold true of their fields.
+use Rattle.std.specs.Prelude.{◌≡◌, ℕ, ◌-◌, ◌^◌, List, Option, min}
 use Rattle.harp_types.specs.declared.server.ServerId.{ServerId}
-use Rattle.harp_types.specs.declared.server.ServerId.TheVariants.{Zero}
 use Rattle.harp_types.specs.declared.trio.Trio.{Trio}
 use Rattle.harp_types.specs.Trio.{value_of, with_value}
-use Rattle.wire.specs.declared.message.Message.{Message}
-use Rattle.wire.specs.declared.message.Message.TheVariants as message
-use Rattle.wire.specs.declared.decoding.DecodeFault.{DecodeFault}
-use Rattle.wire.specs.Messages.{MessageFits, decoded, message_bytes}
 use Rattle.world_packets.specs.Due.{first_from, goes}
 use Rattle.world_packets.specs.Posted.{Posted, bytes_sent}
-
--- the message that was read; no packet has bytes in which none is
-abbrev pub message_of : Result Message DecodeFault → Message
-message_of (Ok m) = m
-message_of (Err e) = message.Demote (record { count = 0; coordinator = Zero })
-
-unfoldable pub message_in : List ℕ → Message
-message_in bytes = message_of (decoded bytes)
-
--- bytes spell the message that is read in them
-abbrev pub AreSpelled : List ℕ → Type 0
-AreSpelled bytes = (bytes ≡ message_bytes (message_in bytes)) × MessageFits (message_in bytes)
 
 -- one number for each sender and target
 abbrev pub Ways : Type 0

@@ -6,49 +6,54 @@ ghost use Rattle.world_packets.specs.Due.{goes};
 ghost use Rattle.world_packets.specs.Posted.{arrived, bytes_of, posted};
 
 use crate::packet::Packet;
-use harp_types::{Bytes, ServerId};
+use harp_types::ServerId;
 use std::alloc::{AllocError, Global};
 use std::marker::Model;
-use wire::{Message, decode, encode};
+use wire::Message;
 
-/// A packet with its message as bytes, and whether it was ever delivered.
+/// A packet with its message, whose records the logs share, and whether it was ever delivered.
 #[derive(Drop)]
 pub(crate) struct Kept {
     from: ServerId,
     to: ServerId,
-    bytes: Bytes,
+    message: Message,
+    /// How many bytes the message has.
+    size: u64,
     delivered: bool,
 }
 
 impl Model for Kept {
-    ghost use Rattle.world_packets.specs.Kept.{AreSpelled, message_in};
+    ghost use Rattle.std.specs.Prelude.{◌≡◌, length};
+    ghost use Rattle.wire.specs.Messages.{message_bytes};
     ghost use Rattle.world_packets.specs.Posted.{Posted};
 
     ghost Value = { Posted };
 
     ghost view = { λ k. record {
-      packet = record { from = k.from; to = k.to; message = message_in k.bytes };
+      packet = record { from = k.from; to = k.to; message = k.message };
       delivered = k.delivered;
     } };
 
-    ghost invariant = { λ k. AreSpelled k.bytes };
+    ghost invariant = { λ k. k.size ≡ length (message_bytes k.message) };
 }
 
 impl Kept {
-    /// A packet that was never delivered.
+    /// A packet that was never delivered, with a message of so many bytes.
     pub fn new(
         alloc: Global,
         from: ServerId,
         to: ServerId,
         message: &Message,
+        size: u64,
     ) -> Result<Kept, AllocError>
+        requires { size ≡ length (message_bytes message.now) }
         ensures { IfOk result (λ kept. kept ≡ posted from to message.now) }
     {
-        let bytes = encode(alloc, message)?;
         Ok(Kept {
             from,
             to,
-            bytes,
+            message: message.copy(alloc)?,
+            size,
             delivered: false,
         })
     }
@@ -69,7 +74,8 @@ impl Kept {
     pub fn size(&self) -> u64
         ensures { result ≡ bytes_of self.now }
     {
-        self.bytes.len() as u64
+        let _ = &self.message;
+        self.size
     }
 
     /// Whether it goes from one server to another, and was never delivered.
@@ -79,19 +85,15 @@ impl Kept {
         self.from == from && self.to == to && !self.delivered
     }
 
-    /// The packet, with its message as a value.
+    /// The packet, with an equal message.
     pub fn open(&self, alloc: Global) -> Result<Packet, AllocError>
         ensures { IfOk result (λ packet. packet ≡ self.now.packet) }
     {
-        match decode(alloc, self.bytes.as_slice()) {
-            Ok(message) => Ok(Packet {
-                from: self.from,
-                to: self.to,
-                message,
-            }),
-            // its bytes spell a message, so nothing but memory can be wanting
-            Err(_) => Err(AllocError),
-        }
+        Ok(Packet {
+            from: self.from,
+            to: self.to,
+            message: self.message.copy(alloc)?,
+        })
     }
 
     /// It counts as delivered.

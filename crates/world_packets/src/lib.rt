@@ -1,9 +1,8 @@
-//! The packets of a world of three servers: what was sent, kept as bytes, and what was delivered.
+//! The packets of a world of three servers: what was sent, and what was delivered.
 //!
 //! # What is proved
 //!
-//! The packets of three servers, in the order in which they were sent. Their messages are kept as
-//! bytes, and contracts see them as messages.
+//! The packets of three servers, in the order in which they were sent.
 //!
 //! - `send` puts a packet behind all others (`ok`), or leaves them after want of memory (`err`).
 //!   `open`, `sender` and `target` tell what was sent as packet n, and none exactly where there is
@@ -21,6 +20,7 @@ mod due;
 mod kept;
 mod packet;
 mod packets;
+mod size;
 
 pub use packet::Packet;
 pub use packets::Packets;

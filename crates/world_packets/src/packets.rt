@@ -17,6 +17,7 @@ ghost use Rattle.world_packets.specs.Posted.{Posted, bytes_sent, delivered_at, p
 use crate::due::{Ways, lower, lowest, with_new, without};
 use crate::kept::Kept;
 use crate::packet::Packet;
+use crate::size::message_size;
 use harp_types::{ServerId, Trio};
 use std::alloc::{AllocError, Global};
 use std::marker::Model;
@@ -31,6 +32,8 @@ pub struct Packets {
     bytes: u64,
     /// The first that are due.
     due: Ways,
+    /// Where records are spelled, to be counted.
+    room: Vec<u8>,
 }
 
 impl Model for Packets {
@@ -64,6 +67,7 @@ impl Packets {
                 one: none,
                 two: none,
             },
+            room: Vec::new(alloc),
         }
     }
 
@@ -83,8 +87,8 @@ impl Packets {
             → StandFor self.old packets numbers → heard message.now ≡ Some body
             → StandFor self.new (sent from to body ∷ packets) numbers) }
     {
-        let kept = Kept::new(alloc, from, to, message)?;
-        let size = kept.size();
+        let size = message_size(alloc, message, &mut self.room)?;
+        let kept = Kept::new(alloc, from, to, message, size)?;
         let n = self.kept.len() as u64;
         self.kept.push(kept)?;
         self.bytes = self.bytes.saturating_add(size);
