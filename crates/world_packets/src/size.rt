@@ -19,9 +19,8 @@ fn record_size(record: &Record, room: &mut Vec<u8>) -> Result<u64, AllocError>
     Ok(room.len() as u64)
 }
 
-/// How many bytes a message has. Of those that come for each call no more than the record is
-/// spelled.
-#[tactic(auto, using(crate::proofs::Sizes::event_size, crate::proofs::Sizes::beat_size, crate::proofs::Sizes::ack_size))]
+/// How many bytes a message has. Of one between servers no more is spelled than its records.
+#[tactic(auto, using(crate::proofs::Sizes::sizes))]
 pub(crate) fn message_size(
     alloc: Global,
     message: &Message,
@@ -34,10 +33,17 @@ pub(crate) fn message_size(
             let size = record_size(record, room)?;
             Ok(26 + size)
         }
+        Message::Invite { .. } | Message::Demote { .. } => Ok(10),
+        Message::Fetch { .. } | Message::Formed { .. } => Ok(18),
         Message::Beat { .. } => Ok(26),
         Message::Ack { .. } => Ok(34),
-        other => {
-            let bytes = encode(alloc, other)?;
+        Message::Form { .. } => Ok(45),
+        Message::Join { .. } => Ok(60),
+        Message::Give { .. }
+        | Message::Ask { .. }
+        | Message::Answer { .. }
+        | Message::CannotServe { .. } => {
+            let bytes = encode(alloc, message)?;
             Ok(bytes.len() as u64)
         }
     }
