@@ -180,8 +180,7 @@ fn put_fields(out: &mut Vec<u8>, message: &Message) -> Result<(), AllocError>
     }
 }
 
-/// The one spelling of a message, with no room beyond its bytes, since what is sent is kept. It is
-/// spelled elsewhere first: giving room back would split a block of memory for each message.
+/// The one spelling of a message.
 pub fn encode(alloc: Global, message: &Message) -> Result<Bytes, AllocError>
     ensures spelled { IfOk result (λ bytes. bytes ≡ message_bytes message.now) }
     ensures fits { OnOk result (MessageFits message.now) }
@@ -189,5 +188,5 @@ pub fn encode(alloc: Global, message: &Message) -> Result<Bytes, AllocError>
     let mut out = Vec::with_capacity(alloc, USUAL_MESSAGE)?;
     out.push(form_number(message))?;
     put_fields(&mut out, message)?;
-    Ok(Bytes::from_vec(Vec::from_slice(alloc, out.as_slice())?))
+    Ok(Bytes::from_vec(out))
 }
