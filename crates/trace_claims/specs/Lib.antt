@@ -7,3 +7,4 @@ pub mod LaterViews
 pub mod Listing
 pub mod LocalSteps
 pub mod Right
+pub mod Linearizable
