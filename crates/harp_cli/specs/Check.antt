@@ -15,10 +15,11 @@ exit_after verdict.Yes = exit.Done
 exit_after (verdict.No number breach) = exit.SaysNo
 exit_after (verdict.Bad number unread) = exit.RefusedLine
 
--- A verdict on the text was found: of a right text it is yes, and then the source was read to its
--- end
+-- The one verdict on the text was found: of a right text it is yes, and then the source was read to
+-- its end
 pub record IsFound (text : List ℕ) (source : Option (List ℕ)) (v : Verdict) : Type 0 where
   pub on : IsVerdictOn text v
+  pub only : (w : Verdict) → IsVerdictOn text w → w ≡ v
   pub right : IsRightText text → v ≡ verdict.Yes
   pub read : v ≡ verdict.Yes → source ≡ Some []
 

@@ -1,4 +1,5 @@
 pub mod Taking
 pub mod Closing
+pub mod OneVerdict
 pub mod Deciding
 pub mod Turning

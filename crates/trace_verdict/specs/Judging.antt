@@ -1,5 +1,5 @@
 -- A judge on its way through a text.
-use Rattle.std.specs.Prelude.{◌≡◌, ℕ, ◌+◌, ◌^◌, ◌<◌, ◌≤◌, List, [], ◌∷◌, ◌++◌, length, Option, Some, None}
+use Rattle.std.specs.Prelude.{◌≡◌, ℕ, ◌+◌, ◌≤◌, List, [], ◌∷◌, ◌++◌, length, Option, Some, None}
 use Rattle.harp_types.specs.Limits.{longest_line}
 use Rattle.line_reader.specs.Lines.{lines_of}
 use Rattle.trace_text.specs.Grammar.{IsTraceLine}
@@ -13,7 +13,7 @@ use Rattle.trace_verdict.specs.declared.verdict.Unread.TheVariants as fault
 use Rattle.trace_verdict.specs.declared.verdict.Verdict.{Verdict}
 use Rattle.trace_verdict.specs.declared.verdict.Verdict.TheVariants as verdict
 use Rattle.trace_verdict.specs.Places.{CanFollow, has_ended}
-use Rattle.trace_verdict.specs.Verdicts.{HasNoPlace, IsRightText, IsVerdictOn}
+use Rattle.trace_verdict.specs.Verdicts.{HasNoPlace, IsVerdictOn}
 
 -- a line is the spelling of this one, and of no other
 pub record MeansOnly (text : List ℕ) (l : Line) : Type 0 where
@@ -69,7 +69,7 @@ pub record IsOnTheWay (text left : List ℕ) (j : Judge) : Type 0 where
 -- a verdict, and no other can be given
 pub record Decides (text : List ℕ) (v : Verdict) : Type 0 where
   pub is : IsVerdictOn text v
-  pub yes : IsRightText text → v ≡ verdict.Yes
+  pub only : (w : Verdict) → IsVerdictOn text w → w ≡ v
 
 -- a verdict, which isn't yes
 pub record Denies (text : List ℕ) (v : Verdict) : Type 0 where

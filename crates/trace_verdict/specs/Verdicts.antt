@@ -1,5 +1,5 @@
 -- What is found of the text of a trace.
-use Rattle.std.specs.Prelude.{◌≡◌, ℕ, ◌+◌, ◌^◌, ◌<◌, ◌≤◌, true, false, List, [], ◌∷◌, ◌++◌, length}
+use Rattle.std.specs.Prelude.{◌≡◌, ℕ, ◌+◌, ◌^◌, ◌<◌, ◌≤◌, false, List, [], ◌∷◌, ◌++◌, length}
 use Rattle.harp_types.specs.Limits.{longest_line}
 use Rattle.line_reader.specs.Lines.{lines_of}
 use Rattle.trace_text.specs.Grammar.{IsTraceLine}
@@ -84,6 +84,7 @@ pub record Lacks (text : List ℕ) (n : ℕ) : Type 0 where
   pub before : Trace
   pub lines : AreLines (lines_of text) before
   pub right : AreRight before
+  pub few : length before ≤ 2 ^ 40
   pub goes_on : has_ended before ≡ false
   pub number : n ≡ length before + 1
 
@@ -99,6 +100,8 @@ pub record IsBroken (text : List ℕ) (n : ℕ) (b : Breach) : Type 0 where
   pub before : Trace
   pub line : List ℕ
   pub comes : Comes text n before line
+  pub few : n ≤ 2 ^ 40
+  pub short : length line ≤ longest_line
   pub breaks : Breaks before line b
 
 -- THE VERDICT on a text

@@ -10,6 +10,7 @@ ghost use Rattle.trace_types.specs.declared.line.Line.{Line as TraceLine};
 ghost use Rattle.trace_claims.specs.Trace.{Trace};
 ghost use Rattle.trace_verdict.specs.Judging.{AfterLine, AfterToldTurn, AfterTurn, Decides, Denies, HasTaken, IsOnTheWay};
 ghost use Rattle.trace_verdict.specs.Places.{CanFollow};
+ghost use Rattle.trace_verdict.specs.declared.verdict.Verdict.{Verdict as Found};
 ghost use Rattle.trace_verdict.specs.Verdicts.{IsRightText, IsVerdictOn};
 
 use crate::verdict::{Unread, Verdict};
@@ -185,6 +186,9 @@ impl Judge {
 pub fn judge_text<S: Source>(alloc: Global, source: &mut S) -> Result<Verdict, ReadFault>
     ensures verdict { (text : List ℕ) → S.left source.old ≡ Some text
         → IfOk result (IsVerdictOn text) }
+    // No other verdict on this text can be given.
+    ensures only { (text : List ℕ) → S.left source.old ≡ Some text
+        → IfOk result (λ v. (w : Found) → IsVerdictOn text w → w ≡ v) }
     ensures yes { (text : List ℕ) → S.left source.old ≡ Some text
         → IfOk result (λ v. v ≡ Verdict.Yes ↔ IsRightText text) }
     ensures read { (text : List ℕ) → S.left source.old ≡ Some text

@@ -8,8 +8,8 @@
 //! 2^40 lines, each of at most 20,000 bytes, which is faithful and acknowledged and uses promises
 //! (`yes`); then the source was read to its end (`read`). Else it names the first line that breaks
 //! something, and what first, with no line before that breaks anything; or the first one at which
-//! no trace is read, and why (`verdict`). `write_verdict` writes exactly the line that tells a
-//! verdict, or a front of it after a fault.
+//! no trace is read, and why (`verdict`); no other verdict on the text is right (`only`).
+//! `write_verdict` writes exactly the line that tells a verdict, or a front of it after a fault.
 #![tactic(auto)]
 
 mod judge;

@@ -11,6 +11,7 @@ returns-in-Ok-write_verdict-clause-ends g c = λ text is.
     let after = g.K.Sink.written c.write_verdict.new.sink in
     let found : IsFound text source c.in-Ok.verdict = record {
       on = c.in-Ok.ensures.verdict text is;
+      only = c.in-Ok.ensures.only text is;
       right = (c.in-Ok.ensures.yes text is).1;
       read = λ yes. c.in-Ok.ensures.read text is (ap Ok yes);
     } in
@@ -23,6 +24,7 @@ returns-in-Err-Failed-write_verdict-clause-ends g c = λ text is. record {
   tells = c.in-Ok.verdict;
   found = record {
     on = c.in-Ok.ensures.verdict text is;
+    only = c.in-Ok.ensures.only text is;
     right = (c.in-Ok.ensures.yes text is).1;
     read = λ yes. c.in-Ok.ensures.read text is (ap Ok yes);
   };
@@ -35,6 +37,7 @@ returns-in-Err-NoMemory-write_verdict-clause-ends g c = λ text is. inr (record 
   tells = c.in-Ok.verdict;
   found = record {
     on = c.in-Ok.ensures.verdict text is;
+    only = c.in-Ok.ensures.only text is;
     right = (c.in-Ok.ensures.yes text is).1;
     read = λ yes. c.in-Ok.ensures.read text is (ap Ok yes);
   };

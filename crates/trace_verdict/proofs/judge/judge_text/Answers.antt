@@ -1,6 +1,7 @@
-use Rattle.std.proofs.Common.{arith, rules, ap, subst, sym, Ok, ◌^◌, ◌≤◌}
+use Rattle.std.proofs.Common.{arith, rules, subst, sym}
 use Rattle.line_reader.specs.Reading.{text_left}
 use Rattle.trace_verdict.specs.Judging.{AfterToldTurn}
+use Rattle.trace_verdict.specs.declared.verdict.Verdict.TheVariants.{Yes}
 use Rattle.trace_verdict.specs.Verdicts.{IsVerdictOn}
 use Rattle.trace_verdict.proofs.Turning.{first_way, held_none}
 use Rattle.trace_verdict.proofs.judge.judge_text.Goals as goal
@@ -40,13 +41,20 @@ returns-in-Ok-Some-clause-verdict g c text e =
     (subst (AfterToldTurn text told c.turn.new.self) c.in-Ok-Some.field-0-is
     (c.in-Ok-Some.ensures.after text way.left way.told_is way.way)).decides.is
 
+pub returns-in-Ok-Some-clause-only : goal.returns-in-Ok-Some-clause-only
+returns-in-Ok-Some-clause-only g c text e =
+    let told = text_left c.turn.new.reader (g.S.Source.left c.turn.new.source) in
+    let way = c.loop-verdict.invariant.way text e in
+    (subst (AfterToldTurn text told c.turn.new.self) c.in-Ok-Some.field-0-is
+    (c.in-Ok-Some.ensures.after text way.left way.told_is way.way)).decides.only
+
 pub returns-in-Ok-Some-clause-yes : goal.returns-in-Ok-Some-clause-yes
 returns-in-Ok-Some-clause-yes g c text e =
     let told = text_left c.turn.new.reader (g.S.Source.left c.turn.new.source) in
     let way = c.loop-verdict.invariant.way text e in
     let by = subst (AfterToldTurn text told c.turn.new.self) c.in-Ok-Some.field-0-is
     (c.in-Ok-Some.ensures.after text way.left way.told_is way.way) in
-    (λ yes. subst (IsVerdictOn text) yes by.decides.is, by.decides.yes)
+    (λ yes. subst (IsVerdictOn text) yes by.decides.is, λ right. sym (by.decides.only Yes right))
 
 pub returns-in-Ok-Some-clause-read : goal.returns-in-Ok-Some-clause-read
 returns-in-Ok-Some-clause-read g c text e is =

@@ -6,4 +6,4 @@ pub returns-then-self : goal.returns-then-self
 returns-then-self c text way = at_last text c.args.self.now way c.requires (search (rules))
 
 pub returns : goal.returns
-returns c text way = unfinished text c.args.self.now way (search (rules))
+returns c text way = unfinished text c.args.self.now way c.requires (search (rules))

@@ -1,4 +1,4 @@
-use Rattle.std.proofs.Common.{arith, refl, rules}
+use Rattle.std.proofs.Common.{refl, rules}
 use Rattle.line_reader.specs.Lines.{lines_of}
 use Rattle.trace_verdict.proofs.Deciding.{after_ok, is_next, too_many}
 use Rattle.trace_verdict.proofs.judge.Judge.take_line.Goals as goal

@@ -1,4 +1,4 @@
-use Rattle.std.proofs.Common.{arith, rules}
+use Rattle.std.proofs.Common.{rules}
 use Rattle.trace_verdict.proofs.Deciding.{is_next, too_long, too_many}
 use Rattle.trace_verdict.proofs.judge.Judge.too_long.Goals as goal
 
