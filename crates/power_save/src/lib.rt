@@ -38,5 +38,6 @@ mod seen;
 pub use fault::SaveFault;
 pub use laws::crash_laws;
 pub use loading::load;
+pub use record::{whole_old_record, whole_record};
 pub use saving::save;
 pub use seen::SeenRecords;

@@ -28,7 +28,7 @@ pub(crate) fn value_of(alloc: Global, item: &Record) -> Result<Value, AllocError
 }
 
 /// The record that these bytes are, None where they aren't exactly one.
-fn whole_record(alloc: Global, bytes: &[u8]) -> Result<Option<Record>, AllocError>
+pub fn whole_record(alloc: Global, bytes: &[u8]) -> Result<Option<Record>, AllocError>
     ensures found { IfOk result (λ item. IfSome item
         (λ r. (bytes.now ≡ record_bytes r) × RecordFits r)) }
     ensures none { IfOk result (λ item. item ≡ None → (r : RecordFields)
@@ -50,7 +50,7 @@ fn whole_record(alloc: Global, bytes: &[u8]) -> Result<Option<Record>, AllocErro
 }
 
 /// The record of the old form that these bytes are, None where they aren't exactly one.
-fn whole_old_record(alloc: Global, bytes: &[u8]) -> Result<Option<Record>, AllocError>
+pub fn whole_old_record(alloc: Global, bytes: &[u8]) -> Result<Option<Record>, AllocError>
     ensures found { IfOk result (λ item. IfSome item
         (λ r. (bytes.now ≡ old_record_bytes r) × OldRecordFits r)) }
     ensures none { IfOk result (λ item. item ≡ None → (r : RecordFields)

@@ -17,7 +17,8 @@
 //! that an attach finds those of the folder isn't said. An error of files is want of memory exactly
 //! where it is of that kind, and else a failure (`failed`, `memory`). `read_mark_file` reads
 //! exactly what is spelled as a mark, also one of an old file, and `write_mark_file` spells it; so
-//! do `read_cell_file` and `write_cell_file` of a value. Each cell's file has the path `in_folder`
+//! do `read_cell_file` and `write_cell_file` of a value; what is read of a saved record is exactly
+//! one of its form. Each cell's file has the path `in_folder`
 //! of its `cell_name`, and no more bytes are read of a file than one of its kind has.
 #![tactic(auto)]
 

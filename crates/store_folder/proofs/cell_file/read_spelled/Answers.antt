@@ -4,7 +4,7 @@ use Rattle.std.proofs.lemmas.List.{append-nil}
 use Rattle.harp_cells.specs.ValueBytes.{ValueFits, value_bytes}
 use Rattle.store_folder.specs.CellFile.{ReadsFile}
 use Rattle.store_folder.proofs.CellLaws.{file_found, file_only}
-use Rattle.store_folder.proofs.cell_file.read_cell_file.Goals as goal
+use Rattle.store_folder.proofs.cell_file.read_spelled.Goals as goal
 
 pub returns : goal.returns
 returns c = record {
