@@ -31,8 +31,10 @@ mod step;
 mod text;
 mod turn;
 
-pub use exit::Exit;
+pub use exit::{Exit, Stop, exit_after};
 pub use laws::every_text;
 pub use refusal::Refusal;
-pub use schedule::play;
+pub use schedule::{fault_of_long_line, play};
 pub use stage::Stage;
+pub use text::{Room, begin_with_delivery, begin_with_line, write_last, write_with_lines};
+pub use turn::{Turn, refuse};

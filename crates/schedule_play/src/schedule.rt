@@ -36,7 +36,7 @@ use std::alloc::Global;
 use trace_types::LineFault;
 
 /// Why a line with this number is refused that is too long: past the limit no line is looked at.
-fn fault_of_long_line(number: u64) -> LineFault
+pub fn fault_of_long_line(number: u64) -> LineFault
     ensures { (line : List ℕ) → longest_line < length line → given_by number line ≡ Err result }
 {
     if number > MOST_LINES {

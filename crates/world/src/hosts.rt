@@ -27,7 +27,7 @@ impl World {
     }
 
     /// Whether a server is up.
-    pub(crate) fn is_up(&self, server: ServerId) -> bool
+    pub fn is_up(&self, server: ServerId) -> bool
         ensures { (w : DiskScene) → IsWorld w self.now
             → result ≡ (w.scene.group.server (place_of server)).up }
     {

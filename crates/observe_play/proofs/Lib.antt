@@ -1,0 +1,17 @@
+pub mod TraceTexts
+pub mod Runs
+pub mod Parts
+pub mod Steps
+pub mod WatchOn
+pub mod WatchActs
+pub mod WatchWants
+pub mod WatchGives
+pub mod Played
+pub mod NextSteps
+pub mod Acts
+pub mod Drains
+pub mod ReadOn
+pub mod NextLines
+pub mod LineLeads
+pub mod PlayLoop
+pub mod PlayEnd
