@@ -45,9 +45,9 @@ def content(path):
         return file.read()
 
 
-def cases():
+def cases(folder):
     """The name, the status, the words, the bytes that are read and those that are written."""
-    for path in sorted(glob.glob(os.path.join(CASES, "*.words"))):
+    for path in sorted(glob.glob(os.path.join(folder, "*.words"))):
         path = path.removesuffix(".words")
         status, *words = content(f"{path}.words").decode().split()
         streams = content(f"{path}.stdin"), content(f"{path}.stdout")
@@ -119,24 +119,29 @@ def one_by_one(program, status, words, stream, answers):
     return same and ended == status
 
 
+def try_all(title, program, tries):
+    """Tries each case by its test, prints what goes wrong, and gives the exit status."""
+    failed = 0
+    with ThreadPoolExecutor(os.cpu_count()) as pool:
+        ends = [(test, case[0], pool.submit(test, program, *case[1:])) for test, case in tries]
+        for test, name, end in ends:
+            if not end.result():
+                failed += 1
+                print(f"{title}: {name}: not {test.__name__}")
+    print(f"{title}: {len(tries)} tried, {failed} failed")
+    return 0 if failed == 0 and len(tries) > 1 else 1
+
+
 def main():
     if len(sys.argv) < 2:
         print(__doc__)
         return 1
     program = [os.path.abspath(sys.argv[1]), *sys.argv[2:]]
-    tries = [(as_wanted, case) for case in cases()]
-    tries += [(one_by_one, case) for case in cases() if case[0] == "create"]
-    tries += [(as_played, case) for case in cases() if case[0] in RUN_TOO]
-    tried = failed = 0
-    with ThreadPoolExecutor(os.cpu_count()) as pool:
-        ends = [(test, case[0], pool.submit(test, program, *case[1:])) for test, case in tries]
-        for test, name, end in ends:
-            tried += 1
-            if not end.result():
-                failed += 1
-                print(f"doors: {name}: not {test.__name__}")
-    print(f"doors: {tried} tried, {failed} failed")
-    return 0 if failed == 0 and tried > 1 else 1
+    found = list(cases(CASES))
+    tries = [(as_wanted, case) for case in found]
+    tries += [(one_by_one, case) for case in found if case[0] == "create"]
+    tries += [(as_played, case) for case in found if case[0] in RUN_TOO]
+    return try_all("doors", program, tries)
 
 
 if __name__ == "__main__":

@@ -131,10 +131,10 @@ def full_log(tries):
 # ---- who waits for an answer
 
 
-def line_by_line(tries):
+def line_by_line(tries, word):
     """What a line leads to is handed on before the next line is waited for."""
     answers = []
-    words = [*tries.program, "play"]
+    words = [*tries.program, word]
     with subprocess.Popen(words, stdin=subprocess.PIPE, stdout=subprocess.PIPE) as play:
         late = threading.Timer(60, play.kill)
         late.start()
@@ -147,7 +147,12 @@ def line_by_line(tries):
         ended = play.wait()
         late.cancel()
     wanted = [b"> clock 0 0\n"] * 3 + [b"end 0\n"]
-    tries.expect("a play line by line", (DONE, wanted), (ended, answers))
+    tries.expect(f"{word} line by line", (DONE, wanted), (ended, answers))
+
+
+def played_line_by_line(tries):
+    for word in ("play", "observe"):
+        line_by_line(tries, word)
 
 
 # ---- running servers
@@ -242,7 +247,7 @@ def main():
             same_sweep_again,
             one_line_too_many,
             full_log,
-            line_by_line,
+            played_line_by_line,
             a_group,
             a_node,
             a_taken_port,

@@ -97,6 +97,9 @@ named ws name rest are command.Play p =
 named ws name rest are command.Check p =
     let same = front (texts ws) name rest (codes "check") [] are p in
     (same.0, sym same.1)
+named ws name rest are command.Observe p =
+    let same = front (texts ws) name rest (codes "observe") [] are p in
+    (same.0, sym same.1)
 named ws name rest are (command.Gen s n) p =
     let same =
     front (texts ws) name rest (codes "gen") (decimal s ∷ decimal n ∷ []) are p.0 in
@@ -128,6 +131,8 @@ asks ws name rest are command.Play p =
     are ∙ ap (λ t. t ∷ rest) (sym p.0) ∙ ap (λ ts. codes "play" ∷ ts) p.1
 asks ws name rest are command.Check p =
     are ∙ ap (λ t. t ∷ rest) (sym p.0) ∙ ap (λ ts. codes "check" ∷ ts) p.1
+asks ws name rest are command.Observe p =
+    are ∙ ap (λ t. t ∷ rest) (sym p.0) ∙ ap (λ ts. codes "observe" ∷ ts) p.1
 asks ws name rest are (command.Gen s n) p = (
   are ∙ ap (λ t. t ∷ rest) (sym p.0) ∙ ap (λ ts. codes "gen" ∷ ts) p.1.0,
   p.1.1,
@@ -173,6 +178,7 @@ only_play : (rest : List (List ℕ)) (c : Command) → Named (codes "play") rest
 unfolding second
 only_play rest command.Play p = p.1
 only_play rest command.Check p = let e : 104 ≡ 108 = ap second p.0 in absurd (omega (arith, e))
+only_play rest command.Observe p = let e : 98 ≡ 108 = ap second p.0 in absurd (omega (arith, e))
 only_play rest (command.Gen s n) p =
     let e : 101 ≡ 108 = ap second p.0 in absurd (omega (arith, e))
 only_play rest (command.Sweep s k n) p =
@@ -191,6 +197,7 @@ only_check : (rest : List (List ℕ)) (c : Command) → Named (codes "check") re
 unfolding second
 only_check rest command.Play p = let e : 108 ≡ 104 = ap second p.0 in absurd (omega (arith, e))
 only_check rest command.Check p = p.1
+only_check rest command.Observe p = let e : 98 ≡ 104 = ap second p.0 in absurd (omega (arith, e))
 only_check rest (command.Gen s n) p =
     let e : 101 ≡ 104 = ap second p.0 in absurd (omega (arith, e))
 only_check rest (command.Sweep s k n) p =
@@ -205,6 +212,25 @@ only_check rest (command.DoorPlay uid gid) p =
 only_check rest (command.Door door) p =
     let e : 111 ≡ 104 = ap second p.0 in absurd (omega (arith, e))
 
+only_observe : (rest : List (List ℕ)) (c : Command) → Named (codes "observe") rest c → rest ≡ []
+unfolding second
+only_observe rest command.Play p = let e : 108 ≡ 98 = ap second p.0 in absurd (omega (arith, e))
+only_observe rest command.Check p = let e : 104 ≡ 98 = ap second p.0 in absurd (omega (arith, e))
+only_observe rest command.Observe p = p.1
+only_observe rest (command.Gen s n) p =
+    let e : 101 ≡ 98 = ap second p.0 in absurd (omega (arith, e))
+only_observe rest (command.Sweep s k n) p =
+    let e : 119 ≡ 98 = ap second p.0 in absurd (omega (arith, e))
+only_observe rest (command.Node place runs) p =
+    let e : 111 ≡ 98 = ap second p.0 in absurd (omega (arith, e))
+only_observe rest (command.Group runs) p =
+    let e : 114 ≡ 98 = ap second p.0 in absurd (omega (arith, e))
+only_observe rest command.Audit p = let e : 117 ≡ 98 = ap second p.0 in absurd (omega (arith, e))
+only_observe rest (command.DoorPlay uid gid) p =
+    let e : 111 ≡ 98 = ap second p.0 in absurd (omega (arith, e))
+only_observe rest (command.Door door) p =
+    let e : 111 ≡ 98 = ap second p.0 in absurd (omega (arith, e))
+
 pub play_alone : (rest : List (List ℕ)) (r : Option Command)
     → MatchOption r (rest ≡ [] → ⊥) (λ c. (c ≡ command.Play) × (rest ≡ []))
     → MatchOption r ((c : Command) → Named (codes "play") rest c → ⊥) (Named (codes "play") rest)
@@ -217,6 +243,13 @@ pub check_alone : (rest : List (List ℕ)) (r : Option Command)
 check_alone rest None none = λ c p. none (only_check rest c p)
 check_alone rest (Some c) is = subst (Named (codes "check") rest) (sym is.0) (refl, is.1)
 
+pub observe_alone : (rest : List (List ℕ)) (r : Option Command)
+    → MatchOption r (rest ≡ [] → ⊥) (λ c. (c ≡ command.Observe) × (rest ≡ []))
+    → MatchOption r ((c : Command) → Named (codes "observe") rest c → ⊥)
+    (Named (codes "observe") rest)
+observe_alone rest None none = λ c p. none (only_observe rest c p)
+observe_alone rest (Some c) is = subst (Named (codes "observe") rest) (sym is.0) (refl, is.1)
+
 -- words behind `node` of which the first isn't followed by how a server is run
 pub no_loop : (words rest : List (List ℕ)) (word : List ℕ) → words ≡ word ∷ rest
     → ((runs : Loop) → LoopWords runs rest → ⊥) → (c : Command)
@@ -226,6 +259,8 @@ no_loop words rest word are none command.Play p =
     let e : 108 ≡ 111 = ap second p.0 in absurd (omega (arith, e))
 no_loop words rest word are none command.Check p =
     let e : 104 ≡ 111 = ap second p.0 in absurd (omega (arith, e))
+no_loop words rest word are none command.Observe p =
+    let e : 98 ≡ 111 = ap second p.0 in absurd (omega (arith, e))
 no_loop words rest word are none (command.Gen s n) p =
     let e : 101 ≡ 111 = ap second p.0 in absurd (omega (arith, e))
 no_loop words rest word are none (command.Sweep s k n) p =
@@ -250,6 +285,8 @@ no_folder words none command.Play p =
     let e : 108 ≡ 117 = ap second p.0 in absurd (omega (arith, e))
 no_folder words none command.Check p =
     let e : 104 ≡ 117 = ap second p.0 in absurd (omega (arith, e))
+no_folder words none command.Observe p =
+    let e : 98 ≡ 117 = ap second p.0 in absurd (omega (arith, e))
 no_folder words none (command.Gen s n) p =
     let e : 101 ≡ 117 = ap second p.0 in absurd (omega (arith, e))
 no_folder words none (command.Sweep s k n) p =

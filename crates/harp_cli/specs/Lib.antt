@@ -1,5 +1,6 @@
 pub mod Exit
 pub mod Play
+pub mod Observe
 pub mod Words
 pub mod Check
 pub mod Gen

@@ -28,6 +28,10 @@ IsPlay words = texts words ≡ codes "play" ∷ []
 abbrev pub IsCheck : List (String Global) → Type 0
 IsCheck words = texts words ≡ codes "check" ∷ []
 
+-- the words are `observe` alone
+abbrev pub IsObserve : List (String Global) → Type 0
+IsObserve words = texts words ≡ codes "observe" ∷ []
+
 -- the words are `gen`, a seed below 10^18 and a number of lines up to 40,000, both in decimal
 -- without leading zeros
 abbrev pub IsGen : ℕ → ℕ → List (String Global) → Type 0
@@ -149,6 +153,7 @@ pub record IsDoor (door : Doorway) (words : List (String Global)) : Type 0 where
 abbrev pub AsksFor : List (String Global) → Command → Type 0
 AsksFor words command.Play = IsPlay words
 AsksFor words command.Check = IsCheck words
+AsksFor words command.Observe = IsObserve words
 AsksFor words (command.Gen seed lines) = IsGen seed lines words
 AsksFor words (command.Sweep seed runs lines) = IsSweep seed runs lines words
 AsksFor words (command.Node place runs) = IsNode place runs words
@@ -172,6 +177,7 @@ Serves words =
 abbrev pub name_of : Command → List ℕ
 name_of command.Play = codes "play"
 name_of command.Check = codes "check"
+name_of command.Observe = codes "observe"
 name_of (command.Gen seed lines) = codes "gen"
 name_of (command.Sweep seed runs lines) = codes "sweep"
 name_of (command.Node place runs) = codes "node"
@@ -183,6 +189,7 @@ name_of (command.Door door) = codes "door"
 abbrev pub Behind : List (List ℕ) → Command → Type 0
 Behind rest command.Play = rest ≡ []
 Behind rest command.Check = rest ≡ []
+Behind rest command.Observe = rest ≡ []
 Behind rest (command.Gen seed lines) =
     (rest ≡ decimal seed ∷ decimal lines ∷ []) × (seed < 10 ^ 18) × (lines ≤ 40000)
 Behind rest (command.Sweep seed runs lines) =
@@ -208,7 +215,7 @@ usage_text =
     ++ codes "usage: harp node S PORT DIR TURNS\nusage: harp group PORT DIR TURNS\n"
     ++ codes "usage: harp node S PORT DIR TURNS DELTA\nusage: harp group PORT DIR TURNS DELTA\n"
     ++ codes "usage: harp door play U G\nusage: harp door U G CLIENT PORT DIR TURNS\n"
-    ++ codes "usage: harp audit DIR\n"
+    ++ codes "usage: harp observe\nusage: harp audit DIR\n"
 
 -- on other words the usage text is written, or a first part of it
 abbrev pub UsageEnds : Option (List ℕ) → Option (List ℕ) → Exit → Type 0

@@ -19,6 +19,10 @@ ghost use Rattle.harp_types.specs.Streams.{Rose};
 ghost use Rattle.harp_types.specs.Trio.{value_of, with_value};
 ghost use Rattle.harp_types.specs.declared.server.ServerId.{ServerId as Place};
 ghost use Rattle.world_rules.specs.Spellings.{spellings};
+ghost use Rattle.observe_run.specs.Peeks.{IsObservedRightly};
+ghost use Rattle.observe_run.specs.Reading.{observed_reading};
+ghost use Rattle.observed_text.specs.Grammar.{ExplainsObserved};
+ghost use Rattle.observed_text.specs.Reading.{observed_meaning};
 ghost use Rattle.node_loop.specs.Scene.{OneRose, all_places, each, only, start};
 ghost use Rattle.schedule_text.specs.Grammar.{Explains};
 ghost use Rattle.schedule_text.specs.Reading.{meaning_of};
@@ -38,17 +42,20 @@ ghost use Rattle.harp_cli.specs.Check.{CheckEnds, StatusAgrees};
 ghost use Rattle.harp_cli.specs.declared.door_words.Doorway.{Doorway as Way};
 ghost use Rattle.harp_cli.specs.Door.{DoorPlayed, DoorServes};
 ghost use Rattle.harp_cli.specs.Gen.{GenEnds};
+ghost use Rattle.harp_cli.specs.Observe.{HasObserved};
 ghost use Rattle.harp_cli.specs.Play.{HasPlayed, WroteRightText, exit_of_play, sizes};
 ghost use Rattle.harp_cli.specs.Serve.{ServeEnds, outside};
 ghost use Rattle.harp_cli.specs.Sweep.{SweepEnds};
 ghost use Rattle.harp_cli.specs.Words.{IsAudit, IsCheck, IsDoor, IsDoorPlay, IsForm, IsGen};
-ghost use Rattle.harp_cli.specs.Words.{IsGroup, IsNode, IsPlay, IsSweep, Serves, UsageEnds};
+ghost use Rattle.harp_cli.specs.Words.{IsGroup, IsNode, IsObserve, IsPlay, IsSweep, Serves};
+ghost use Rattle.harp_cli.specs.Words.{UsageEnds};
 
 use crate::auditing::audit_folder;
 use crate::check::check;
 use crate::door::door_play;
 use crate::door_servers::door_to_servers;
 use crate::generate::generate;
+use crate::observing::{observe, observed_texts};
 use crate::play::play;
 use crate::serve::{serve_group, serve_node};
 use crate::sweeping::sweep;
@@ -70,11 +77,12 @@ use world::World;
 /// of a call were over, 10 the network of the servers in memory was full.
 ///
 /// `play` plays the schedule of the source in the world, which is new, and writes its trace to the
-/// sink. `check` judges the trace of the source, and writes `yes`, or `no L CAUSE` where line L is
-/// the first that breaks something, or `bad L CAUSE` where no trace is read at line L. `gen` writes
-/// the schedule of a seed. `sweep` plays the schedules of many seeds, each in a world of its own,
-/// and writes what their traces come to. On words of no form the usage text is written. All but
-/// `play` and `door play` leave the world.
+/// sink. `observe` plays an observed schedule so, with an observer beside the world, and writes its
+/// observed trace. `check` judges the trace of the source, and writes `yes`, or `no L CAUSE` where
+/// line L is the first that breaks something, or `bad L CAUSE` where no trace is read at line L.
+/// `gen` writes the schedule of a seed. `sweep` plays the schedules of many seeds, each in a world
+/// of its own, and writes what their traces come to. On words of no form the usage text is written.
+/// All but `play`, `observe` and `door play` leave the world.
 ///
 /// `door play` opens a view in the world, which is new, and is its door: the source is a client's
 /// side of a connection of ONC RPC, whose calls of NFS version 2 are made of the servers in memory
@@ -129,6 +137,17 @@ pub fn harp<R: Threads + Sync, S: Source, K: Sink, L: Link, D: Store, C: Clock>(
     ensures accepted { IsPlay words.now → (text : List ℕ) → S.left source.old ≡ Some text
         → HasShortLines text → (result ≡ 0) ⊎ (result ≡ 5)
         → WroteRightText (K.written sink.old) (K.written sink.new) }
+    ensures observe { IsObserve words.now → (exit : Exit) × (result ≡ status_of exit)
+        × (exit ≢ Exit.RefusedWords)
+        × ((text : List ℕ) → S.left source.old ≡ Some text
+        → HasObserved text (S.left source.new) (K.written sink.old) (K.written sink.new) world.new
+        exit) }
+    // As of a play, the whole observed trace was written where neither source nor sink failed.
+    ensures observe_complete { IsObserve words.now → (text : List ℕ) → S.left source.old ≡ Some text
+        → (Rose (S.faults source.old) (S.faults source.new) → ⊥)
+        → (Rose (K.faults sink.old) (K.faults sink.new) → ⊥)
+        → (result ≡ status_of (exit_of_play (whole_exit (observed_reading sizes text).refused)))
+        ⊎ (result ≡ 6) }
     ensures check { IsCheck words.now → (exit : Exit) × (result ≡ status_of exit)
         × (exit ≢ Exit.RefusedWords) × (world.new ≡ world.old)
         × ((text : List ℕ) → S.left source.old ≡ Some text
@@ -229,13 +248,20 @@ pub fn harp<R: Threads + Sync, S: Source, K: Sink, L: Link, D: Store, C: Clock>(
     ensures disks { (text : List ℕ) → DiskRunIsRight spellings (reading sizes text).steps }
     // What each first part of its lines is.
     ensures parts { (text : List ℕ) → FirstPartsAreRight sizes (reading sizes text).steps }
+    // What each line of an observed schedule means, and what the observed trace of a text is: a
+    // right one without what tells of the observer, each of whose answers is that to its call on the
+    // tree after the updates that it tells, which are entered before and never get fewer.
+    ensures observe_meaning { (line : List ℕ) → ExplainsObserved line (observed_meaning line) }
+    ensures observed { (text : List ℕ) → IsObservedRightly sizes text }
 {
     every_text();
+    observed_texts();
     accepted_texts();
     audit_laws();
     swept_texts();
     match command_of(words) {
         Some(Command::Play) => play(alloc, world, source, sink).status(),
+        Some(Command::Observe) => observe(alloc, world, source, sink).status(),
         Some(Command::Check) => check(alloc, source, sink).status(),
         Some(Command::Gen { seed, lines }) => generate(alloc, seed, lines, sink).status(),
         Some(Command::Sweep { seed, runs, lines }) => {

@@ -25,6 +25,8 @@ const MOST_RUNS: u64 = 10_000;
 pub enum Command {
     Play,
     Check,
+    /// A play with an observer beside it.
+    Observe,
     /// The schedule of a seed, with so many drawn lines.
     Gen { seed: u64, lines: u32 },
     /// Runs of the schedules of so many seeds from this one on, with so many drawn lines each.
@@ -116,6 +118,8 @@ pub fn command_of(words: &[String]) -> Option<Command>
         alone(Command::Play, rest)
     } else if word == "check" {
         alone(Command::Check, rest)
+    } else if word == "observe" {
+        alone(Command::Observe, rest)
     } else if word == "gen" {
         gen_of(rest)
     } else if word == "sweep" {
@@ -148,6 +152,7 @@ usage: harp node S PORT DIR TURNS DELTA
 usage: harp group PORT DIR TURNS DELTA
 usage: harp door play U G
 usage: harp door U G CLIENT PORT DIR TURNS
+usage: harp observe
 usage: harp audit DIR
 "
 }

@@ -29,6 +29,38 @@ returns-in-Some-Play-clause-accepted g c = λ is text told short status.
     wrote_right c.accepted_texts.ensures.accepted text _ _ _ _ c.play.result
     (c.play.ensures.ends text told) short (subst TellsWhole c.status.ensures status)
 
+pub returns-in-Some-Observe-clause-observe_complete : goal.returns-in-Some-Observe-clause-observe_complete
+returns-in-Some-Observe-clause-observe_complete g c = λ is text told source sink.
+    elim (c.observe.ensures.complete text told source sink) [
+      | inl e ↦ inl (c.status-in-Some-Observe.ensures ∙ ap status_of e)
+      | inr e ↦ inr (c.status-in-Some-Observe.ensures ∙ ap status_of e)
+    ]
+
+pub returns-in-Some-Observe-clause-taken : goal.returns-in-Some-Observe-clause-taken
+returns-in-Some-Observe-clause-taken g c = c.every_text.ensures.taken sizes
+
+pub returns-in-Some-Observe-clause-right : goal.returns-in-Some-Observe-clause-right
+returns-in-Some-Observe-clause-right g c = c.every_text.ensures.right sizes
+
+pub returns-in-Some-Observe-clause-events : goal.returns-in-Some-Observe-clause-events
+returns-in-Some-Observe-clause-events g c = c.every_text.ensures.events sizes
+
+pub returns-in-Some-Observe-clause-book : goal.returns-in-Some-Observe-clause-book
+returns-in-Some-Observe-clause-book g c = c.every_text.ensures.book sizes
+
+pub returns-in-Some-Observe-clause-views : goal.returns-in-Some-Observe-clause-views
+returns-in-Some-Observe-clause-views g c = c.every_text.ensures.views sizes
+
+pub returns-in-Some-Observe-clause-parts : goal.returns-in-Some-Observe-clause-parts
+returns-in-Some-Observe-clause-parts g c = c.every_text.ensures.parts sizes
+
+pub returns-in-None-clause-observe : goal.returns-in-None-clause-observe
+returns-in-None-clause-observe g c = λ is. absurd (c.in-None.ensures (command.Observe, is))
+
+pub returns-in-None-clause-observe_complete : goal.returns-in-None-clause-observe_complete
+returns-in-None-clause-observe_complete g c = λ is text told source sink.
+    absurd (c.in-None.ensures (command.Observe, is))
+
 pub returns-in-Some-Check-clause-check_agrees : goal.returns-in-Some-Check-clause-check_agrees
 returns-in-Some-Check-clause-check_agrees g c = λ is text told.
     subst (StatusAgrees text) (sym c.status-in-Some-Check.ensures)

@@ -3,7 +3,7 @@ use Rattle.std.proofs.Common.{ap, sym}
 use Rattle.std.specs.Prelude.{String, codes, string_bytes}
 use Rattle.std.specs.Cmp.Lexicographic.{same_text}
 use Rattle.harp_cli.specs.Words.{texts}
-use Rattle.harp_cli.proofs.WordLaws.{by_name, check_alone, first_word, play_alone}
+use Rattle.harp_cli.proofs.WordLaws.{by_name, check_alone, first_word, observe_alone, play_alone}
 use Rattle.harp_cli.proofs.words.command_of.Goals as goal
 
 -- the words behind the first one
@@ -45,57 +45,69 @@ unfolding rest
 returns-then-eq-3 c =
     let words = c.args.words.now in
     let text = c.as_str-word.result.now in
-    let named = same_text text (codes "gen") c.if-eq-3.ensures in
-    by_name words (codes "gen") (rest words)
-    (begin_with words c.word-item.result text (codes "gen") c.in-len1-up.len_at_least
-    c.word-item.is c.as_str-word.ensures.value named) c.gen_of.result c.gen_of.ensures
+    let named = same_text text (codes "observe") c.if-eq-3.ensures in
+    by_name words (codes "observe") (rest words)
+    (begin_with words c.word-item.result text (codes "observe") c.in-len1-up.len_at_least
+    c.word-item.is c.as_str-word.ensures.value named)
+    c.alone-then-eq-3.result
+    (observe_alone (rest words) c.alone-then-eq-3.result c.alone-then-eq-3.ensures)
 
 pub returns-then-eq-4 : goal.returns-then-eq-4
 unfolding rest
 returns-then-eq-4 c =
     let words = c.args.words.now in
     let text = c.as_str-word.result.now in
-    let named = same_text text (codes "sweep") c.if-eq-4.ensures in
-    by_name words (codes "sweep") (rest words)
-    (begin_with words c.word-item.result text (codes "sweep") c.in-len1-up.len_at_least
-    c.word-item.is c.as_str-word.ensures.value named) c.sweep_of.result c.sweep_of.ensures
+    let named = same_text text (codes "gen") c.if-eq-4.ensures in
+    by_name words (codes "gen") (rest words)
+    (begin_with words c.word-item.result text (codes "gen") c.in-len1-up.len_at_least
+    c.word-item.is c.as_str-word.ensures.value named) c.gen_of.result c.gen_of.ensures
 
 pub returns-then-eq-5 : goal.returns-then-eq-5
 unfolding rest
 returns-then-eq-5 c =
     let words = c.args.words.now in
     let text = c.as_str-word.result.now in
-    let named = same_text text (codes "node") c.if-eq-5.ensures in
-    by_name words (codes "node") (rest words)
-    (begin_with words c.word-item.result text (codes "node") c.in-len1-up.len_at_least
-    c.word-item.is c.as_str-word.ensures.value named) c.node_of.result c.node_of.ensures
+    let named = same_text text (codes "sweep") c.if-eq-5.ensures in
+    by_name words (codes "sweep") (rest words)
+    (begin_with words c.word-item.result text (codes "sweep") c.in-len1-up.len_at_least
+    c.word-item.is c.as_str-word.ensures.value named) c.sweep_of.result c.sweep_of.ensures
 
 pub returns-then-eq-6 : goal.returns-then-eq-6
 unfolding rest
 returns-then-eq-6 c =
     let words = c.args.words.now in
     let text = c.as_str-word.result.now in
-    let named = same_text text (codes "group") c.if-eq-6.ensures in
-    by_name words (codes "group") (rest words)
-    (begin_with words c.word-item.result text (codes "group") c.in-len1-up.len_at_least
-    c.word-item.is c.as_str-word.ensures.value named) c.group_of.result c.group_of.ensures
+    let named = same_text text (codes "node") c.if-eq-6.ensures in
+    by_name words (codes "node") (rest words)
+    (begin_with words c.word-item.result text (codes "node") c.in-len1-up.len_at_least
+    c.word-item.is c.as_str-word.ensures.value named) c.node_of.result c.node_of.ensures
 
 pub returns-then-eq-7 : goal.returns-then-eq-7
 unfolding rest
 returns-then-eq-7 c =
     let words = c.args.words.now in
     let text = c.as_str-word.result.now in
-    let named = same_text text (codes "audit") c.if-eq-7.ensures in
-    by_name words (codes "audit") (rest words)
-    (begin_with words c.word-item.result text (codes "audit") c.in-len1-up.len_at_least
-    c.word-item.is c.as_str-word.ensures.value named) c.audit_of.result c.audit_of.ensures
+    let named = same_text text (codes "group") c.if-eq-7.ensures in
+    by_name words (codes "group") (rest words)
+    (begin_with words c.word-item.result text (codes "group") c.in-len1-up.len_at_least
+    c.word-item.is c.as_str-word.ensures.value named) c.group_of.result c.group_of.ensures
 
 pub returns-then-eq-8 : goal.returns-then-eq-8
 unfolding rest
 returns-then-eq-8 c =
     let words = c.args.words.now in
     let text = c.as_str-word.result.now in
-    let named = same_text text (codes "door") c.if-eq-8.ensures in
+    let named = same_text text (codes "audit") c.if-eq-8.ensures in
+    by_name words (codes "audit") (rest words)
+    (begin_with words c.word-item.result text (codes "audit") c.in-len1-up.len_at_least
+    c.word-item.is c.as_str-word.ensures.value named) c.audit_of.result c.audit_of.ensures
+
+pub returns-then-eq-9 : goal.returns-then-eq-9
+unfolding rest
+returns-then-eq-9 c =
+    let words = c.args.words.now in
+    let text = c.as_str-word.result.now in
+    let named = same_text text (codes "door") c.if-eq-9.ensures in
     by_name words (codes "door") (rest words)
     (begin_with words c.word-item.result text (codes "door") c.in-len1-up.len_at_least
     c.word-item.is c.as_str-word.ensures.value named) c.door_of.result c.door_of.ensures

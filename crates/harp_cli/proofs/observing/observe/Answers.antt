@@ -1,0 +1,10 @@
+use Rattle.std.proofs.Common.{ap, inl, inr, ◌∙◌}
+use Rattle.harp_cli.specs.Play.{exit_of_play}
+use Rattle.harp_cli.proofs.observing.observe.Goals as goal
+
+pub returns-clause-complete : goal.returns-clause-complete
+returns-clause-complete g c = λ text told source sink.
+    elim (c.observe.ensures.complete text told source sink) [
+      | inl e ↦ inl (c.from.ensures ∙ ap exit_of_play e)
+      | inr e ↦ inr (c.from.ensures ∙ ap exit_of_play e)
+    ]

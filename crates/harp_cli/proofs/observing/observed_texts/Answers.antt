@@ -1,0 +1,9 @@
+use Rattle.observed_text.proofs.ObservedLaws.{explained_observed}
+use Rattle.harp_cli.specs.Play.{sizes}
+use Rattle.harp_cli.proofs.observing.observed_texts.Goals as goal
+
+pub returns-clause-meaning : goal.returns-clause-meaning
+returns-clause-meaning c = explained_observed
+
+pub returns-clause-right : goal.returns-clause-right
+returns-clause-right c = c.every_observed_text.ensures sizes
