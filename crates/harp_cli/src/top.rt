@@ -30,6 +30,7 @@ ghost use Rattle.sweep.specs.Lines.{generated};
 ghost use Rattle.sweep_player.specs.Counts.{summary_of_trace};
 ghost use Rattle.sweep_player.specs.Reading.{summary_of_steps};
 ghost use Rattle.sweep.specs.Texts.{schedule_text};
+ghost use Rattle.trace_claims.specs.Linearizable.{IsLinearizable};
 ghost use Rattle.trace_claims.specs.Right.{IsRight};
 ghost use Rattle.trace_claims.specs.Trace.{AtEachPlace, entries, steps};
 ghost use Rattle.trace_laws.specs.FirstParts.{FirstPartsAreRight};
@@ -56,7 +57,7 @@ use crate::door::door_play;
 use crate::door_servers::door_to_servers;
 use crate::generate::generate;
 use crate::observing::{observe, observed_texts};
-use crate::play::play;
+use crate::play::{linearizable_texts, play};
 use crate::serve::{serve_group, serve_node};
 use crate::sweeping::sweep;
 use crate::words::{Command, command_of, write_usage};
@@ -238,6 +239,9 @@ pub fn harp<R: Threads + Sync, S: Source, K: Sink, L: Link, D: Store, C: Clock>(
     ensures taken { (text : List ℕ) → AreTaken sizes first_scene (reading sizes text).steps }
     // What the trace of a text is: closed, faithful, acknowledged, answered at once, and the rest.
     ensures right { (text : List ℕ) → IsRight (trace_of sizes text) }
+    // Each answered call of it took effect at one moment between an ask of it and its answer, and
+    // in the order of these moments the calls are those of one tree.
+    ensures linearizable { (text : List ℕ) → IsLinearizable (trace_of sizes text) }
     ensures events { (text : List ℕ) → steps (trace_of sizes text) ≡ (reading sizes text).steps }
     // What the group is that the steps of a text leave: its book, what stands in its later views,
     // and its disks.
@@ -255,6 +259,7 @@ pub fn harp<R: Threads + Sync, S: Source, K: Sink, L: Link, D: Store, C: Clock>(
     ensures observed { (text : List ℕ) → IsObservedRightly sizes text }
 {
     every_text();
+    linearizable_texts();
     observed_texts();
     accepted_texts();
     audit_laws();
