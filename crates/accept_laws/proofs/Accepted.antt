@@ -1,14 +1,14 @@
 -- The text of the trace of a schedule is right.
 use Rattle.std.proofs.Common.{ℕ, List, [], ◌∷◌, map, refl, sym, subst, arith}
 use Rattle.std.specs.List.{AllByRecursion}
-use Rattle.group_disks.specs.Calls.{measures_of}
+use Rattle.group_trace.specs.DiskCalls.{measures_of}
 use Rattle.group_trace.specs.Scene.{Measures}
 use Rattle.schedule_play.specs.Trace.{trace_of, trace_text}
 use Rattle.schedule_play.proofs.TextLaws.{right}
 use Rattle.world_rules.specs.Spellings.{spellings}
 use Rattle.text_spelling.specs.TraceLines.{line_text}
 use Rattle.trace_claims.specs.Trace.{Trace}
-use Rattle.trace_bounds.specs.Laws.{LineIn, TakeBytes}
+use Rattle.accept_laws.specs.Laws.{LineIn, TakeBytes}
 use Rattle.accept_laws.proofs.Few.{traces_few}
 use Rattle.accept_laws.proofs.Fits.{traces_fit}
 use Rattle.accept_laws.proofs.TextLines.{text_lines}

@@ -7,8 +7,8 @@ use Rattle.group_trace.specs.Scene.{first_scene}
 use Rattle.schedule_play.specs.Reading.{reading}
 use Rattle.schedule_play.specs.Trace.{last_of}
 use Rattle.schedule_play.proofs.TakenLaws.{reading_taken}
-use Rattle.trace_bounds.proofs.Deliveries.{first_going, first_left}
-use Rattle.trace_bounds.proofs.RunCounts.{runs_short}
+use Rattle.accept_laws.proofs.Deliveries.{first_going, first_left}
+use Rattle.accept_laws.proofs.RunCounts.{runs_short}
 use Rattle.accept_laws.specs.TextLaws.{TracesAreFew}
 use Rattle.accept_laws.proofs.Readings.{reading_told}
 use Rattle.accept_laws.proofs.StepsRead.{reading_few}

@@ -12,9 +12,9 @@ use Rattle.trace_laws.proofs.RightRuns.{run_right}
 use Rattle.schedule_play.specs.Reading.{reading}
 use Rattle.schedule_play.specs.Trace.{last_line, last_of}
 use Rattle.schedule_play.proofs.TakenLaws.{reading_taken}
-use Rattle.trace_bounds.specs.Laws.{LineIn}
-use Rattle.trace_bounds.proofs.Runs.{books_few, runs_fit}
-use Rattle.trace_bounds.proofs.ShortLines.{lined}
+use Rattle.accept_laws.specs.Laws.{LineIn}
+use Rattle.accept_laws.proofs.Runs.{books_few, runs_fit}
+use Rattle.accept_laws.proofs.ShortLines.{lined}
 use Rattle.accept_laws.specs.TextLaws.{TracesFit}
 use Rattle.accept_laws.proofs.Readings.{reading_told}
 

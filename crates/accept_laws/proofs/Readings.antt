@@ -7,7 +7,7 @@ use Rattle.trace_types.specs.declared.line.LineFault.{LineFault}
 use Rattle.trace_types.specs.declared.line.LineFault.TheVariants as fault
 use Rattle.trace_types.specs.declared.step.Step.{Step}
 use Rattle.trace_types.specs.declared.step.Step.TheVariants as step
-use Rattle.text_fields.specs.declared.fault.TextFault.{TextFault}
+use Rattle.schedule_text.specs.declared.fault.TextFault.{TextFault}
 use Rattle.schedule_text.specs.Grammar.{Explains, IsStepLine}
 use Rattle.schedule_text.specs.Reading.{meaning_of}
 use Rattle.schedule_text.proofs.MeaningLaws.{explained}
@@ -17,7 +17,7 @@ use Rattle.group_trace.specs.Refusals.{refusal}
 use Rattle.group_trace.specs.Run.{next}
 use Rattle.group_trace.specs.Scene.{Measures, Scene}
 use Rattle.schedule_play.specs.Reading.{Reading, given_by, reading_from, step_or_fault, then_read, unless_refused, with_given, with_steps}
-use Rattle.trace_bounds.specs.Laws.{ToldFits, all_told, told}
+use Rattle.accept_laws.specs.Laws.{ToldFits, all_told, told}
 
 -- what is read, of lines with at most k steps that they tell alone, up to this number
 pub record IsTold (k : ℕ) (r : Reading) : Type 0 where

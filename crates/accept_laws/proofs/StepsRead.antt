@@ -5,7 +5,7 @@ use Rattle.trace_types.specs.declared.line.LineFault.{LineFault}
 use Rattle.trace_types.specs.declared.line.LineFault.TheVariants as fault
 use Rattle.trace_types.specs.declared.step.Step.{Step}
 use Rattle.trace_types.specs.declared.step.Step.TheVariants as step
-use Rattle.text_fields.specs.declared.fault.TextFault.{TextFault}
+use Rattle.schedule_text.specs.declared.fault.TextFault.{TextFault}
 use Rattle.schedule_text.specs.Reading.{meaning_of}
 use Rattle.group_rules.proofs.Tests.{by_if, not_lt}
 use Rattle.group_trace.specs.Pump.{deliveries, due, most_deliveries, spelled_out}
@@ -13,8 +13,8 @@ use Rattle.group_trace.specs.Refusals.{refusal}
 use Rattle.group_trace.specs.Run.{is_elementary, next}
 use Rattle.group_trace.specs.Scene.{Measures, Scene}
 use Rattle.schedule_play.specs.Reading.{Reading, given_by, reading_from, step_or_fault, then_read, unless_refused, with_given, with_step, with_steps}
-use Rattle.trace_bounds.specs.Laws.{TakeBytes}
-use Rattle.trace_bounds.proofs.Deliveries.{IsGoing, due_falls, going_on, left, left_falls}
+use Rattle.accept_laws.specs.Laws.{TakeBytes}
+use Rattle.accept_laws.proofs.Deliveries.{IsGoing, due_falls, going_on, left, left_falls}
 
 -- at most so many steps, beside the packets that can still be delivered
 abbrev pub Reads : ℕ → (Scene → Reading) → Type 0

@@ -2,7 +2,7 @@
 use Rattle.std.specs.Prelude.{ℕ, ◌≤◌, List, length}
 use Rattle.std.specs.List.{AllByRecursion}
 use Rattle.line_reader.specs.Lines.{lines_of}
-use Rattle.group_disks.specs.Calls.{measures_of}
+use Rattle.group_trace.specs.DiskCalls.{measures_of}
 use Rattle.schedule_play.specs.Trace.{trace_of, trace_text}
 use Rattle.world_rules.specs.Spellings.{spellings}
 use Rattle.trace_verdict.specs.Verdicts.{IsRightText}

@@ -5,7 +5,7 @@ use Rattle.line_reader.specs.Lines.{lines_of}
 use Rattle.trace_claims.specs.Trace.{Trace}
 use Rattle.text_spelling.specs.TraceLines.{line_text}
 use Rattle.group_trace.specs.Scene.{Measures}
-use Rattle.trace_bounds.specs.Laws.{LineIn, TakeBytes}
+use Rattle.accept_laws.specs.Laws.{LineIn, TakeBytes}
 use Rattle.schedule_play.specs.Trace.{trace_of, trace_text}
 
 -- THE LINES OF A TRACE'S TEXT are the spellings of its lines

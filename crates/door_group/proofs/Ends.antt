@@ -2,9 +2,9 @@
 use Rattle.std.proofs.Common.{◌≡◌, ℕ, List, Option, None, Some, Result, Err, inl, inr, refl, subst}
 use Rattle.harp_types.specs.declared.server.ServerId.{ServerId}
 use Rattle.harp_types.specs.declared.server.ServerId.TheVariants.{Zero}
-use Rattle.group_asker.specs.Rule.{Before}
-use Rattle.local_servers.specs.First.{first_number}
-use Rattle.local_servers.specs.Local.{HasFailed}
+use Rattle.door_group.specs.Rule.{Before}
+use Rattle.door_group.specs.First.{first_number}
+use Rattle.door_group.specs.Local.{HasFailed}
 use Rattle.node_link.specs.Readings.{MayTell}
 use Rattle.node_loop.specs.Scene.{Scene}
 use Rattle.node_loop.specs.declared.fault.LoopFault.{LoopFault}

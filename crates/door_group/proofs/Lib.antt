@@ -1,2 +1,5 @@
+pub mod Calls
+pub mod Moves
+pub mod Faults
 mod Tellings
 mod Ends

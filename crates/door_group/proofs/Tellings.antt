@@ -2,8 +2,8 @@
 use Rattle.std.proofs.Common.{◌≡◌, ℕ, Bool, false, List, [], ◌++◌, Option, Result, Ok, Err, ap, refl, subst, sym}
 use Rattle.std.specs.Prelude.{MatchResult, ⊤}
 use Rattle.harp_types.specs.declared.server.ServerId.{ServerId}
-use Rattle.group_asker.specs.Rule.{AreMade, Before, GivesUp, IsMade, Outcome}
-use Rattle.local_servers.specs.Local.{AskBreaks, AskedAt, TurnBreaks, Turned}
+use Rattle.door_group.specs.Rule.{AreMade, Before, GivesUp, IsMade, Outcome}
+use Rattle.door_group.specs.Local.{AskBreaks, AskedAt, TurnBreaks, Turned}
 use Rattle.node_link.specs.declared.link.SentDatagram.{SentDatagram}
 use Rattle.node_loop.specs.Scene.{Scene, start, with_heard}
 use Rattle.node_loop.specs.Turn.{sent_of}

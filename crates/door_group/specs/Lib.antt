@@ -1,1 +1,4 @@
+pub mod Rule
+pub mod First
+pub mod Local
 pub mod Served

@@ -2,16 +2,17 @@
 
 ghost use Rattle.std.specs.Prelude.{◌≡◌, ◌≤◌, ℕ, List, [], None, Some, Err, false};
 ghost use Rattle.harp_types.specs.Streams.{Rose};
-ghost use Rattle.local_servers.specs.Local.{HasFailed};
+ghost use Rattle.door_group.specs.Local.{HasFailed};
 ghost use Rattle.node_link.specs.Traffic.{last_port};
 ghost use Rattle.node_loop.specs.Scene.{AreUp, OneRose, each, scene_of, start};
 ghost use Rattle.door_group.specs.Served.{DoorServed, EndsAfter, IsServed};
 
+use crate::asker::Asker;
 use crate::fault::{ServedFault, by_door, by_loop};
-use group_asker::Asker;
+use crate::first::first_number;
+use crate::local::LocalServers;
 use harp_store::Store;
 use harp_types::{Cred, ServerId, Sink, Source, Trio};
-use local_servers::{LocalServers, first_number};
 use node_link::{Clock, Link};
 use node_loop::{LoopFault, Three};
 use promise::Delta;

@@ -17,9 +17,9 @@ use Rattle.group_trace.specs.Run.{run, run_lines}
 use Rattle.group_trace.specs.Scene.{Measures, Scene, first_scene}
 use Rattle.group_trace.specs.Pump.{most_deliveries}
 use Rattle.schedule_play.specs.Reading.{Reading, with_step}
-use Rattle.door_run.specs.Played.{reading_of_calls}
-use Rattle.door_run.specs.Replies.{answers_in, numbered_from, replies_from, replies_to}
-use Rattle.door_run.specs.Steps.{cut, door_steps, steps_of_call, steps_of_calls, taken_from, upkeep}
+use Rattle.door_laws.specs.Played.{reading_of_calls}
+use Rattle.door_laws.specs.Replies.{answers_in, numbered_from, replies_from, replies_to}
+use Rattle.door_laws.specs.Steps.{cut, door_steps, steps_of_call, steps_of_calls, taken_from, upkeep}
 use Rattle.door_laws.specs.Laws.{AnswersAreReplies, AnswersGoOn, HasBytes, OneAnswerMore, OneCallMore, OnlyFullNetRefuses, ReadStepsAreTaken, RefusedStays}
 use Rattle.rpc_door.specs.Results.{is_reply_to}
 use Rattle.door_laws.proofs.Answered.{answers-append}

@@ -1,1 +1,4 @@
+pub mod Steps
+pub mod Replies
+pub mod Played
 pub mod Laws

@@ -1,9 +1,11 @@
-//! What the calls of a door lead to in a group that is played.
+//! What the calls of a door lead to in a group that is played: their steps, and the replies to
+//! them.
 //!
 //! # What is proved
 //!
-//! Laws of the steps of any calls of one user and group (`door_run`), whatever bytes records have,
-//! where each message has a byte.
+//! The steps of a door's calls and the replies of one tree are definitions (`Steps`, `Replies`,
+//! `Played`). The laws are of the steps of any calls of one user and group, whatever bytes records
+//! have, where each message has a byte.
 //!
 //! - `played_calls`: where no step is refused, the answers in the lines of the run are the replies
 //!   of one tree, in order and each once, with the calls' numbers (`answers`). A step is refused

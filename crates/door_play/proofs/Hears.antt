@@ -10,15 +10,15 @@ use Rattle.trace_types.specs.declared.step.Step.{Step}
 use Rattle.group_trace.specs.Refusals.{refusal}
 use Rattle.group_trace.specs.Run.{is_elementary, next, run, run_lines, step_lines}
 use Rattle.group_trace.specs.Scene.{Measures, Scene, first_scene}
-use Rattle.group_disks.specs.Calls.{Spellings, measures_of}
-use Rattle.group_disks.specs.Run.{DiskScene, disk_run, first_disk_scene}
+use Rattle.group_trace.specs.DiskCalls.{Spellings, measures_of}
+use Rattle.group_trace.specs.DiskRun.{DiskScene, disk_run, first_disk_scene}
 use Rattle.schedule_play.specs.declared.refusal.Refusal.{Refusal}
 use Rattle.schedule_play.specs.declared.refusal.Refusal.TheVariants as refusals
 use Rattle.schedule_play.specs.Reading.{Reading, then_read, unless_refused, with_step}
 use Rattle.schedule_play.specs.Stage.{IsReached, IsRefused, IsTaken, fault_of}
 use Rattle.schedule_play.proofs.Runs.{disk_more, disk_scene, reached, run-append, run_lines-append}
 use Rattle.schedule_play.proofs.TakenLaws.{taken-more}
-use Rattle.door_run.specs.Replies.{answers_in}
+use Rattle.door_laws.specs.Replies.{answers_in}
 use Rattle.door_play.specs.OnTheWay.{HasHeard, HasStopped, as_list}
 
 -- ---- answers

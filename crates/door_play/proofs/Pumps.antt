@@ -7,8 +7,8 @@ use Rattle.trace_types.specs.declared.step.Step.TheVariants as step
 use Rattle.group_trace.specs.Pump.{deliveries, due, most_deliveries, spelled_out}
 use Rattle.group_trace.specs.Run.{is_elementary, next, run}
 use Rattle.group_trace.specs.Scene.{Measures, Scene, first_scene}
-use Rattle.group_disks.specs.Calls.{Spellings, measures_of}
-use Rattle.group_disks.specs.Run.{DiskScene, disk_run, first_disk_scene}
+use Rattle.group_trace.specs.DiskCalls.{Spellings, measures_of}
+use Rattle.group_trace.specs.DiskRun.{DiskScene, disk_run, first_disk_scene}
 use Rattle.schedule_play.specs.OnTheWay.{with_pump}
 use Rattle.schedule_play.specs.Reading.{Reading, with_step, with_steps}
 use Rattle.schedule_play.specs.Stage.{IsReached}
@@ -16,7 +16,7 @@ use Rattle.schedule_play.proofs.Runs.{disk_scene, reached}
 use Rattle.group_rules.specs.Places.{Place, Trio, Zero, One, Two, get}
 use Rattle.schedule_play.specs.Stage.{AreReadings, clocks_after}
 use Rattle.door_play.specs.OnTheWay.{AreReadable, HasHeard, clocks_behind, taken_then}
-use Rattle.door_run.specs.Steps.{opening}
+use Rattle.door_laws.specs.Steps.{opening}
 use Rattle.door_play.proofs.Hears.{hears}
 
 -- ---- one step

@@ -12,14 +12,14 @@ use Rattle.group_trace.specs.Pump.{spelled_out}
 use Rattle.group_trace.specs.Refusals.{refusal}
 use Rattle.group_trace.specs.Run.{next, run, run_lines}
 use Rattle.group_trace.specs.Scene.{Measures, Scene, first_scene}
-use Rattle.group_disks.specs.Calls.{Spellings, measures_of}
-use Rattle.group_disks.specs.Run.{DiskScene, disk_run, first_disk_scene}
+use Rattle.group_trace.specs.DiskCalls.{Spellings, measures_of}
+use Rattle.group_trace.specs.DiskRun.{DiskScene, disk_run, first_disk_scene}
 use Rattle.rpc_door.specs.declared.group.Exchange.{Exchange}
 use Rattle.rpc_door.specs.Results.{is_reply_to}
 use Rattle.schedule_play.specs.Reading.{Reading, all_read, then_read, unless_refused, with_steps}
-use Rattle.door_run.specs.Played.{HasAnswered, HasGivenUp, calls_of, reading_of_calls}
-use Rattle.door_run.specs.Replies.{answers_in, numbered_from, replies_from, replies_to, stamp}
-use Rattle.door_run.specs.Steps.{cut, opening, steps_of_call, taken_from}
+use Rattle.door_laws.specs.Played.{HasAnswered, HasGivenUp, calls_of, reading_of_calls}
+use Rattle.door_laws.specs.Replies.{answers_in, numbered_from, replies_from, replies_to, stamp}
+use Rattle.door_laws.specs.Steps.{cut, opening, steps_of_call, taken_from}
 use Rattle.door_laws.specs.Laws.{AnswersAreReplies, HasBytes, OneCallMore, OnlyFullNetRefuses, ReadStepsAreTaken, RepliesFit}
 use Rattle.door_play.specs.OnTheWay.{HasHeard, HasStopped, taken_then}
 use Rattle.door_play.specs.Told.{AreOf, HasTold, HasToldOf}

@@ -3,13 +3,13 @@ use Rattle.std.specs.Prelude.{◌≡◌, ℕ, ◌+◌, ◌<◌, ◌^◌, List, [
 use Rattle.std.specs.List.{AllByRecursion}
 use Rattle.harp_types.specs.declared.call.Call.{Call}
 use Rattle.harp_types.specs.declared.cred.Cred.{Cred}
-use Rattle.group_disks.specs.Calls.{Spellings, measures_of}
-use Rattle.group_disks.specs.Run.{DiskScene}
+use Rattle.group_trace.specs.DiskCalls.{Spellings, measures_of}
+use Rattle.group_trace.specs.DiskRun.{DiskScene}
 use Rattle.rpc_door.specs.declared.group.Exchange.{Exchange}
 use Rattle.rpc_door.specs.declared.group.GroupFault.{GroupFault}
 use Rattle.rpc_door.specs.declared.group.GroupFault.TheVariants.{Failed}
 use Rattle.door_laws.specs.Laws.{HasBytes}
-use Rattle.door_run.specs.Played.{HasAnswered, HasGivenUp, IsLeft, calls_of}
+use Rattle.door_laws.specs.Played.{HasAnswered, HasGivenUp, IsLeft, calls_of}
 
 -- each of these calls was made by this user and group, and there are fewer than 2^62
 pub record AreOf (cred : Cred) (made : List Exchange) : Type 0 where

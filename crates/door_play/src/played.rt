@@ -4,15 +4,15 @@ ghost use Rattle.std.specs.Prelude.{◌≡◌, ◌≤◌, ◌++◌, ◌∷◌, [
 ghost use Rattle.harp_types.specs.Streams.{Rose};
 ghost use Rattle.harp_types.specs.declared.cred.Cred.{Cred as By};
 ghost use Rattle.harp_types.specs.declared.reply.Reply.{Reply as Told};
-ghost use Rattle.group_disks.specs.Calls.{measures_of};
-ghost use Rattle.group_disks.specs.Run.{first_disk_scene};
+ghost use Rattle.group_trace.specs.DiskCalls.{measures_of};
+ghost use Rattle.group_trace.specs.DiskRun.{first_disk_scene};
 ghost use Rattle.rpc_door.specs.Results.{is_reply_to};
 ghost use Rattle.rpc_door.specs.declared.group.GroupFault.TheVariants as group;
 ghost use Rattle.schedule_play.specs.Reading.{Reading, all_read};
 ghost use Rattle.schedule_play.specs.Stage.{AreReadings};
 ghost use Rattle.door_laws.specs.Laws.{HasBytes};
-ghost use Rattle.door_run.specs.Played.{HasGivenUp};
-ghost use Rattle.door_run.specs.Steps.{steps_of_call};
+ghost use Rattle.door_laws.specs.Played.{HasGivenUp};
+ghost use Rattle.door_laws.specs.Steps.{steps_of_call};
 ghost use Rattle.door_play.specs.OnTheWay.{HasHeard, StopGives, taken_then};
 ghost use Rattle.door_play.specs.Told.{GivesUp, HasTold};
 

@@ -3,14 +3,14 @@
 ghost use Rattle.std.specs.Prelude.{◌≡◌, ◌++◌, ◌∷◌, [], ℕ, List, MatchResult, OnOk, true};
 ghost use Rattle.harp_types.specs.declared.reply.Reply.{Reply as Told};
 ghost use Rattle.trace_types.specs.declared.step.Step.TheVariants as steps;
-ghost use Rattle.group_disks.specs.Calls.{measures_of};
+ghost use Rattle.group_trace.specs.DiskCalls.{measures_of};
 ghost use Rattle.group_trace.specs.Pump.{most_deliveries, spelled_out};
 ghost use Rattle.group_trace.specs.Run.{is_elementary};
 ghost use Rattle.group_trace.specs.Scene.{Scene};
 ghost use Rattle.schedule_play.specs.OnTheWay.{with_pump};
 ghost use Rattle.schedule_play.specs.Reading.{Reading, with_step, with_steps};
 ghost use Rattle.schedule_play.specs.Stage.{AreReadings, clocks_after};
-ghost use Rattle.door_run.specs.Replies.{answers_in};
+ghost use Rattle.door_laws.specs.Replies.{answers_in};
 ghost use Rattle.door_play.specs.OnTheWay.{AreReadable, HasHeard, StopGives, as_list, clocks_behind, taken_then};
 
 use harp_types::{Reply, ServerId};

@@ -15,3 +15,7 @@ pub mod RowsOfPowerFailures
 pub mod RowsOfStops
 pub mod RowsOfDisks
 pub mod RowsOfPromises
+pub mod DiskCalls
+pub mod Picks
+pub mod DiskRun
+pub mod DiskRows

@@ -1,7 +1,7 @@
 -- What a play wrote of which `check` says yes.
 use Rattle.std.proofs.Common.{◌≡◌, ◌⊎◌, ℕ, List, Option, inl, inr, arith, subst}
 use Rattle.accept_laws.specs.AcceptLaws.{HasShortLines, PlaysAreAccepted}
-use Rattle.group_disks.specs.Run.{DiskScene}
+use Rattle.group_trace.specs.DiskRun.{DiskScene}
 use Rattle.schedule_play.specs.Ends.{EndsWhole, PlayEnds}
 use Rattle.schedule_play.specs.Reading.{reading}
 use Rattle.schedule_play.specs.Trace.{trace_of, trace_text}

@@ -1,7 +1,7 @@
 -- How a play of a schedule ends, on three servers with the disks and the packets of real ones.
 use Rattle.std.specs.Prelude.{◌≡◌, ℕ, List, Option, ⊤}
 use Rattle.std.specs.Io.KnownBytes.{Appends}
-use Rattle.group_disks.specs.Calls.{measures_of}
+use Rattle.group_trace.specs.DiskCalls.{measures_of}
 use Rattle.schedule_play.specs.Ends.{PlayEnds}
 use Rattle.schedule_play.specs.declared.exit.Exit.{Exit as Played}
 use Rattle.schedule_play.specs.declared.exit.Exit.TheVariants as played

@@ -2,7 +2,7 @@
 
 ghost use Rattle.std.specs.Prelude.{◌≡◌, ℕ, List, Some};
 ghost use Rattle.harp_types.specs.Streams.{Rose};
-ghost use Rattle.group_disks.specs.Run.{first_disk_scene};
+ghost use Rattle.group_trace.specs.DiskRun.{first_disk_scene};
 ghost use Rattle.world.specs.World.{IsWorld};
 ghost use Rattle.harp_cli.specs.Door.{DoorPlayed, EndsDoorPlay, exit_of_door};
 

@@ -2,9 +2,9 @@
 
 ghost use Rattle.std.specs.Prelude.{◌≡◌, ◌⊎◌, ℕ, List, Some};
 ghost use Rattle.harp_types.specs.Streams.{Rose};
-ghost use Rattle.group_disks.specs.Run.{first_disk_scene};
-ghost use Rattle.observe_run.specs.Peeks.{IsObservedRightly};
-ghost use Rattle.observe_run.specs.Reading.{observed_reading};
+ghost use Rattle.group_trace.specs.DiskRun.{first_disk_scene};
+ghost use Rattle.observe_laws.specs.Peeks.{IsObservedRightly};
+ghost use Rattle.observe_laws.specs.Reading.{observed_reading};
 ghost use Rattle.observed_text.specs.Grammar.{ExplainsObserved};
 ghost use Rattle.observed_text.specs.Reading.{observed_meaning};
 ghost use Rattle.schedule_play.specs.Exit.{whole_exit};

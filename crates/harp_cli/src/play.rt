@@ -2,7 +2,7 @@
 
 ghost use Rattle.std.specs.Prelude.{◌≡◌, ◌⊎◌, ℕ, List, Some};
 ghost use Rattle.harp_types.specs.Streams.{Rose};
-ghost use Rattle.group_disks.specs.Run.{first_disk_scene};
+ghost use Rattle.group_trace.specs.DiskRun.{first_disk_scene};
 ghost use Rattle.schedule_play.specs.Exit.{whole_exit};
 ghost use Rattle.schedule_play.specs.Reading.{reading};
 ghost use Rattle.schedule_play.specs.Trace.{trace_of};

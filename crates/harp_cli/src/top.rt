@@ -2,8 +2,8 @@
 
 ghost use Rattle.std.specs.Prelude.{◌≡◌, ◌≢◌, ◌⊎◌, ◌∷◌, [], ℕ, ◌<◌, ◌^◌, List, Some};
 ghost use Rattle.accept_laws.specs.AcceptLaws.{HasShortLines};
-ghost use Rattle.disk_laws.specs.Laws.{DiskRunIsRight};
-ghost use Rattle.group_disks.specs.Run.{first_disk_scene};
+ghost use Rattle.trace_laws.specs.DiskLaws.{DiskRunIsRight};
+ghost use Rattle.group_trace.specs.DiskRun.{first_disk_scene};
 ghost use Rattle.schedule_play.specs.Exit.{whole_exit};
 ghost use Rattle.schedule_play.specs.Reading.{reading};
 ghost use Rattle.schedule_play.specs.Trace.{group_left, trace_of};
@@ -19,8 +19,8 @@ ghost use Rattle.harp_types.specs.Streams.{Rose};
 ghost use Rattle.harp_types.specs.Trio.{value_of, with_value};
 ghost use Rattle.harp_types.specs.declared.server.ServerId.{ServerId as Place};
 ghost use Rattle.world_rules.specs.Spellings.{spellings};
-ghost use Rattle.observe_run.specs.Peeks.{IsObservedRightly};
-ghost use Rattle.observe_run.specs.Reading.{observed_reading};
+ghost use Rattle.observe_laws.specs.Peeks.{IsObservedRightly};
+ghost use Rattle.observe_laws.specs.Reading.{observed_reading};
 ghost use Rattle.observed_text.specs.Grammar.{ExplainsObserved};
 ghost use Rattle.observed_text.specs.Reading.{observed_meaning};
 ghost use Rattle.node_loop.specs.Scene.{OneRose, all_places, each, only, start};
@@ -253,8 +253,8 @@ pub fn harp<R: Threads + Sync, S: Source, K: Sink, L: Link, D: Store, C: Clock>(
     // What each first part of its lines is.
     ensures parts { (text : List ℕ) → FirstPartsAreRight sizes (reading sizes text).steps }
     // What each line of an observed schedule means, and what the observed trace of a text is: a
-    // right one without what tells of the observer, each of whose answers is that to its call on the
-    // tree after the updates that it tells, which are entered before and never get fewer.
+    // right one without what tells of the observer, each of whose answers is that to its call on
+    // the tree after the updates that it tells, which are entered before and never get fewer.
     ensures observe_meaning { (line : List ℕ) → ExplainsObserved line (observed_meaning line) }
     ensures observed { (text : List ℕ) → IsObservedRightly sizes text }
 {

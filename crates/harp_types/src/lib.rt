@@ -31,6 +31,8 @@ mod server;
 mod standard;
 mod state;
 mod streams;
+#[cfg(test)]
+mod tests;
 mod trio;
 mod update;
 

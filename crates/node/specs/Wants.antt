@@ -13,7 +13,7 @@ use Rattle.shown.specs.declared.shown.Shown.{Shown}
 use Rattle.shown.specs.declared.shown.Shown.TheVariants as shown
 use Rattle.shown.specs.declared.shown.Want.{Want}
 use Rattle.shown.specs.declared.shown.Want.TheVariants as want
-use Rattle.shown_log.specs.Records.{records_from}
+use Rattle.shown.specs.Records.{records_from}
 use Rattle.tree_log.specs.Committed.{committed_over}
 
 -- A CELL IS SHOWN by a settled data server alone: what it holds at CP, by the log over the store

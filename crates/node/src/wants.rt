@@ -17,8 +17,7 @@ use crate::node::Node;
 use crate::state::State;
 use harp_cells::{Cell, CellFault, Value};
 use harp_store::Store;
-use shown::{Shown, Want};
-use shown_log::{records_active, records_kept};
+use shown::{Shown, Want, records_active, records_kept};
 use std::alloc::{AllocError, Global};
 use volatile_log::ActiveLog;
 

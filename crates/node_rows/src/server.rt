@@ -9,8 +9,7 @@ use power_save::SeenRecords;
 use promise::Delta;
 use std::alloc::{AllocError, Global};
 use trace_types::{Line, Step};
-use world_lines::{Book, give, show_listing};
-use world_packets::Packets;
+use world_lines::{Book, Packets, give, show_listing};
 
 /// A server, which is there once it has booted, over its disk, and what it has given.
 #[derive(Drop)]

@@ -23,10 +23,10 @@ use Rattle.observed_text.specs.declared.step.ObservedStep.{ObservedStep}
 use Rattle.observed_text.specs.declared.step.ObservedStep.TheVariants as observed
 use Rattle.observed_text.specs.declared.line.ObservedLine.{ObservedLine}
 use Rattle.observed_text.specs.declared.line.ObservedLine.TheVariants as line
-use Rattle.observe_run.specs.Peeks.{AtObservedAfter, IsPeeked, IsPeekedIn, later_act, top_peeked, updates_in}
-use Rattle.observe_run.specs.Run.{AreObserved, is_observed_elementary, is_same_top, observed_lines, observed_next, observed_refusal, observed_run, observed_run_lines, peek_lines, peeked, played_steps, shown_in, top_line, top_lines, want_lines, with_shown, with_taken}
-use Rattle.observe_run.specs.Scene.{ObservedScene, Showing, first_observed, taken_by}
-use Rattle.observe_run.specs.Trace.{ObservedTrace, traced}
+use Rattle.observe_laws.specs.Peeks.{AtObservedAfter, IsPeeked, IsPeekedIn, later_act, top_peeked, updates_in}
+use Rattle.observe_laws.specs.Run.{AreObserved, is_observed_elementary, is_same_top, observed_lines, observed_next, observed_refusal, observed_run, observed_run_lines, peek_lines, peeked, played_steps, shown_in, top_line, top_lines, want_lines, with_shown, with_taken}
+use Rattle.observe_laws.specs.Scene.{ObservedScene, Showing, first_observed, taken_by}
+use Rattle.observe_laws.specs.Trace.{ObservedTrace, traced}
 use Rattle.observe_laws.proofs.Taken.{observed-more}
 use Rattle.observe_laws.proofs.Traced.{lines_played, observed_lines-append, observed_run-append, scene_played, taken_played, traced-append}
 use Rattle.observe_laws.proofs.Within.{AreShownWithin, IsOneWithin, IsTopWithin, IsWithin, at_within, progress_grows, shown_grow, shown_one_more, shown_within, taken_on, taken_within}

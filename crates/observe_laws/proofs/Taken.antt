@@ -13,9 +13,9 @@ use Rattle.observed_text.specs.declared.step.Act.{Act}
 use Rattle.observed_text.specs.declared.step.Act.TheVariants as act
 use Rattle.observed_text.specs.declared.step.ObservedStep.{ObservedStep}
 use Rattle.observed_text.specs.declared.step.ObservedStep.TheVariants as observed
-use Rattle.observe_run.specs.Reading.{ObservedReading, observed_by, observed_from, then_observed, unless_observed_refused, with_observed, with_observed_given}
-use Rattle.observe_run.specs.Run.{AreObserved, acted, acts_out, drained, is_act_elementary, is_observed_elementary, observed_next, observed_out, observed_refusal, observed_run, shown_in}
-use Rattle.observe_run.specs.Scene.{ObservedScene, Showing}
+use Rattle.observe_laws.specs.Reading.{ObservedReading, observed_by, observed_from, then_observed, unless_observed_refused, with_observed, with_observed_given}
+use Rattle.observe_laws.specs.Run.{AreObserved, acted, acts_out, drained, is_act_elementary, is_observed_elementary, observed_next, observed_out, observed_refusal, observed_run, shown_in}
+use Rattle.observe_laws.specs.Scene.{ObservedScene, Showing}
 
 -- one more step is taken behind others
 pub observed-more : (m : Measures) (w : ObservedScene) (ss : List ObservedStep) (s : ObservedStep)

@@ -12,11 +12,11 @@ use Rattle.line_reader.specs.Lines.{lines_of}
 use Rattle.trace_laws.specs.Laws.{RunIsRight}
 use Rattle.trace_laws.proofs.RightRuns.{run_right}
 use Rattle.schedule_play.specs.Trace.{last_line}
-use Rattle.observe_run.specs.Peeks.{ArePeeked, IsObservedRightly, IsPeekedIn}
-use Rattle.observe_run.specs.Reading.{observed_reading}
-use Rattle.observe_run.specs.Run.{AreObserved, played_steps}
-use Rattle.observe_run.specs.Scene.{first_observed}
-use Rattle.observe_run.specs.Trace.{lines_of_reading, observed_last, observed_trace, traced}
+use Rattle.observe_laws.specs.Peeks.{ArePeeked, IsObservedRightly, IsPeekedIn}
+use Rattle.observe_laws.specs.Reading.{observed_reading}
+use Rattle.observe_laws.specs.Run.{AreObserved, played_steps}
+use Rattle.observe_laws.specs.Scene.{first_observed}
+use Rattle.observe_laws.specs.Trace.{lines_of_reading, observed_last, observed_trace, traced}
 use Rattle.observe_laws.proofs.Peeked.{all_peeked, keeps_first, led_first, observed-places}
 use Rattle.observe_laws.proofs.Taken.{observed_taken}
 use Rattle.observe_laws.proofs.Traced.{lines_played, taken_played, traced-append}

@@ -22,14 +22,14 @@ use Rattle.observer.specs.declared.progress.Copied.{Copied}
 use Rattle.observer.specs.Phases.{wanted_in}
 use Rattle.observer.specs.Progress.{cell_or_records, want_by}
 use Rattle.record_changes.specs.Records.{history_of}
-use Rattle.show_rules.specs.Rule.{CellAt, EntriesFrom, GoneTo, Outline, entries_from, outline_of, shown_by}
+use Rattle.shown.specs.Rule.{CellAt, EntriesFrom, GoneTo, Outline, entries_from, outline_of, shown_by}
 use Rattle.shown.specs.declared.shown.Shown.{Shown}
 use Rattle.shown.specs.declared.shown.Shown.TheVariants as shown
 use Rattle.shown.specs.declared.shown.Want.{Want}
 use Rattle.shown.specs.declared.shown.Want.TheVariants as want
 use Rattle.shown.specs.Truth.{IsShownOf}
-use Rattle.observe_run.specs.Run.{shown_where}
-use Rattle.observe_run.specs.Scene.{CellShown, RecordsShown, filled, showing_of}
+use Rattle.observe_laws.specs.Run.{shown_where}
+use Rattle.observe_laws.specs.Scene.{CellShown, RecordsShown, filled, showing_of}
 use Rattle.observe_laws.specs.Told.{ShownAsTold}
 
 -- ---- a wanted cell isn't one of a saved log

@@ -13,9 +13,9 @@ use Rattle.observed_text.specs.declared.step.Act.TheVariants as act
 use Rattle.observed_text.specs.declared.step.ObservedStep.{ObservedStep}
 use Rattle.observed_text.specs.declared.step.ObservedStep.TheVariants as observed
 use Rattle.observed_text.specs.declared.line.ObservedLine.TheVariants as line
-use Rattle.observe_run.specs.Run.{AreObserved, acted, given_lines, is_same_top, observed_lines, observed_next, observed_run, observed_run_lines, peek_lines, played_steps, shown_in, top_line, want_lines, with_shown, with_taken}
-use Rattle.observe_run.specs.Scene.{ObservedScene, Showing}
-use Rattle.observe_run.specs.Trace.{ObservedTrace, traced, traced_by}
+use Rattle.observe_laws.specs.Run.{AreObserved, acted, given_lines, is_same_top, observed_lines, observed_next, observed_run, observed_run_lines, peek_lines, played_steps, shown_in, top_line, want_lines, with_shown, with_taken}
+use Rattle.observe_laws.specs.Scene.{ObservedScene, Showing}
+use Rattle.observe_laws.specs.Trace.{ObservedTrace, traced, traced_by}
 
 pub traced-append : (xs ys : ObservedTrace) → traced (xs ++ ys) ≡ traced xs ++ traced ys
 traced-append xs ys = flat_map-append traced_by xs ys

@@ -28,11 +28,11 @@ use Rattle.observer.specs.declared.progress.Progress.{Progress}
 use Rattle.observer.specs.Laws.{IsNoOlder}
 use Rattle.observer.specs.Phases.{has_cells, is_first}
 use Rattle.observer.specs.Progress.{after_cell, after_records, follows, is_not_past, is_ripe_copy, ripened_with, taken_cell, taken_records, top_with, want_of, wants_cell}
-use Rattle.show_rules.specs.Rule.{CellAt, EntriesFrom, GoneTo, Outline, entries_from, shown_by}
+use Rattle.shown.specs.Rule.{CellAt, EntriesFrom, GoneTo, Outline, entries_from, shown_by}
 use Rattle.shown.specs.declared.shown.Want.{Want}
 use Rattle.shown.specs.declared.shown.Want.TheVariants as want
-use Rattle.observe_run.specs.Run.{shown_in, shown_where}
-use Rattle.observe_run.specs.Scene.{CellShown, GoneShown, ObservedScene, RecordsShown, Showing, filled, taken_by}
+use Rattle.observe_laws.specs.Run.{shown_in, shown_where}
+use Rattle.observe_laws.specs.Scene.{CellShown, GoneShown, ObservedScene, RecordsShown, Showing, filled, taken_by}
 
 -- ---- within a number of updates
 

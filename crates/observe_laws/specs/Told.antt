@@ -5,12 +5,12 @@ use Rattle.group_trace.specs.Scene.{Measures}
 use Rattle.harp_types.specs.declared.server.ServerId.{ServerId}
 use Rattle.observer.specs.Progress.{want_of}
 use Rattle.record_changes.specs.Records.{history_of}
-use Rattle.show_rules.specs.Rule.{outline_of, shown_by}
+use Rattle.shown.specs.Rule.{outline_of, shown_by}
 use Rattle.shown.specs.declared.shown.Shown.{Shown}
 use Rattle.shown.specs.declared.shown.Want.{Want}
 use Rattle.shown.specs.Truth.{IsShownOf}
-use Rattle.observe_run.specs.Run.{shown_in}
-use Rattle.observe_run.specs.Scene.{ObservedScene, showing_of}
+use Rattle.observe_laws.specs.Run.{shown_in}
+use Rattle.observe_laws.specs.Scene.{ObservedScene, showing_of}
 
 -- WHAT IS SHOWN BY THE RULE AND TRULY is what the run shows: of a cell that an observer wants, the
 -- updates tell what it holds

@@ -1,6 +1,11 @@
-//! What the observed trace of every observed schedule is.
+//! The run of an observed schedule, which is that of the group with an observer beside it, and
+//! what the observed trace of every observed schedule is.
 //!
 //! # What is proved
+//!
+//! What the acts of an observer lead to in a run of the group and which lines they give (`Run`),
+//! what is read of an observed schedule's text and its one trace (`Reading`, `Trace`), and what is
+//! to hold of that trace (`Peeks`) are definitions.
 //!
 //! Of every text, whatever bytes records and messages have (`every_observed_text`): without what
 //! tells of the observer its observed trace is a right one, of the steps of the schedule that were
@@ -11,7 +16,7 @@
 
 ghost use Rattle.std.specs.Prelude.{ℕ, List};
 ghost use Rattle.group_trace.specs.Scene.{Measures};
-ghost use Rattle.observe_run.specs.Peeks.{IsObservedRightly};
+ghost use Rattle.observe_laws.specs.Peeks.{IsObservedRightly};
 ghost use Rattle.observe_laws.specs.Told.{ShownAsTold};
 
 /// The observed trace of every text.

@@ -2,18 +2,18 @@
 use Rattle.std.proofs.Common.{◌≡◌, ℕ, true, List, ◌∷◌, sym, ap, subst, Option, Some}
 use Rattle.std.specs.Prelude.{IfSome}
 use Rattle.trace_types.specs.declared.line.LineFault.{LineFault}
-use Rattle.group_disks.specs.Calls.{Spellings, measures_of}
-use Rattle.group_disks.specs.Run.{DiskScene}
+use Rattle.group_trace.specs.DiskCalls.{Spellings, measures_of}
+use Rattle.group_trace.specs.DiskRun.{DiskScene}
 use Rattle.schedule_play.specs.declared.refusal.Refusal.{Refusal}
 use Rattle.schedule_play.specs.Stage.{fault_of}
 use Rattle.observed_text.specs.declared.line.ObservedLine.{ObservedLine}
 use Rattle.observed_text.specs.declared.line.ObservedLine.TheVariants as lines
 use Rattle.observed_text.specs.declared.step.Act.{Act}
 use Rattle.observed_text.specs.declared.step.ObservedStep.TheVariants as observed
-use Rattle.observe_run.specs.Reading.{ObservedReading, observed_refused_at}
-use Rattle.observe_run.specs.Run.{act_refusal, is_act_elementary}
-use Rattle.observe_run.specs.Scene.{ObservedScene}
-use Rattle.observe_run.specs.Trace.{ObservedTrace}
+use Rattle.observe_laws.specs.Reading.{ObservedReading, observed_refused_at}
+use Rattle.observe_laws.specs.Run.{act_refusal, is_act_elementary}
+use Rattle.observe_laws.specs.Scene.{ObservedScene}
+use Rattle.observe_laws.specs.Trace.{ObservedTrace}
 use Rattle.observe_play.specs.OnTheWay.{HasObserved, Makes, RefusesAct, with_act}
 use Rattle.observe_play.specs.Watch.{IsDone, StandsAt, WatchValue, as_lines}
 use Rattle.observe_play.proofs.Runs.{disks_after, next_there, one_acted, reached_there, scene_after}

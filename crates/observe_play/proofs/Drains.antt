@@ -7,14 +7,14 @@ use Rattle.std.proofs.lemmas.Bool.{eqb-true, false_from_ne_true}
 use Rattle.std.proofs.lemmas.List.{length-map}
 use Rattle.harp_types.specs.declared.server.ServerId.{ServerId}
 use Rattle.group_trace.specs.Scene.{Measures}
-use Rattle.group_disks.specs.Calls.{Spellings, measures_of}
-use Rattle.group_disks.specs.Run.{DiskScene}
+use Rattle.group_trace.specs.DiskCalls.{Spellings, measures_of}
+use Rattle.group_trace.specs.DiskRun.{DiskScene}
 use Rattle.observed_text.specs.declared.step.Act.{Act}
 use Rattle.observed_text.specs.declared.step.Act.TheVariants as act
 use Rattle.observed_text.specs.declared.step.ObservedStep.TheVariants as observed
-use Rattle.observe_run.specs.Reading.{ObservedReading, with_observed, with_observed_given}
-use Rattle.observe_run.specs.Run.{acted, acts_out, drained, is_act_elementary, shown_in, with_shown}
-use Rattle.observe_run.specs.Scene.{ObservedScene, Showing, showing_of}
+use Rattle.observe_laws.specs.Reading.{ObservedReading, with_observed, with_observed_given}
+use Rattle.observe_laws.specs.Run.{acted, acts_out, drained, is_act_elementary, shown_in, with_shown}
+use Rattle.observe_laws.specs.Scene.{ObservedScene, Showing, showing_of}
 use Rattle.observe_play.specs.OnTheWay.{HasObserved, with_act, with_drain}
 use Rattle.observe_play.specs.Watch.{StandsAt, WatchValue}
 use Rattle.observe_play.proofs.Parts.{comes}

@@ -5,17 +5,17 @@ use Rattle.std.specs.Io.KnownBytes.{Appends, Keeps}
 use Rattle.harp_types.specs.Streams.{GrewByPart}
 use Rattle.line_reader.specs.Lines.{Feedless, lines_of}
 use Rattle.line_reader.specs.Reading.{text_left}
-use Rattle.group_disks.specs.Calls.{Spellings, measures_of}
-use Rattle.group_disks.specs.Run.{DiskScene}
+use Rattle.group_trace.specs.DiskCalls.{Spellings, measures_of}
+use Rattle.group_trace.specs.DiskRun.{DiskScene}
 use Rattle.schedule_play.specs.declared.exit.Stop.{Stop}
 use Rattle.schedule_play.specs.declared.exit.Stop.TheVariants as stop
 use Rattle.schedule_play.specs.declared.turn.Turn.{Turn}
 use Rattle.schedule_play.specs.declared.turn.Turn.TheVariants as turn
 use Rattle.schedule_play.specs.Exit.{exit_of}
-use Rattle.observe_run.specs.Reading.{ObservedReading, observed_from, observed_reading, observed_reading_of}
-use Rattle.observe_run.specs.Run.{observed_run}
-use Rattle.observe_run.specs.Scene.{ObservedScene, first_observed}
-use Rattle.observe_run.specs.Trace.{observed_trace, observed_trace_text}
+use Rattle.observe_laws.specs.Reading.{ObservedReading, observed_from, observed_reading, observed_reading_of}
+use Rattle.observe_laws.specs.Run.{observed_run}
+use Rattle.observe_laws.specs.Scene.{ObservedScene, first_observed}
+use Rattle.observe_laws.specs.Trace.{observed_trace, observed_trace_text}
 use Rattle.observe_play.specs.Ends.{EndsObserved, ObserveEnds, ObservedSourceFails, StandsAfter, lines_after}
 use Rattle.observe_play.specs.OnTheWay.{ObservedLineGives, ObservedStop, ObservedTurn, ObservesOn}
 use Rattle.observe_play.specs.Watch.{WatchValue}

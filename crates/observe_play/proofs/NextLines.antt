@@ -7,15 +7,15 @@ use Rattle.trace_types.specs.declared.line.LineFault.TheVariants as fault
 use Rattle.line_reader.specs.declared.reader.Next.TheVariants as next
 use Rattle.line_reader.specs.Lines.{lines_of}
 use Rattle.line_reader.specs.Reading.{GivesKnown, text_left}
-use Rattle.group_disks.specs.Calls.{Spellings, measures_of}
-use Rattle.group_disks.specs.Run.{DiskScene}
+use Rattle.group_trace.specs.DiskCalls.{Spellings, measures_of}
+use Rattle.group_trace.specs.DiskRun.{DiskScene}
 use Rattle.schedule_play.specs.Reading.{given_by}
 use Rattle.schedule_play.proofs.NextLines as schedule
 use Rattle.observed_text.specs.declared.step.ObservedStep.{ObservedStep}
 use Rattle.observed_text.specs.Reading.{observed_meaning}
-use Rattle.observe_run.specs.Reading.{ObservedReading, all_observed, observed_by, observed_from, observed_or_fault, observed_reading, observed_reading_of, observed_refused_at, with_observed_given}
-use Rattle.observe_run.specs.Run.{observed_run}
-use Rattle.observe_run.specs.Scene.{ObservedScene, first_observed}
+use Rattle.observe_laws.specs.Reading.{ObservedReading, all_observed, observed_by, observed_from, observed_or_fault, observed_reading, observed_reading_of, observed_refused_at, with_observed_given}
+use Rattle.observe_laws.specs.Run.{observed_run}
+use Rattle.observe_laws.specs.Scene.{ObservedScene, first_observed}
 use Rattle.observe_play.specs.OnTheWay.{HasObserved, ObservesOn}
 use Rattle.observe_play.specs.Watch.{WatchValue}
 use Rattle.observe_play.proofs.Parts.{comes}

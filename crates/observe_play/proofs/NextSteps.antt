@@ -8,12 +8,12 @@ use Rattle.trace_types.specs.declared.step.Step.TheVariants as step
 use Rattle.group_trace.specs.Pump.{deliveries, due, most_deliveries, spelled_out}
 use Rattle.group_trace.specs.Run.{is_elementary, next}
 use Rattle.group_trace.specs.Scene.{Measures, Scene}
-use Rattle.group_disks.specs.Calls.{Spellings, measures_of}
-use Rattle.group_disks.specs.Run.{DiskScene}
+use Rattle.group_trace.specs.DiskCalls.{Spellings, measures_of}
+use Rattle.group_trace.specs.DiskRun.{DiskScene}
 use Rattle.schedule_play.specs.Stage.{IsReached}
 use Rattle.observed_text.specs.declared.step.ObservedStep.TheVariants as observed
-use Rattle.observe_run.specs.Reading.{ObservedReading, with_observed, with_observed_given}
-use Rattle.observe_run.specs.Scene.{ObservedScene}
+use Rattle.observe_laws.specs.Reading.{ObservedReading, with_observed, with_observed_given}
+use Rattle.observe_laws.specs.Scene.{ObservedScene}
 use Rattle.observe_play.specs.OnTheWay.{HasObserved, with_deliveries, with_played}
 use Rattle.observe_play.specs.Watch.{WatchValue}
 use Rattle.observe_play.proofs.Parts.{comes}

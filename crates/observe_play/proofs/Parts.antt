@@ -9,8 +9,8 @@ use Rattle.trace_types.specs.declared.line.LineFault.{LineFault}
 use Rattle.trace_types.specs.declared.line.Line.TheVariants as line
 use Rattle.trace_claims.specs.Trace.{entries}
 use Rattle.group_trace.specs.Scene.{Measures}
-use Rattle.group_disks.specs.Calls.{Spellings, measures_of}
-use Rattle.group_disks.specs.Run.{DiskScene}
+use Rattle.group_trace.specs.DiskCalls.{Spellings, measures_of}
+use Rattle.group_trace.specs.DiskRun.{DiskScene}
 use Rattle.schedule_play.specs.declared.exit.Stop.{Stop}
 use Rattle.schedule_play.specs.declared.exit.Stop.TheVariants as stop
 use Rattle.schedule_play.specs.declared.turn.Turn.{Turn}
@@ -19,11 +19,11 @@ use Rattle.schedule_play.specs.Trace.{last_line, trace_text}
 use Rattle.schedule_play.proofs.TraceTexts.{appends-twice, grew-first, grew-second}
 use Rattle.observed_text.specs.declared.line.ObservedLine.TheVariants as lines
 use Rattle.observed_text.specs.declared.step.ObservedStep.{ObservedStep}
-use Rattle.observe_run.specs.Reading.{ObservedReading, observed_refused_at, then_observed}
-use Rattle.observe_run.specs.Run.{observed_run, observed_run_lines}
-use Rattle.observe_run.specs.Scene.{ObservedScene, first_observed}
-use Rattle.observe_run.specs.Trace.{ObservedTrace, observed_last, observed_trace_of}
-use Rattle.observe_run.specs.Trace.{observed_trace_text, traced}
+use Rattle.observe_laws.specs.Reading.{ObservedReading, observed_refused_at, then_observed}
+use Rattle.observe_laws.specs.Run.{observed_run, observed_run_lines}
+use Rattle.observe_laws.specs.Scene.{ObservedScene, first_observed}
+use Rattle.observe_laws.specs.Trace.{ObservedTrace, observed_last, observed_trace_of}
+use Rattle.observe_laws.specs.Trace.{observed_trace_text, traced}
 use Rattle.observe_laws.proofs.Traced.{observed_lines-append}
 use Rattle.observe_play.specs.Ends.{BreaksObserved, EndsObserved, ObservedSinkFails, StandsAfter}
 use Rattle.observe_play.specs.Ends.{lines_after}

@@ -2,14 +2,14 @@
 use Rattle.std.proofs.Common.{◌≡◌, ◌≢◌, ℕ, List, refl, sym, ap, subst, Option, Some, None, Result, Ok, Err, inl, inr}
 use Rattle.std.specs.Prelude.{◌⊎◌, MatchResult}
 use Rattle.trace_types.specs.declared.line.LineFault.{LineFault}
-use Rattle.group_disks.specs.Calls.{Spellings, measures_of}
-use Rattle.group_disks.specs.Run.{DiskScene}
+use Rattle.group_trace.specs.DiskCalls.{Spellings, measures_of}
+use Rattle.group_trace.specs.DiskRun.{DiskScene}
 use Rattle.schedule_play.specs.declared.exit.Exit.{Exit}
 use Rattle.schedule_play.specs.declared.exit.Exit.TheVariants as exit
 use Rattle.schedule_play.specs.declared.exit.Stop.{Stop}
 use Rattle.schedule_play.specs.Exit.{exit_of, whole_exit}
 use Rattle.schedule_play.proofs.PlayEnd.{IsAfter}
-use Rattle.observe_run.specs.Reading.{observed_reading}
+use Rattle.observe_laws.specs.Reading.{observed_reading}
 use Rattle.observe_play.specs.Ends.{ObserveEnds}
 
 -- what holds of an exit

@@ -3,13 +3,13 @@ use Rattle.std.proofs.Common.{◌≡◌, ℕ, ◌≤◌, List, [], append-nil, r
 use Rattle.std.specs.Io.KnownBytes.{Appends}
 use Rattle.line_reader.specs.Reading.{text_left}
 use Rattle.group_rules.specs.Places.{Trio}
-use Rattle.group_disks.specs.Calls.{Spellings, measures_of}
-use Rattle.group_disks.specs.Run.{DiskScene, disk_run, first_disk_scene}
+use Rattle.group_trace.specs.DiskCalls.{Spellings, measures_of}
+use Rattle.group_trace.specs.DiskRun.{DiskScene, disk_run, first_disk_scene}
 use Rattle.schedule_play.specs.OnTheWay.{AreBelow}
-use Rattle.observe_run.specs.Reading.{all_observed, observed_from, observed_reading_of}
-use Rattle.observe_run.specs.Run.{observed_run, observed_run_lines}
-use Rattle.observe_run.specs.Scene.{first_observed}
-use Rattle.observe_run.specs.Trace.{observed_trace_text}
+use Rattle.observe_laws.specs.Reading.{all_observed, observed_from, observed_reading_of}
+use Rattle.observe_laws.specs.Run.{observed_run, observed_run_lines}
+use Rattle.observe_laws.specs.Scene.{first_observed}
+use Rattle.observe_laws.specs.Trace.{observed_trace_text}
 use Rattle.observe_play.specs.OnTheWay.{HasObserved, ObservesOn}
 use Rattle.observe_play.specs.Watch.{StandsAt, WatchValue}
 

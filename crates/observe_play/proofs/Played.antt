@@ -9,17 +9,17 @@ use Rattle.trace_claims.specs.Trace.{Trace}
 use Rattle.group_trace.specs.Refusals.{refusal}
 use Rattle.group_trace.specs.Run.{is_elementary, step_lines}
 use Rattle.group_trace.specs.Scene.{Scene}
-use Rattle.group_disks.specs.Calls.{Spellings, measures_of}
-use Rattle.group_disks.specs.Run.{DiskScene}
+use Rattle.group_trace.specs.DiskCalls.{Spellings, measures_of}
+use Rattle.group_trace.specs.DiskRun.{DiskScene}
 use Rattle.schedule_play.specs.declared.refusal.Refusal.{Refusal}
 use Rattle.schedule_play.specs.Stage.{IsReached, IsRefused, IsTaken, fault_of}
 use Rattle.schedule_play.specs.Trace.{trace_text}
 use Rattle.schedule_play.proofs.Steps.{Takes, step-told}
 use Rattle.observed_text.specs.declared.line.ObservedLine.TheVariants as lines
 use Rattle.observed_text.specs.declared.step.ObservedStep.TheVariants as observed
-use Rattle.observe_run.specs.Reading.{ObservedReading, observed_refused_at}
-use Rattle.observe_run.specs.Scene.{ObservedScene}
-use Rattle.observe_run.specs.Trace.{observed_trace_text}
+use Rattle.observe_laws.specs.Reading.{ObservedReading, observed_refused_at}
+use Rattle.observe_laws.specs.Scene.{ObservedScene}
+use Rattle.observe_laws.specs.Trace.{observed_trace_text}
 use Rattle.observe_play.specs.OnTheWay.{HasObserved, with_played}
 use Rattle.observe_play.specs.Watch.{StandsAt, WatchValue}
 use Rattle.observe_play.proofs.Runs.{disks_after, next_there, one_played, reached_there}

@@ -3,12 +3,12 @@ use Rattle.std.proofs.Common.{◌≡◌, ℕ, ◌+◌, List, [], ◌∷◌, ◌+
 use Rattle.trace_types.specs.declared.line.LineFault.{LineFault}
 use Rattle.line_reader.specs.Lines.{lines_of}
 use Rattle.group_trace.specs.Scene.{Measures}
-use Rattle.group_disks.specs.Calls.{Spellings, measures_of}
-use Rattle.group_disks.specs.Run.{DiskScene}
+use Rattle.group_trace.specs.DiskCalls.{Spellings, measures_of}
+use Rattle.group_trace.specs.DiskRun.{DiskScene}
 use Rattle.observed_text.specs.declared.step.ObservedStep.{ObservedStep}
-use Rattle.observe_run.specs.Reading.{ObservedReading, all_observed, observed_by, observed_from, observed_reading, observed_reading_of, then_observed, unless_observed_refused, with_observed, with_observed_given}
-use Rattle.observe_run.specs.Run.{observed_next, observed_out, observed_refusal, observed_run}
-use Rattle.observe_run.specs.Scene.{ObservedScene, first_observed}
+use Rattle.observe_laws.specs.Reading.{ObservedReading, all_observed, observed_by, observed_from, observed_reading, observed_reading_of, then_observed, unless_observed_refused, with_observed, with_observed_given}
+use Rattle.observe_laws.specs.Run.{observed_next, observed_out, observed_refusal, observed_run}
+use Rattle.observe_laws.specs.Scene.{ObservedScene, first_observed}
 use Rattle.observe_play.specs.OnTheWay.{HasObserved, ObservesOn}
 use Rattle.observe_play.specs.Watch.{WatchValue}
 

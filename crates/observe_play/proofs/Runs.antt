@@ -3,15 +3,15 @@ use Rattle.std.proofs.Common.{◌≡◌, List, [], ◌∷◌, ◌++◌, append-n
 use Rattle.std.proofs.lemmas.Grind.{flat_map-append}
 use Rattle.trace_types.specs.declared.step.Step.{Step}
 use Rattle.group_trace.specs.Scene.{Measures}
-use Rattle.group_disks.specs.Calls.{Spellings, measures_of}
-use Rattle.group_disks.specs.Run.{DiskScene, disk_next, disk_run, first_disk_scene}
+use Rattle.group_trace.specs.DiskCalls.{Spellings, measures_of}
+use Rattle.group_trace.specs.DiskRun.{DiskScene, disk_next, disk_run, first_disk_scene}
 use Rattle.schedule_play.specs.Stage.{IsReached}
 use Rattle.schedule_play.proofs.Runs.{disk_more, disk_scene, reached}
 use Rattle.observed_text.specs.declared.step.Act.{Act}
 use Rattle.observed_text.specs.declared.step.ObservedStep.{ObservedStep}
 use Rattle.observed_text.specs.declared.step.ObservedStep.TheVariants as observed
-use Rattle.observe_run.specs.Run.{AreObserved, observed_next, observed_run, played_of, played_steps}
-use Rattle.observe_run.specs.Scene.{ObservedScene, first_observed}
+use Rattle.observe_laws.specs.Run.{AreObserved, observed_next, observed_run, played_of, played_steps}
+use Rattle.observe_laws.specs.Scene.{ObservedScene, first_observed}
 use Rattle.observe_laws.proofs.Traced.{observed_run-append, scene_played, taken_played}
 
 -- the scene where steps lead, with the observer

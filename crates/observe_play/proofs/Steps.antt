@@ -5,18 +5,18 @@ use Rattle.std.specs.Io.KnownBytes.{Appends}
 use Rattle.harp_types.specs.Streams.{GrewByPart}
 use Rattle.trace_types.specs.declared.line.LineFault.{LineFault}
 use Rattle.group_trace.specs.Scene.{Measures}
-use Rattle.group_disks.specs.Calls.{Spellings, measures_of}
-use Rattle.group_disks.specs.Run.{DiskScene}
+use Rattle.group_trace.specs.DiskCalls.{Spellings, measures_of}
+use Rattle.group_trace.specs.DiskRun.{DiskScene}
 use Rattle.schedule_play.specs.declared.exit.Stop.{Stop}
 use Rattle.schedule_play.specs.declared.exit.Stop.TheVariants as stop
 use Rattle.schedule_play.proofs.TraceTexts.{appends-twice, grew-more, grew-second}
 use Rattle.observed_text.specs.declared.step.ObservedStep.{ObservedStep}
-use Rattle.observe_run.specs.Reading.{ObservedReading, observed_refused_at, then_observed}
-use Rattle.observe_run.specs.Reading.{unless_observed_refused, with_observed}
-use Rattle.observe_run.specs.Run.{is_observed_elementary, observed_lines, observed_next}
-use Rattle.observe_run.specs.Run.{observed_refusal, observed_run, observed_run_lines}
-use Rattle.observe_run.specs.Scene.{ObservedScene, first_observed}
-use Rattle.observe_run.specs.Trace.{ObservedTrace, observed_trace_text}
+use Rattle.observe_laws.specs.Reading.{ObservedReading, observed_refused_at, then_observed}
+use Rattle.observe_laws.specs.Reading.{unless_observed_refused, with_observed}
+use Rattle.observe_laws.specs.Run.{is_observed_elementary, observed_lines, observed_next}
+use Rattle.observe_laws.specs.Run.{observed_refusal, observed_run, observed_run_lines}
+use Rattle.observe_laws.specs.Scene.{ObservedScene, first_observed}
+use Rattle.observe_laws.specs.Trace.{ObservedTrace, observed_trace_text}
 use Rattle.observe_laws.proofs.Taken.{observed-more}
 use Rattle.observe_laws.proofs.Traced.{observed_lines-append}
 use Rattle.observe_play.specs.Ends.{BreaksObserved, StandsAfter, lines_after}

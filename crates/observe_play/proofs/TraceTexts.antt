@@ -9,7 +9,7 @@ use Rattle.schedule_play.specs.Trace.{trace_text}
 use Rattle.observed_text.specs.declared.line.ObservedLine.{ObservedLine}
 use Rattle.observed_text.specs.declared.line.ObservedLine.TheVariants as line
 use Rattle.observed_text.specs.Spelling.{observed_line}
-use Rattle.observe_run.specs.Trace.{ObservedTrace, observed_trace_text}
+use Rattle.observe_laws.specs.Trace.{ObservedTrace, observed_trace_text}
 
 pub observed_trace_text-append : (xs ys : ObservedTrace)
     → observed_trace_text (xs ++ ys) ≡ observed_trace_text xs ++ observed_trace_text ys

@@ -9,8 +9,8 @@ use Rattle.std.proofs.lemmas.Option.{slice_get-map, slice_get_within}
 use Rattle.file_tree.specs.Book.{Entry}
 use Rattle.group_trace.specs.Scene.{Scene}
 use Rattle.observe_play.specs.Watch.{Does, StandsAt, WatchValue, as_lines}
-use Rattle.observe_run.specs.Run.{top_lines, with_taken}
-use Rattle.observe_run.specs.Scene.{ObservedScene, Showing, showing_of, taken_by}
+use Rattle.observe_laws.specs.Run.{top_lines, with_taken}
+use Rattle.observe_laws.specs.Scene.{ObservedScene, Showing, showing_of, taken_by}
 use Rattle.observed_text.specs.declared.line.ObservedLine.{ObservedLine}
 use Rattle.observed_text.specs.declared.step.Act.TheVariants as act
 use Rattle.observer.specs.declared.progress.Progress.{Progress}

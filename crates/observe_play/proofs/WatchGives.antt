@@ -1,8 +1,8 @@
 -- What an act makes of world and watch that leaves the world alone.
 use Rattle.std.proofs.Common.{sym, subst, Option, Result, Ok, Err}
 use Rattle.std.specs.Prelude.{IfOk}
-use Rattle.group_disks.specs.Calls.{Spellings, measures_of}
-use Rattle.group_disks.specs.Run.{DiskScene}
+use Rattle.group_trace.specs.DiskCalls.{Spellings, measures_of}
+use Rattle.group_trace.specs.DiskRun.{DiskScene}
 use Rattle.group_trace.specs.Scene.{Scene}
 use Rattle.observe_play.proofs.WatchOn.{reached_updates}
 use Rattle.observe_play.specs.OnTheWay.{Makes}

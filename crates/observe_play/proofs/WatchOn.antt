@@ -4,8 +4,8 @@ use Rattle.std.proofs.Common.{subst, ◌∙◌, if◌then◌else◌}
 use Rattle.std.specs.List.{AllByRecursion}
 use Rattle.std.proofs.lemmas.List.Elements.{filter-append}
 use Rattle.file_tree.specs.Book.{Entry, updates}
-use Rattle.group_disks.specs.Calls.{Spellings, measures_of}
-use Rattle.group_disks.specs.Run.{DiskScene}
+use Rattle.group_trace.specs.DiskCalls.{Spellings, measures_of}
+use Rattle.group_trace.specs.DiskRun.{DiskScene}
 use Rattle.group_rules.specs.State.{Group}
 use Rattle.group_safety.specs.Laws.{Whole}
 use Rattle.group_trace.specs.Refusals.{refusal}
@@ -14,8 +14,8 @@ use Rattle.group_trace.specs.Scene.{Measures, Scene, first_scene}
 use Rattle.harp_types.specs.Update.{is_update}
 use Rattle.observe_laws.proofs.Traced.{scene_played, taken_played}
 use Rattle.observe_play.specs.Watch.{IsTrueTo, StandsAt, WatchValue}
-use Rattle.observe_run.specs.Run.{AreObserved, observed_next, observed_run, played_steps}
-use Rattle.observe_run.specs.Scene.{ObservedScene, first_observed}
+use Rattle.observe_laws.specs.Run.{AreObserved, observed_next, observed_run, played_steps}
+use Rattle.observe_laws.specs.Scene.{ObservedScene, first_observed}
 use Rattle.observed_text.specs.declared.step.ObservedStep.{ObservedStep}
 use Rattle.observed_text.specs.declared.step.ObservedStep.TheVariants as observed
 use Rattle.observer.proofs.Growth.{books_go_on, shown_stays_true}

@@ -3,16 +3,16 @@ use Rattle.std.proofs.Common.{◌≡◌, ℕ, Bool, true, List, [], ◌∷◌, �
 use Rattle.std.proofs.Common.{◌∙◌, Option, Some, None, Result, Ok, Err, if◌then◌else◌}
 use Rattle.std.specs.Prelude.{IfOk, IfSome, OnOk, option_map}
 use Rattle.std.proofs.lemmas.List.{length-map, map-append}
-use Rattle.group_disks.specs.Calls.{Spellings, measures_of}
-use Rattle.group_disks.specs.Run.{DiskScene}
+use Rattle.group_trace.specs.DiskCalls.{Spellings, measures_of}
+use Rattle.group_trace.specs.DiskRun.{DiskScene}
 use Rattle.group_rules.specs.Names.{place_of}
 use Rattle.group_trace.specs.Scene.{Measures, Scene}
 use Rattle.harp_types.specs.declared.server.ServerId.{ServerId}
 use Rattle.observe_laws.proofs.Told.{shown_told}
 use Rattle.observe_play.specs.OnTheWay.{Makes}
 use Rattle.observe_play.specs.Watch.{IsDone, StandsAt, WatchValue}
-use Rattle.observe_run.specs.Run.{shown_in, want_lines, with_shown}
-use Rattle.observe_run.specs.Scene.{ObservedScene, Showing, numbers_of, showing_of}
+use Rattle.observe_laws.specs.Run.{shown_in, want_lines, with_shown}
+use Rattle.observe_laws.specs.Scene.{ObservedScene, Showing, numbers_of, showing_of}
 use Rattle.observed_text.specs.declared.line.ObservedLine.{ObservedLine}
 use Rattle.observed_text.specs.declared.line.ObservedLine.TheVariants as line
 use Rattle.observed_text.specs.declared.step.Act.TheVariants as act
@@ -20,7 +20,7 @@ use Rattle.observer.specs.Progress.{want_of}
 use Rattle.record_changes.specs.Records.{history_of}
 use Rattle.schedule_play.specs.Stage.{IsReached}
 use Rattle.schedule_play.specs.declared.refusal.Refusal.{Refusal}
-use Rattle.show_rules.specs.Rule.{outline_of, shown_by}
+use Rattle.shown.specs.Rule.{outline_of, shown_by}
 use Rattle.shown.specs.declared.shown.Shown.{Shown}
 use Rattle.shown.specs.declared.shown.Want.{Want}
 use Rattle.shown.specs.Truth.{IsShownOf}

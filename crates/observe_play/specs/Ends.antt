@@ -4,16 +4,16 @@ use Rattle.std.specs.Prelude.{◌≡◌, ◌≢◌, ◌⊎◌, ℕ, List, [], �
 use Rattle.std.specs.Io.KnownBytes.{Appends}
 use Rattle.harp_types.specs.Streams.{GrewByPart}
 use Rattle.line_reader.specs.Lines.{Feedless, lines_of}
-use Rattle.group_disks.specs.Calls.{Spellings, measures_of}
-use Rattle.group_disks.specs.Run.{DiskScene, disk_run, first_disk_scene}
+use Rattle.group_trace.specs.DiskCalls.{Spellings, measures_of}
+use Rattle.group_trace.specs.DiskRun.{DiskScene, disk_run, first_disk_scene}
 use Rattle.schedule_play.specs.declared.exit.Exit.{Exit}
 use Rattle.schedule_play.specs.declared.exit.Exit.TheVariants as exit
 use Rattle.observed_text.specs.declared.step.ObservedStep.{ObservedStep}
-use Rattle.observe_run.specs.Reading.{ObservedReading, observed_reading, observed_reading_of}
-use Rattle.observe_run.specs.Run.{observed_lines, observed_run, observed_run_lines, played_steps}
-use Rattle.observe_run.specs.Scene.{first_observed}
-use Rattle.observe_run.specs.Trace.{ObservedTrace, observed_last, observed_trace, observed_trace_of}
-use Rattle.observe_run.specs.Trace.{observed_trace_text}
+use Rattle.observe_laws.specs.Reading.{ObservedReading, observed_reading, observed_reading_of}
+use Rattle.observe_laws.specs.Run.{observed_lines, observed_run, observed_run_lines, played_steps}
+use Rattle.observe_laws.specs.Scene.{first_observed}
+use Rattle.observe_laws.specs.Trace.{ObservedTrace, observed_last, observed_trace, observed_trace_of}
+use Rattle.observe_laws.specs.Trace.{observed_trace_text}
 
 -- the world stands where the steps of the schedule lead that are among these
 abbrev pub StandsAfter : Spellings → (DiskScene → Type 0) → List ObservedStep → Type 0

@@ -8,8 +8,8 @@ use Rattle.line_reader.specs.Lines.{lines_of}
 use Rattle.trace_types.specs.declared.step.Step.{Step}
 use Rattle.group_trace.specs.Pump.{deliveries}
 use Rattle.group_trace.specs.Scene.{Measures}
-use Rattle.group_disks.specs.Calls.{Spellings, measures_of}
-use Rattle.group_disks.specs.Run.{DiskScene}
+use Rattle.group_trace.specs.DiskCalls.{Spellings, measures_of}
+use Rattle.group_trace.specs.DiskRun.{DiskScene}
 use Rattle.schedule_play.specs.Stage.{IsReached, fault_of}
 use Rattle.schedule_play.specs.declared.exit.Exit.TheVariants as exit
 use Rattle.schedule_play.specs.declared.exit.Stop.{Stop}
@@ -21,11 +21,11 @@ use Rattle.observed_text.specs.declared.line.ObservedLine.{ObservedLine}
 use Rattle.observed_text.specs.declared.step.Act.{Act}
 use Rattle.observed_text.specs.declared.step.ObservedStep.{ObservedStep}
 use Rattle.observed_text.specs.declared.step.ObservedStep.TheVariants as observed
-use Rattle.observe_run.specs.Reading.{ObservedReading, all_observed, observed_reading_of}
-use Rattle.observe_run.specs.Reading.{then_observed, with_observed}
-use Rattle.observe_run.specs.Run.{AreObserved, act_refusal, drained, observed_run}
-use Rattle.observe_run.specs.Scene.{ObservedScene, first_observed}
-use Rattle.observe_run.specs.Trace.{observed_trace_of, observed_trace_text}
+use Rattle.observe_laws.specs.Reading.{ObservedReading, all_observed, observed_reading_of}
+use Rattle.observe_laws.specs.Reading.{then_observed, with_observed}
+use Rattle.observe_laws.specs.Run.{AreObserved, act_refusal, drained, observed_run}
+use Rattle.observe_laws.specs.Scene.{ObservedScene, first_observed}
+use Rattle.observe_laws.specs.Trace.{observed_trace_of, observed_trace_text}
 use Rattle.observe_play.specs.Ends.{EndsObserved, ObserveEnds, ObservedSinkFails, StandsAfter}
 use Rattle.observe_play.specs.Ends.{lines_after}
 use Rattle.observe_play.specs.Watch.{IsDone, StandsAt, WatchValue}
@@ -88,7 +88,8 @@ ObservedStop f all before after stands stop.NoMemory =
     GrewByPart before after (observed_trace_text (observed_trace_of (measures_of f) all))
 
 -- where a play had come to what is still read, these are its turn and its stop
-abbrev pub LeadsOn : Spellings → ((ObservedScene → ObservedReading) → ObservedScene → ObservedReading)
+abbrev pub LeadsOn : Spellings
+    → ((ObservedScene → ObservedReading) → ObservedScene → ObservedReading)
     → (old new : DiskScene → Type 0) → (sink_old sink_new : Option (List ℕ))
     → (watch_old watch_new : WatchValue) → Result Turn Stop → Type 0
 LeadsOn f first old new sink_old sink_new watch_old watch_new result =

@@ -11,8 +11,8 @@ use Rattle.observer.specs.Sound.{IsSoundObserver, ObserverValue}
 use Rattle.record_changes.specs.Records.{AreUpdates, history_of}
 use Rattle.shown.specs.declared.shown.Shown.{Shown}
 use Rattle.shown.specs.Truth.{IsShownOf}
-use Rattle.observe_run.specs.Run.{act_refusal, acted, given_lines}
-use Rattle.observe_run.specs.Scene.{ObservedScene, showing_of}
+use Rattle.observe_laws.specs.Run.{act_refusal, acted, given_lines}
+use Rattle.observe_laws.specs.Scene.{ObservedScene, showing_of}
 
 -- the observer, and what was shown to it, each under its place from 0
 pub record WatchValue : Type 0 where

@@ -3,14 +3,14 @@
 ghost use Rattle.std.specs.Prelude.{◌≡◌, ◌≢◌, ◌≤◌, ℕ, List, Option, suc, IfErr, IfOk, OnOk};
 ghost use Rattle.std.specs.Prelude.{MatchResult, Err, Ok, Some, true};
 ghost use Rattle.harp_types.specs.Streams.{Rose};
-ghost use Rattle.group_disks.specs.Calls.{measures_of};
+ghost use Rattle.group_trace.specs.DiskCalls.{measures_of};
 ghost use Rattle.observe_play.specs.OnTheWay.{DrainTurn, HasObserved, LeadsOn, Makes, ObservedStop};
 ghost use Rattle.observe_play.specs.OnTheWay.{RefusesAct, with_act, with_drain};
 ghost use Rattle.observe_play.specs.Watch.{AsksReads};
-ghost use Rattle.observe_run.specs.Reading.{ObservedReading, with_observed_given};
-ghost use Rattle.observe_run.specs.Run.{is_act_elementary};
+ghost use Rattle.observe_laws.specs.Reading.{ObservedReading, with_observed_given};
+ghost use Rattle.observe_laws.specs.Run.{is_act_elementary};
 ghost use Rattle.observed_text.specs.declared.step.ObservedStep.TheVariants as steps;
-ghost use Rattle.observe_run.specs.Scene.{ObservedScene};
+ghost use Rattle.observe_laws.specs.Scene.{ObservedScene};
 
 use crate::stage::ShowingStage;
 use crate::text::write_act;

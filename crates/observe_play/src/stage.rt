@@ -2,12 +2,12 @@
 
 ghost use Rattle.std.specs.Prelude.{◌≡◌, ◌⊎◌, ◌↔◌, Err, IfErr, IfOk, IfSome, OnOk, false};
 ghost use Rattle.std.specs.Prelude.{option_map};
-ghost use Rattle.group_disks.specs.Calls.{measures_of};
-ghost use Rattle.group_disks.specs.Run.{DiskScene};
+ghost use Rattle.group_trace.specs.DiskCalls.{measures_of};
+ghost use Rattle.group_trace.specs.DiskRun.{DiskScene};
 ghost use Rattle.group_rules.specs.Names.{place_of};
 ghost use Rattle.record_changes.specs.Records.{history_of};
 ghost use Rattle.schedule_play.specs.Stage.{IsReached};
-ghost use Rattle.show_rules.specs.Rule.{outline_of, shown_by};
+ghost use Rattle.shown.specs.Rule.{outline_of, shown_by};
 ghost use Rattle.shown.specs.Truth.{IsLowShown, IsShownOf};
 
 use harp_types::ServerId;

@@ -4,12 +4,12 @@ ghost use Rattle.std.specs.Prelude.{◌≡◌, ◌≤◌, ◌∷◌, [], Err, Ok
 ghost use Rattle.harp_types.specs.Streams.{Rose};
 ghost use Rattle.text_spelling.specs.Steps.{step_text};
 ghost use Rattle.trace_types.specs.declared.step.Step.TheVariants as steps;
-ghost use Rattle.group_disks.specs.Calls.{measures_of};
+ghost use Rattle.group_trace.specs.DiskCalls.{measures_of};
 ghost use Rattle.group_trace.specs.Pump.{most_deliveries};
 ghost use Rattle.group_trace.specs.Run.{is_elementary};
 ghost use Rattle.observe_play.specs.OnTheWay.{LeadsOn, with_deliveries, with_played};
 ghost use Rattle.observe_play.specs.Watch.{WatchValue};
-ghost use Rattle.observe_run.specs.Reading.{with_observed_given};
+ghost use Rattle.observe_laws.specs.Reading.{with_observed_given};
 ghost use Rattle.observed_text.specs.declared.step.ObservedStep.TheVariants as observed;
 ghost use Rattle.schedule_play.specs.Stage.{AreReadings, clocks_after};
 ghost use Rattle.schedule_play.specs.Trace.{trace_text};

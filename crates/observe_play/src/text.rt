@@ -4,7 +4,7 @@ ghost use Rattle.std.specs.Prelude.{◌≡◌, ◌≤◌, ◌++◌, ◌∷◌, [
 ghost use Rattle.std.specs.Io.KnownBytes.{Appends};
 ghost use Rattle.harp_types.specs.Streams.{GrewByPart, Rose};
 ghost use Rattle.observe_play.specs.Watch.{as_lines};
-ghost use Rattle.observe_run.specs.Trace.{observed_trace_text};
+ghost use Rattle.observe_laws.specs.Trace.{observed_trace_text};
 ghost use Rattle.observed_text.specs.declared.line.ObservedLine.TheVariants as lines;
 
 use harp_types::{Sink, write_all};

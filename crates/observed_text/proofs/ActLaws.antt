@@ -4,10 +4,10 @@ use Rattle.std.specs.Prelude.{decimal, codes}
 use Rattle.std.specs.Str.{bytes_eq}
 use Rattle.harp_types.specs.declared.server.ServerId.{ServerId}
 use Rattle.text_spelling.specs.Text.{spaced, call_text}
-use Rattle.text_fields.specs.Fields.{EndsWord, spaced_at}
-use Rattle.text_fields.specs.Words.{ranged_at}
-use Rattle.text_fields.proofs.Places.{Spells, ok_is, read_of}
-use Rattle.text_fields.proofs.Faults.{PlacedReader}
+use Rattle.schedule_text.specs.Fields.{EndsWord, spaced_at}
+use Rattle.schedule_text.specs.Words.{ranged_at}
+use Rattle.schedule_text.proofs.Places.{Spells, ok_is, read_of}
+use Rattle.schedule_text.proofs.Faults.{PlacedReader}
 use Rattle.schedule_text.specs.declared.form.Form.{Form}
 use Rattle.schedule_text.specs.declared.form.Form.TheVariants as schedule
 use Rattle.schedule_text.specs.Reading.{both_at, spaced_server_at}

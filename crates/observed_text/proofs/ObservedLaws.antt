@@ -4,13 +4,13 @@ use Rattle.std.specs.Prelude.{◌||◌, is_some}
 use Rattle.std.proofs.lemmas.Bool.{eqb-true, eq-eqb, ne_eqb}
 use Rattle.std.proofs.lemmas.List.{length-append, append-nil, drop_all}
 use Rattle.trace_types.specs.declared.step.Step.{Step}
-use Rattle.text_fields.specs.declared.fault.TextFault.{TextFault}
-use Rattle.text_fields.specs.declared.fault.TextFault.TheVariants.{Grammar, NoMemory}
-use Rattle.text_fields.specs.Fields.{Read, ◌>>=◌, word_at}
-use Rattle.text_fields.specs.Words.{farthest}
-use Rattle.text_fields.proofs.Places.{Spells-then, drop_past, bind_ok, ok_is, passed}
-use Rattle.text_fields.proofs.Faults.{Placed}
-use Rattle.text_fields.proofs.Faults as faults
+use Rattle.schedule_text.specs.declared.fault.TextFault.{TextFault}
+use Rattle.schedule_text.specs.declared.fault.TextFault.TheVariants.{Grammar, NoMemory}
+use Rattle.schedule_text.specs.Fields.{Read, ◌>>=◌, word_at}
+use Rattle.schedule_text.specs.Words.{farthest}
+use Rattle.schedule_text.proofs.Places.{Spells-then, drop_past, bind_ok, ok_is, passed}
+use Rattle.schedule_text.proofs.Faults.{Placed}
+use Rattle.schedule_text.proofs.Faults as faults
 use Rattle.schedule_text.specs.Grammar.{IsStepLine, IsBlank, Explains}
 use Rattle.schedule_text.specs.Reading.{form_named, end_at, step_at, is_blank, meaning_of}
 use Rattle.schedule_text.proofs.Words.{is_name, word_spells, word_stands, name_first, form_name, form_letters, form_again}

@@ -14,12 +14,12 @@ use Rattle.harp_types.specs.declared.procedure.Procedure.{Procedure}
 use Rattle.harp_types.specs.declared.procedure.Procedure.TheVariants as procedure
 use Rattle.text_spelling.specs.Text.{spaced, fields_text, call_text}
 use Rattle.text_spelling.specs.Fits.{CallFits}
-use Rattle.text_fields.specs.declared.fault.TextFault.{TextFault}
-use Rattle.text_fields.specs.declared.fault.TextFault.TheVariants.{Grammar, NoMemory}
-use Rattle.text_fields.specs.Fields.{Gives, Read, ◌>>=◌, EndsWord, word_at, space_at, spaced_at}
-use Rattle.text_fields.specs.Words.{farthest}
-use Rattle.text_fields.proofs.Places.{Spells, spaced_field, byte_here, ok_is, passed, read_of}
-use Rattle.text_fields.proofs.Faults.{Placed, PlacedReader}
+use Rattle.schedule_text.specs.declared.fault.TextFault.{TextFault}
+use Rattle.schedule_text.specs.declared.fault.TextFault.TheVariants.{Grammar, NoMemory}
+use Rattle.schedule_text.specs.Fields.{Gives, Read, ◌>>=◌, EndsWord, word_at, space_at, spaced_at}
+use Rattle.schedule_text.specs.Words.{farthest}
+use Rattle.schedule_text.proofs.Places.{Spells, spaced_field, byte_here, ok_is, passed, read_of}
+use Rattle.schedule_text.proofs.Faults.{Placed, PlacedReader}
 use Rattle.schedule_text.specs.Reading.{asked_names, fields_at, call_at, is_told_at, told_call_at, untold_call_at, asked_at}
 use Rattle.schedule_text.proofs.Rows.{IsRow}
 use Rattle.schedule_text.proofs.Words.{word_spells, word_stands, same_word, named_again, name_is_name}

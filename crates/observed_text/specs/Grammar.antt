@@ -1,7 +1,7 @@
 -- What a line of an observed schedule may be, and what its meaning says of it.
 use Rattle.std.specs.Prelude.{◌≡◌, ℕ, List, Option, Some, None, Result, Ok, Err}
-use Rattle.text_fields.specs.declared.fault.TextFault.{TextFault}
-use Rattle.text_fields.specs.declared.fault.TextFault.TheVariants.{Grammar, NoMemory}
+use Rattle.schedule_text.specs.declared.fault.TextFault.{TextFault}
+use Rattle.schedule_text.specs.declared.fault.TextFault.TheVariants.{Grammar, NoMemory}
 use Rattle.schedule_text.specs.Grammar.{IsStepLine, IsBlank}
 use Rattle.observed_text.specs.declared.step.Act.{Act}
 use Rattle.observed_text.specs.declared.step.ObservedStep.{ObservedStep}

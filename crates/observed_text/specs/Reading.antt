@@ -5,10 +5,10 @@ use Rattle.harp_types.specs.Procedures.{procedure_name}
 use Rattle.harp_types.specs.declared.call.Call.{Call}
 use Rattle.harp_types.specs.declared.procedure.Procedure.{Procedure}
 use Rattle.harp_types.specs.declared.procedure.Procedure.TheVariants as procedure
-use Rattle.text_fields.specs.declared.fault.TextFault.{TextFault}
-use Rattle.text_fields.specs.declared.fault.TextFault.TheVariants.{Grammar}
-use Rattle.text_fields.specs.Fields.{Reader, ◌>>=◌, word_at, spaced_at}
-use Rattle.text_fields.specs.Words.{farthest, ranged_at}
+use Rattle.schedule_text.specs.declared.fault.TextFault.{TextFault}
+use Rattle.schedule_text.specs.declared.fault.TextFault.TheVariants.{Grammar}
+use Rattle.schedule_text.specs.Fields.{Reader, ◌>>=◌, word_at, spaced_at}
+use Rattle.schedule_text.specs.Words.{farthest, ranged_at}
 use Rattle.schedule_text.specs.Reading.{both_at, made_at, form_names, form_named, call_at, spaced_server_at, spaced_count_at, end_at, step_at, is_blank}
 use Rattle.observed_text.specs.declared.form.ActForm.{ActForm}
 use Rattle.observed_text.specs.declared.form.ActForm.TheVariants as form

@@ -1,16 +1,15 @@
 //! Acts that are read, behind their names.
 
 ghost use Rattle.std.specs.Prelude.{◌≡◌, ◌≤◌, ◌<◌, ◌^◌, length};
-ghost use Rattle.text_fields.specs.Fields.{Gives};
+ghost use Rattle.schedule_text.specs.Fields.{Gives};
 ghost use Rattle.observed_text.specs.declared.form.ActForm.TheVariants as forms;
 ghost use Rattle.observed_text.specs.Reading.{act_at};
 
 use crate::form::ActForm;
 use crate::read::spaced_read_at;
 use crate::step::Act;
-use schedule_text::{spaced_count_at, spaced_server_at};
+use schedule_text::{TextFault, ranged_at, space_at, spaced_count_at, spaced_server_at};
 use std::alloc::Global;
-use text_fields::{TextFault, ranged_at, space_at};
 
 #[tactic(auto, unfolding(crate::specs::Reading::act_at))]
 fn want_at(line: &[u8], at: usize) -> Result<(Act, usize), TextFault>

@@ -2,12 +2,11 @@
 
 ghost use Rattle.std.specs.Prelude.{◌≡◌, ◌≤◌, length, is_some};
 ghost use Rattle.std.specs.Str.{bytes_eq};
-ghost use Rattle.text_fields.specs.Words.{farthest};
+ghost use Rattle.schedule_text.specs.Words.{farthest};
 ghost use Rattle.schedule_text.specs.Reading.{form_named};
 ghost use Rattle.observed_text.specs.Reading.{act_named, observed_names};
 
-use schedule_text::form_named;
-use text_fields::farther;
+use schedule_text::{farther, form_named};
 
 /// What the first word of a line tells of its act.
 #[derive(Clone, Copy)]

@@ -23,6 +23,6 @@ mod writing;
 
 pub use line::{ObservedLine, ShownNumbers};
 pub use reading::read_observed;
+pub use schedule_text::TextFault;
 pub use step::{Act, ObservedStep};
-pub use text_fields::TextFault;
 pub use writing::{append_observed, observed_texts_are_lines, write_observed, write_observed_step};

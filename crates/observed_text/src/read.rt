@@ -2,14 +2,13 @@
 
 ghost use Rattle.std.specs.Prelude.{◌≡◌, ◌+◌, ◌≤◌, length, true, Ok};
 ghost use Rattle.std.specs.Str.{bytes_eq};
-ghost use Rattle.text_fields.specs.Fields.{Gives, space_at, spaced_at, word_at};
-ghost use Rattle.text_fields.specs.Words.{farthest};
+ghost use Rattle.schedule_text.specs.Fields.{Gives, space_at, spaced_at, word_at};
+ghost use Rattle.schedule_text.specs.Words.{farthest};
 ghost use Rattle.observed_text.specs.Reading.{is_read_name, read_at, read_names};
 
 use harp_types::{Call, Cred};
-use schedule_text::asked_at;
+use schedule_text::{TextFault, asked_at, farther, space_at, word_at};
 use std::alloc::Global;
-use text_fields::{TextFault, farther, space_at, word_at};
 
 /// Whether a procedure that reads has this name.
 fn is_read_name(word: &[u8]) -> bool

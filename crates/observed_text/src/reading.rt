@@ -1,7 +1,7 @@
 //! Steps of observed schedules that are read.
 
 ghost use Rattle.std.specs.Prelude.{◌≡◌, ◌+◌, ◌≤◌, length, Ok, Some, None};
-ghost use Rattle.text_fields.specs.Fields.{Gives};
+ghost use Rattle.schedule_text.specs.Fields.{Gives};
 ghost use Rattle.trace_types.specs.declared.step.Step.{Step};
 ghost use Rattle.schedule_text.specs.Grammar.{IsBlank};
 ghost use Rattle.schedule_text.specs.Reading.{is_blank, meaning_of};
@@ -13,9 +13,8 @@ ghost use Rattle.observed_text.specs.Reading.{acted_at, observed_at, observed_me
 use crate::act::act_at;
 use crate::form::{ActForm, act_named, far_along_names, is_form_name};
 use crate::step::ObservedStep;
-use schedule_text::{end_at, step_at};
+use schedule_text::{TextFault, end_at, peek, step_at, word_at};
 use std::alloc::Global;
-use text_fields::{TextFault, peek, word_at};
 
 /// An act behind its name, and the end.
 fn acted_at(alloc: Global, form: ActForm, line: &[u8], at: usize) -> Result<ObservedStep, TextFault>

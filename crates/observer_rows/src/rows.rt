@@ -9,9 +9,9 @@ use harp_cells::Moment;
 use harp_types::{Call, Cred};
 use schedule_text::{
     TextFault, asked_at, asker_at, end_at, spaced_count_at, spaced_server_at, spaced_u32_at,
+    word_at,
 };
 use std::alloc::Global;
-use text_fields::word_at;
 
 /// The number that ends a row.
 fn number_of(line: &[u8], at: usize) -> Result<u32, TextFault> {

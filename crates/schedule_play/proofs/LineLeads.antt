@@ -7,8 +7,8 @@ use Rattle.line_reader.specs.Lines.{Feedless, lines_of}
 use Rattle.line_reader.specs.Reading.{text_left}
 use Rattle.group_trace.specs.Run.{run, run_lines}
 use Rattle.group_trace.specs.Scene.{Scene, first_scene}
-use Rattle.group_disks.specs.Calls.{Spellings, measures_of}
-use Rattle.group_disks.specs.Run.{DiskScene, disk_run, first_disk_scene}
+use Rattle.group_trace.specs.DiskCalls.{Spellings, measures_of}
+use Rattle.group_trace.specs.DiskRun.{DiskScene, disk_run, first_disk_scene}
 use Rattle.schedule_play.specs.declared.exit.Stop.{Stop}
 use Rattle.schedule_play.specs.declared.exit.Stop.TheVariants as stop
 use Rattle.schedule_play.specs.declared.turn.Turn.{Turn}

@@ -7,8 +7,8 @@ use Rattle.line_reader.specs.declared.reader.Next.TheVariants as next
 use Rattle.line_reader.specs.Lines.{lines_of}
 use Rattle.line_reader.specs.Reading.{GivesKnown, text_left}
 use Rattle.schedule_text.specs.Reading.{meaning_of}
-use Rattle.group_disks.specs.Calls.{Spellings, measures_of}
-use Rattle.group_disks.specs.Run.{DiskScene}
+use Rattle.group_trace.specs.DiskCalls.{Spellings, measures_of}
+use Rattle.group_trace.specs.DiskRun.{DiskScene}
 use Rattle.schedule_play.specs.OnTheWay.{GoesOn, HasCome}
 use Rattle.schedule_play.specs.Reading.{all_read, given_by, reading, reading_from, reading_of, step_or_fault}
 use Rattle.schedule_play.proofs.NextSteps.{no-line}

@@ -7,8 +7,8 @@ use Rattle.trace_types.specs.declared.step.Step.TheVariants as step
 use Rattle.group_trace.specs.Pump.{deliveries, due, most_deliveries, spelled_out}
 use Rattle.group_trace.specs.Run.{is_elementary, next, run}
 use Rattle.group_trace.specs.Scene.{Measures, Scene, first_scene}
-use Rattle.group_disks.specs.Calls.{Spellings, measures_of}
-use Rattle.group_disks.specs.Run.{DiskScene}
+use Rattle.group_trace.specs.DiskCalls.{Spellings, measures_of}
+use Rattle.group_trace.specs.DiskRun.{DiskScene}
 use Rattle.schedule_play.specs.OnTheWay.{HasCome, with_pump}
 use Rattle.schedule_play.specs.Reading.{Reading, all_read, given_by, reading_from, refused_at, with_given, with_step, with_steps}
 use Rattle.schedule_play.proofs.Parts.{comes}

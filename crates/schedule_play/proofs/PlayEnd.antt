@@ -2,8 +2,8 @@
 use Rattle.std.proofs.Common.{◌≡◌, ◌≢◌, ℕ, List, refl, sym, ap, ◌∙◌, subst, Option, Some, None, Result, Ok, Err, inl, inr}
 use Rattle.std.specs.Prelude.{◌⊎◌, IfOk, MatchResult}
 use Rattle.trace_types.specs.declared.line.LineFault.{LineFault}
-use Rattle.group_disks.specs.Calls.{Spellings, measures_of}
-use Rattle.group_disks.specs.Run.{DiskScene}
+use Rattle.group_trace.specs.DiskCalls.{Spellings, measures_of}
+use Rattle.group_trace.specs.DiskRun.{DiskScene}
 use Rattle.schedule_play.specs.declared.exit.Exit.{Exit}
 use Rattle.schedule_play.specs.declared.exit.Exit.TheVariants as exit
 use Rattle.schedule_play.specs.declared.exit.Stop.{Stop}

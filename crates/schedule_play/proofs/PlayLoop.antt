@@ -4,8 +4,8 @@ use Rattle.std.specs.Io.KnownBytes.{Appends}
 use Rattle.line_reader.specs.Reading.{text_left}
 use Rattle.group_rules.specs.Places.{Zero, One, Two, Place, Trio, get}
 use Rattle.group_trace.specs.Run.{run, run_lines}
-use Rattle.group_disks.specs.Calls.{Spellings, measures_of}
-use Rattle.group_disks.specs.Run.{DiskScene, disk_run, first_disk_scene}
+use Rattle.group_trace.specs.DiskCalls.{Spellings, measures_of}
+use Rattle.group_trace.specs.DiskRun.{DiskScene, disk_run, first_disk_scene}
 use Rattle.schedule_play.specs.OnTheWay.{AreBelow, GoesOn, HasCome}
 use Rattle.schedule_play.specs.Reading.{all_read, reading_from, reading_of}
 use Rattle.schedule_play.specs.Trace.{trace_text}

@@ -7,8 +7,8 @@ use Rattle.group_trace.specs.Pump.{spelled_out}
 use Rattle.group_trace.specs.Refusals.{refusal}
 use Rattle.group_trace.specs.Run.{next, run}
 use Rattle.group_trace.specs.Scene.{Measures, Scene, first_scene}
-use Rattle.group_disks.specs.Calls.{Spellings, measures_of}
-use Rattle.group_disks.specs.Run.{DiskScene}
+use Rattle.group_trace.specs.DiskCalls.{Spellings, measures_of}
+use Rattle.group_trace.specs.DiskRun.{DiskScene}
 use Rattle.schedule_play.specs.OnTheWay.{GoesOn, HasCome}
 use Rattle.schedule_play.specs.Reading.{Reading, all_read, given_by, reading, reading_from, reading_of, then_read, unless_refused, with_given, with_steps}
 

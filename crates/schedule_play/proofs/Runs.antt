@@ -3,8 +3,8 @@ use Rattle.std.proofs.Common.{◌≡◌, List, [], ◌∷◌, ◌++◌, refl, sy
 use Rattle.trace_types.specs.declared.step.Step.{Step}
 use Rattle.group_trace.specs.Run.{AreTaken, next, run, run_lines, step_lines}
 use Rattle.group_trace.specs.Scene.{Measures, Scene, first_scene}
-use Rattle.group_disks.specs.Calls.{Spellings, measures_of}
-use Rattle.group_disks.specs.Run.{DiskScene, disk_next, disk_run, first_disk_scene}
+use Rattle.group_trace.specs.DiskCalls.{Spellings, measures_of}
+use Rattle.group_trace.specs.DiskRun.{DiskScene, disk_next, disk_run, first_disk_scene}
 use Rattle.schedule_play.specs.Stage.{IsReached}
 
 pub run-append : (m : Measures) (w : Scene) (done later : List Step)

@@ -8,14 +8,14 @@ use Rattle.file_tree.specs.Book.{Entry}
 use Rattle.group_rules.specs.State.{Group}
 use Rattle.group_trace.specs.Run.{AreTaken, run_lines}
 use Rattle.group_trace.specs.Scene.{Measures, first_scene}
-use Rattle.group_disks.specs.Calls.{Spellings, measures_of}
+use Rattle.group_trace.specs.DiskCalls.{Spellings, measures_of}
 use Rattle.line_reader.specs.Lines.{lines_of}
 use Rattle.trace_laws.specs.FirstParts.{FirstPartsAreRight}
 use Rattle.trace_laws.specs.Laws.{RunIsRight, StandsInGroup}
 use Rattle.trace_laws.proofs.FirstParts.{first_parts_right}
 use Rattle.trace_laws.proofs.RightRuns.{run_right}
-use Rattle.disk_laws.specs.Laws.{DiskRunIsRight}
-use Rattle.disk_laws.proofs.DiskRuns.{disk_runs_right}
+use Rattle.trace_laws.specs.DiskLaws.{DiskRunIsRight}
+use Rattle.trace_laws.proofs.DiskRuns.{disk_runs_right}
 use Rattle.schedule_play.specs.Reading.{reading}
 use Rattle.schedule_play.specs.Trace.{group_left, last_line, last_of, trace_of}
 use Rattle.schedule_play.proofs.TakenLaws.{reading_taken}

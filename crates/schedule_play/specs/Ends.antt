@@ -7,8 +7,8 @@ use Rattle.trace_types.specs.declared.step.Step.{Step}
 use Rattle.trace_claims.specs.Trace.{Trace}
 use Rattle.group_trace.specs.Run.{run, run_lines, step_lines}
 use Rattle.group_trace.specs.Scene.{first_scene}
-use Rattle.group_disks.specs.Calls.{Spellings, measures_of}
-use Rattle.group_disks.specs.Run.{DiskScene, disk_run, first_disk_scene}
+use Rattle.group_trace.specs.DiskCalls.{Spellings, measures_of}
+use Rattle.group_trace.specs.DiskRun.{DiskScene, disk_run, first_disk_scene}
 use Rattle.schedule_play.specs.declared.exit.Exit.{Exit}
 use Rattle.schedule_play.specs.declared.exit.Exit.TheVariants as exit
 use Rattle.schedule_play.specs.Reading.{Reading, reading, reading_of}

@@ -5,7 +5,7 @@ use Rattle.trace_types.specs.declared.step.Step.{Step}
 use Rattle.trace_types.specs.declared.line.LineFault.{LineFault}
 use Rattle.trace_types.specs.declared.line.LineFault.TheVariants as fault
 use Rattle.line_reader.specs.Lines.{lines_of}
-use Rattle.text_fields.specs.declared.fault.TextFault.{TextFault}
+use Rattle.schedule_text.specs.declared.fault.TextFault.{TextFault}
 use Rattle.schedule_text.specs.Reading.{meaning_of}
 use Rattle.group_trace.specs.Pump.{spelled_out}
 use Rattle.group_trace.specs.Refusals.{refusal}

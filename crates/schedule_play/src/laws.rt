@@ -1,8 +1,8 @@
 //! What the trace of every schedule's text is.
 
 ghost use Rattle.std.specs.Prelude.{◌≡◌, ℕ, List};
-ghost use Rattle.disk_laws.specs.Laws.{DiskRunIsRight};
-ghost use Rattle.group_disks.specs.Calls.{Spellings, measures_of};
+ghost use Rattle.trace_laws.specs.DiskLaws.{DiskRunIsRight};
+ghost use Rattle.group_trace.specs.DiskCalls.{Spellings, measures_of};
 ghost use Rattle.group_trace.specs.Run.{AreTaken};
 ghost use Rattle.group_trace.specs.Scene.{Measures, first_scene};
 ghost use Rattle.schedule_text.specs.Grammar.{Explains};

@@ -1,8 +1,8 @@
 //! A world in which steps are taken.
 
 ghost use Rattle.std.specs.Prelude.{◌≡◌, ◌≢◌, ℕ, true, [], length, OnOk, IfErr};
-ghost use Rattle.group_disks.specs.Calls.{Spellings, measures_of};
-ghost use Rattle.group_disks.specs.Run.{DiskScene};
+ghost use Rattle.group_trace.specs.DiskCalls.{Spellings, measures_of};
+ghost use Rattle.group_trace.specs.DiskRun.{DiskScene};
 ghost use Rattle.group_rules.specs.Places.{Place, Trio, get};
 ghost use Rattle.group_trace.specs.Pump.{due};
 ghost use Rattle.group_trace.specs.Run.{is_elementary};

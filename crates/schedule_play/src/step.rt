@@ -5,7 +5,7 @@ ghost use Rattle.std.specs.Prelude.{Ok, Err};
 ghost use Rattle.harp_types.specs.Streams.{Rose};
 ghost use Rattle.text_spelling.specs.Steps.{step_text};
 ghost use Rattle.trace_types.specs.declared.step.Step.TheVariants as steps;
-ghost use Rattle.group_disks.specs.Calls.{measures_of};
+ghost use Rattle.group_trace.specs.DiskCalls.{measures_of};
 ghost use Rattle.group_trace.specs.Pump.{most_deliveries};
 ghost use Rattle.group_trace.specs.Run.{is_elementary};
 ghost use Rattle.group_trace.specs.Scene.{Scene};

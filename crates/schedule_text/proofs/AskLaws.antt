@@ -12,13 +12,13 @@ use Rattle.harp_types.specs.declared.cred.Cred.{Cred}
 use Rattle.harp_types.specs.declared.cred.TheConstants.{SUPERUSER}
 use Rattle.text_spelling.specs.Text.{spaced, is_implied, told_text, cred_text, call_text}
 use Rattle.text_spelling.specs.Fits.{CallFits, CredFits}
-use Rattle.text_fields.specs.declared.fault.TextFault.{TextFault}
-use Rattle.text_fields.specs.declared.fault.TextFault.TheVariants.{Grammar}
-use Rattle.text_fields.specs.Fields.{Read, ◌>>=◌, EndsWord, space_at, u32_at}
-use Rattle.text_fields.proofs.Places.{Spells, Spells-then, Spells-from, space_takes, space_again, drop_past, bind_ok, chosen, ok_is, read_of}
-use Rattle.text_fields.proofs.FieldLaws.{u32_field}
-use Rattle.text_fields.proofs.Faults.{PlacedReader}
-use Rattle.text_fields.proofs.Faults as faults
+use Rattle.schedule_text.specs.declared.fault.TextFault.{TextFault}
+use Rattle.schedule_text.specs.declared.fault.TextFault.TheVariants.{Grammar}
+use Rattle.schedule_text.specs.Fields.{Read, ◌>>=◌, EndsWord, space_at, u32_at}
+use Rattle.schedule_text.proofs.Places.{Spells, Spells-then, Spells-from, space_takes, space_again, drop_past, bind_ok, chosen, ok_is, read_of}
+use Rattle.schedule_text.proofs.FieldLaws.{u32_field}
+use Rattle.schedule_text.proofs.Faults.{PlacedReader}
+use Rattle.schedule_text.proofs.Faults as faults
 use Rattle.schedule_text.specs.Reading.{spaced_u32_at, is_told_at, cred_of, told_at, told_call_at, untold_call_at, asked_at}
 use Rattle.schedule_text.proofs.Rows.{IsRow, dir_field, u32_row, stands, both_row, made_takes, made_again, made_placed}
 use Rattle.schedule_text.proofs.CallLaws.{call_row}

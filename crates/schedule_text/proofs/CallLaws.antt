@@ -9,11 +9,11 @@ use Rattle.harp_types.specs.declared.procedure.Procedure.{Procedure}
 use Rattle.harp_types.specs.declared.procedure.Procedure.TheVariants as procedure
 use Rattle.text_spelling.specs.Text.{spaced, hex_text, fields_text, call_text}
 use Rattle.text_spelling.specs.Fits.{AreBytes, CallFits}
-use Rattle.text_fields.specs.Fields.{Read, ◌>>=◌, EndsWord, word_at, spaced_at}
-use Rattle.text_fields.specs.Words.{named_at}
-use Rattle.text_fields.proofs.Places.{Spells, Spells-then, IsField, drop_past, bind_ok, ok_is, read_of}
-use Rattle.text_fields.proofs.Faults.{PlacedReader}
-use Rattle.text_fields.proofs.Faults as faults
+use Rattle.schedule_text.specs.Fields.{Read, ◌>>=◌, EndsWord, word_at, spaced_at}
+use Rattle.schedule_text.specs.Words.{named_at}
+use Rattle.schedule_text.proofs.Places.{Spells, Spells-then, IsField, drop_past, bind_ok, ok_is, read_of}
+use Rattle.schedule_text.proofs.Faults.{PlacedReader}
+use Rattle.schedule_text.proofs.Faults as faults
 use Rattle.schedule_text.specs.Reading.{numbers_at, entry_at, fields_at, asked_names, call_at}
 use Rattle.schedule_text.proofs.Rows.{IsRow, u32_row, name_row, bytes_row, attr_row, both_row, spaced_row, made_takes, made_again, made_placed}
 use Rattle.schedule_text.proofs.Words.{word_spells, name_takes, name_again, name_placed, names_call, named_again, name_is_name}

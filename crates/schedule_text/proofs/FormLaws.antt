@@ -11,10 +11,10 @@ use Rattle.trace_types.specs.declared.step.Step.TheVariants as step
 use Rattle.text_spelling.specs.Text.{spaced, hex_text, among_text}
 use Rattle.text_spelling.specs.Steps.{pick_text}
 use Rattle.text_spelling.specs.StepFits.{PickFits, AreAnyBytes, StepFits}
-use Rattle.text_fields.specs.Fields.{spaced_at, number_at}
-use Rattle.text_fields.specs.Words.{ranged_at, all_hex_at}
-use Rattle.text_fields.proofs.Places.{Spells, read_of}
-use Rattle.text_fields.proofs.Faults.{PlacedReader}
+use Rattle.schedule_text.specs.Fields.{spaced_at, number_at}
+use Rattle.schedule_text.specs.Words.{ranged_at, all_hex_at}
+use Rattle.schedule_text.proofs.Places.{Spells, read_of}
+use Rattle.schedule_text.proofs.Faults.{PlacedReader}
 use Rattle.schedule_text.specs.declared.form.Form.{Form}
 use Rattle.schedule_text.specs.declared.form.Form.TheVariants as form
 use Rattle.schedule_text.specs.Reading.{both_at, asker_at, asked_at, spaced_server_at, spaced_count_at, spaced_pick_at, form_at}

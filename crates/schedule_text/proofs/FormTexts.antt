@@ -7,7 +7,7 @@ use Rattle.trace_types.specs.declared.step.Step.TheVariants as step
 use Rattle.text_spelling.specs.Text.{spaced, hex_text, among_text}
 use Rattle.text_spelling.specs.Steps.{pick_text}
 use Rattle.text_spelling.specs.StepFits.{StepFits}
-use Rattle.text_fields.proofs.FieldLaws.{server_text}
+use Rattle.schedule_text.proofs.FieldLaws.{server_text}
 use Rattle.schedule_text.specs.declared.form.Form.{Form}
 use Rattle.schedule_text.specs.declared.form.Form.TheVariants as form
 use Rattle.schedule_text.proofs.AskLaws.{asked_text}

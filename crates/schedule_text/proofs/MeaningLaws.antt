@@ -8,13 +8,13 @@ use Rattle.trace_types.specs.declared.step.Step.TheVariants as step
 use Rattle.text_spelling.specs.Text.{spaced, call_text, cred_text, ask_head, among_text}
 use Rattle.text_spelling.specs.Steps.{step_text}
 use Rattle.text_spelling.specs.StepFits.{StepFits}
-use Rattle.text_fields.specs.declared.fault.TextFault.{TextFault}
-use Rattle.text_fields.specs.declared.fault.TextFault.TheVariants.{Grammar, NoMemory}
-use Rattle.text_fields.specs.Fields.{Read, ◌>>=◌, EndsWord, word_at}
-use Rattle.text_fields.specs.Words.{named_at}
-use Rattle.text_fields.proofs.Places.{Spells, Spells-then, drop_past, bind_ok, ok_is, passed}
-use Rattle.text_fields.proofs.Faults.{Placed}
-use Rattle.text_fields.proofs.Faults as faults
+use Rattle.schedule_text.specs.declared.fault.TextFault.{TextFault}
+use Rattle.schedule_text.specs.declared.fault.TextFault.TheVariants.{Grammar, NoMemory}
+use Rattle.schedule_text.specs.Fields.{Read, ◌>>=◌, EndsWord, word_at}
+use Rattle.schedule_text.specs.Words.{named_at}
+use Rattle.schedule_text.proofs.Places.{Spells, Spells-then, drop_past, bind_ok, ok_is, passed}
+use Rattle.schedule_text.proofs.Faults.{Placed}
+use Rattle.schedule_text.proofs.Faults as faults
 use Rattle.schedule_text.specs.declared.form.Form.{Form}
 use Rattle.schedule_text.specs.Grammar.{IsStepLine, IsBlank, IsNoStep, Explains}
 use Rattle.schedule_text.specs.Reading.{form_names, form_named, form_at, end_at, step_at, is_blank, meaning_of}

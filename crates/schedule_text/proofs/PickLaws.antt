@@ -11,15 +11,15 @@ use Rattle.harp_types.specs.declared.pick.Pick.TheVariants as pick
 use Rattle.text_spelling.specs.Text.{spaced, hex_text}
 use Rattle.text_spelling.specs.Steps.{bits_text, pick_text}
 use Rattle.text_spelling.specs.StepFits.{PickFits, AreAnyBytes}
-use Rattle.text_fields.specs.declared.fault.TextFault.TheVariants.{Grammar}
-use Rattle.text_fields.specs.Fields.{Read, ◌>>=◌, EndsWord, number_at, word_at}
-use Rattle.text_fields.specs.Words.{named_at, ranged_at, all_hex_at}
-use Rattle.text_fields.proofs.Places.{Spells, Spells-then, Spells-byte, IsField, head_at, drop_past, bind_ok, chosen, ok_is, passed, read_of}
-use Rattle.text_fields.proofs.Numbers.{base_ten, number_takes, number_again}
-use Rattle.text_fields.proofs.FieldLaws.{ends_digits}
-use Rattle.text_fields.proofs.Names.{name_field}
-use Rattle.text_fields.proofs.Faults.{PlacedReader}
-use Rattle.text_fields.proofs.Faults as faults
+use Rattle.schedule_text.specs.declared.fault.TextFault.TheVariants.{Grammar}
+use Rattle.schedule_text.specs.Fields.{Read, ◌>>=◌, EndsWord, number_at, word_at}
+use Rattle.schedule_text.specs.Words.{named_at, ranged_at, all_hex_at}
+use Rattle.schedule_text.proofs.Places.{Spells, Spells-then, Spells-byte, IsField, head_at, drop_past, bind_ok, chosen, ok_is, passed, read_of}
+use Rattle.schedule_text.proofs.Numbers.{base_ten, number_takes, number_again}
+use Rattle.schedule_text.proofs.FieldLaws.{ends_digits}
+use Rattle.schedule_text.proofs.Names.{name_field}
+use Rattle.schedule_text.proofs.Faults.{PlacedReader}
+use Rattle.schedule_text.proofs.Faults as faults
 use Rattle.schedule_text.specs.Reading.{bit_of, bits_from, pick_named, pick_at, spaced_pick_at}
 use Rattle.schedule_text.proofs.Words.{word_spells, same_word, name_takes, name_again, name_placed}
 use Rattle.schedule_text.proofs.Rows.{IsRow, spaced_row}

@@ -11,13 +11,13 @@ use Rattle.trace_types.specs.declared.step.Step.TheVariants as step
 use Rattle.text_spelling.specs.Text.{spaced}
 use Rattle.text_spelling.specs.Steps.{pick_text}
 use Rattle.text_spelling.specs.StepFits.{PickFits}
-use Rattle.text_fields.specs.Fields.{Read, ◌>>=◌, spaced_at, number_at, word_at}
-use Rattle.text_fields.specs.Words.{named_at}
-use Rattle.text_fields.proofs.Places.{Spells, IsField, head_at, drop_past, bind_ok, chosen}
-use Rattle.text_fields.proofs.Numbers.{rereads, base_ten, number_takes, number_again}
-use Rattle.text_fields.proofs.FieldLaws.{ends_digits}
-use Rattle.text_fields.proofs.Faults.{PlacedReader}
-use Rattle.text_fields.proofs.Faults as faults
+use Rattle.schedule_text.specs.Fields.{Read, ◌>>=◌, spaced_at, number_at, word_at}
+use Rattle.schedule_text.specs.Words.{named_at}
+use Rattle.schedule_text.proofs.Places.{Spells, IsField, head_at, drop_past, bind_ok, chosen}
+use Rattle.schedule_text.proofs.Numbers.{rereads, base_ten, number_takes, number_again}
+use Rattle.schedule_text.proofs.FieldLaws.{ends_digits}
+use Rattle.schedule_text.proofs.Faults.{PlacedReader}
+use Rattle.schedule_text.proofs.Faults as faults
 use Rattle.schedule_text.specs.declared.form.Form.TheVariants as form
 use Rattle.schedule_text.specs.Reading.{both_at, made_at, spaced_server_at, cut_at, is_digit_at, all_named, whole_save_at, power_at}
 use Rattle.schedule_text.proofs.Words.{word_spells, same_word, name_takes, name_again, name_placed}

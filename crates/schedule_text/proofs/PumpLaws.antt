@@ -9,12 +9,12 @@ use Rattle.trace_types.specs.declared.step.Step.{Step}
 use Rattle.trace_types.specs.declared.step.Step.TheVariants as step
 use Rattle.text_spelling.specs.Text.{spaced, pair_text, among_text}
 use Rattle.text_spelling.specs.Fits.{PairFits}
-use Rattle.text_fields.specs.declared.fault.TextFault.TheVariants.{Grammar}
-use Rattle.text_fields.specs.Fields.{Read, ◌>>=◌, EndsWord, spaced_at, server_at}
-use Rattle.text_fields.proofs.Places.{Spells, Spells-then, drop_past, bind_ok, chosen, ok_is, passed, read_of}
-use Rattle.text_fields.proofs.FieldLaws.{server_text, server_field, server_reads}
-use Rattle.text_fields.proofs.Faults.{PlacedReader}
-use Rattle.text_fields.proofs.Faults as faults
+use Rattle.schedule_text.specs.declared.fault.TextFault.TheVariants.{Grammar}
+use Rattle.schedule_text.specs.Fields.{Read, ◌>>=◌, EndsWord, spaced_at, server_at}
+use Rattle.schedule_text.proofs.Places.{Spells, Spells-then, drop_past, bind_ok, chosen, ok_is, passed, read_of}
+use Rattle.schedule_text.proofs.FieldLaws.{server_text, server_field, server_reads}
+use Rattle.schedule_text.proofs.Faults.{PlacedReader}
+use Rattle.schedule_text.proofs.Faults as faults
 use Rattle.schedule_text.specs.declared.form.Form.TheVariants as form
 use Rattle.schedule_text.specs.Reading.{made_at, pair_at, pump_at}
 use Rattle.schedule_text.proofs.Rows.{IsRow, spaced_row, made_takes, made_again, made_placed}

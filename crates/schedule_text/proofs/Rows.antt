@@ -4,13 +4,13 @@ use Rattle.std.specs.Prelude.{decimal}
 use Rattle.std.proofs.lemmas.List.{length-append}
 use Rattle.text_spelling.specs.Text.{spaced, hex_text, set_attr_text}
 use Rattle.text_spelling.specs.Fits.{AreBytes, SetAttrFits}
-use Rattle.text_fields.specs.Fields.{Reader, Read, ◌>>=◌, EndsWord, spaced_at, u32_at, count_at, server_at, hex_at, set_attr_at}
-use Rattle.text_fields.proofs.Places.{Spells, Spells-then, IsField, spaced_field, drop_past, bind_ok, ok_is, read_of}
-use Rattle.text_fields.proofs.FieldLaws.{u32_field, count_field, server_field, server_text}
-use Rattle.text_fields.proofs.Names.{name_field}
-use Rattle.text_fields.proofs.SetAttrLaws.{set_attr_field}
-use Rattle.text_fields.proofs.Faults.{PlacedReader, bind}
-use Rattle.text_fields.proofs.Faults as faults
+use Rattle.schedule_text.specs.Fields.{Reader, Read, ◌>>=◌, EndsWord, spaced_at, u32_at, count_at, server_at, hex_at, set_attr_at}
+use Rattle.schedule_text.proofs.Places.{Spells, Spells-then, IsField, spaced_field, drop_past, bind_ok, ok_is, read_of}
+use Rattle.schedule_text.proofs.FieldLaws.{u32_field, count_field, server_field, server_text}
+use Rattle.schedule_text.proofs.Names.{name_field}
+use Rattle.schedule_text.proofs.SetAttrLaws.{set_attr_field}
+use Rattle.schedule_text.proofs.Faults.{PlacedReader, bind}
+use Rattle.schedule_text.proofs.Faults as faults
 use Rattle.schedule_text.specs.Reading.{both_at, made_at, spaced_u32_at, spaced_count_at, spaced_server_at, spaced_name_at, spaced_bytes_at, spaced_attr_at}
 
 -- ---- words

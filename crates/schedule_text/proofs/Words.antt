@@ -11,11 +11,11 @@ use Rattle.std.proofs.lemmas.Slice.Eq.{bytes_eq-Decides}
 use Rattle.harp_types.specs.Procedures.{procedures, procedure_name, procedure_named}
 use Rattle.harp_types.specs.declared.procedure.Procedure.{Procedure}
 use Rattle.harp_types.specs.declared.procedure.Procedure.TheVariants as procedure
-use Rattle.text_fields.specs.declared.fault.TextFault.TheVariants.{Grammar}
-use Rattle.text_fields.specs.Fields.{Read, EndsWord, not_space, word_at}
-use Rattle.text_fields.specs.Words.{farthest, named_at}
-use Rattle.text_fields.proofs.Places.{Spells, ok_is}
-use Rattle.text_fields.proofs.Faults.{PlacedReader, Placed}
+use Rattle.schedule_text.specs.declared.fault.TextFault.TheVariants.{Grammar}
+use Rattle.schedule_text.specs.Fields.{Read, EndsWord, not_space, word_at}
+use Rattle.schedule_text.specs.Words.{farthest, named_at}
+use Rattle.schedule_text.proofs.Places.{Spells, ok_is}
+use Rattle.schedule_text.proofs.Faults.{PlacedReader, Placed}
 use Rattle.schedule_text.specs.declared.form.Form.{Form}
 use Rattle.schedule_text.specs.declared.form.Form.TheVariants as form
 use Rattle.schedule_text.specs.Reading.{form_named}

@@ -3,8 +3,8 @@ use Rattle.std.specs.Prelude.{◌≡◌, ℕ, List, [], ◌∷◌, Option, Some,
 use Rattle.trace_types.specs.declared.step.Step.{Step}
 use Rattle.text_spelling.specs.Steps.{step_text}
 use Rattle.text_spelling.specs.StepFits.{StepFits}
-use Rattle.text_fields.specs.declared.fault.TextFault.{TextFault}
-use Rattle.text_fields.specs.declared.fault.TextFault.TheVariants.{Grammar, NoMemory}
+use Rattle.schedule_text.specs.declared.fault.TextFault.{TextFault}
+use Rattle.schedule_text.specs.declared.fault.TextFault.TheVariants.{Grammar, NoMemory}
 
 -- the line is the spelling of this step
 pub record IsStepLine (line : List ℕ) (s : Step) : Type 0 where

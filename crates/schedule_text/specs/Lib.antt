@@ -1,2 +1,4 @@
+pub mod Fields
+pub mod Words
 pub mod Reading
 pub mod Grammar

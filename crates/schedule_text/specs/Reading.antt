@@ -17,10 +17,10 @@ use Rattle.harp_types.specs.declared.pick.Pick.TheVariants as pick
 use Rattle.trace_types.specs.declared.step.Step.{Step}
 use Rattle.trace_types.specs.declared.step.Step.TheVariants as step
 use Rattle.text_spelling.specs.Text.{is_implied}
-use Rattle.text_fields.specs.declared.fault.TextFault.{TextFault}
-use Rattle.text_fields.specs.declared.fault.TextFault.TheVariants.{Grammar}
-use Rattle.text_fields.specs.Fields.{Reader, ◌>>=◌, space_at, spaced_at, number_at, u32_at, count_at, server_at, hex_at, set_attr_at}
-use Rattle.text_fields.specs.Words.{named_at, ranged_at, all_hex_at}
+use Rattle.schedule_text.specs.declared.fault.TextFault.{TextFault}
+use Rattle.schedule_text.specs.declared.fault.TextFault.TheVariants.{Grammar}
+use Rattle.schedule_text.specs.Fields.{Reader, ◌>>=◌, space_at, spaced_at, number_at, u32_at, count_at, server_at, hex_at, set_attr_at}
+use Rattle.schedule_text.specs.Words.{named_at, ranged_at, all_hex_at}
 use Rattle.schedule_text.specs.declared.form.Form.{Form}
 use Rattle.schedule_text.specs.declared.form.Form.TheVariants as form
 

@@ -2,15 +2,16 @@
 
 ghost use Rattle.std.specs.Prelude.{◌≡◌, ◌+◌, ◌≤◌, length, drop, codes, nat_eq, IfOk, IsTrue};
 ghost use Rattle.std.specs.List.{starts_with};
-ghost use Rattle.text_fields.specs.Fields.{Gives};
+ghost use Rattle.schedule_text.specs.Fields.{Gives};
 ghost use Rattle.schedule_text.specs.Reading.{asker_at, is_told_at, told_at, told_call_at, untold_call_at, asked_at, form_at};
 ghost use Rattle.schedule_text.specs.declared.form.Form.TheVariants as forms;
 
 use crate::call::call_at;
+use crate::fault::TextFault;
 use crate::field::{spaced_count_at, spaced_server_at, spaced_u32_at};
+use crate::number::{space_at, u32_at};
 use harp_types::{Call, Cred, SUPERUSER, ServerId};
 use std::alloc::Global;
-use text_fields::{TextFault, space_at, u32_at};
 use text_spelling::is_implied;
 use trace_types::Step;
 

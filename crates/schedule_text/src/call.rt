@@ -2,16 +2,18 @@
 
 ghost use Rattle.std.specs.Prelude.{◌≡◌, ◌+◌, ◌≤◌, ◌<◌, ◌^◌, length};
 ghost use Rattle.harp_types.specs.declared.procedure.Procedure.TheVariants as procedure;
-ghost use Rattle.text_fields.specs.Fields.{Gives};
+ghost use Rattle.schedule_text.specs.Fields.{Gives};
 ghost use Rattle.schedule_text.specs.Reading.{fields_at, call_names, asked_names, call_at};
-ghost use Rattle.text_fields.specs.Words.{farthest};
+ghost use Rattle.schedule_text.specs.Words.{farthest};
 
+use crate::fault::TextFault;
 use crate::field::{
     entry_at, numbers_at, spaced_attr_at, spaced_bytes_at, spaced_name_at, spaced_u32_at,
 };
+use crate::number::word_at;
+use crate::word::farther;
 use harp_types::{Call, Procedure};
 use std::alloc::Global;
-use text_fields::{TextFault, farther, word_at};
 
 #[tactic(auto, unfolding(crate::specs::Reading::fields_at))]
 fn get_attr_at(line: &[u8], at: usize) -> Result<(Call, usize), TextFault>

@@ -1,12 +1,15 @@
 //! The fields of calls and steps, and the end of a line.
 
 ghost use Rattle.std.specs.Prelude.{◌≡◌, ◌≤◌, length, IfOk};
-ghost use Rattle.text_fields.specs.Fields.{Gives};
+ghost use Rattle.schedule_text.specs.Fields.{Gives};
 ghost use Rattle.schedule_text.specs.Reading.{end_at, spaced_server_at, spaced_count_at, spaced_u32_at, spaced_name_at, spaced_bytes_at, spaced_attr_at, numbers_at, entry_at};
 
+use crate::fault::TextFault;
+use crate::name::hex_at;
+use crate::number::{count_at, server_at, space_at, u32_at};
+use crate::set_attr::set_attr_at;
 use harp_types::{Bounded, ServerId, SetAttr};
 use std::alloc::Global;
-use text_fields::{TextFault, count_at, hex_at, server_at, set_attr_at, space_at, u32_at};
 
 /// Nothing follows.
 pub fn end_at(line: &[u8], at: usize) -> Result<(), TextFault>

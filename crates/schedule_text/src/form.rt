@@ -2,10 +2,10 @@
 
 ghost use Rattle.std.specs.Prelude.{◌≡◌, ◌+◌, ◌≤◌, ◌<◌, ◌^◌, length, codes};
 ghost use Rattle.std.specs.Str.{bytes_eq};
-ghost use Rattle.text_fields.specs.Words.{farthest};
+ghost use Rattle.schedule_text.specs.Words.{farthest};
 ghost use Rattle.schedule_text.specs.Reading.{form_names, form_named};
 
-use text_fields::farther;
+use crate::word::farther;
 
 /// What the first word of a line tells of its step.
 #[derive(Clone, Copy)]

@@ -2,11 +2,13 @@
 
 ghost use Rattle.std.specs.Prelude.{◌≡◌, ◌+◌, ◌≤◌, length, codes, IfOk};
 ghost use Rattle.std.specs.Str.{bytes_eq};
-ghost use Rattle.text_fields.specs.Fields.{Gives};
+ghost use Rattle.schedule_text.specs.Fields.{Gives};
 ghost use Rattle.schedule_text.specs.Reading.{bit_of, bits_from, pick_named, pick_at, spaced_pick_at};
 
+use crate::fault::TextFault;
+use crate::number::{peek, space_at, word_at};
+use crate::word::farther;
 use std::alloc::{AllocError, Global};
-use text_fields::{TextFault, farther, peek, space_at, word_at};
 use trace_types::{Bits, Pick};
 
 fn bit_of(b: u8) -> Option<bool>

@@ -2,15 +2,16 @@
 
 ghost use Rattle.std.specs.Prelude.{◌≡◌, ◌+◌, ◌≤◌, length, Ok, Some, None};
 ghost use Rattle.trace_types.specs.declared.step.Step.{Step};
-ghost use Rattle.text_fields.specs.Fields.{Gives};
+ghost use Rattle.schedule_text.specs.Fields.{Gives};
 ghost use Rattle.schedule_text.specs.Reading.{step_at, is_blank, meaning_of};
 ghost use Rattle.schedule_text.specs.Grammar.{Explains, IsStepLine, IsBlank};
 
+use crate::fault::TextFault;
 use crate::field::end_at;
 use crate::form::{far_along_forms, form_named};
+use crate::number::{peek, word_at};
 use crate::step::form_at;
 use std::alloc::Global;
-use text_fields::{TextFault, peek, word_at};
 use trace_types::Step;
 
 /// A step from a place on, and the end.

@@ -1,19 +1,19 @@
 //! Steps that are read, behind their names.
 
 ghost use Rattle.std.specs.Prelude.{◌≡◌, ◌<◌, ◌≤◌, ◌^◌, length, IfOk};
-ghost use Rattle.text_fields.specs.Fields.{Gives};
+ghost use Rattle.schedule_text.specs.Fields.{Gives};
 ghost use Rattle.schedule_text.specs.declared.form.Form.TheVariants as forms;
 ghost use Rattle.schedule_text.specs.Reading.{pair_at, pump_at, cut_at, is_digit_at, whole_save_at, all_named, power_at, form_at};
 
 use crate::ask::ask_at;
+use crate::fault::TextFault;
 use crate::field::{spaced_count_at, spaced_server_at};
 use crate::form::Form;
+use crate::number::{number_at, peek, server_at, space_at, word_at};
 use crate::pick::spaced_pick_at;
+use crate::word::{all_hex_at, farther, ranged_at};
 use harp_types::ServerId;
 use std::alloc::Global;
-use text_fields::{
-    TextFault, all_hex_at, farther, number_at, peek, ranged_at, server_at, space_at, word_at,
-};
 use trace_types::{Pick, Step};
 
 /// Two servers in the order of their numbers.

@@ -5,10 +5,10 @@ use Rattle.std.specs.List.{AllByRecursion}
 use Rattle.std.proofs.lemmas.Bool.{and_parts, cases_lt, leb-true}
 use Rattle.std.proofs.lemmas.List.{take-append-le, take_all}
 use Rattle.std.proofs.lemmas.List.Elements.{All-cons, All-nil}
-use Rattle.disk_laws.specs.Laws.{HasFewBlocks}
+use Rattle.trace_laws.specs.DiskLaws.{HasFewBlocks}
 use Rattle.fuzzy_cells.specs.Disk.{Disk, reads, with_changes}
 use Rattle.fuzzy_cells.specs.Fuzzy.{is_saved}
-use Rattle.group_disks.specs.Picks.{all_counted, counted, erases_there, most_blocks}
+use Rattle.group_trace.specs.Picks.{all_counted, counted, erases_there, most_blocks}
 use Rattle.harp_cells.proofs.CellLemmas.{is_block_key_parts, is_cell_itself}
 use Rattle.harp_cells.specs.Effect.{Cells, after, is_block_from}
 use Rattle.harp_cells.specs.declared.cell.Cell.{Cell}

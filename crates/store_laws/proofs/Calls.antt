@@ -1,14 +1,14 @@
 -- The calls of a store and those of a run.
 use Rattle.std.proofs.Common.{◌≡◌, ℕ, zero, suc, ◌+◌, ◌%◌, Bool, List, [], ◌∷◌, ◌++◌, length, map, take, Option, Some, None, refl, sym, ap, subst, ◌∙◌, arith, true≢false, if◌then◌else◌}
 use Rattle.std.proofs.lemmas.List.{length-append, take_all}
-use Rattle.disk_laws.specs.Laws.{HasFewBlocks}
+use Rattle.trace_laws.specs.DiskLaws.{HasFewBlocks}
 use Rattle.event_record.specs.Record.{entry_of}
 use Rattle.event_record.specs.declared.record.RecordFields.{RecordFields}
 use Rattle.file_tree.specs.Book.{Entry}
 use Rattle.fuzzy_cells.specs.Disk.{Disk}
-use Rattle.group_disks.specs.Calls.{Changing, DiskCall, Marking, Spellings, Syncing, after_calls, disk_called, saved_puts}
-use Rattle.group_disks.specs.Picks.{crashed_by}
-use Rattle.group_disks.specs.Run.{calls_at, passing as run_passing}
+use Rattle.group_trace.specs.DiskCalls.{Changing, DiskCall, Marking, Spellings, Syncing, after_calls, disk_called, saved_puts}
+use Rattle.group_trace.specs.Picks.{crashed_by}
+use Rattle.group_trace.specs.DiskRun.{calls_at, passing as run_passing}
 use Rattle.group_rules.specs.State.{Saved, Server}
 use Rattle.harp_cells.specs.declared.cell.Cell.TheVariants as cell
 use Rattle.harp_store.specs.Disk.{Disk as ToldDisk, Moments, Now, after_changes, after_step, changed_by, then_disk}

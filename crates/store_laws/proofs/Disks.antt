@@ -1,11 +1,11 @@
 -- The disk of a store and that of a run, after changes, a sync, a mark and a crash.
 use Rattle.std.proofs.Common.{◌≡◌, ℕ, zero, suc, ◌+◌, ◌-◌, ◌≤◌, max, Bool, true, false, List, [], ◌∷◌, ◌++◌, Option, Some, None, refl, sym, ap, subst, ◌∙◌, arith, append-nil, append_assoc, true≢false, if◌then◌else◌}
 use Rattle.std.specs.Prelude.{fold}
-use Rattle.disk_laws.specs.Laws.{HasFewBlocks}
-use Rattle.disk_laws.proofs.Keeping.{picks_keep}
+use Rattle.trace_laws.specs.DiskLaws.{HasFewBlocks}
+use Rattle.trace_laws.proofs.DiskKeeping.{picks_keep}
 use Rattle.fuzzy_cells.specs.Disk.{Disk, reads, with_changes}
 use Rattle.fuzzy_cells.specs.Fuzzy.{is_saved}
-use Rattle.group_disks.specs.Picks.{all_counted, counted, kept, most_blocks}
+use Rattle.group_trace.specs.Picks.{all_counted, counted, kept, most_blocks}
 use Rattle.harp_cells.proofs.CellLemmas.{is_cell_true}
 use Rattle.harp_cells.specs.Effect.{Cells, after, changed, is_block_from, is_cell}
 use Rattle.harp_cells.specs.declared.cell.Cell.{Cell}

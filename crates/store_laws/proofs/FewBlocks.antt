@@ -5,21 +5,21 @@ use Rattle.std.specs.List.{AllByRecursion}
 use Rattle.std.proofs.lemmas.Bool.{cases_lt}
 use Rattle.std.proofs.lemmas.List.{length-append, take-append-le, take_all}
 use Rattle.std.proofs.lemmas.List.Sums.{fold-append}
-use Rattle.disk_laws.specs.Laws.{HasFewBlocks}
-use Rattle.disk_laws.specs.Stores.{applied_in}
-use Rattle.disk_laws.proofs.Blocks.{few_blocks}
-use Rattle.disk_laws.proofs.Calls.{AreMarks, all_marks, crash_marks, first_between}
-use Rattle.disk_laws.proofs.Crashes.{are_parts}
-use Rattle.disk_laws.proofs.Diskless.{HasNoCells, step_diskless, tails_diskless}
-use Rattle.disk_laws.proofs.Steps.{Stands, step_stands}
-use Rattle.disk_laws.proofs.StoreRuns.{are_fuzzy, begun_stays, first_stores}
-use Rattle.disk_laws.proofs.Tables.{at_other, cases_place}
+use Rattle.trace_laws.specs.DiskLaws.{HasFewBlocks}
+use Rattle.trace_laws.specs.Stores.{applied_in}
+use Rattle.trace_laws.proofs.Blocks.{few_blocks}
+use Rattle.trace_laws.proofs.Calls.{AreMarks, all_marks, crash_marks, first_between}
+use Rattle.trace_laws.proofs.Crashes.{are_parts}
+use Rattle.trace_laws.proofs.Diskless.{HasNoCells, step_diskless, tails_diskless}
+use Rattle.trace_laws.proofs.Steps.{Stands, step_stands}
+use Rattle.trace_laws.proofs.StoreRuns.{are_fuzzy, begun_stays, first_stores}
+use Rattle.trace_laws.proofs.Tables.{at_other, cases_place}
 use Rattle.file_tree.specs.Book.{Entry}
 use Rattle.fuzzy_cells.specs.Disk.{Disk, IsBetween, changes_saved, reads, synced_to, with_changes}
 use Rattle.fuzzy_cells.specs.History.{no_cells}
-use Rattle.group_disks.specs.Calls.{Changing, DiskCall, Marking, Spellings, Syncing, after_calls, all_calls, calls_by, measures_of, saved_puts}
-use Rattle.group_disks.specs.Picks.{crashed_by, most_blocks}
-use Rattle.group_disks.specs.Run.{DiskScene, Stores, calls_at, disk_after, disk_next, disk_run, disks_after_at, disks_came, disks_done, disks_next, first_disk_scene, is_crash, is_whole, passing}
+use Rattle.group_trace.specs.DiskCalls.{Changing, DiskCall, Marking, Spellings, Syncing, after_calls, all_calls, calls_by, measures_of, saved_puts}
+use Rattle.group_trace.specs.Picks.{crashed_by, most_blocks}
+use Rattle.group_trace.specs.DiskRun.{DiskScene, Stores, calls_at, disk_after, disk_next, disk_run, disks_after_at, disks_came, disks_done, disks_next, first_disk_scene, is_crash, is_whole, passing}
 use Rattle.group_rules.proofs.Tests.{each_of}
 use Rattle.group_rules.specs.Disk.{flush_tests, settled_tests}
 use Rattle.group_rules.specs.Moves.{Applying, Flushing, Saving, act, acts}

@@ -2,7 +2,7 @@
 use Rattle.std.proofs.Common.{◌≡◌, ℕ, ◌+◌, Bool, true, false, List, [], ◌∷◌, ◌++◌, map, min, refl, sym, ap, subst, ◌∙◌, append-nil, append_assoc, true≢false, if◌then◌else◌}
 use Rattle.std.specs.List.{AllByRecursion}
 use Rattle.file_tree.specs.Book.{Entry}
-use Rattle.group_disks.specs.Calls.{Changing, DiskCall, Marking, Spellings, Syncing, all_calls, calls_by, measures_of}
+use Rattle.group_trace.specs.DiskCalls.{Changing, DiskCall, Marking, Spellings, Syncing, all_calls, calls_by, measures_of}
 use Rattle.group_rules.specs.Disk.{flush_tests, settled_tests}
 use Rattle.group_rules.specs.Moves.{Appending, Applying, Basing, Booting, Choosing, Collecting, Committing, Falling, Flushing, Hearing, Heeding, Move, Noting, Opening, Pulling, Reading, Saving, Saying, Sending, Staging, act, acts}
 use Rattle.group_rules.specs.Open.{rebase}

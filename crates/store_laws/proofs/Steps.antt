@@ -1,8 +1,8 @@
 -- What a store tells after a whole step.
 use Rattle.std.proofs.Common.{◌≡◌, Bool, true, false, List, [], ◌∷◌, ◌++◌, map, Option, refl, sym, subst, if◌then◌else◌}
 use Rattle.fuzzy_cells.specs.Disk.{Disk}
-use Rattle.group_disks.specs.Calls.{Changing, DiskCall, Marking, Syncing, after_calls, measures_of, saved_puts}
-use Rattle.group_disks.specs.Run.{calls_at}
+use Rattle.group_trace.specs.DiskCalls.{Changing, DiskCall, Marking, Syncing, after_calls, measures_of, saved_puts}
+use Rattle.group_trace.specs.DiskRun.{calls_at}
 use Rattle.group_rules.specs.Disk.{flush_tests, settled_tests}
 use Rattle.group_rules.specs.Places.{all_of}
 use Rattle.group_rules.specs.Step.{Apply, Does, Flush, Power, list_of, saves, step_of}

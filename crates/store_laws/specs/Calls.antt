@@ -1,9 +1,9 @@
 -- The calls of a store, beside those of a run's step.
 use Rattle.std.specs.Prelude.{◌≡◌, ℕ, false, List, [], ◌∷◌, ◌++◌, map, take, Option, Some, None}
-use Rattle.disk_laws.specs.Laws.{HasFewBlocks}
+use Rattle.trace_laws.specs.DiskLaws.{HasFewBlocks}
 use Rattle.fuzzy_cells.specs.Disk.{Disk}
 use Rattle.fuzzy_cells.specs.Fuzzy.{is_saved}
-use Rattle.group_disks.specs.Calls.{Changing, DiskCall, Marking, Syncing, after_calls}
+use Rattle.group_trace.specs.DiskCalls.{Changing, DiskCall, Marking, Syncing, after_calls}
 use Rattle.harp_cells.specs.declared.change.Change.{Change}
 use Rattle.harp_cells.specs.declared.change.Change.TheVariants as change
 use Rattle.harp_store.specs.Disk.{Disk as ToldDisk, Moments, after_step, changed_by, synced_whole, with_mark}

@@ -1,15 +1,15 @@
 -- What holds of the disk that a store tells, beside that of a run.
 use Rattle.std.specs.Prelude.{◌≡◌, ℕ, suc, true, false, not, ◌&&◌, ◌+◌, ◌<◌, ◌≤◌, List, [], ◌∷◌, ◌++◌, length, map, take, Option, Some}
 use Rattle.applier.specs.Applied.{FlushesInPart}
-use Rattle.disk_laws.specs.Laws.{HasFewBlocks}
+use Rattle.trace_laws.specs.DiskLaws.{HasFewBlocks}
 use Rattle.event_record.specs.Record.{entry_of}
 use Rattle.event_record.specs.declared.record.RecordFields.{RecordFields}
 use Rattle.file_tree.specs.Book.{Entry}
 use Rattle.fuzzy_cells.specs.Disk.{Disk, reads, synced_to, with_changes}
 use Rattle.fuzzy_cells.specs.Fuzzy.{AreAlike}
-use Rattle.group_disks.specs.Calls.{Changing, DiskCall, Spellings, after_calls, calls_by, measures_of, saved_puts}
-use Rattle.group_disks.specs.Picks.{crashed_by}
-use Rattle.group_disks.specs.Run.{calls_at, disk_after, disk_run, empty_stores, first_disk_scene, is_crash, is_whole}
+use Rattle.group_trace.specs.DiskCalls.{Changing, DiskCall, Spellings, after_calls, calls_by, measures_of, saved_puts}
+use Rattle.group_trace.specs.Picks.{crashed_by}
+use Rattle.group_trace.specs.DiskRun.{calls_at, disk_after, disk_run, empty_stores, first_disk_scene, is_crash, is_whole}
 use Rattle.group_rules.specs.Moves.{Saving}
 use Rattle.group_rules.specs.Places.{Place}
 use Rattle.group_rules.specs.State.{Group, Server}

@@ -3,8 +3,8 @@ use Rattle.std.specs.Prelude.{◌≡◌, ℕ, ◌+◌, Bool, true, false, List, 
 use Rattle.file_tree.specs.Book.{Entry}
 use Rattle.fuzzy_cells.specs.Disk.{Disk}
 use Rattle.fuzzy_cells.specs.History.{between}
-use Rattle.group_disks.specs.Calls.{Changing, Marking, Spellings, Syncing, after_calls, calls_by, measures_of}
-use Rattle.group_disks.specs.Run.{calls_at}
+use Rattle.group_trace.specs.DiskCalls.{Changing, Marking, Spellings, Syncing, after_calls, calls_by, measures_of}
+use Rattle.group_trace.specs.DiskRun.{calls_at}
 use Rattle.group_rules.specs.Disk.{flush_tests, settled_tests}
 use Rattle.group_rules.specs.Moves.{Accepting, Demoting, Joining, Move, Saving}
 use Rattle.group_rules.specs.Places.{Place, all_of}

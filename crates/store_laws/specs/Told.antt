@@ -2,7 +2,7 @@
 use Rattle.std.specs.Prelude.{◌≡◌, false, List, [], ◌∷◌, Option, Some, None}
 use Rattle.fuzzy_cells.specs.Disk.{Disk}
 use Rattle.fuzzy_cells.specs.Fuzzy.{AreAlike, is_saved}
-use Rattle.group_disks.specs.Picks.{all_counted}
+use Rattle.group_trace.specs.Picks.{all_counted}
 use Rattle.harp_cells.specs.declared.change.Change.{Change}
 use Rattle.harp_cells.specs.declared.change.Change.TheVariants as change
 use Rattle.harp_store.specs.Disk.{Disk as ToldDisk, Moments, Now}

@@ -8,8 +8,8 @@ use Rattle.trace_claims.specs.Trace.{Trace, entries}
 use Rattle.group_trace.specs.Refusals.{refusal}
 use Rattle.group_trace.specs.Run.{is_elementary, next, run, run_lines, step_lines}
 use Rattle.group_trace.specs.Scene.{Measures, Scene, first_scene}
-use Rattle.group_disks.specs.Calls.{Spellings, measures_of}
-use Rattle.group_disks.specs.Run.{DiskScene, disk_run, first_disk_scene}
+use Rattle.group_trace.specs.DiskCalls.{Spellings, measures_of}
+use Rattle.group_trace.specs.DiskRun.{DiskScene, disk_run, first_disk_scene}
 use Rattle.schedule_play.specs.declared.refusal.Refusal.{Refusal}
 use Rattle.schedule_play.specs.Reading.{Reading, refused_at, then_read, unless_refused, with_step}
 use Rattle.schedule_play.specs.Stage.{IsReached, IsRefused, IsTaken, fault_of}

@@ -12,7 +12,7 @@ use Rattle.harp_types.specs.declared.pick.Pick.{Pick}
 use Rattle.harp_types.specs.declared.pick.Pick.TheVariants as pick
 use Rattle.trace_types.specs.declared.step.Step.{Step}
 use Rattle.trace_types.specs.declared.step.Step.TheVariants as step
-use Rattle.trace_bounds.proofs.Texts.{short_call, short_count, short_cred, short_number, short_server}
+use Rattle.accept_laws.proofs.Texts.{short_call, short_count, short_cred, short_number, short_server}
 use Rattle.sweep.specs.declared.generator.Generator.{Generator}
 use Rattle.sweep.specs.declared.line_kind.LineKind.{LineKind}
 use Rattle.sweep.specs.declared.line_kind.LineKind.TheVariants as kind

@@ -11,8 +11,8 @@ use Rattle.trace_types.specs.declared.step.Step.TheVariants as step
 use Rattle.group_trace.specs.Pump.{due, most_deliveries, spelled_out}
 use Rattle.group_trace.specs.Run.{is_elementary, run, run_lines}
 use Rattle.group_trace.specs.Scene.{Measures, Scene, first_scene}
-use Rattle.group_disks.specs.Calls.{Spellings, measures_of}
-use Rattle.group_disks.specs.Run.{DiskScene, disk_run, first_disk_scene}
+use Rattle.group_trace.specs.DiskCalls.{Spellings, measures_of}
+use Rattle.group_trace.specs.DiskRun.{DiskScene, disk_run, first_disk_scene}
 use Rattle.schedule_play.specs.OnTheWay.{with_pump}
 use Rattle.schedule_play.specs.Reading.{Reading, all_read, refused_at, with_given, with_step, with_steps}
 use Rattle.schedule_play.specs.Stage.{IsReached}

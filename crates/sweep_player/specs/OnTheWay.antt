@@ -1,8 +1,8 @@
 -- Where the counting of a play stands on its way through what is read.
 use Rattle.std.specs.Prelude.{◌≡◌, List}
 use Rattle.trace_types.specs.declared.step.Step.{Step}
-use Rattle.group_disks.specs.Calls.{Spellings, measures_of}
-use Rattle.group_disks.specs.Run.{DiskScene, disk_run, first_disk_scene}
+use Rattle.group_trace.specs.DiskCalls.{Spellings, measures_of}
+use Rattle.group_trace.specs.DiskRun.{DiskScene, disk_run, first_disk_scene}
 use Rattle.group_trace.specs.Run.{AreTaken, run, run_lines}
 use Rattle.group_trace.specs.Scene.{Scene, first_scene}
 use Rattle.schedule_play.specs.Reading.{Reading, then_read}

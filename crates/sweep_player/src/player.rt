@@ -11,7 +11,7 @@ use world::World;
 pub struct GroupPlayer;
 
 impl Player for GroupPlayer {
-    ghost use Rattle.group_disks.specs.Calls.{measures_of};
+    ghost use Rattle.group_trace.specs.DiskCalls.{measures_of};
     ghost use Rattle.world_rules.specs.Spellings.{spellings};
     ghost use Rattle.sweep_player.specs.Reading.{summary_of_steps};
 

@@ -1,8 +1,8 @@
 //! Playing steps in a world, each as a line of a schedule.
 
 ghost use Rattle.std.specs.Prelude.{◌≡◌, ◌+◌, ℕ, Some, Ok, IfOk, true};
-ghost use Rattle.group_disks.specs.Calls.{measures_of};
-ghost use Rattle.group_disks.specs.Run.{first_disk_scene};
+ghost use Rattle.group_trace.specs.DiskCalls.{measures_of};
+ghost use Rattle.group_trace.specs.DiskRun.{first_disk_scene};
 ghost use Rattle.group_trace.specs.Pump.{most_deliveries};
 ghost use Rattle.group_trace.specs.Run.{is_elementary};
 ghost use Rattle.group_trace.specs.Scene.{Scene};

@@ -31,3 +31,15 @@ pub mod LocalRuns
 pub mod GroupViews
 pub mod RightRuns
 pub mod FirstParts
+pub mod Tables
+pub mod Between
+pub mod Moved
+pub mod StoreRuns
+pub mod Crashes
+pub mod DiskKeeping
+pub mod Counts
+pub mod Diskless
+pub mod Calls
+pub mod Steps
+pub mod Blocks
+pub mod DiskRuns

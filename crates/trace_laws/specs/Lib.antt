@@ -1,3 +1,6 @@
 pub mod Stops
 pub mod Laws
 pub mod FirstParts
+pub mod Stores
+pub mod StoreLaws
+pub mod DiskLaws

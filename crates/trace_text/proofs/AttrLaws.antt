@@ -10,10 +10,10 @@ use Rattle.harp_types.specs.declared.attr.Kind.TheVariants as kind
 use Rattle.harp_types.specs.declared.attr.Attr.{Attr}
 use Rattle.text_spelling.specs.Text.{spaced, comma, kind_number, octal, time_text, attr_owner, attr_extent, attr_times, attr_text}
 use Rattle.text_spelling.specs.Lines.{view_text}
-use Rattle.text_fields.specs.declared.fault.TextFault.TheVariants.{Grammar}
-use Rattle.text_fields.specs.Fields.{Reader, Read}
-use Rattle.text_fields.proofs.Places.{Spells, Spells-byte, head_at, chosen, ok_is, read_of}
-use Rattle.text_fields.proofs.Faults as faults
+use Rattle.schedule_text.specs.declared.fault.TextFault.TheVariants.{Grammar}
+use Rattle.schedule_text.specs.Fields.{Reader, Read}
+use Rattle.schedule_text.proofs.Places.{Spells, Spells-byte, head_at, chosen, ok_is, read_of}
+use Rattle.schedule_text.proofs.Faults as faults
 use Rattle.schedule_text.proofs.Rows.{IsRow, spaced_row}
 use Rattle.trace_text.specs.Fields.{comma_at, colon_at, view_at, spaced_view_at, view_of, kind_of, kind_at, moment_at, time_of, owner_at, extent_at, times_at, attr_of, attr_at, spaced_attr_at}
 use Rattle.trace_text.specs.Fits.{ViewFits}

@@ -13,14 +13,14 @@ use Rattle.trace_types.specs.declared.line.LineFault.{LineFault}
 use Rattle.trace_types.specs.declared.line.LineFault.TheVariants as fault
 use Rattle.text_spelling.specs.Text.{spaced, hex_text, call_text, cred_text, reply_text}
 use Rattle.text_spelling.specs.TraceLines.{fault_text, entry_line}
-use Rattle.text_fields.specs.declared.fault.TextFault.{TextFault}
-use Rattle.text_fields.specs.declared.fault.TextFault.TheVariants.{Grammar}
-use Rattle.text_fields.specs.Fields.{Read, EndsWord, spaced_at, hex_at}
-use Rattle.text_fields.proofs.Places.{Spells, IsField, head_at, chosen}
-use Rattle.text_fields.proofs.FieldLaws.{server_text}
-use Rattle.text_fields.proofs.Names.{name_field, digit, digit_above}
-use Rattle.text_fields.proofs.Faults.{PlacedReader}
-use Rattle.text_fields.proofs.Faults as faults
+use Rattle.schedule_text.specs.declared.fault.TextFault.{TextFault}
+use Rattle.schedule_text.specs.declared.fault.TextFault.TheVariants.{Grammar}
+use Rattle.schedule_text.specs.Fields.{Read, EndsWord, spaced_at, hex_at}
+use Rattle.schedule_text.proofs.Places.{Spells, IsField, head_at, chosen}
+use Rattle.schedule_text.proofs.FieldLaws.{server_text}
+use Rattle.schedule_text.proofs.Names.{name_field, digit, digit_above}
+use Rattle.schedule_text.proofs.Faults.{PlacedReader}
+use Rattle.schedule_text.proofs.Faults as faults
 use Rattle.schedule_text.proofs.Rows.{IsRow, u32_row, count_row, both_row, spaced_row}
 use Rattle.schedule_text.proofs.AskLaws.{asked_text, AskedFits, asked_row}
 use Rattle.trace_text.specs.Fields.{value_named, some_hex_at}

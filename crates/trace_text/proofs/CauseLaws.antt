@@ -10,11 +10,11 @@ use Rattle.harp_types.specs.declared.cause.Cause.{Cause}
 use Rattle.harp_types.specs.declared.cause.Cause.TheVariants as cause
 use Rattle.text_spelling.specs.Text.{spaced}
 use Rattle.text_spelling.specs.Lines.{hint_text, cause_text}
-use Rattle.text_fields.specs.Fields.{Read, EndsWord, spaced_at, server_at}
-use Rattle.text_fields.proofs.Places.{Spells, IsField, head_at, chosen, ok_is, read_of}
-use Rattle.text_fields.proofs.FieldLaws.{server_text}
-use Rattle.text_fields.proofs.Faults.{PlacedReader}
-use Rattle.text_fields.proofs.Faults as faults
+use Rattle.schedule_text.specs.Fields.{Read, EndsWord, spaced_at, server_at}
+use Rattle.schedule_text.proofs.Places.{Spells, IsField, head_at, chosen, ok_is, read_of}
+use Rattle.schedule_text.proofs.FieldLaws.{server_text}
+use Rattle.schedule_text.proofs.Faults.{PlacedReader}
+use Rattle.schedule_text.proofs.Faults as faults
 use Rattle.schedule_text.specs.Reading.{made_at}
 use Rattle.schedule_text.proofs.Rows.{IsRow, spaced_row, made_takes, made_again, made_placed}
 use Rattle.trace_text.specs.declared.cause_form.CauseForm.{CauseForm}

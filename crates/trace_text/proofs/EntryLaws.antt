@@ -7,11 +7,11 @@ use Rattle.std.proofs.lemmas.List.{length-append}
 use Rattle.harp_base.specs.Fields.{AllFit}
 use Rattle.harp_types.specs.declared.reply.DirEntry.{DirEntry}
 use Rattle.text_spelling.specs.Text.{spaced, hex_text, entry_text, page_end}
-use Rattle.text_fields.specs.Fields.{Read, ◌>>=◌, EndsWord, spaced_at}
-use Rattle.text_fields.proofs.Places.{Spells, Spells-then, head_at, drop_past, bind_ok, ok_is, read_of}
-use Rattle.text_fields.proofs.Numbers.{rereads, base_ten}
-use Rattle.text_fields.proofs.Faults.{PlacedReader, Placed}
-use Rattle.text_fields.proofs.Faults as faults
+use Rattle.schedule_text.specs.Fields.{Read, ◌>>=◌, EndsWord, spaced_at}
+use Rattle.schedule_text.proofs.Places.{Spells, Spells-then, head_at, drop_past, bind_ok, ok_is, read_of}
+use Rattle.schedule_text.proofs.Numbers.{rereads, base_ten}
+use Rattle.schedule_text.proofs.Faults.{PlacedReader, Placed}
+use Rattle.schedule_text.proofs.Faults as faults
 use Rattle.schedule_text.specs.Reading.{is_digit_at}
 use Rattle.schedule_text.proofs.Rows.{IsRow, spaced_row}
 use Rattle.trace_text.specs.Fields.{◌⊗◌, value_named}

@@ -7,9 +7,9 @@ use Rattle.trace_types.specs.declared.step.Step.TheVariants as step
 use Rattle.trace_types.specs.declared.line.Line.{Line}
 use Rattle.trace_types.specs.declared.line.Line.TheVariants as lines
 use Rattle.text_spelling.specs.StepFits.{StepFits}
-use Rattle.text_fields.specs.Fields.{Read, EndsWord}
-use Rattle.text_fields.proofs.Places.{Spells, chosen, read_of}
-use Rattle.text_fields.proofs.Faults.{PlacedReader}
+use Rattle.schedule_text.specs.Fields.{Read, EndsWord}
+use Rattle.schedule_text.proofs.Places.{Spells, chosen, read_of}
+use Rattle.schedule_text.proofs.Faults.{PlacedReader}
 use Rattle.schedule_text.specs.declared.form.Form.{Form as StepForm}
 use Rattle.schedule_text.specs.declared.form.Form.TheVariants as stepform
 use Rattle.schedule_text.specs.Reading as steps

@@ -3,13 +3,13 @@ use Rattle.std.proofs.Common.{◌≡◌, ℕ, zero, suc, ◌+◌, ◌*◌, ◌/�
 use Rattle.std.specs.Prelude.{◌==◌, nat_lt, slice_index, is_some}
 use Rattle.std.proofs.lemmas.Bool.{cases_lt, eqb-true, eq-eqb, ne_eqb, and_parts}
 use Rattle.hex.specs.Hex.{encode_lower, encode_with, lower_digits}
-use Rattle.text_fields.specs.declared.fault.TextFault.TheVariants.{Grammar}
+use Rattle.schedule_text.specs.declared.fault.TextFault.TheVariants.{Grammar}
 use Rattle.text_spelling.specs.Text.{hex_text}
 use Rattle.text_spelling.specs.Fits.{AreBytes}
-use Rattle.text_fields.specs.Fields.{Read, hex_value, pair_of, pair_at, pairs_from, is_odd_at, hex_at}
-use Rattle.text_fields.proofs.Names.{digit, digit_above}
-use Rattle.text_fields.proofs.Pairs.{pairs_more, pairs_done}
-use Rattle.text_fields.proofs.Places.{head_at, drop_past, read_of}
+use Rattle.schedule_text.specs.Fields.{Read, hex_value, pair_of, pair_at, pairs_from, is_odd_at, hex_at}
+use Rattle.schedule_text.proofs.Names.{digit, digit_above}
+use Rattle.schedule_text.proofs.Pairs.{pairs_more, pairs_done}
+use Rattle.schedule_text.proofs.Places.{head_at, drop_past, read_of}
 
 -- ---- digits
 

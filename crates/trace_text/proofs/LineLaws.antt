@@ -7,11 +7,11 @@ use Rattle.trace_types.specs.declared.line.Line.TheVariants as lines
 use Rattle.text_spelling.specs.Text.{spaced, hex_text, reply_text, attr_text}
 use Rattle.text_spelling.specs.Lines.{cause_text}
 use Rattle.text_spelling.specs.TraceLines.{fault_text, message_text, entry_line, line_text}
-use Rattle.text_fields.specs.declared.fault.TextFault.{TextFault}
-use Rattle.text_fields.specs.Fields.{Read, ◌>>=◌, EndsWord, space_at, spaced_at}
-use Rattle.text_fields.proofs.Places.{Spells, Spells-then, space_takes, space_again, drop_past, bind_ok, ok_is, read_of}
-use Rattle.text_fields.proofs.Faults.{PlacedReader}
-use Rattle.text_fields.proofs.Faults as faults
+use Rattle.schedule_text.specs.declared.fault.TextFault.{TextFault}
+use Rattle.schedule_text.specs.Fields.{Read, ◌>>=◌, EndsWord, space_at, spaced_at}
+use Rattle.schedule_text.proofs.Places.{Spells, Spells-then, space_takes, space_again, drop_past, bind_ok, ok_is, read_of}
+use Rattle.schedule_text.proofs.Faults.{PlacedReader}
+use Rattle.schedule_text.proofs.Faults as faults
 use Rattle.schedule_text.proofs.Words.{names_form}
 use Rattle.schedule_text.proofs.Words as words
 use Rattle.schedule_text.proofs.Rows.{u32_row, count_row, server_row, both_row, made_takes, made_again, made_placed}

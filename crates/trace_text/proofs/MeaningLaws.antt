@@ -5,12 +5,12 @@ use Rattle.std.proofs.lemmas.Bool.{eqb-true, eq-eqb}
 use Rattle.std.proofs.lemmas.List.{append-nil, drop_all}
 use Rattle.trace_types.specs.declared.line.Line.{Line}
 use Rattle.text_spelling.specs.TraceLines.{line_text}
-use Rattle.text_fields.specs.declared.fault.TextFault.{TextFault}
-use Rattle.text_fields.specs.declared.fault.TextFault.TheVariants.{Grammar, NoMemory}
-use Rattle.text_fields.specs.Fields.{Read, Gives, ◌>>=◌}
-use Rattle.text_fields.proofs.Places.{bind_ok, ok_is, passed}
-use Rattle.text_fields.proofs.Faults.{Placed}
-use Rattle.text_fields.proofs.Faults as faults
+use Rattle.schedule_text.specs.declared.fault.TextFault.{TextFault}
+use Rattle.schedule_text.specs.declared.fault.TextFault.TheVariants.{Grammar, NoMemory}
+use Rattle.schedule_text.specs.Fields.{Read, Gives, ◌>>=◌}
+use Rattle.schedule_text.proofs.Places.{bind_ok, ok_is, passed}
+use Rattle.schedule_text.proofs.Faults.{Placed}
+use Rattle.schedule_text.proofs.Faults as faults
 use Rattle.schedule_text.specs.Reading.{end_at}
 use Rattle.trace_text.specs.Fields.{name_at, by_name_at}
 use Rattle.trace_text.specs.Reading.{form_name, forms, form_at, meaning_of}

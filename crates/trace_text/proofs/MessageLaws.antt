@@ -13,13 +13,13 @@ use Rattle.trace_types.specs.declared.line.ShownMessage.TheVariants as message
 use Rattle.text_spelling.specs.Text.{spaced}
 use Rattle.text_spelling.specs.Lines.{view_text, held_text}
 use Rattle.text_spelling.specs.TraceLines.{message_text}
-use Rattle.text_fields.specs.declared.fault.TextFault.TheVariants.{Grammar}
-use Rattle.text_fields.specs.Fields.{Read, ◌>>=◌, EndsWord, spaced_at}
-use Rattle.text_fields.specs.Words.{ranged_at}
-use Rattle.text_fields.proofs.Places.{Spells, Spells-then, IsField, drop_past, bind_ok, ok_is, passed}
-use Rattle.text_fields.proofs.FieldLaws.{server_text}
-use Rattle.text_fields.proofs.Faults.{PlacedReader}
-use Rattle.text_fields.proofs.Faults as faults
+use Rattle.schedule_text.specs.declared.fault.TextFault.TheVariants.{Grammar}
+use Rattle.schedule_text.specs.Fields.{Read, ◌>>=◌, EndsWord, spaced_at}
+use Rattle.schedule_text.specs.Words.{ranged_at}
+use Rattle.schedule_text.proofs.Places.{Spells, Spells-then, IsField, drop_past, bind_ok, ok_is, passed}
+use Rattle.schedule_text.proofs.FieldLaws.{server_text}
+use Rattle.schedule_text.proofs.Faults.{PlacedReader}
+use Rattle.schedule_text.proofs.Faults as faults
 use Rattle.schedule_text.specs.Reading.{spaced_server_at}
 use Rattle.schedule_text.proofs.Rows.{IsRow, u32_row, count_row, server_row, both_row, spaced_row, made_takes, made_again, made_placed}
 use Rattle.schedule_text.proofs.PickLaws.{ranged_field, ranged_reader}

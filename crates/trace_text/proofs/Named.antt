@@ -6,12 +6,12 @@ use Rattle.std.specs.Str.{bytes_eq}
 use Rattle.std.proofs.lemmas.Bool.{eq-eqb, and_parts}
 use Rattle.std.proofs.lemmas.List.{length-append, length-drop}
 use Rattle.std.proofs.lemmas.List.Sums.{take_while-cons}
-use Rattle.text_fields.specs.declared.fault.TextFault.TheVariants.{Grammar}
-use Rattle.text_fields.specs.Fields.{Reader, Read, ◌>>=◌, EndsWord, not_space, word_at}
-use Rattle.text_fields.specs.Words.{farthest, named_at}
-use Rattle.text_fields.proofs.Places.{Spells, Spells-then, IsField, drop_past, bind_ok, read_of}
-use Rattle.text_fields.proofs.Faults.{PlacedReader}
-use Rattle.text_fields.proofs.Faults as faults
+use Rattle.schedule_text.specs.declared.fault.TextFault.TheVariants.{Grammar}
+use Rattle.schedule_text.specs.Fields.{Reader, Read, ◌>>=◌, EndsWord, not_space, word_at}
+use Rattle.schedule_text.specs.Words.{farthest, named_at}
+use Rattle.schedule_text.proofs.Places.{Spells, Spells-then, IsField, drop_past, bind_ok, read_of}
+use Rattle.schedule_text.proofs.Faults.{PlacedReader}
+use Rattle.schedule_text.proofs.Faults as faults
 use Rattle.schedule_text.proofs.Words.{word_spells, same_word, name_takes, name_placed}
 use Rattle.trace_text.specs.Fields.{value_named, name_at, by_name_at}
 

@@ -5,17 +5,17 @@ use Rattle.std.proofs.lemmas.Bool.{eqb-true, eq-eqb}
 use Rattle.std.proofs.lemmas.List.{length-append}
 use Rattle.text_spelling.specs.Text.{spaced, hex_text, octal}
 use Rattle.text_spelling.specs.Fits.{AreBytes}
-use Rattle.text_fields.specs.declared.fault.TextFault.{TextFault}
-use Rattle.text_fields.specs.declared.fault.TextFault.TheVariants.{Grammar}
-use Rattle.text_fields.specs.Fields.{Reader, Read, ◌>>=◌, EndsWord, spaced_at, u32_at, count_at, server_at, hex_at, hex_value}
-use Rattle.text_fields.proofs.Places.{Spells, Spells-then, Spells-byte, IsField, head_at, drop_past, bind_ok, ok_is, passed, read_of}
-use Rattle.text_fields.proofs.Numbers.{StopsDigits, base_ten, base_eight, number_takes, number_again}
-use Rattle.text_fields.proofs.FieldLaws.{server_text, server_field, server_reads}
-use Rattle.text_fields.proofs.Names.{name_field}
+use Rattle.schedule_text.specs.declared.fault.TextFault.{TextFault}
+use Rattle.schedule_text.specs.declared.fault.TextFault.TheVariants.{Grammar}
+use Rattle.schedule_text.specs.Fields.{Reader, Read, ◌>>=◌, EndsWord, spaced_at, u32_at, count_at, server_at, hex_at, hex_value}
+use Rattle.schedule_text.proofs.Places.{Spells, Spells-then, Spells-byte, IsField, head_at, drop_past, bind_ok, ok_is, passed, read_of}
+use Rattle.schedule_text.proofs.Numbers.{StopsDigits, base_ten, base_eight, number_takes, number_again}
+use Rattle.schedule_text.proofs.FieldLaws.{server_text, server_field, server_reads}
+use Rattle.schedule_text.proofs.Names.{name_field}
 use Rattle.trace_text.proofs.HexRuns.{StopsHex}
 use Rattle.trace_text.proofs.HexRuns as names
-use Rattle.text_fields.proofs.Faults.{PlacedReader}
-use Rattle.text_fields.proofs.Faults as faults
+use Rattle.schedule_text.proofs.Faults.{PlacedReader}
+use Rattle.schedule_text.proofs.Faults as faults
 use Rattle.schedule_text.specs.Reading.{both_at, made_at}
 use Rattle.schedule_text.proofs.Rows.{IsRow, spaced_row}
 use Rattle.schedule_text.proofs.Rows as rows

@@ -9,12 +9,12 @@ use Rattle.harp_types.specs.declared.reply.Reply.{Reply}
 use Rattle.harp_types.specs.declared.reply.Reply.TheVariants as reply
 use Rattle.text_spelling.specs.Text.{spaced, hex_text, status_number, attr_text, reply_text}
 use Rattle.text_spelling.specs.Fits.{AreBytes}
-use Rattle.text_fields.specs.Fields.{EndsWord, spaced_at, hex_at}
-use Rattle.text_fields.proofs.Places.{Spells, IsField, ok_is, read_of}
-use Rattle.text_fields.proofs.Names.{name_field}
-use Rattle.text_fields.proofs.Numbers.{base_ten}
-use Rattle.text_fields.proofs.Faults.{PlacedReader}
-use Rattle.text_fields.proofs.Faults as faults
+use Rattle.schedule_text.specs.Fields.{EndsWord, spaced_at, hex_at}
+use Rattle.schedule_text.proofs.Places.{Spells, IsField, ok_is, read_of}
+use Rattle.schedule_text.proofs.Names.{name_field}
+use Rattle.schedule_text.proofs.Numbers.{base_ten}
+use Rattle.schedule_text.proofs.Faults.{PlacedReader}
+use Rattle.schedule_text.proofs.Faults as faults
 use Rattle.schedule_text.proofs.Rows.{IsRow, u32_row, both_row, spaced_row, made_takes, made_again, made_placed}
 use Rattle.trace_text.specs.declared.reply_form.ReplyForm.{ReplyForm}
 use Rattle.trace_text.specs.declared.reply_form.ReplyForm.TheVariants as form

@@ -12,11 +12,11 @@ use Rattle.trace_types.specs.declared.line.Line.{Line}
 use Rattle.trace_types.specs.declared.line.Line.TheVariants as lines
 use Rattle.text_spelling.specs.Text.{spaced}
 use Rattle.text_spelling.specs.Lines.{view_text, held_text, mode_text, role_text, state_text}
-use Rattle.text_fields.specs.Fields.{Read, ◌>>=◌, EndsWord, spaced_at}
-use Rattle.text_fields.proofs.Places.{Spells, Spells-then, IsField, drop_past, bind_ok, ok_is, read_of}
-use Rattle.text_fields.proofs.FieldLaws.{server_text}
-use Rattle.text_fields.proofs.Faults.{PlacedReader, Placed}
-use Rattle.text_fields.proofs.Faults as faults
+use Rattle.schedule_text.specs.Fields.{Read, ◌>>=◌, EndsWord, spaced_at}
+use Rattle.schedule_text.proofs.Places.{Spells, Spells-then, IsField, drop_past, bind_ok, ok_is, read_of}
+use Rattle.schedule_text.proofs.FieldLaws.{server_text}
+use Rattle.schedule_text.proofs.Faults.{PlacedReader, Placed}
+use Rattle.schedule_text.proofs.Faults as faults
 use Rattle.schedule_text.specs.Reading.{spaced_server_at}
 use Rattle.schedule_text.proofs.Rows.{IsRow, count_row, server_row, both_row, spaced_row, made_takes, made_again, made_placed}
 use Rattle.trace_text.specs.declared.state.RoleForm.{RoleForm}

@@ -3,10 +3,10 @@ use Rattle.std.proofs.Common.{◌≡◌, ℕ, zero, suc, ◌+◌, ◌-◌, ◌<�
 use Rattle.std.specs.Prelude.{IsErr, IsErrAnd}
 use Rattle.std.proofs.lemmas.List.{append-nil}
 use Rattle.harp_types.specs.declared.reply.DirEntry.{DirEntry}
-use Rattle.text_fields.specs.declared.fault.TextFault.{TextFault}
-use Rattle.text_fields.specs.declared.fault.TextFault.TheVariants.{Grammar, NoMemory}
-use Rattle.text_fields.specs.Fields.{Read, ◌>>=◌, Fails, Gives, spaced_at}
-use Rattle.text_fields.proofs.Places.{read_of}
+use Rattle.schedule_text.specs.declared.fault.TextFault.{TextFault}
+use Rattle.schedule_text.specs.declared.fault.TextFault.TheVariants.{Grammar, NoMemory}
+use Rattle.schedule_text.specs.Fields.{Read, ◌>>=◌, Fails, Gives, spaced_at}
+use Rattle.schedule_text.proofs.Places.{read_of}
 use Rattle.schedule_text.specs.Reading.{is_digit_at}
 use Rattle.trace_text.specs.Replies.{entry_at, entries_at}
 use Rattle.trace_text.proofs.EntryLaws.{entries_on}

@@ -10,10 +10,10 @@ use Rattle.harp_types.specs.declared.attr.Kind.{Kind}
 use Rattle.harp_types.specs.declared.attr.Kind.TheVariants as kind
 use Rattle.harp_types.specs.declared.attr.Attr.{Attr}
 use Rattle.text_spelling.specs.Lines.{held_text}
-use Rattle.text_fields.specs.declared.fault.TextFault.{TextFault}
-use Rattle.text_fields.specs.declared.fault.TextFault.TheVariants.{Grammar}
-use Rattle.text_fields.specs.Fields.{Reader, ◌>>=◌, spaced_at, number_at, u32_at, count_at, server_at, hex_at}
-use Rattle.text_fields.specs.Words.{named_at}
+use Rattle.schedule_text.specs.declared.fault.TextFault.{TextFault}
+use Rattle.schedule_text.specs.declared.fault.TextFault.TheVariants.{Grammar}
+use Rattle.schedule_text.specs.Fields.{Reader, ◌>>=◌, spaced_at, number_at, u32_at, count_at, server_at, hex_at}
+use Rattle.schedule_text.specs.Words.{named_at}
 use Rattle.schedule_text.specs.Reading.{both_at, made_at}
 
 -- ---- fields in a row

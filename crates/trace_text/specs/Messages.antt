@@ -4,9 +4,9 @@ use Rattle.harp_types.specs.Server.{number_of}
 use Rattle.harp_types.specs.declared.server.ServerId.{ServerId}
 use Rattle.trace_types.specs.declared.line.ShownMessage.{ShownMessage}
 use Rattle.trace_types.specs.declared.line.ShownMessage.TheVariants as message
-use Rattle.text_fields.specs.declared.fault.TextFault.TheVariants.{Grammar}
-use Rattle.text_fields.specs.Fields.{Reader, ◌>>=◌, spaced_at}
-use Rattle.text_fields.specs.Words.{ranged_at}
+use Rattle.schedule_text.specs.declared.fault.TextFault.TheVariants.{Grammar}
+use Rattle.schedule_text.specs.Fields.{Reader, ◌>>=◌, spaced_at}
+use Rattle.schedule_text.specs.Words.{ranged_at}
 use Rattle.schedule_text.specs.Reading.{made_at, spaced_server_at, spaced_count_at, spaced_u32_at}
 use Rattle.trace_text.specs.declared.message_form.MessageForm.{MessageForm}
 use Rattle.trace_text.specs.declared.message_form.MessageForm.TheVariants as form

@@ -20,9 +20,9 @@ use Rattle.trace_types.specs.declared.line.Line.{Line}
 use Rattle.trace_types.specs.declared.line.Line.TheVariants as lines
 use Rattle.text_spelling.specs.Lines.{mode_text}
 use Rattle.text_spelling.specs.TraceLines.{fault_text}
-use Rattle.text_fields.specs.declared.fault.TextFault.{TextFault}
-use Rattle.text_fields.specs.Fields.{Reader, ◌>>=◌, spaced_at, hex_at}
-use Rattle.text_fields.specs.Words.{named_at}
+use Rattle.schedule_text.specs.declared.fault.TextFault.{TextFault}
+use Rattle.schedule_text.specs.Fields.{Reader, ◌>>=◌, spaced_at, hex_at}
+use Rattle.schedule_text.specs.Words.{named_at}
 use Rattle.schedule_text.specs.Reading as steps
 use Rattle.schedule_text.specs.Reading.{made_at, end_at, asker_at, asked_at, spaced_server_at, spaced_count_at, spaced_u32_at}
 use Rattle.schedule_text.specs.declared.form.Form.{Form as StepForm}

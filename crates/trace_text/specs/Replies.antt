@@ -10,7 +10,7 @@ use Rattle.harp_types.specs.declared.reply.Reply.TheVariants as reply
 use Rattle.harp_types.specs.declared.cause.Cause.{Cause}
 use Rattle.harp_types.specs.declared.cause.Cause.TheVariants as cause
 use Rattle.text_spelling.specs.Text.{page_end}
-use Rattle.text_fields.specs.Fields.{Reader, ◌>>=◌, spaced_at, u32_at, server_at, hex_at}
+use Rattle.schedule_text.specs.Fields.{Reader, ◌>>=◌, spaced_at, u32_at, server_at, hex_at}
 use Rattle.schedule_text.specs.Reading.{made_at, is_digit_at, spaced_u32_at}
 use Rattle.trace_text.specs.declared.reply_form.ReplyForm.{ReplyForm}
 use Rattle.trace_text.specs.declared.reply_form.ReplyForm.TheVariants as form

@@ -1,12 +1,12 @@
 //! Attributes that are read.
 
 ghost use Rattle.std.specs.Prelude.{◌≡◌, ◌≤◌, ◌<◌, ◌^◌, length, IfOk};
-ghost use Rattle.text_fields.specs.Fields.{Gives, u32_at};
+ghost use Rattle.schedule_text.specs.Fields.{Gives, u32_at};
 ghost use Rattle.trace_text.specs.Fields.{comma_at, colon_at, kind_of, kind_at, mode_at, moment_at, owner_at, extent_at, times_at, attr_at, spaced_attr_at};
 
 use crate::field::sign_at;
 use harp_types::{Attr, Kind, Time};
-use text_fields::{TextFault, number_at, peek, space_at, u32_at};
+use schedule_text::{TextFault, number_at, peek, space_at, u32_at};
 
 fn kind_of(b: u8) -> Option<Kind>
     ensures { result ≡ kind_of b }

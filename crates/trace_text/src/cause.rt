@@ -1,13 +1,13 @@
 //! Causes of refusals that are read.
 
 ghost use Rattle.std.specs.Prelude.{◌≡◌, ◌≤◌, length, IfOk};
-ghost use Rattle.text_fields.specs.Fields.{Gives, spaced_at};
+ghost use Rattle.schedule_text.specs.Fields.{Gives, spaced_at};
 ghost use Rattle.trace_text.specs.declared.cause_form.CauseForm.TheVariants as causes;
 ghost use Rattle.trace_text.specs.Replies.{hint_at, cause_fields_at, cause_at};
 
 use crate::cause_form::{CauseForm, form_at};
 use harp_types::ServerId;
-use text_fields::{TextFault, peek, server_at, space_at};
+use schedule_text::{TextFault, peek, server_at, space_at};
 use trace_types::Cause;
 
 /// A dash for none, or the server that leads.

@@ -2,13 +2,12 @@
 
 ghost use Rattle.std.specs.Prelude.{◌≡◌, ◌≤◌, ◌+◌, length, codes, IfOk};
 ghost use Rattle.std.specs.Str.{bytes_eq};
-ghost use Rattle.text_fields.specs.Fields.{Gives, spaced_at};
-ghost use Rattle.text_fields.specs.Words.{farthest};
+ghost use Rattle.schedule_text.specs.Fields.{Gives, spaced_at};
+ghost use Rattle.schedule_text.specs.Words.{farthest};
 ghost use Rattle.trace_text.specs.Reading.{elementary_names, elementary_named, elementary_at};
 
-use schedule_text::{Form, form_at, form_named};
+use schedule_text::{Form, TextFault, farther, form_at, form_named, space_at, word_at};
 use std::alloc::Global;
-use text_fields::{TextFault, farther, space_at, word_at};
 use trace_types::Step;
 
 /// The form of the step of this name, but for the pump.

@@ -3,13 +3,13 @@
 ghost use Rattle.std.specs.Prelude.{◌≡◌, ◌≤◌, ◌<◌, ◌^◌, length, find, codes, IfOk};
 ghost use Rattle.std.specs.Str.{bytes_eq};
 ghost use Rattle.text_spelling.specs.Lines.{held_text};
-ghost use Rattle.text_fields.specs.Fields.{Gives, spaced_at, hex_at};
-ghost use Rattle.text_fields.specs.Words.{farthest};
+ghost use Rattle.schedule_text.specs.Fields.{Gives, spaced_at, hex_at};
+ghost use Rattle.schedule_text.specs.Words.{farthest};
 ghost use Rattle.trace_text.specs.Fields.{sign_at, value_named, view_at, spaced_view_at, helds, held_at, some_hex_at};
 
 use harp_types::{Bounded, Held, ViewNo};
+use schedule_text::{TextFault, farther, hex_at, number_at, peek, server_at, space_at, word_at};
 use std::alloc::Global;
-use text_fields::{TextFault, farther, hex_at, number_at, peek, server_at, space_at, word_at};
 
 /// The place after this byte, which has to stand here.
 pub fn sign_at(line: &[u8], sign: u8, at: usize) -> Result<usize, TextFault>

@@ -24,4 +24,4 @@ mod reply_form;
 mod state;
 
 pub use reading::read_line;
-pub use text_fields::TextFault;
+pub use schedule_text::TextFault;

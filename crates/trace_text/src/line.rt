@@ -3,8 +3,8 @@
 ghost use Rattle.std.specs.Prelude.{◌≡◌, ◌≤◌, ◌+◌, length, find, map, codes, IfOk};
 ghost use Rattle.std.specs.Str.{bytes_eq};
 ghost use Rattle.text_spelling.specs.TraceLines.{fault_text};
-ghost use Rattle.text_fields.specs.Fields.{Gives, spaced_at};
-ghost use Rattle.text_fields.specs.Words.{farthest};
+ghost use Rattle.schedule_text.specs.Fields.{Gives, spaced_at};
+ghost use Rattle.schedule_text.specs.Words.{farthest};
 ghost use Rattle.trace_text.specs.declared.form.LineForm.TheVariants as forms;
 ghost use Rattle.trace_text.specs.Fields.{value_named};
 ghost use Rattle.trace_text.specs.Reading.{entry_at, faults, fault_at, form_at};
@@ -18,9 +18,11 @@ use crate::message::spaced_message_at;
 use crate::reply::spaced_reply_at;
 use crate::state::state_at;
 use harp_types::BookEntry;
-use schedule_text::{asked_at, asker_at, spaced_count_at, spaced_server_at, spaced_u32_at};
+use schedule_text::{
+    TextFault, asked_at, asker_at, farther, space_at, spaced_count_at, spaced_server_at,
+    spaced_u32_at, word_at,
+};
 use std::alloc::Global;
-use text_fields::{TextFault, farther, space_at, word_at};
 use trace_types::{Line, LineFault};
 
 #[tactic(auto, unfolding(crate::specs::Reading::form_at))]

@@ -1,15 +1,14 @@
 //! The lines of a listing that are read, behind their names.
 
 ghost use Rattle.std.specs.Prelude.{◌≡◌, ◌≤◌, length, IfOk};
-ghost use Rattle.text_fields.specs.Fields.{Gives};
+ghost use Rattle.schedule_text.specs.Fields.{Gives};
 ghost use Rattle.trace_text.specs.declared.form.LineForm.TheVariants as forms;
 ghost use Rattle.trace_text.specs.Reading.{form_at};
 
 use crate::attr::spaced_attr_at;
 use crate::field::{spaced_hex_at, spaced_some_hex_at};
-use schedule_text::{spaced_count_at, spaced_server_at, spaced_u32_at};
+use schedule_text::{TextFault, spaced_count_at, spaced_server_at, spaced_u32_at};
 use std::alloc::Global;
-use text_fields::TextFault;
 use trace_types::Line;
 
 #[tactic(auto, unfolding(crate::specs::Reading::form_at))]

@@ -1,15 +1,16 @@
 //! Messages that are read.
 
 ghost use Rattle.std.specs.Prelude.{◌≡◌, ◌≤◌, ◌<◌, ◌^◌, length, IfOk};
-ghost use Rattle.text_fields.specs.Fields.{Gives, spaced_at};
+ghost use Rattle.schedule_text.specs.Fields.{Gives, spaced_at};
 ghost use Rattle.trace_text.specs.declared.message_form.MessageForm.TheVariants as forms;
 ghost use Rattle.trace_text.specs.Messages.{storers_at, spaced_index_at, three_at, message_fields_at, message_at};
 
 use crate::field::{spaced_held_at, spaced_view_at};
 use crate::message_form::{MessageForm, form_at};
 use harp_types::ServerId;
-use schedule_text::{spaced_count_at, spaced_server_at, spaced_u32_at};
-use text_fields::{TextFault, ranged_at, space_at};
+use schedule_text::{
+    TextFault, ranged_at, space_at, spaced_count_at, spaced_server_at, spaced_u32_at,
+};
 use trace_types::ShownMessage;
 
 /// The two storers of a view, in the order of their numbers.

@@ -2,15 +2,14 @@
 
 ghost use Rattle.std.specs.Prelude.{◌≡◌, ◌≤◌, length, Ok, IfOk};
 ghost use Rattle.trace_types.specs.declared.line.Line.{Line};
-ghost use Rattle.text_fields.specs.Fields.{Gives};
+ghost use Rattle.schedule_text.specs.Fields.{Gives};
 ghost use Rattle.trace_text.specs.Reading.{meaning_of};
 ghost use Rattle.trace_text.specs.Grammar.{IsTraceLine, Explains};
 
 use crate::form::first_form;
 use crate::line::form_at;
-use schedule_text::end_at;
+use schedule_text::{TextFault, end_at};
 use std::alloc::Global;
-use text_fields::TextFault;
 use trace_types::Line;
 
 /// What a line means, but for what memory refuses.

@@ -1,7 +1,7 @@
 //! Replies that are read.
 
 ghost use Rattle.std.specs.Prelude.{◌≡◌, ◌≤◌, ◌<◌, ◌+◌, ◌^◌, length, nat_le, ◌&&◌, slice_index, IfOk, IsTrue};
-ghost use Rattle.text_fields.specs.Fields.{Gives, spaced_at};
+ghost use Rattle.schedule_text.specs.Fields.{Gives, spaced_at};
 ghost use Rattle.schedule_text.specs.Reading.{is_digit_at};
 ghost use Rattle.trace_text.specs.declared.reply_form.ReplyForm.TheVariants as forms;
 ghost use Rattle.trace_text.specs.Replies.{entry_at, entries_at, page_end_at, reply_fields_at, reply_at};
@@ -10,9 +10,8 @@ use crate::attr::spaced_attr_at;
 use crate::field::{sign_at, spaced_hex_at};
 use crate::reply_form::{ReplyForm, form_at, page_end_at, status_at};
 use harp_types::{DirEntry, Entries, Reply};
-use schedule_text::spaced_u32_at;
+use schedule_text::{TextFault, hex_at, peek, space_at, spaced_u32_at, u32_at};
 use std::alloc::Global;
-use text_fields::{TextFault, hex_at, peek, space_at, u32_at};
 
 /// An object's number, its name and its cookie, behind a space.
 #[tactic(auto, unfolding(crate::specs::Replies::entry_at))]

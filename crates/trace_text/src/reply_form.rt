@@ -4,13 +4,13 @@ ghost use Rattle.std.specs.Prelude.{◌≡◌, ◌≤◌, ◌+◌, length, find,
 ghost use Rattle.std.specs.Str.{bytes_eq};
 ghost use Rattle.harp_types.specs.Statuses.{statuses};
 ghost use Rattle.text_spelling.specs.Text.{page_end};
-ghost use Rattle.text_fields.specs.Fields.{Gives};
-ghost use Rattle.text_fields.specs.Words.{farthest};
+ghost use Rattle.schedule_text.specs.Fields.{Gives};
+ghost use Rattle.schedule_text.specs.Words.{farthest};
 ghost use Rattle.trace_text.specs.Fields.{value_named, name_at};
 ghost use Rattle.trace_text.specs.Replies.{status_word, status_at, page_ends, page_end_at, reply_name, reply_forms};
 
 use harp_types::Status;
-use text_fields::{TextFault, farther, word_at};
+use schedule_text::{TextFault, farther, word_at};
 
 /// What the first word of a reply tells of it.
 #[derive(Clone, Copy)]

@@ -2,16 +2,15 @@
 
 ghost use Rattle.std.specs.Prelude.{◌≡◌, ◌≤◌, ◌+◌, length, find, map, codes, IfOk, Some};
 ghost use Rattle.std.specs.Str.{bytes_eq};
-ghost use Rattle.text_fields.specs.Fields.{Gives, spaced_at};
-ghost use Rattle.text_fields.specs.Words.{farthest};
+ghost use Rattle.schedule_text.specs.Fields.{Gives, spaced_at};
+ghost use Rattle.schedule_text.specs.Words.{farthest};
 ghost use Rattle.trace_text.specs.Fields.{value_named, name_at};
 ghost use Rattle.trace_text.specs.Reading.{mode_word, modes, mode_at, role_name, role_forms, role_fields_at, role_at, parts_at, state_of, state_in, state_at};
 
 use crate::field::{sign_at, spaced_held_at, spaced_view_at};
 use crate::message::three_at;
 use harp_types::{Mode, Role, ServerId, StateLine};
-use schedule_text::{spaced_count_at, spaced_server_at};
-use text_fields::{TextFault, farther, space_at, word_at};
+use schedule_text::{TextFault, farther, space_at, spaced_count_at, spaced_server_at, word_at};
 use trace_types::Line;
 
 /// A role without its other server.

@@ -8,9 +8,11 @@ use dedup::Seen;
 use harp_base::{FieldFault, read_call, read_reply, write_call, write_reply};
 use harp_cells::{Cell, CellFault, CellRead, Inode, MemCells, Moment, Value};
 use harp_types::{Bytes, Call, Reply};
-use schedule_text::{TextFault, end_at, spaced_count_at, spaced_server_at, spaced_u32_at};
+use schedule_text::{
+    TextFault, all_hex_at, end_at, space_at, spaced_count_at, spaced_server_at, spaced_u32_at,
+    word_at,
+};
 use std::alloc::{AllocError, Global};
-use text_fields::{all_hex_at, space_at, word_at};
 use text_writer::{put_call, put_name, put_named};
 
 /// A word in which `HH*N` is written out as N times HH.

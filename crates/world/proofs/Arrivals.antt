@@ -5,8 +5,8 @@ use Rattle.std.specs.Prelude.{get_or}
 use Rattle.std.proofs.lemmas.List.Sums.{sum_by-cons}
 use Rattle.std.proofs.lemmas.Option.{slice_get-get_or}
 use Rattle.file_tree.specs.Book.{Entry}
-use Rattle.group_disks.specs.Calls.{measures_of}
-use Rattle.group_disks.specs.Run.{DiskScene, Stores, disk_next, disks_after_at, disks_came, disks_next}
+use Rattle.group_trace.specs.DiskCalls.{measures_of}
+use Rattle.group_trace.specs.DiskRun.{DiskScene, Stores, disk_next, disks_after_at, disks_came, disks_next}
 use Rattle.group_rules.proofs.Tests.{if_is, if_not, is_lt, lt_is}
 use Rattle.group_rules.specs.Names.{place_of}
 use Rattle.group_rules.specs.Places.{Place, at}
@@ -19,10 +19,10 @@ use Rattle.world_rules.specs.Spellings.{spellings}
 use Rattle.node.specs.declared.input.Input.TheVariants as input
 use Rattle.node_outputs.specs.Messages.{heard}
 use Rattle.node_outputs.specs.Records.{carried}
-use Rattle.world_packets.specs.Machine.{opened_as, sent}
-use Rattle.world_packets.specs.Posted.{Posted, arrived, bytes_of, bytes_sent, delivered_at}
-use Rattle.world_packets.specs.declared.packet.Packet.{Packet as Opened}
-use Rattle.world_packets.proofs.Machine.{as_many_stand, delivered_stand, opened_is}
+use Rattle.world_lines.specs.Machine.{opened_as, sent}
+use Rattle.world_lines.specs.Posted.{Posted, arrived, bytes_of, bytes_sent, delivered_at}
+use Rattle.world_lines.specs.declared.packet.Packet.{Packet as Opened}
+use Rattle.world_lines.proofs.Machine.{as_many_stand, delivered_stand, opened_is}
 use Rattle.world_laws.specs.Stocks.{Carries}
 use Rattle.trace_laws.proofs.Turns.{own_none}
 use Rattle.trace_types.specs.declared.line.Line.{Line}

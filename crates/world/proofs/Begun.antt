@@ -1,7 +1,7 @@
 -- A step that begins rightly, with what the laws say of it.
 use Rattle.std.proofs.Common.{◌≡◌, ℕ, Bool, true, false, List, [], ◌∷◌, Option, None, Some, refl, sym, ap, ◌∙◌, subst}
 use Rattle.std.specs.Option.{option_map}
-use Rattle.book_laws.specs.Books.{BookGrows}
+use Rattle.world_laws.specs.Books.{BookGrows}
 use Rattle.event_record.specs.declared.record.RecordFields.{RecordFields}
 use Rattle.file_tree.specs.Book.{Entry}
 use Rattle.group_rules.proofs.Tests.{if_is}

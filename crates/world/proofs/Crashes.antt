@@ -1,8 +1,8 @@
 -- Crashes and boots in the world.
 use Rattle.std.proofs.Common.{◌≡◌, Bool, true, false, List, [], ◌∷◌, ◌++◌, Option, None, Some, refl, sym, ap, ◌∙◌, subst, if◌then◌else◌}
 use Rattle.file_tree.specs.Book.{Entry}
-use Rattle.group_disks.specs.Calls.{measures_of}
-use Rattle.group_disks.specs.Run.{DiskScene, disks_after_at}
+use Rattle.group_trace.specs.DiskCalls.{measures_of}
+use Rattle.group_trace.specs.DiskRun.{DiskScene, disks_after_at}
 use Rattle.group_rules.specs.Moves.{Booting, Falling, Move}
 use Rattle.group_rules.specs.Names.{place_of}
 use Rattle.group_rules.specs.Step.{Crash, Does}

@@ -2,8 +2,8 @@
 use Rattle.std.proofs.Common.{◌≡◌, ℕ, true, false, List, [], ◌∷◌, refl, sym, ap, ◌∙◌, subst, true≢false, Option, None, Some, ◌&&◌}
 use Rattle.event_record.specs.declared.record.RecordFields.{RecordFields}
 use Rattle.file_tree.specs.Book.{Entry}
-use Rattle.group_disks.specs.Calls.{measures_of}
-use Rattle.group_disks.specs.Run.{DiskScene, Stores}
+use Rattle.group_trace.specs.DiskCalls.{measures_of}
+use Rattle.group_trace.specs.DiskRun.{DiskScene, Stores}
 use Rattle.schedule_play.specs.Stage.{IsReached}
 use Rattle.group_rules.proofs.Tests.{by_if, if_is, if_not}
 use Rattle.group_rules.specs.Effects.{booted, down, lengthened, load_tests, loaded, saving}

@@ -1,6 +1,6 @@
 -- The world of three servers that have just booted on new disks.
 use Rattle.std.proofs.Common.{◌≡◌, [], None, refl}
-use Rattle.group_disks.specs.Run.{empty_stores, first_disk_scene}
+use Rattle.group_trace.specs.DiskRun.{empty_stores, first_disk_scene}
 use Rattle.group_rules.specs.Limits.{room}
 use Rattle.group_rules.specs.Names.{place_of}
 use Rattle.group_rules.specs.Places.{Zero, One, Two, Place, all_of}
@@ -12,7 +12,7 @@ use Rattle.harp_types.specs.declared.server.ServerId.TheVariants as server
 use Rattle.world_laws.specs.Waits.{HasWaits}
 use Rattle.world_rules.specs.Host.{HostValue, IsHost, no_stock}
 use Rattle.world_rules.specs.Steps.{IsStop}
-use Rattle.world_packets.proofs.Machine.{none_stand}
+use Rattle.world_lines.proofs.Machine.{none_stand}
 use Rattle.world_laws.proofs.Starts.{starts_right}
 use Rattle.world.specs.World.{IsServer, IsWorld, WorldValue}
 use Rattle.world.proofs.Sends.{none_carried}

@@ -1,5 +1,5 @@
 -- What is taken from the laws of hosts and books.
-use Rattle.book_laws.specs.Books.{DeedsGrow, DeliveriesGrow}
+use Rattle.world_laws.specs.Books.{DeedsGrow, DeliveriesGrow}
 use Rattle.world_laws.specs.HostLaws.{HostsCanFail, HostsCanTake, ReachedAreWhole}
 use Rattle.world_laws.specs.Sizes.{MessagesAreSized}
 use Rattle.world_laws.specs.Waits.{RestingWait, StepsWait}

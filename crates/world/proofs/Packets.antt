@@ -6,9 +6,9 @@ use Rattle.group_rules.specs.State.{Group, Message, Packet}
 use Rattle.group_rules.specs.Step.{numbered}
 use Rattle.node_outputs.specs.Messages.{heard}
 use Rattle.node_outputs.specs.Records.{carried}
-use Rattle.world_packets.specs.Machine.{StandFor, opened_as, sent}
-use Rattle.world_packets.specs.Posted.{Posted}
-use Rattle.world_packets.proofs.Machine.{opened_is}
+use Rattle.world_lines.specs.Machine.{StandFor, opened_as, sent}
+use Rattle.world_lines.specs.Posted.{Posted}
+use Rattle.world_lines.proofs.Machine.{opened_is}
 use Rattle.world_laws.specs.StockLaws.{Stays}
 use Rattle.world.specs.World.{AreCarried}
 

@@ -1,7 +1,7 @@
 -- Steps in which no server turns: bytes that are dropped, clocks, the length of promises, and stops.
 use Rattle.std.proofs.Common.{◌≡◌, ℕ, ◌+◌, Bool, true, false, List, [], ◌∷◌, None, Some, refl, sym, ap, ◌∙◌, subst, arith, if◌then◌else◌}
-use Rattle.group_disks.specs.Calls.{measures_of}
-use Rattle.group_disks.specs.Run.{DiskScene, disk_next}
+use Rattle.group_trace.specs.DiskCalls.{measures_of}
+use Rattle.group_trace.specs.DiskRun.{DiskScene, disk_next}
 use Rattle.schedule_play.specs.Stage.{IsTaken}
 use Rattle.group_rules.specs.Limits.{delta_tests}
 use Rattle.group_rules.specs.Names.{place_of}

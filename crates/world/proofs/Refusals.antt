@@ -1,7 +1,7 @@
 -- Why steps are refused in the world is why they are in the scene.
 use Rattle.std.proofs.Common.{◌≡◌, ℕ, ◌-◌, ◌<◌, ◌≤◌, ◌^◌, ◌&&◌, not, Bool, true, false, nat_lt, min, None, Some, refl, sym, ap, ◌∙◌, arith, if◌then◌else◌}
 use Rattle.std.proofs.lemmas.Bool.{le-ltb}
-use Rattle.group_disks.specs.Run.{DiskScene}
+use Rattle.group_trace.specs.DiskRun.{DiskScene}
 use Rattle.group_rules.proofs.Tests.{lt_is}
 use Rattle.group_rules.specs.Names.{place_of}
 use Rattle.group_rules.specs.Places.{Zero, One, Two, Place, Trio, at, get, with_at}
@@ -9,7 +9,7 @@ use Rattle.group_rules.specs.Step.{near}
 use Rattle.group_trace.specs.Refusals.{clock_refusal, net_limit, net_refusal, passes_full_net}
 use Rattle.harp_types.specs.Trio.{value_of}
 use Rattle.harp_types.specs.declared.server.ServerId.{ServerId}
-use Rattle.world_packets.specs.Posted.{bytes_sent}
+use Rattle.world_lines.specs.Posted.{bytes_sent}
 use Rattle.trace_types.specs.declared.line.LineFault.TheVariants as fault
 use Rattle.trace_types.specs.declared.step.Step.{Step}
 use Rattle.world.specs.World.{IsWorld, WorldValue, clocks_are, clocks_in}

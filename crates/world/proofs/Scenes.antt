@@ -1,8 +1,8 @@
 -- The scene after a server's moves.
 use Rattle.std.proofs.Common.{◌≡◌, ◌+◌, List, [], None, refl}
 use Rattle.file_tree.specs.Book.{Entry}
-use Rattle.group_disks.specs.Calls.{measures_of}
-use Rattle.group_disks.specs.Run.{DiskScene, Stores}
+use Rattle.group_trace.specs.DiskCalls.{measures_of}
+use Rattle.group_trace.specs.DiskRun.{DiskScene, Stores}
 use Rattle.group_rules.specs.Moves.{Move}
 use Rattle.group_rules.specs.Places.{Place, at}
 use Rattle.group_rules.specs.Step.{list_of}

@@ -19,9 +19,9 @@ use Rattle.node_outputs.specs.Messages.{as_heard, heard}
 use Rattle.node_outputs.specs.Records.{carried}
 use Rattle.node_outputs.specs.Said.{sent}
 use Rattle.node_outputs.specs.declared.outputs.Sent.{Sent}
-use Rattle.world_packets.specs.Machine.{StandFor}
-use Rattle.world_packets.specs.Posted.{Posted, bytes_of, bytes_sent, posted}
-use Rattle.world_packets.proofs.Machine.{sent_stand}
+use Rattle.world_lines.specs.Machine.{StandFor}
+use Rattle.world_lines.specs.Posted.{Posted, bytes_of, bytes_sent, posted}
+use Rattle.world_lines.proofs.Machine.{sent_stand}
 use Rattle.world_laws.specs.Stocks.{Carries}
 use Rattle.store_laws.specs.Told.{OneForOne}
 use Rattle.trace_types.specs.declared.line.Line.TheVariants as line

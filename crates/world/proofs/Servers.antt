@@ -4,7 +4,7 @@ use Rattle.event_record.specs.declared.record.RecordFields.{RecordFields}
 use Rattle.fuzzy_cells.specs.Disk.{Disk}
 use Rattle.file_tree.specs.Book.{Entry}
 use Rattle.world_lines.specs.Book.{BookValue}
-use Rattle.group_disks.specs.Run.{DiskScene}
+use Rattle.group_trace.specs.DiskRun.{DiskScene}
 use Rattle.group_rules.specs.Names.{place_of}
 use Rattle.group_rules.specs.Places.{Place, at}
 use Rattle.group_rules.specs.State.{Server}
@@ -15,7 +15,7 @@ use Rattle.world_laws.specs.Waits.{HasWaits}
 use Rattle.world_rules.specs.Host.{HostValue, IsHost}
 use Rattle.world_rules.specs.Steps.{IsStop}
 use Rattle.node.specs.Stock.{Stock}
-use Rattle.world_packets.specs.Posted.{Posted}
+use Rattle.world_lines.specs.Posted.{Posted}
 use Rattle.world_laws.specs.StockLaws.{Stays}
 use Rattle.world_laws.specs.Stocks.{AreSaved, HasStock}
 use Rattle.world.specs.World.{HasBook, HasPackets, IsServer, IsWorld, WorldValue}

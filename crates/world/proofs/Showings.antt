@@ -1,7 +1,7 @@
 -- What a server shows is true, and leaves the world where it stands.
 use Rattle.std.proofs.Common.{◌≡◌, Option, None, Some, true, refl, sym, ap, subst, ◌∙◌, true≢false}
 use Rattle.file_tree.specs.Book.{Entry}
-use Rattle.group_disks.specs.Run.{DiskScene}
+use Rattle.group_trace.specs.DiskRun.{DiskScene}
 use Rattle.group_rules.specs.Names.{place_of}
 use Rattle.group_rules.specs.State.{Server}
 use Rattle.harp_types.specs.Trio.{value_of}

@@ -2,8 +2,8 @@
 use Rattle.std.proofs.Common.{◌≡◌, List, [], ◌∷◌, ◌++◌, append-nil, drop, length, map, refl, sym, ap, ◌∙◌, subst, arith}
 use Rattle.std.specs.Prelude.{⊤}
 use Rattle.file_tree.specs.Book.{Entry}
-use Rattle.group_disks.specs.Calls.{measures_of}
-use Rattle.group_disks.specs.Run.{DiskScene, Stores}
+use Rattle.group_trace.specs.DiskCalls.{measures_of}
+use Rattle.group_trace.specs.DiskRun.{DiskScene, Stores}
 use Rattle.group_rules.specs.Moves.{Booting, Falling, Move, Saving, moved_by}
 use Rattle.group_rules.specs.Names.{place_of}
 use Rattle.group_rules.specs.Places.{Place}
@@ -16,7 +16,7 @@ use Rattle.group_trace.specs.Shown.{shown_of}
 use Rattle.harp_types.specs.declared.server.ServerId.{ServerId}
 use Rattle.world_rules.specs.Host.{HostValue}
 use Rattle.world_rules.specs.Spellings.{spellings}
-use Rattle.world_packets.specs.Machine.{StandFor}
+use Rattle.world_lines.specs.Machine.{StandFor}
 use Rattle.world_laws.specs.StockLaws.{Stays}
 use Rattle.world.specs.World.{IsServer, IsWorld, WorldValue}
 use Rattle.world.proofs.Moved.{bytes_in, bytes_said}

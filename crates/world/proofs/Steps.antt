@@ -2,8 +2,8 @@
 use Rattle.std.proofs.Common.{◌≡◌, ℕ, Bool, true, false, nat_le, List, [], ◌∷◌, ◌++◌, append-nil, drop, length, take, Option, None, Some, refl, sym, ap, ◌∙◌, subst, append_assoc, zero-le, if◌then◌else◌}
 use Rattle.file_tree.specs.Book.{Entry, tree_after}
 use Rattle.world_lines.specs.Given.{listing_shown}
-use Rattle.group_disks.specs.Calls.{measures_of}
-use Rattle.group_disks.specs.Run.{DiskScene, disk_next, is_whole}
+use Rattle.group_trace.specs.DiskCalls.{measures_of}
+use Rattle.group_trace.specs.DiskRun.{DiskScene, disk_next, is_whole}
 use Rattle.schedule_play.specs.Stage.{IsReached}
 use Rattle.group_rules.proofs.Tests.{le_is}
 use Rattle.group_rules.specs.Disk.{settled_tests}

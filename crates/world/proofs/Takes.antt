@@ -3,7 +3,7 @@ use Rattle.std.proofs.Common.{◌≡◌, ℕ, true, false, List, Option, None, s
 use Rattle.event_record.specs.declared.record.RecordFields.{RecordFields}
 use Rattle.file_tree.specs.Book.{Entry}
 use Rattle.fuzzy_cells.specs.Disk.{Disk}
-use Rattle.group_disks.specs.Run.{disk_after}
+use Rattle.group_trace.specs.DiskRun.{disk_after}
 use Rattle.group_rules.specs.Places.{Place}
 use Rattle.group_rules.specs.State.{Group}
 use Rattle.group_rules.specs.Step.{Crash, Does, Input as Begins}

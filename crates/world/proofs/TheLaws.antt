@@ -1,5 +1,5 @@
 -- The laws of hosts and books.
-use Rattle.book_laws.proofs.Growth.{deeds_grow, deliveries_grow}
+use Rattle.world_laws.proofs.Growth.{deeds_grow, deliveries_grow}
 use Rattle.world_laws.proofs.Hosts.{can_fail, can_take, reached_whole}
 use Rattle.world_laws.proofs.Sized.{messages_sized}
 use Rattle.world_laws.proofs.HostSteps.{steps_wait}

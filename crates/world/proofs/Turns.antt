@@ -3,8 +3,8 @@ use Rattle.std.proofs.Common.{◌≡◌, ℕ, true, false, List, [], ◌∷◌, 
 use Rattle.std.proofs.lemmas.Bool.{cases_Bool}
 use Rattle.file_tree.specs.Book.{Entry}
 use Rattle.world_lines.specs.Given.{lines_given}
-use Rattle.group_disks.specs.Calls.{measures_of}
-use Rattle.group_disks.specs.Run.{DiskScene, Stores, disk_after, disks_after_at, is_whole}
+use Rattle.group_trace.specs.DiskCalls.{measures_of}
+use Rattle.group_trace.specs.DiskRun.{DiskScene, Stores, disk_after, disks_after_at, is_whole}
 use Rattle.schedule_play.specs.Stage.{IsReached}
 use Rattle.group_rules.proofs.Tests.{if_is, if_not}
 use Rattle.group_rules.specs.Effects.{saving}

@@ -4,8 +4,8 @@ use Rattle.std.proofs.lemmas.List.Sums.{sum_by-append}
 use Rattle.file_tree.specs.Book.{Entry}
 use Rattle.fuzzy_cells.specs.Disk.{Disk}
 use Rattle.world_lines.specs.Given.{answered_lines as answered_lines_of, book_given, lines_given, packets_of, reads_in, refused_lines as refused_lines_of, sent_lines as sent_lines_of, updates_in}
-use Rattle.group_disks.specs.Calls.{measures_of}
-use Rattle.group_disks.specs.Run.{DiskScene, Stores}
+use Rattle.group_trace.specs.DiskCalls.{measures_of}
+use Rattle.group_trace.specs.DiskRun.{DiskScene, Stores}
 use Rattle.group_rules.specs.Moves.{Move, Sending, acts, moved_by}
 use Rattle.group_rules.specs.Names.{place_of}
 use Rattle.group_rules.specs.Places.{Place}
@@ -27,9 +27,9 @@ use Rattle.node.specs.Stock.{stock_after}
 use Rattle.node.specs.declared.input.Input.{Input}
 use Rattle.node_outputs.specs.Said.{Said}
 use Rattle.node_outputs.specs.declared.outputs.Outputs.{Outputs}
-use Rattle.world_packets.specs.Machine.{StandFor}
-use Rattle.world_packets.specs.Posted.{bytes_of as bytes_of_posted, bytes_sent}
-use Rattle.world_packets.proofs.Machine.{as_many_stand}
+use Rattle.world_lines.specs.Machine.{StandFor}
+use Rattle.world_lines.specs.Posted.{bytes_of as bytes_of_posted, bytes_sent}
+use Rattle.world_lines.proofs.Machine.{as_many_stand}
 use Rattle.world_laws.specs.Sent.{at_hand}
 use Rattle.trace_laws.proofs.After.{moved_server}
 use Rattle.trace_types.specs.declared.line.Line.{Line}

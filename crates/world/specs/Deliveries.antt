@@ -1,13 +1,13 @@
 -- The delivery of a packet.
 use Rattle.std.specs.Prelude.{◌≡◌, ℕ, List, [], ◌++◌, Some, slice_get}
 use Rattle.std.specs.Option.{option_map}
-use Rattle.group_disks.specs.Calls.{measures_of}
-use Rattle.group_disks.specs.Run.{DiskScene, disks_next}
+use Rattle.group_trace.specs.DiskCalls.{measures_of}
+use Rattle.group_trace.specs.DiskRun.{DiskScene, disks_next}
 use Rattle.schedule_play.specs.Stage.{IsReached}
 use Rattle.group_trace.specs.Run.{lines_where, next, turn}
 use Rattle.world_rules.specs.Spellings.{spellings}
-use Rattle.world_packets.specs.Posted.{Posted}
-use Rattle.world_packets.specs.declared.packet.Packet.{Packet}
+use Rattle.world_lines.specs.Posted.{Posted}
+use Rattle.world_lines.specs.declared.packet.Packet.{Packet}
 use Rattle.trace_types.specs.declared.line.Line.{Line}
 use Rattle.trace_types.specs.declared.step.Step.TheVariants as step
 use Rattle.world.specs.World.{IsWorld, WorldValue}

@@ -1,7 +1,7 @@
 -- Steps that are taken, and such as aren't.
 use Rattle.std.specs.Prelude.{◌≡◌, ◌<◌, List, length, Option, None, Some, IfSome, ⊤}
-use Rattle.group_disks.specs.Calls.{measures_of}
-use Rattle.group_disks.specs.Run.{DiskScene}
+use Rattle.group_trace.specs.DiskCalls.{measures_of}
+use Rattle.group_trace.specs.DiskRun.{DiskScene}
 use Rattle.schedule_play.specs.Stage.{IsReached, IsTaken, fault_of}
 use Rattle.schedule_play.specs.declared.refusal.Refusal.{Refusal}
 use Rattle.group_trace.specs.Refusals.{refusal}

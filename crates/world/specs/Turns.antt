@@ -1,8 +1,8 @@
 -- The turn of a server: the scene that it leads to, and the lines that it gives.
 use Rattle.std.specs.Prelude.{◌≡◌, ℕ, ◌+◌, true, List, [], ◌++◌, Option, None, Some}
 use Rattle.file_tree.specs.Book.{Entry}
-use Rattle.group_disks.specs.Calls.{measures_of}
-use Rattle.group_disks.specs.Run.{DiskScene, disks_after_at, is_whole}
+use Rattle.group_trace.specs.DiskCalls.{measures_of}
+use Rattle.group_trace.specs.DiskRun.{DiskScene, disks_after_at, is_whole}
 use Rattle.world_rules.specs.Steps.{IsStop}
 use Rattle.world_rules.specs.declared.stop.Stop.{Stop}
 use Rattle.schedule_play.specs.Stage.{IsReached}

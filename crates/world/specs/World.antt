@@ -3,7 +3,7 @@ use Rattle.std.specs.Prelude.{◌≡◌, ℕ, false, List, length, Option, Some,
 use Rattle.event_record.specs.declared.record.RecordFields.{RecordFields}
 use Rattle.file_tree.specs.Book.{Entry}
 use Rattle.world_lines.specs.Book.{BookValue}
-use Rattle.group_disks.specs.Run.{DiskScene}
+use Rattle.group_trace.specs.DiskRun.{DiskScene}
 use Rattle.world_rules.specs.Steps.{IsStop}
 use Rattle.world_rules.specs.declared.stop.Stop.{Stop}
 use Rattle.group_rules.specs.Names.{place_of}
@@ -18,8 +18,8 @@ use Rattle.world_rules.specs.Host.{HostValue, IsHost, no_stock}
 use Rattle.node.specs.Stock.{Stock}
 use Rattle.node_outputs.specs.Messages.{heard}
 use Rattle.node_outputs.specs.Records.{carried}
-use Rattle.world_packets.specs.Machine.{StandFor}
-use Rattle.world_packets.specs.Posted.{Posted, bytes_sent}
+use Rattle.world_lines.specs.Machine.{StandFor}
+use Rattle.world_lines.specs.Posted.{Posted, bytes_sent}
 use Rattle.world_laws.specs.Stocks.{AreSaved, Carries, HasStock}
 
 -- The servers, their clocks, how long the promises of later boots last, what was sent, the book, and

@@ -3,7 +3,7 @@
 ghost use Rattle.std.specs.Prelude.{◌≡◌, ◌<◌, length, slice_get, Some, IfOk, OnOk, []};
 ghost use Rattle.std.specs.Option.{option_map};
 ghost use Rattle.schedule_play.specs.Stage.{AreReadings};
-ghost use Rattle.world_packets.specs.Posted.{Posted, delivered_at};
+ghost use Rattle.world_lines.specs.Posted.{Posted, delivered_at};
 ghost use Rattle.trace_types.specs.declared.step.Step.TheVariants as step;
 ghost use Rattle.world.specs.Deliveries.{Arrives};
 ghost use Rattle.world.specs.Steps.{Takes};
@@ -13,7 +13,7 @@ use crate::world::World;
 use node::Input;
 use std::alloc::{AllocError, Global};
 use trace_types::Line;
-use world_packets::Packet;
+use world_lines::Packet;
 
 impl World {
     /// A packet reaches its server.

@@ -1,7 +1,7 @@
 //! What a host does, beside the rest of the world.
 
 ghost use Rattle.std.specs.Prelude.{◌≡◌, ◌<◌, ◌^◌, None, IfOk, OnOk};
-ghost use Rattle.group_disks.specs.Run.{DiskScene};
+ghost use Rattle.group_trace.specs.DiskRun.{DiskScene};
 ghost use Rattle.group_rules.specs.Names.{place_of};
 ghost use Rattle.group_trace.specs.Shown.{shown_of};
 ghost use Rattle.harp_types.specs.Trio.{value_of, with_value};

@@ -1,8 +1,8 @@
 //! Which steps aren't taken, and why.
 
 ghost use Rattle.std.specs.Prelude.{◌≡◌, ◌<◌, ◌^◌, length, true, None, Some, IfNone, if◌then◌else◌};
-ghost use Rattle.group_disks.specs.Calls.{measures_of};
-ghost use Rattle.group_disks.specs.Run.{DiskScene};
+ghost use Rattle.group_trace.specs.DiskCalls.{measures_of};
+ghost use Rattle.group_trace.specs.DiskRun.{DiskScene};
 ghost use Rattle.schedule_play.specs.Stage.{AreReadings, clocks_after};
 ghost use Rattle.group_rules.specs.Names.{place_of};
 ghost use Rattle.group_trace.specs.Refusals.{clock_refusal, net_refusal, own_refusal};

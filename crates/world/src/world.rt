@@ -1,7 +1,7 @@
 //! The world.
 
 ghost use Rattle.std.specs.Prelude.{IfOk};
-ghost use Rattle.group_disks.specs.Run.{first_disk_scene};
+ghost use Rattle.group_trace.specs.DiskRun.{first_disk_scene};
 ghost use Rattle.world.specs.World.{IsWorld};
 
 use harp_types::{ServerId, Trio};
@@ -11,8 +11,7 @@ use std::alloc::{AllocError, Global};
 use std::marker::Model;
 use trace_types::{Line, Step};
 use world_host::{Host, Stop};
-use world_lines::Book;
-use world_packets::Packets;
+use world_lines::{Book, Packets};
 
 /// Three servers, their clocks in milliseconds, the length of the promises of servers that boot
 /// later, the packets that were sent, the book, and the stops that are armed.

@@ -4,9 +4,9 @@ use Rattle.std.specs.Prelude.{IfSome, slice_index_or}
 use Rattle.event_record.specs.declared.record.RecordFields.{RecordFields}
 use Rattle.file_tree.specs.Book.{Entry}
 use Rattle.fuzzy_cells.specs.Disk.{Disk}
-use Rattle.group_disks.specs.Run.{calls_at, disk_after}
-use Rattle.group_disks.specs.Calls.{DiskCall, after_calls}
-use Rattle.group_disks.specs.Picks.{crashed_by}
+use Rattle.group_trace.specs.DiskRun.{calls_at, disk_after}
+use Rattle.group_trace.specs.DiskCalls.{DiskCall, after_calls}
+use Rattle.group_trace.specs.Picks.{crashed_by}
 use Rattle.world_host.proofs.Marks.{saves_if, saves_none}
 use Rattle.world_host.proofs.Stops.{KeepsLog}
 use Rattle.world_host.proofs.Wholes.{Holds, host_from}

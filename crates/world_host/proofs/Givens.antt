@@ -2,7 +2,7 @@
 use Rattle.std.proofs.Common.{◌≡◌, ℕ, Bool, true, false, List, Option, Some, None, refl, sym, ap, subst, ◌∙◌, if◌then◌else◌}
 use Rattle.std.specs.Prelude.{IfSome, option_map}
 use Rattle.file_tree.specs.Book.{Entry}
-use Rattle.group_disks.specs.Run.{is_crash}
+use Rattle.group_trace.specs.DiskRun.{is_crash}
 use Rattle.world_host.proofs.NodeCalls.{IsGiven}
 use Rattle.world_host.proofs.Rules.{IsNoListing, step_listed}
 use Rattle.world_rules.specs.Steps.{listing_by, peers_by}

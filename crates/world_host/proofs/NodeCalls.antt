@@ -3,10 +3,10 @@ use Rattle.std.proofs.Common.{◌≡◌, ◌⊎◌, ℕ, zero, suc, Bool, true, 
 use Rattle.std.specs.Prelude.{option_map}
 use Rattle.std.proofs.lemmas.List.{take_all}
 use Rattle.applier.specs.Applied.{FlushesInPart, flushed, lower}
-use Rattle.disk_laws.proofs.Counts.{are_counted}
+use Rattle.trace_laws.proofs.Counts.{are_counted}
 use Rattle.file_tree.specs.Book.{Entry}
-use Rattle.group_disks.specs.Calls.{Changing, DiskCall, Marking, Syncing, kind_of, measures_of}
-use Rattle.group_disks.specs.Run.{calls_at}
+use Rattle.group_trace.specs.DiskCalls.{Changing, DiskCall, Marking, Syncing, kind_of, measures_of}
+use Rattle.group_trace.specs.DiskRun.{calls_at}
 use Rattle.world_host.proofs.Rules.{step_marks}
 use Rattle.world_host.proofs.Stops.{Called, CalledAll, MarkLast}
 use Rattle.world_rules.specs.Spellings.{spellings}

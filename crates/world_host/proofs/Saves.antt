@@ -6,8 +6,8 @@ use Rattle.event_record.specs.Record.{entry_of}
 use Rattle.event_record.specs.declared.record.RecordFields.{RecordFields}
 use Rattle.file_tree.specs.Book.{Entry}
 use Rattle.fuzzy_cells.specs.Disk.{Disk}
-use Rattle.group_disks.specs.Calls.{Changing, DiskCall, Marking, Syncing, saved_puts}
-use Rattle.group_disks.specs.Run.{calls_at, disk_after, is_whole}
+use Rattle.group_trace.specs.DiskCalls.{Changing, DiskCall, Marking, Syncing, saved_puts}
+use Rattle.group_trace.specs.DiskRun.{calls_at, disk_after, is_whole}
 use Rattle.world_host.proofs.Falls.{fallen}
 use Rattle.world_host.proofs.NodeCalls.{no_calls}
 use Rattle.world_host.proofs.Stops.{Called, CalledAll, KeepsLog, MarkLast, first_told, now_at, step_cut, step_passes, step_sound}
@@ -34,7 +34,7 @@ use Rattle.node.specs.Power.{IsSavedBy, SavesAtOnce, mark_left, saved_log, saves
 use Rattle.node.specs.Stock.{Stock}
 use Rattle.power_save.specs.Entries.{saved_entries}
 use Rattle.power_save.specs.Saved.{HoldRecords, IsUnsaved, IsUnsavedOrSaved, SavedOn, puts_of}
-use Rattle.stopping_store.specs.Stopping.{numbered, stop_moment}
+use Rattle.harp_store.specs.Stopping.{numbered, stop_moment}
 use Rattle.store_laws.proofs.Calls.{saves_are_calls, saves_are_told}
 use Rattle.store_laws.proofs.Parts.{parts_are_saves}
 use Rattle.store_laws.proofs.StepCalls.{steps_make_calls}

@@ -5,7 +5,7 @@ use Rattle.event_record.specs.Record.{entry_of}
 use Rattle.event_record.specs.declared.record.RecordFields.{RecordFields}
 use Rattle.file_tree.specs.Book.{Entry}
 use Rattle.fuzzy_cells.specs.Disk.{Disk}
-use Rattle.group_disks.specs.Run.{empty_stores}
+use Rattle.group_trace.specs.DiskRun.{empty_stores}
 use Rattle.world_host.proofs.Marks.{other_mark}
 use Rattle.world_host.proofs.Stops.{now_at}
 use Rattle.world_host.proofs.Wholes.{Holds}

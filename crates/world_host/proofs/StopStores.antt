@@ -4,10 +4,10 @@ use Rattle.std.specs.Prelude.{is_some}
 use Rattle.world_host.proofs.Stops.{first_told}
 use Rattle.world_host.proofs.Takes.{told_on, told_stopped}
 use Rattle.harp_store.specs.Disk.{Disk as ToldDisk, Moments, then_disk}
-use Rattle.stopping_store.specs.Stopping.{numbered, stop_moment, told_by}
-use Rattle.stopping_store.specs.Values.{stands, told}
-use Rattle.stopping_store.specs.declared.attempt.Attempt.{Attempt}
-use Rattle.stopping_store.specs.declared.stores.StoppingStore.{StoppingStore}
+use Rattle.harp_store.specs.Stopping.{numbered, stop_moment, told_by}
+use Rattle.harp_store.specs.Values.{stands, told}
+use Rattle.harp_store.specs.declared.attempt.Attempt.{Attempt}
+use Rattle.harp_store.specs.declared.stores.StoppingStore.{StoppingStore}
 
 -- its stop lets so many calls pass, and none was made yet
 pub record IsArmed (calls : ℕ) (s : StoppingStore) : Type 0 where

@@ -3,11 +3,11 @@ use Rattle.std.proofs.Common.{◌≡◌, ◌⊎◌, ℕ, zero, suc, ◌+◌, ◌
 use Rattle.std.specs.Prelude.{not, ◌&&◌, nat_le}
 use Rattle.std.proofs.lemmas.Bool.Decides.{nat_tests}
 use Rattle.std.proofs.lemmas.List.{length-map, length-replicate, length-take, take_all}
-use Rattle.disk_laws.proofs.Counts.{are_counted}
+use Rattle.trace_laws.proofs.Counts.{are_counted}
 use Rattle.fuzzy_cells.specs.Disk.{Disk}
 use Rattle.file_tree.specs.Book.{Entry}
-use Rattle.group_disks.specs.Calls.{DiskCall, Spellings, kind_of, measures_of}
-use Rattle.group_disks.specs.Run.{calls_at, disk_after, is_crash, is_whole}
+use Rattle.group_trace.specs.DiskCalls.{DiskCall, Spellings, kind_of, measures_of}
+use Rattle.group_trace.specs.DiskRun.{calls_at, disk_after, is_crash, is_whole}
 use Rattle.group_rules.proofs.Tests.{le_is}
 use Rattle.group_rules.specs.Places.{Place}
 use Rattle.group_rules.specs.State.{Group}
@@ -18,7 +18,7 @@ use Rattle.harp_cells.specs.declared.change.Change.{Change}
 use Rattle.harp_cells.specs.declared.change.Change.TheVariants as change
 use Rattle.harp_store.specs.Mark.{MarkFields}
 use Rattle.harp_store.specs.Memory.{crashed_by as told_crashed_by, nothing_stored}
-use Rattle.stopping_store.specs.Stopping.{numbered, stop_moment}
+use Rattle.harp_store.specs.Stopping.{numbered, stop_moment}
 use Rattle.store_laws.proofs.Calls.{calls_are_moments, moments_before, steps_follow}
 use Rattle.store_laws.specs.Calls.{HaveFewBlocks, IsCallOf, Makes, StoreCall, Syncs, Writes, told_after}
 use Rattle.store_laws.specs.Told.{IsDiskOf, IsToldOf, OneForOne}

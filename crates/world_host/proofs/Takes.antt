@@ -4,7 +4,7 @@ use Rattle.std.specs.Prelude.{OnErr, OnOk, is_some}
 use Rattle.event_record.specs.declared.record.RecordFields.{RecordFields}
 use Rattle.file_tree.specs.Book.{Entry}
 use Rattle.fuzzy_cells.specs.Disk.{Disk}
-use Rattle.group_disks.specs.Run.{calls_at, disk_after, is_whole}
+use Rattle.group_trace.specs.DiskRun.{calls_at, disk_after, is_whole}
 use Rattle.world_host.proofs.Falls.{fallen}
 use Rattle.world_host.proofs.Givens.{is_given, is_no_crash}
 use Rattle.world_host.proofs.NodeCalls.{part_called, plain_moves, whole_called}
@@ -29,8 +29,8 @@ use Rattle.node.specs.Stored.{LeavesBy, disk_by}
 use Rattle.node.specs.Taking.{stepped}
 use Rattle.node.specs.declared.input.Input.{Input}
 use Rattle.node_outputs.specs.declared.outputs.Outputs.{Outputs}
-use Rattle.stopping_store.specs.Stopping.{made, numbered, stop_moment, told_by}
-use Rattle.stopping_store.specs.declared.attempt.Attempt.{Attempt}
+use Rattle.harp_store.specs.Stopping.{made, numbered, stop_moment, told_by}
+use Rattle.harp_store.specs.declared.attempt.Attempt.{Attempt}
 use Rattle.store_laws.specs.Told.{IsDiskOf}
 
 -- ---- a step of a node over a disk

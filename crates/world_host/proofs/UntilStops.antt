@@ -13,9 +13,9 @@ use Rattle.world_rules.specs.declared.stop.Stop.{Stop}
 use Rattle.node.specs.Node.{NodeValue}
 use Rattle.node.specs.declared.input.Input.{Input}
 use Rattle.node_outputs.specs.declared.outputs.Outputs.{Outputs}
-use Rattle.stopping_store.specs.Stopping.{numbered}
-use Rattle.stopping_store.specs.Values.{stands, told}
-use Rattle.stopping_store.specs.declared.stores.StoppingStore.{StoppingStore}
+use Rattle.harp_store.specs.Stopping.{numbered}
+use Rattle.harp_store.specs.Values.{stands, told}
+use Rattle.harp_store.specs.declared.stores.StoppingStore.{StoppingStore}
 
 -- ---- a step
 

@@ -5,7 +5,7 @@ use Rattle.event_record.specs.Record.{entry_of}
 use Rattle.event_record.specs.declared.record.RecordFields.{RecordFields}
 use Rattle.file_tree.specs.Book.{Entry}
 use Rattle.fuzzy_cells.specs.Disk.{Disk}
-use Rattle.group_disks.specs.Calls.{measures_of}
+use Rattle.group_trace.specs.DiskCalls.{measures_of}
 use Rattle.world_host.proofs.Givens.{listing_is, same_fills, same_peers, same_tree}
 use Rattle.world_host.proofs.Marks.{base_written, mark_written, saves_written}
 use Rattle.world_host.proofs.NodeCalls.{CanCall, is_of, none_saved, plain_moves}

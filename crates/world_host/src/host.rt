@@ -4,7 +4,7 @@ ghost use Rattle.std.specs.Prelude.{◌≡◌, ◌<◌, ◌^◌, List, [], None,
 ghost use Rattle.event_record.specs.declared.record.RecordFields.{RecordFields};
 ghost use Rattle.file_tree.specs.Book.{Entry};
 ghost use Rattle.fuzzy_cells.specs.Disk.{Disk};
-ghost use Rattle.group_disks.specs.Run.{empty_stores};
+ghost use Rattle.group_trace.specs.DiskRun.{empty_stores};
 ghost use Rattle.group_rules.specs.Names.{place_of};
 ghost use Rattle.group_rules.specs.State.{Server};
 ghost use Rattle.group_rules.specs.Step.{first_group};
@@ -14,11 +14,11 @@ ghost use Rattle.node.specs.Stock.{Stock};
 ghost use Rattle.world_rules.specs.Host.{IsHost, IsRunning, disk_of, no_stock, with_node, without_node};
 ghost use Rattle.world_rules.specs.Steps.{HostBoots, HostFails, HostFalls, HostTakes};
 ghost use Rattle.world_host.specs.Starts.{HostStarts};
-ghost use Rattle.stopping_store.specs.Values.{stands, stored};
+ghost use Rattle.harp_store.specs.Values.{stands, stored};
 
 mod showing;
 
-use harp_store::Pick;
+use harp_store::{Pick, SoundStore, StoppingStore};
 use harp_types::{ServerId, StateLine};
 use node::{Input, Node, NodeFault};
 use node_outputs::Outputs;
@@ -27,7 +27,6 @@ use promise::Delta;
 use std::alloc::{AllocError, Global};
 use std::marker::Model;
 use std::mem;
-use stopping_store::{SoundStore, StoppingStore};
 use world_rules::Stop;
 
 /// One server of a played group: its node, which is there while the server is up, over its disk in
@@ -47,7 +46,7 @@ impl Model for Host {
     ghost use Rattle.world_rules.specs.Host.{HostValue, IsRunning};
     ghost use Rattle.group_rules.specs.Names.{place_of};
     ghost use Rattle.std.specs.Prelude.{◌≡◌, [], IfSome, option_map};
-    ghost use Rattle.stopping_store.specs.Values.{stored};
+    ghost use Rattle.harp_store.specs.Values.{stored};
 
     ghost Value = { HostValue };
 

@@ -2,7 +2,7 @@
 use Rattle.std.proofs.Common.{◌≡◌, ℕ, ◌≤◌, List, length, Option, None, Some, refl, sym, ap, subst, arith, le_of_eq}
 use Rattle.std.specs.Prelude.{option_map}
 use Rattle.file_tree.specs.Book.{Entry}
-use Rattle.group_disks.specs.Calls.{measures_of}
+use Rattle.group_trace.specs.DiskCalls.{measures_of}
 use Rattle.group_rules.specs.Moves.{Appending, Move}
 use Rattle.group_rules.specs.Places.{Place}
 use Rattle.group_rules.specs.Said.{refusals_said}

@@ -1,16 +1,16 @@
 -- What a host's step and its power failure rest on stands in each scene to which steps lead.
 use Rattle.std.proofs.Common.{◌≡◌, ◌⊎◌, ℕ, ◌+◌, ◌-◌, ◌≤◌, not, true, false, List, [], ◌∷◌, min, take, drop, Option, Some, refl, sym, ap, ◌∙◌, subst, inl, arith, true≢false, if◌then◌else◌, ⊎_elim}
 use Rattle.std.proofs.lemmas.List.{drop-drop}
-use Rattle.disk_laws.proofs.Steps.{Stands, step_stands}
-use Rattle.disk_laws.proofs.StoreRuns.{first_stores}
-use Rattle.disk_laws.specs.Laws.{HasFewBlocks}
-use Rattle.disk_laws.specs.Stores.{applied_in}
+use Rattle.trace_laws.proofs.Steps.{Stands, step_stands}
+use Rattle.trace_laws.proofs.StoreRuns.{first_stores}
+use Rattle.trace_laws.specs.DiskLaws.{HasFewBlocks}
+use Rattle.trace_laws.specs.Stores.{applied_in}
 use Rattle.event_record.specs.declared.record.RecordFields.{RecordFields}
 use Rattle.file_tree.specs.Book.{Entry}
 use Rattle.fuzzy_cells.specs.Disk.{IsBetween}
 use Rattle.fuzzy_cells.specs.History.{in_a_row}
-use Rattle.group_disks.specs.Calls.{after_calls, measures_of}
-use Rattle.group_disks.specs.Run.{DiskScene, calls_at, disk_next, disk_run, first_disk_scene}
+use Rattle.group_trace.specs.DiskCalls.{after_calls, measures_of}
+use Rattle.group_trace.specs.DiskRun.{DiskScene, calls_at, disk_next, disk_run, first_disk_scene}
 use Rattle.schedule_play.specs.Stage.{IsReached}
 use Rattle.group_rules.proofs.Tests.{each_of, if_is, left, right}
 use Rattle.group_rules.specs.Disk.{settled_tests}

@@ -20,3 +20,10 @@ pub mod Sends
 pub mod Trees
 pub mod Truths
 pub mod Outlines
+pub mod Numbered
+pub mod BookLogs
+pub mod BookMoves
+pub mod NoReads
+pub mod StepKinds
+pub mod Growth
+pub mod Kept

@@ -5,7 +5,7 @@ use Rattle.std.proofs.lemmas.List.{length-map}
 use Rattle.event_record.specs.Record.{entry_of}
 use Rattle.event_record.specs.declared.record.RecordFields.{RecordFields}
 use Rattle.file_tree.specs.Book.{Entry}
-use Rattle.group_disks.specs.Calls.{measures_of}
+use Rattle.group_trace.specs.DiskCalls.{measures_of}
 use Rattle.group_rules.proofs.Tests.{all_true, if_is, if_not, le_is, lt_is, neither, not_le, not_lt}
 use Rattle.group_rules.specs.Disk.{settled_tests}
 use Rattle.group_rules.specs.Limits.{is_log}
@@ -26,10 +26,10 @@ use Rattle.node.specs.Node.{NodeValue}
 use Rattle.node.specs.Stock.{Stock}
 use Rattle.node.specs.Stored.{log_of, stores}
 use Rattle.node.specs.Wants.{ShowsCell}
-use Rattle.show_rules.specs.Rule.{CellAt, EntriesFrom, GoneTo, Outline, entries_from, outline_of}
+use Rattle.shown.specs.Rule.{CellAt, EntriesFrom, GoneTo, Outline, entries_from, outline_of}
 use Rattle.shown.specs.declared.shown.Shown.{Shown}
 use Rattle.shown.specs.declared.shown.Shown.TheVariants as shown
-use Rattle.shown_log.specs.Records.{records_from}
+use Rattle.shown.specs.Records.{records_from}
 use Rattle.tree_log.specs.Reading.{IsOfList}
 use Rattle.volatile_log.specs.Log.{LogValue, top}
 use Rattle.witness.specs.Serving.{asked_for as asked, given, one_or_more as at_least_one, record_size}

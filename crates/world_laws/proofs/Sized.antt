@@ -6,7 +6,7 @@ use Rattle.event_record.specs.Bytes.{record_bytes}
 use Rattle.event_record.specs.Record.{entry_of}
 use Rattle.event_record.specs.declared.record.RecordFields.{RecordFields}
 use Rattle.file_tree.specs.Book.{Entry}
-use Rattle.group_disks.specs.Calls.{measures_of}
+use Rattle.group_trace.specs.DiskCalls.{measures_of}
 use Rattle.group_rules.specs.Moves.{Move, Sending, moved_by}
 use Rattle.group_rules.specs.Names.{number_of_view, view_of}
 use Rattle.group_rules.specs.Places.{Place}

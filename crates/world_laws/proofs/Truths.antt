@@ -7,7 +7,7 @@ use Rattle.event_record.specs.declared.record.RecordFields.{RecordFields}
 use Rattle.file_tree.specs.Book.{Entry}
 use Rattle.fuzzy_cells.specs.Fuzzy.{is_saved}
 use Rattle.fuzzy_cells.specs.History.{History, cells_at, in_a_row, no_cells}
-use Rattle.group_disks.specs.Run.{DiskScene}
+use Rattle.group_trace.specs.DiskRun.{DiskScene}
 use Rattle.group_rules.proofs.Tests.{by_if}
 use Rattle.group_rules.specs.Limits.{is_log}
 use Rattle.group_rules.specs.Places.{Place}
@@ -31,14 +31,14 @@ use Rattle.overlay.specs.Overlay.{cells_over}
 use Rattle.record_changes.proofs.Histories.{as_long, fronts}
 use Rattle.record_changes.specs.Records.{history_of}
 use Rattle.schedule_play.specs.Stage.{IsReached}
-use Rattle.show_rules.specs.Rule.{outline_of}
+use Rattle.shown.specs.Rule.{outline_of}
 use Rattle.shown.specs.Truth.{IsShownOf}
 use Rattle.shown.specs.declared.shown.Shown.{Shown}
 use Rattle.shown.specs.declared.shown.Shown.TheVariants as shown
 use Rattle.shown.specs.declared.shown.Want.{Want}
 use Rattle.shown.specs.declared.shown.Want.TheVariants as want
-use Rattle.shown_log.proofs.Truths.{true_of}
-use Rattle.shown_log.specs.Records.{AreCommittedOf, records_from}
+use Rattle.shown.proofs.Truths.{true_of}
+use Rattle.shown.specs.Records.{AreCommittedOf, records_from}
 use Rattle.tree_log.proofs.Holding.{alike_at_cp}
 use Rattle.tree_log.specs.Reading.{HoldsTree}
 use Rattle.tree_log.specs.TreeLog.{changes_in}

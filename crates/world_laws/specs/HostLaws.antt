@@ -1,7 +1,7 @@
 -- In every run a host can do what is asked of it.
 use Rattle.std.specs.Prelude.{◌≡◌, List, Some}
 use Rattle.event_record.specs.declared.record.RecordFields.{RecordFields}
-use Rattle.group_disks.specs.Run.{DiskScene}
+use Rattle.group_trace.specs.DiskRun.{DiskScene}
 use Rattle.schedule_play.specs.Stage.{IsReached}
 use Rattle.group_rules.specs.Places.{Place}
 use Rattle.group_rules.specs.Step.{Input as Begins}

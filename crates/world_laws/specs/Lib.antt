@@ -7,3 +7,4 @@ pub mod StockLaws
 pub mod Sent
 pub mod Trees
 pub mod Shown
+pub mod Books

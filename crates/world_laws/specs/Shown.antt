@@ -1,8 +1,8 @@
 -- What servers show in every run.
 use Rattle.std.specs.Prelude.{◌≡◌, List, Option, Some, IfSome, option_map}
 use Rattle.event_record.specs.declared.record.RecordFields.{RecordFields}
-use Rattle.group_disks.specs.Calls.{measures_of}
-use Rattle.group_disks.specs.Run.{DiskScene}
+use Rattle.group_trace.specs.DiskCalls.{measures_of}
+use Rattle.group_trace.specs.DiskRun.{DiskScene}
 use Rattle.group_rules.specs.Places.{Place}
 use Rattle.harp_store.specs.Disk.{reads}
 use Rattle.node.specs.Node.{NodeValue}
@@ -10,7 +10,7 @@ use Rattle.node.specs.Stock.{Stock}
 use Rattle.node.specs.Wants.{Shows}
 use Rattle.record_changes.specs.Records.{history_of}
 use Rattle.schedule_play.specs.Stage.{IsReached}
-use Rattle.show_rules.specs.Rule.{outline_of, shown_by}
+use Rattle.shown.specs.Rule.{outline_of, shown_by}
 use Rattle.shown.specs.Truth.{IsShownOf}
 use Rattle.shown.specs.declared.shown.Shown.{Shown}
 use Rattle.shown.specs.declared.shown.Want.{Want}

@@ -1,7 +1,7 @@
 -- How many bytes the messages of servers have.
 use Rattle.std.specs.Prelude.{◌≡◌, true, length, Some}
 use Rattle.file_tree.specs.Book.{Entry}
-use Rattle.group_disks.specs.Calls.{measures_of}
+use Rattle.group_trace.specs.DiskCalls.{measures_of}
 use Rattle.group_rules.specs.Moves.{Sending, moved_by}
 use Rattle.group_rules.specs.Places.{Place}
 use Rattle.group_rules.specs.State.{Group, Message}

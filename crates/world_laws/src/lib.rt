@@ -48,10 +48,12 @@
 //!   CP, but of a saved log, and the committed records from an index on (`right`).
 #![tactic(auto)]
 
+mod book_laws;
 mod host_laws;
 mod show_laws;
 mod stock_laws;
 
+pub use book_laws::books_grow;
 pub use host_laws::{hosts_can, messages_are_sized, steps_wait};
 pub use show_laws::nodes_show_rightly;
 pub use stock_laws::{

@@ -11,7 +11,7 @@ use Rattle.node_outputs.specs.Said.{entered}
 use Rattle.node_outputs.specs.declared.outputs.Answered.{Answered}
 use Rattle.node_outputs.specs.declared.outputs.Refused.{Refused}
 use Rattle.node_outputs.specs.declared.outputs.Sent.{Sent}
-use Rattle.world_packets.specs.Posted.{Posted}
+use Rattle.world_lines.specs.Posted.{Posted}
 use Rattle.world_lines.specs.Book.{BookValue, new_updates, with_reads, with_updates}
 use Rattle.world_lines.specs.Given.{answered_line, answered_lines, packet_of, packets_of, read_in, reads_in, refused_line, refused_lines, sent_line, sent_lines}
 use Rattle.world_lines.proofs.Loops.{IsMade, Makes, split}

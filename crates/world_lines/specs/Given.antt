@@ -12,7 +12,7 @@ use Rattle.node_outputs.specs.declared.outputs.Answered.{Answered}
 use Rattle.node_outputs.specs.declared.outputs.Outputs.{Outputs}
 use Rattle.node_outputs.specs.declared.outputs.Refused.{Refused}
 use Rattle.node_outputs.specs.declared.outputs.Sent.{Sent}
-use Rattle.world_packets.specs.Posted.{Posted, posted}
+use Rattle.world_lines.specs.Posted.{Posted, posted}
 use Rattle.trace_types.specs.declared.line.Line.{Line}
 use Rattle.trace_types.specs.declared.line.Line.TheVariants as line
 use Rattle.tree_listing.specs.declared.listing.Listing.{Listing}

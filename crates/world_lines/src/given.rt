@@ -4,12 +4,12 @@ ghost use Rattle.std.specs.Prelude.{◌≡◌, ◌++◌, ◌∷◌, [], length, 
 ghost use Rattle.world_lines.specs.Given.{answered_line, answered_lines, book_given, lines_given, packet_of, packets_of, refused_line, refused_lines, sent_line, sent_lines};
 
 use crate::book::Book;
+use crate::packets::Packets;
 use crate::shown::shown;
 use harp_types::ServerId;
 use node_outputs::{Answered, Outputs, Refused, Sent};
 use std::alloc::{AllocError, Global};
 use trace_types::Line;
-use world_packets::Packets;
 
 /// The line of an answer.
 fn show_answer(

@@ -14,8 +14,8 @@ use Rattle.node.specs.Boot.{HasBase}
 use Rattle.node.specs.Node.{IsServer, NodeValue, mark_with, server}
 use Rattle.node.specs.Stock.{Stock, stock}
 use Rattle.power_save.specs.Saved.{HoldRecords}
-use Rattle.stopping_store.specs.Values.{stored}
-use Rattle.stopping_store.specs.declared.stores.SoundStore.{SoundStore}
+use Rattle.harp_store.specs.Values.{stored}
+use Rattle.harp_store.specs.declared.stores.SoundStore.{SoundStore}
 use Rattle.store_laws.specs.Told.{IsDiskOf}
 
 -- A server: its place, its node where it is up, and its store

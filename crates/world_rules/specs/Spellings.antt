@@ -3,7 +3,7 @@ use Rattle.std.specs.Prelude.{◌-◌, Bool, true, false, List, [], ◌∷◌, �
 use Rattle.event_record.specs.Bytes.{record_bytes}
 use Rattle.event_record.specs.declared.record.RecordFields.{RecordFields}
 use Rattle.file_tree.specs.Book.{Entry}
-use Rattle.group_disks.specs.Calls.{Spellings}
+use Rattle.group_trace.specs.DiskCalls.{Spellings}
 use Rattle.group_rules.specs.Names.{id_of, view_of}
 use Rattle.group_rules.specs.Places.{Pair, S01, S02, S12}
 use Rattle.group_rules.specs.State.{Ack, Beat, Demote, Empty, Event, Fetch, Form, Formed, Give, Held, Invite, Join, Log, Lost, Message}

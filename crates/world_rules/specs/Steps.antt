@@ -3,8 +3,8 @@ use Rattle.std.specs.Prelude.{◌≡◌, ℕ, true, false, List, [], ◌∷◌, 
 use Rattle.event_record.specs.declared.record.RecordFields.{RecordFields}
 use Rattle.file_tree.specs.Book.{Entry}
 use Rattle.fuzzy_cells.specs.Disk.{Disk}
-use Rattle.group_disks.specs.Calls.{measures_of}
-use Rattle.group_disks.specs.Run.{calls_at, disk_after, is_whole}
+use Rattle.group_trace.specs.DiskCalls.{measures_of}
+use Rattle.group_trace.specs.DiskRun.{calls_at, disk_after, is_whole}
 use Rattle.group_rules.specs.Disk.{settled_tests}
 use Rattle.group_rules.specs.Effects.{booted, down, saving}
 use Rattle.group_rules.specs.Moves.{Move, acts}

@@ -8,10 +8,10 @@ ghost use Rattle.world_host.specs.Shows.{HostShows, IsStill};
 ghost use Rattle.world_rules.specs.Host.{IsRunning, disk_of, with_node};
 
 use crate::host::Host;
+use harp_store::SoundStore;
 use node::{Node, NodeFault};
 use shown::{Shown, Want};
 use std::alloc::{AllocError, Global};
-use stopping_store::SoundStore;
 
 impl Host {
     /// Shows what is wanted of the server; nothing while it is down. Nothing changes but which

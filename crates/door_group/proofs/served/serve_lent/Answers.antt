@@ -1,7 +1,7 @@
 use Rattle.std.proofs.Common.{◌≡◌, ℕ, List, [], Some, ap, refl, subst, sym}
-use Rattle.group_asker.specs.Rule.{Before, Standing}
-use Rattle.local_servers.specs.Local.{Basis, HasFailed, IsLater}
-use Rattle.local_servers.proofs.Faults.{begins}
+use Rattle.door_group.specs.Rule.{Before, Standing}
+use Rattle.door_group.specs.Local.{Basis, HasFailed, IsLater}
+use Rattle.door_group.proofs.Faults.{begins}
 use Rattle.node_loop.specs.Scene.{Scene, each, scene_of, with_heard}
 use Rattle.node_loop.specs.declared.heard.Heard.{Heard}
 use Rattle.rpc_door.specs.Serving.{DoorEnds, Side, side}

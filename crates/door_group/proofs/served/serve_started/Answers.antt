@@ -1,6 +1,6 @@
 use Rattle.std.proofs.Common.{◌∙◌, Err, ap, refl, subst, sym}
 use Rattle.node_loop.specs.Scene.{each, scene_of, start}
-use Rattle.local_servers.specs.Local.{HasFailed}
+use Rattle.door_group.specs.Local.{HasFailed}
 use Rattle.door_group.proofs.Ends.{has_served, is_served}
 use Rattle.door_group.proofs.served.serve_started.Goals as goal
 

@@ -1,7 +1,7 @@
 -- some steps were taken, and the rest is left
 use Rattle.std.proofs.Common.{◌≡◌, ◌++◌, ℕ, List}
 use Rattle.harp_types.specs.declared.reply.Reply.{Reply}
-use Rattle.group_disks.specs.Calls.{measures_of}
+use Rattle.group_trace.specs.DiskCalls.{measures_of}
 use Rattle.group_trace.specs.Scene.{Scene}
 use Rattle.schedule_play.specs.Reading.{Reading}
 use Rattle.door_play.specs.OnTheWay.{AreReadable, HasHeard, clocks_behind, taken_then}

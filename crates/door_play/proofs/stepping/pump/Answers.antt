@@ -1,5 +1,5 @@
 use Rattle.std.proofs.Common.{◌∙◌, ◌+◌, ◌-◌, ◌++◌, arith}
-use Rattle.group_disks.specs.Calls.{measures_of}
+use Rattle.group_trace.specs.DiskCalls.{measures_of}
 use Rattle.group_trace.specs.Pump.{most_deliveries}
 use Rattle.schedule_play.specs.OnTheWay.{with_pump}
 use Rattle.door_play.proofs.Pumps.{pump-ends, pump-on, pump-spent}

@@ -1,7 +1,7 @@
 -- some deliveries were made, and those of a shorter pump are left
 use Rattle.std.proofs.Common.{◌≡◌, ◌-◌, ◌++◌, ℕ, List}
 use Rattle.harp_types.specs.declared.reply.Reply.{Reply}
-use Rattle.group_disks.specs.Calls.{measures_of}
+use Rattle.group_trace.specs.DiskCalls.{measures_of}
 use Rattle.group_trace.specs.Pump.{most_deliveries}
 use Rattle.group_trace.specs.Scene.{Scene}
 use Rattle.schedule_play.specs.OnTheWay.{with_pump}

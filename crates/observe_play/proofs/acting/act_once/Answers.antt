@@ -2,7 +2,7 @@ use Rattle.std.proofs.Common.{ap, subst, sym, ◌∙◌}
 use Rattle.std.specs.Prelude.{Err}
 use Rattle.schedule_play.proofs.Steps.{fault-not-memory}
 use Rattle.observed_text.specs.declared.step.ObservedStep.TheVariants as observed
-use Rattle.observe_run.specs.Reading.{observed_refused_at}
+use Rattle.observe_laws.specs.Reading.{observed_refused_at}
 use Rattle.observe_play.specs.OnTheWay.{HasObserved}
 use Rattle.observe_play.proofs.Acts.{acted-refused, acted-step}
 use Rattle.observe_play.proofs.Parts.{grew-now, refuses}

@@ -1,5 +1,5 @@
 use Rattle.std.proofs.Common.{◌∙◌, ◌+◌, ◌-◌, subst, arith}
-use Rattle.group_disks.specs.Calls.{measures_of}
+use Rattle.group_trace.specs.DiskCalls.{measures_of}
 use Rattle.observe_play.specs.OnTheWay.{DrainTurn, with_drain}
 use Rattle.observe_play.proofs.Drains.{drain-more, drain-spent}
 use Rattle.observe_play.proofs.acting.drain.Goals as goal

@@ -1,8 +1,8 @@
 -- some wants and takes were made, and those of a shorter drain are left
 use Rattle.std.proofs.Common.{◌≡◌, ◌≤◌, ◌-◌, ℕ, List, Option}
-use Rattle.group_disks.specs.Calls.{measures_of}
-use Rattle.observe_run.specs.Reading.{ObservedReading}
-use Rattle.observe_run.specs.Scene.{ObservedScene}
+use Rattle.group_trace.specs.DiskCalls.{measures_of}
+use Rattle.observe_laws.specs.Reading.{ObservedReading}
+use Rattle.observe_laws.specs.Scene.{ObservedScene}
 use Rattle.observe_play.specs.OnTheWay.{HasObserved, with_drain}
 use Rattle.observe_play.proofs.acting.drain.Given as goal
 

@@ -1,5 +1,5 @@
 use Rattle.std.proofs.Common.{sym, subst, ◌∙◌}
-use Rattle.group_disks.specs.Calls.{measures_of}
+use Rattle.group_trace.specs.DiskCalls.{measures_of}
 use Rattle.observe_play.specs.OnTheWay.{ObservedTurn, with_drain}
 use Rattle.observe_play.proofs.Drains.{after_want, drain-first, drain-next, drain-over}
 use Rattle.observe_play.proofs.acting.drain_once.Goals as goal

@@ -1,14 +1,14 @@
 use Rattle.std.proofs.Common.{◌≡◌, ◌∙◌, ℕ, List, sym, ap, length, None, Option}
 use Rattle.std.specs.Prelude.{Err}
 use Rattle.trace_claims.specs.Trace.{Trace, entries}
-use Rattle.group_disks.specs.Calls.{Spellings, measures_of}
-use Rattle.group_disks.specs.Run.{DiskScene}
+use Rattle.group_trace.specs.DiskCalls.{Spellings, measures_of}
+use Rattle.group_trace.specs.DiskRun.{DiskScene}
 use Rattle.group_trace.specs.Scene.{Scene}
 use Rattle.trace_laws.proofs.RightRuns.{run_right}
 use Rattle.schedule_play.specs.Stage.{IsReached}
-use Rattle.observe_run.specs.Reading.{ObservedReading}
-use Rattle.observe_run.specs.Run.{played_steps}
-use Rattle.observe_run.specs.Scene.{ObservedScene, first_observed}
+use Rattle.observe_laws.specs.Reading.{ObservedReading}
+use Rattle.observe_laws.specs.Run.{played_steps}
+use Rattle.observe_laws.specs.Scene.{ObservedScene, first_observed}
 use Rattle.observe_laws.proofs.Traced.{lines_played, scene_played, taken_played}
 use Rattle.observe_play.specs.OnTheWay.{HasObserved}
 use Rattle.observe_play.specs.Watch.{WatchValue}

@@ -2,8 +2,8 @@ use Rattle.std.proofs.Common.{ap, Err, ◌+◌, ◌∷◌, ◌++◌, [], List, �
 use Rattle.line_reader.specs.Reading.{text_left, GivesKnown}
 use Rattle.line_reader.specs.Lines.{lines_of}
 use Rattle.line_reader.specs.declared.reader.Next.TheVariants as next
-use Rattle.group_disks.specs.Calls.{measures_of}
-use Rattle.observe_run.specs.Reading.{ObservedReading, observed_by, observed_from, observed_reading, observed_reading_of, with_observed_given}
+use Rattle.group_trace.specs.DiskCalls.{measures_of}
+use Rattle.observe_laws.specs.Reading.{ObservedReading, observed_by, observed_from, observed_reading, observed_reading_of, with_observed_given}
 use Rattle.observe_play.specs.OnTheWay.{HasObserved}
 use Rattle.observe_play.proofs.LineLeads.{grew, source-fails, turn-ended, turn-last, turn-line}
 use Rattle.observe_play.proofs.NextLines.{end-comes, gave-fault, line-comes, long-alike, long-comes, next-line, read-out}

@@ -1,7 +1,7 @@
 use Rattle.std.proofs.Common.{ap, subst, arith, inl, inr, Ok}
 use Rattle.std.proofs.lemmas.Bool.{cases_lt}
 use Rattle.line_reader.specs.Reading.{text_left}
-use Rattle.group_disks.specs.Run.{first_disk_scene}
+use Rattle.group_trace.specs.DiskRun.{first_disk_scene}
 use Rattle.schedule_play.proofs.PlayLoop.{below-first}
 use Rattle.observe_play.specs.OnTheWay.{ObservedLineGives}
 use Rattle.observe_play.proofs.PlayLoop.{goes-first}

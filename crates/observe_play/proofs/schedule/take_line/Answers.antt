@@ -1,11 +1,11 @@
 use Rattle.std.proofs.Common.{◌≡◌, ◌∙◌, arith, ap, Ok, Result, Some, subst}
 use Rattle.trace_types.specs.declared.line.LineFault.TheVariants as fault
-use Rattle.text_fields.specs.declared.fault.TextFault.{TextFault}
-use Rattle.text_fields.specs.declared.fault.TextFault.TheVariants as text_fault
-use Rattle.text_fields.specs.Fields.{Fails}
-use Rattle.group_disks.specs.Calls.{measures_of}
+use Rattle.schedule_text.specs.declared.fault.TextFault.{TextFault}
+use Rattle.schedule_text.specs.declared.fault.TextFault.TheVariants as text_fault
+use Rattle.schedule_text.specs.Fields.{Fails}
+use Rattle.group_trace.specs.DiskCalls.{measures_of}
 use Rattle.observed_text.specs.Reading.{observed_meaning}
-use Rattle.observe_run.specs.Reading.{observed_or_fault, with_observed_given}
+use Rattle.observe_laws.specs.Reading.{observed_or_fault, with_observed_given}
 use Rattle.observe_play.specs.OnTheWay.{HasObserved}
 use Rattle.observe_play.proofs.NextLines.{gave-fault, gave-nothing, given-past, given-short}
 use Rattle.observe_play.proofs.Parts.{grew-now, refuses}

@@ -1,5 +1,5 @@
 use Rattle.std.proofs.Common.{◌∙◌, ◌+◌, ◌-◌, ap, subst, Ok, arith}
-use Rattle.group_disks.specs.Calls.{measures_of}
+use Rattle.group_trace.specs.DiskCalls.{measures_of}
 use Rattle.group_trace.specs.Pump.{most_deliveries}
 use Rattle.observe_play.specs.OnTheWay.{ObservedTurn, with_deliveries}
 use Rattle.observe_play.proofs.NextSteps.{pump-ends, pump-on, pump-spent}

@@ -1,9 +1,9 @@
 -- some deliveries were made, and those of a shorter pump are left
 use Rattle.std.proofs.Common.{◌≡◌, ◌≤◌, ◌-◌, ℕ, List, Option}
-use Rattle.group_disks.specs.Calls.{measures_of}
+use Rattle.group_trace.specs.DiskCalls.{measures_of}
 use Rattle.group_trace.specs.Pump.{most_deliveries}
-use Rattle.observe_run.specs.Reading.{ObservedReading}
-use Rattle.observe_run.specs.Scene.{ObservedScene}
+use Rattle.observe_laws.specs.Reading.{ObservedReading}
+use Rattle.observe_laws.specs.Scene.{ObservedScene}
 use Rattle.observe_play.specs.OnTheWay.{HasObserved, with_deliveries}
 use Rattle.observe_play.specs.Watch.{WatchValue}
 use Rattle.observe_play.proofs.stepping.pump.Given as goal

@@ -5,7 +5,7 @@ use Rattle.harp_types.specs.Streams.{GrewByPart}
 use Rattle.schedule_play.specs.Trace.{trace_text}
 use Rattle.schedule_play.proofs.Steps.{fault-not-memory}
 use Rattle.observed_text.specs.declared.step.ObservedStep.TheVariants as observed
-use Rattle.observe_run.specs.Reading.{observed_refused_at}
+use Rattle.observe_laws.specs.Reading.{observed_refused_at}
 use Rattle.observe_play.specs.OnTheWay.{HasObserved}
 use Rattle.observe_play.proofs.Parts.{grew-now, refuses}
 use Rattle.observe_play.proofs.Played.{played-refused, played-step, played-told}

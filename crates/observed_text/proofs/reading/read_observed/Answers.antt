@@ -1,5 +1,5 @@
 use Rattle.std.proofs.Common.{subst}
-use Rattle.text_fields.specs.Fields.{Gives}
+use Rattle.schedule_text.specs.Fields.{Gives}
 use Rattle.observed_text.proofs.ObservedLaws.{explained_observed, means_observed, means_blank, means_played}
 use Rattle.observed_text.proofs.reading.read_observed.Goals as goal
 

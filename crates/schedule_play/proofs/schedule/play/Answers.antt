@@ -1,5 +1,5 @@
 use Rattle.schedule_text.proofs.MeaningLaws.{explained}
-use Rattle.group_disks.specs.Calls.{measures_of}
+use Rattle.group_trace.specs.DiskCalls.{measures_of}
 use Rattle.schedule_play.proofs.PlayEnd.{completes, ends-after, sink-caused, source-caused}
 use Rattle.schedule_play.proofs.TextLaws.{book, disks, events, parts, right, taken, views}
 use Rattle.schedule_play.proofs.schedule.play.Goals as goal

@@ -2,7 +2,7 @@ use Rattle.std.proofs.Common.{ap, Err, ◌+◌, ◌∷◌, ◌++◌, [], List, �
 use Rattle.line_reader.specs.Reading.{text_left, GivesKnown}
 use Rattle.line_reader.specs.Lines.{lines_of}
 use Rattle.line_reader.specs.declared.reader.Next.TheVariants as next
-use Rattle.group_disks.specs.Calls.{measures_of}
+use Rattle.group_trace.specs.DiskCalls.{measures_of}
 use Rattle.schedule_play.specs.OnTheWay.{HasCome}
 use Rattle.schedule_play.specs.Reading.{Reading, given_by, reading, reading_from, reading_of, with_given}
 use Rattle.schedule_play.proofs.LineLeads.{grew, source-fails, stopped, turn-last, turn-line}

@@ -1,10 +1,10 @@
 use Rattle.std.proofs.Common.{◌≡◌, ◌∙◌, arith, ap, Ok, Result, subst}
 use Rattle.trace_types.specs.declared.line.LineFault.TheVariants as fault
-use Rattle.text_fields.specs.declared.fault.TextFault.{TextFault}
-use Rattle.text_fields.specs.declared.fault.TextFault.TheVariants as text_fault
-use Rattle.text_fields.specs.Fields.{Fails}
+use Rattle.schedule_text.specs.declared.fault.TextFault.{TextFault}
+use Rattle.schedule_text.specs.declared.fault.TextFault.TheVariants as text_fault
+use Rattle.schedule_text.specs.Fields.{Fails}
 use Rattle.schedule_text.specs.Reading.{meaning_of}
-use Rattle.group_disks.specs.Calls.{measures_of}
+use Rattle.group_trace.specs.DiskCalls.{measures_of}
 use Rattle.schedule_play.specs.OnTheWay.{HasCome}
 use Rattle.schedule_play.specs.Reading.{step_or_fault, with_given}
 use Rattle.schedule_play.proofs.NextLines.{given-past, given-short}

@@ -1,8 +1,8 @@
 use Rattle.std.proofs.Common.{◌≡◌, ◌∙◌, ◌+◌, ◌-◌, ◌<◌, ℕ, List, Option, Some, sym, ap, subst, Ok, arith}
 use Rattle.harp_types.specs.declared.server.ServerId.{ServerId}
 use Rattle.trace_types.specs.declared.step.Step.TheVariants as step
-use Rattle.group_disks.specs.Calls.{Spellings, measures_of}
-use Rattle.group_disks.specs.Run.{DiskScene, disk_run, first_disk_scene}
+use Rattle.group_trace.specs.DiskCalls.{Spellings, measures_of}
+use Rattle.group_trace.specs.DiskRun.{DiskScene, disk_run, first_disk_scene}
 use Rattle.group_trace.specs.Pump.{due, most_deliveries}
 use Rattle.group_trace.specs.Run.{run}
 use Rattle.group_trace.specs.Scene.{Scene, first_scene}

@@ -1,6 +1,6 @@
 -- some deliveries were made, and those of a shorter pump are left
 use Rattle.std.proofs.Common.{◌≡◌, ◌≤◌, ◌-◌, ℕ, List, Option}
-use Rattle.group_disks.specs.Calls.{measures_of}
+use Rattle.group_trace.specs.DiskCalls.{measures_of}
 use Rattle.group_trace.specs.Pump.{most_deliveries}
 use Rattle.group_trace.specs.Scene.{Scene}
 use Rattle.schedule_play.specs.OnTheWay.{HasCome, with_pump}

@@ -1,8 +1,8 @@
 use Rattle.std.proofs.Common.{◌≡◌, ◌∙◌, ℕ, List, sym, ap, length, None, Option}
 use Rattle.std.specs.Prelude.{Err}
 use Rattle.trace_claims.specs.Trace.{entries}
-use Rattle.group_disks.specs.Calls.{Spellings, measures_of}
-use Rattle.group_disks.specs.Run.{DiskScene, disk_run, first_disk_scene}
+use Rattle.group_trace.specs.DiskCalls.{Spellings, measures_of}
+use Rattle.group_trace.specs.DiskRun.{DiskScene, disk_run, first_disk_scene}
 use Rattle.group_trace.specs.Run.{run_lines}
 use Rattle.group_trace.specs.Scene.{Scene, first_scene}
 use Rattle.trace_laws.proofs.RightRuns.{run_right}

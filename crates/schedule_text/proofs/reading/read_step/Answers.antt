@@ -1,5 +1,5 @@
 use Rattle.std.proofs.Common.{subst}
-use Rattle.text_fields.specs.Fields.{Gives}
+use Rattle.schedule_text.specs.Fields.{Gives}
 use Rattle.schedule_text.proofs.MeaningLaws.{explained, means_step, means_blank}
 use Rattle.schedule_text.proofs.reading.read_step.Goals as goal
 

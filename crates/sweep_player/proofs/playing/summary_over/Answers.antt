@@ -1,6 +1,6 @@
 use Rattle.std.proofs.Common.{◌+◌, ◌∙◌, ap, drop, subst, Ok}
-use Rattle.group_disks.specs.Calls.{measures_of}
-use Rattle.group_disks.specs.Run.{first_disk_scene}
+use Rattle.group_trace.specs.DiskCalls.{measures_of}
+use Rattle.group_trace.specs.DiskRun.{first_disk_scene}
 use Rattle.schedule_play.proofs.PlayLoop.{below-first}
 use Rattle.sweep_player.specs.OnTheWay.{TurnCounts}
 use Rattle.sweep_player.specs.Reading.{steps_read, steps_read_from, summary_of_steps}

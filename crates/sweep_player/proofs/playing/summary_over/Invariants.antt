@@ -1,6 +1,6 @@
 -- the steps so far were taken and their lines counted, and the others are left
 use Rattle.std.proofs.Common.{◌+◌, drop}
-use Rattle.group_disks.specs.Calls.{measures_of}
+use Rattle.group_trace.specs.DiskCalls.{measures_of}
 use Rattle.schedule_play.specs.OnTheWay.{AreBelow}
 use Rattle.sweep_player.specs.OnTheWay.{HasCounted}
 use Rattle.sweep_player.specs.Reading.{steps_read, steps_read_from}

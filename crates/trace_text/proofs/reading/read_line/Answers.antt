@@ -1,5 +1,5 @@
 use Rattle.std.proofs.Common.{subst}
-use Rattle.text_fields.specs.Fields.{Gives}
+use Rattle.schedule_text.specs.Fields.{Gives}
 use Rattle.trace_text.proofs.MeaningLaws.{explained, found, line_again}
 use Rattle.trace_text.proofs.reading.read_line.Goals as goal
 

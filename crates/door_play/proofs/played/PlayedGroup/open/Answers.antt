@@ -1,10 +1,10 @@
 use Rattle.std.proofs.Common.{◌≡◌, [], ◌++◌, true, refl, sym, subst}
-use Rattle.group_disks.specs.Calls.{measures_of}
-use Rattle.group_disks.specs.Run.{first_disk_scene}
+use Rattle.group_trace.specs.DiskCalls.{measures_of}
+use Rattle.group_trace.specs.DiskRun.{first_disk_scene}
 use Rattle.schedule_play.specs.Reading.{all_read}
 use Rattle.schedule_play.specs.Stage.{AreReadings}
-use Rattle.door_run.specs.Played.{reading_of_calls}
-use Rattle.door_run.specs.Steps.{opening}
+use Rattle.door_laws.specs.Played.{reading_of_calls}
+use Rattle.door_laws.specs.Steps.{opening}
 use Rattle.door_play.specs.OnTheWay.{AreReadable, StopGives}
 use Rattle.door_play.proofs.Pumps.{asks-steps, readable-first, readable-last}
 use Rattle.door_play.proofs.Tells.{DoorLaws, begins, given_up, opened}

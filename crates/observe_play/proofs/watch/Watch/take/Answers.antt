@@ -2,7 +2,7 @@ use Rattle.std.proofs.Common.{Option, Result, sym, ap, subst, ◌∙◌}
 use Rattle.std.specs.Prelude.{IfOk}
 use Rattle.observe_play.specs.Watch.{Does, WatchValue}
 use Rattle.observe_play.proofs.WatchActs.{take_does}
-use Rattle.observe_run.specs.Run.{top_lines}
+use Rattle.observe_laws.specs.Run.{top_lines}
 use Rattle.observed_text.specs.declared.line.ObservedLine.{ObservedLine}
 use Rattle.observed_text.specs.declared.step.Act.TheVariants as act
 use Rattle.observer.specs.Progress.{taken}

@@ -1,5 +1,5 @@
 use Rattle.std.proofs.Common.{◌-◌, ◌^◌, min, sym, ap, ◌∙◌}
-use Rattle.world_packets.specs.Posted.{bytes_sent}
+use Rattle.world_lines.specs.Posted.{bytes_sent}
 use Rattle.world.specs.World.{WorldValue}
 use Rattle.world.proofs.Refusals.{net_full, net_open, net_passed}
 use Rattle.world.proofs.world.World.net_refusal.Goals as goal

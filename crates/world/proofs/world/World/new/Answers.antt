@@ -1,7 +1,7 @@
 use Rattle.std.proofs.Common.{ℕ, List, subst, sym}
 use Rattle.world_lines.specs.Book.{BookValue}
-use Rattle.group_disks.specs.Run.{first_disk_scene}
-use Rattle.world_packets.specs.Posted.{Posted}
+use Rattle.group_trace.specs.DiskRun.{first_disk_scene}
+use Rattle.world_lines.specs.Posted.{Posted}
 use Rattle.world.specs.World.{IsWorld, WorldValue}
 use Rattle.world.proofs.First.{first_stands, first_world}
 use Rattle.world.proofs.world.World.new.Goals as goal

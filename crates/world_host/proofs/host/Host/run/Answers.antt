@@ -6,7 +6,7 @@ use Rattle.world_host.proofs.host.Host.run.Goals as goal
 use Rattle.harp_store.specs.Disk.{Moments, reads}
 use Rattle.world_rules.specs.Host.{HostValue, disk_of, with_node}
 use Rattle.node.specs.Node.{NodeValue}
-use Rattle.stopping_store.specs.Values.{stored}
+use Rattle.harp_store.specs.Values.{stored}
 
 pub step-stepped-requires-clause-cached : goal.step-stepped-requires-clause-cached
 step-stepped-requires-clause-cached c =

@@ -8,7 +8,7 @@ use Rattle.world_host.proofs.host.Host.run_until.Goals as goal
 use Rattle.harp_store.specs.Disk.{Disk, Moments, reads}
 use Rattle.world_rules.specs.Host.{HostValue, disk_of, with_node}
 use Rattle.node.specs.Node.{NodeValue}
-use Rattle.stopping_store.specs.Values.{told}
+use Rattle.harp_store.specs.Values.{told}
 
 armed : (c : goal.After-disk-1) → IsArmed c.args.stop.now.calls c.stop_disk-disk.result
 armed c = record {

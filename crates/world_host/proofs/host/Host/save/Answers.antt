@@ -8,7 +8,7 @@ use Rattle.world_rules.specs.Host.{HostValue, disk_of, with_node}
 use Rattle.world_rules.specs.Steps.{HostFails}
 use Rattle.std.specs.Prelude.{OnOk, Some, option_map}
 use Rattle.std.specs.declared.alloc.AllocError.{AllocError}
-use Rattle.stopping_store.specs.Values.{stored}
+use Rattle.harp_store.specs.Values.{stored}
 
 pub returns-clause-fails : goal.returns-clause-fails
 returns-clause-fails c =

@@ -2,7 +2,7 @@ use Rattle.std.proofs.Common.{◌≡◌, Some, subst, sym}
 use Rattle.cell_cache.specs.Entries.{AreOf}
 use Rattle.harp_store.specs.Disk.{Moments, reads}
 use Rattle.node.specs.Node.{NodeValue}
-use Rattle.stopping_store.specs.Values.{stored}
+use Rattle.harp_store.specs.Values.{stored}
 use Rattle.world_host.proofs.Stills.{running_still}
 use Rattle.world_host.proofs.host.Host.show_by.Goals as goal
 use Rattle.world_rules.specs.Host.{HostValue, disk_of}

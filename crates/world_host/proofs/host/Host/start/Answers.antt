@@ -4,7 +4,7 @@ use Rattle.world_host.proofs.host.Host.start.Goals as goal
 use Rattle.harp_store.specs.Disk.{Moments}
 use Rattle.world_rules.specs.Host.{HostValue, disk_of}
 use Rattle.node.specs.Node.{NodeValue}
-use Rattle.stopping_store.specs.Values.{stored}
+use Rattle.harp_store.specs.Values.{stored}
 
 pub returns-in_ok-new-in-Ok-clause-starts : goal.returns-in_ok-new-in-Ok-clause-starts
 returns-in_ok-new-in-Ok-clause-starts c =

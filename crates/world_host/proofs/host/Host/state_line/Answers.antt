@@ -7,7 +7,7 @@ use Rattle.group_rules.specs.Shown.{state_of}
 use Rattle.node.specs.Node.{NodeValue, server}
 use Rattle.std.specs.Prelude.{IfSome, option_map}
 use Rattle.std.specs.declared.alloc.Global.{Global}
-use Rattle.stopping_store.specs.Values.{stored}
+use Rattle.harp_store.specs.Values.{stored}
 
 pub returns-in-Some : goal.returns-in-Some
 returns-in-Some c s k saved r host =

@@ -1,5 +1,0 @@
-use Rattle.disk_laws.proofs.DiskRuns.{disk_runs_right}
-use Rattle.disk_laws.proofs.laws.every_disk_run.Goals as goal
-
-pub returns : goal.returns
-returns c = record { right = disk_runs_right }

@@ -1,5 +1,0 @@
-use Rattle.disk_laws.proofs.StoreRuns.{read_exactly}
-use Rattle.disk_laws.proofs.laws.servers_read_exactly.Goals as goal
-
-pub returns : goal.returns
-returns c = record { exact = read_exactly }

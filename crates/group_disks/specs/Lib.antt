@@ -1,4 +1,0 @@
-pub mod Calls
-pub mod Picks
-pub mod Run
-pub mod Rows

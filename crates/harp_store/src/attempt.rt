@@ -1,0 +1,14 @@
+//! Calls that change a store.
+
+use crate::mark::Mark;
+use harp_cells::{Cell, Value};
+
+/// A call that would have changed a store.
+#[derive(Drop)]
+pub enum Attempt {
+    Put { cell: Cell, value: Value },
+    Erase { cell: Cell },
+    EraseFrom { object: u32, first: u32 },
+    Sync,
+    WriteMark { mark: Mark },
+}

@@ -1,5 +1,0 @@
-pub mod Scene
-pub mod Run
-pub mod Reading
-pub mod Trace
-pub mod Peeks

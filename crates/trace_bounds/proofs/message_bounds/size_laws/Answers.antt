@@ -1,7 +1,0 @@
-use Rattle.trace_bounds.proofs.Sizes.{gives_short, ticks_short, within}
-use Rattle.trace_bounds.proofs.StepSizes.{steps_little}
-use Rattle.trace_bounds.proofs.message_bounds.size_laws.Goals as goal
-
-pub returns : goal.returns
-returns c =
-    record { within = within; gives = gives_short; ticks = ticks_short; steps = steps_little }

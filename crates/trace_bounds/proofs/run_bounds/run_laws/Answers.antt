@@ -1,5 +1,0 @@
-use Rattle.trace_bounds.proofs.Runs.{books_few, runs_fit}
-use Rattle.trace_bounds.proofs.run_bounds.run_laws.Goals as goal
-
-pub returns : goal.returns
-returns c = record { fit = runs_fit; few = books_few }

@@ -1,0 +1,49 @@
+use Rattle.std.proofs.Common.{◌≡◌, ◌++◌, ◌∷◌, [], List, Some, arith, length, ap, sym, subst, ◌∙◌}
+use Rattle.std.specs.Option.{option_or}
+use Rattle.std.proofs.lemmas.List.Sums.{sum_by_push}
+use Rattle.world_lines.specs.Kept.{AreFirst, Ways, way, with_way}
+use Rattle.world_lines.specs.Posted.{Posted, bytes_of, posted}
+use Rattle.world_lines.proofs.Ways.{first_sent}
+use Rattle.world_lines.specs.Machine.{StandFor, sent}
+use Rattle.world_lines.proofs.Machine.{sent_stand}
+use Rattle.world_lines.proofs.packets.Packets.send.Goals as goal
+
+pub invariant_of-self-2 : goal.invariant_of-self-2
+invariant_of-self-2 c =
+    let ps = c.self.inside.kept.items in
+    let due = c.self.inside.due in
+    let p = posted c.args.from c.args.to c.args.message.now in
+    let items : c.push.new.self.items ≡ ps ++ p ∷ [] = c.in_ok-push.ensures.items
+    ∙ ap (λ (x : Posted). ps ++ x ∷ []) c.in_ok-kept.ensures in
+    let size : c.in_ok-size.size ≡ bytes_of p = c.in_ok-size.ensures in
+    let n : c.len-n.result ≡ length ps = omega (arith, c.len-n.ensures, c.self.inside.kept.ok.0) in
+    let ways : with_way due c.args.from c.args.to
+    (option_or (way due c.args.from c.args.to) (Some (length ps)))
+    ≡ c.with_new-self-inside.result =
+    ap (λ k. with_way due c.args.from c.args.to
+    (option_or (way due c.args.from c.args.to) (Some k))) (sym n)
+    ∙ sym c.with_new-self-inside.ensures in
+    record {
+      counted = rw items (omega (
+        arith,
+        c.saturating_add-self-inside.ensures,
+        size,
+        c.self.invariant.counted,
+        sum_by_push bytes_of ps p,
+      ));
+      first = rw items (subst (λ (w : Ways). AreFirst (ps ++ p ∷ []) w) ways
+          (first_sent ps due c.args.from c.args.to c.args.message.now c.self.invariant.first));
+    }
+
+-- of the machine
+
+pub returns-clause-machine : goal.returns-clause-machine
+returns-clause-machine c packets numbers body stands is =
+    let p = posted c.args.from c.args.to c.args.message.now in
+    let items : c.push.new.self.items ≡ c.args.self.now ++ p ∷ [] = c.in_ok-push.ensures.items
+    ∙ ap (λ (x : Posted). c.self.inside.kept.items ++ x ∷ []) c.in_ok-kept.ensures
+    ∙ ap (λ (ps : List Posted). ps ++ p ∷ []) c.self.view_is in
+    subst (λ (ps : List Posted). StandFor ps (sent c.args.from c.args.to body ∷ packets) numbers)
+    (sym items)
+    (sent_stand c.args.self.now packets numbers c.args.from c.args.to c.args.message.now body
+    stands is)

@@ -1,4 +1,0 @@
-pub mod Sizes
-mod Firsts
-mod Ways
-pub mod Machine

@@ -1,7 +1,0 @@
-use Rattle.std.proofs.Common.{◌≡◌, drop}
-use Rattle.world_packets.specs.Due.{first_from, goes}
-use Rattle.world_packets.proofs.due.first_after.Given as goal
-
-abbrev pub invariant-loop-n : goal.invariant-loop-n
-invariant-loop-n l = first_from (goes l.from l.to) l.n (drop l.n l.kept)
-    ≡ first_from (goes l.from l.to) l.start (drop l.start l.kept)

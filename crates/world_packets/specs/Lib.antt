@@ -1,4 +1,0 @@
-pub mod Posted
-pub mod Due
-pub mod Machine
-pub mod Kept
