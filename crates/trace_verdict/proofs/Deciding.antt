@@ -13,7 +13,8 @@ use Rattle.trace_verdict.specs.Judging.{AfterLine, AfterTurn, BreaksAlone, Decid
 use Rattle.trace_verdict.specs.Places.{has_ended}
 use Rattle.trace_verdict.specs.Verdicts.{AreLines, AreRight, Breaks, Comes, IsVerdictOn}
 use Rattle.trace_verdict.proofs.Closing.{closed_from}
-use Rattle.trace_verdict.proofs.OneVerdict.{Cause, HasLeft, IsAlone, only_at, only_unfinished, only_yes}
+use Rattle.trace_verdict.proofs.Causes.{Cause, IsAlone}
+use Rattle.trace_verdict.proofs.OneVerdict.{HasLeft, only_at, only_unfinished, only_yes}
 
 as_lines : (taken : List (List ℕ)) (before : Trace) → MeanOnly taken before → AreLines taken before
 as_lines [] [] h = tt
