@@ -1,18 +1,39 @@
--- Reads are answered under an unexpired promise, by the last that opened a view, on the whole
--- book.
-use Rattle.std.specs.Prelude.{◌≡◌, ℕ, true, false, length, Some}
+-- Reads are answered to their own ask, under an unexpired promise, by the last that opened a view,
+-- on the whole book.
+use Rattle.std.specs.Prelude.{◌≡◌, ℕ, true, false, length, Option, Some}
 use Rattle.std.specs.List.{AllByRecursion}
 use Rattle.harp_types.specs.View.{View, above}
 use Rattle.harp_types.specs.declared.server.ServerId.{ServerId}
 use Rattle.harp_types.specs.declared.state.Mode.TheVariants as mode
 use Rattle.harp_types.specs.declared.state.Role.TheVariants as role
 use Rattle.harp_types.specs.declared.state.StateLine.{StateLine}
+use Rattle.harp_types.specs.Update.{is_update}
+use Rattle.trace_types.specs.declared.step.Step.{Step}
+use Rattle.trace_types.specs.declared.step.Step.TheVariants as step
 use Rattle.trace_types.specs.declared.line.Line.{Line}
 use Rattle.trace_types.specs.declared.line.Line.TheVariants as line
 use Rattle.file_tree.specs.Book.{updates}
 use Rattle.trace_claims.specs.Acknowledged.{answers_read}
 use Rattle.trace_claims.specs.Servers.{PromiseDelivered, clock_after, last_state}
 use Rattle.trace_claims.specs.Trace.{AtEachPlace, Trace, entries, step_under_way}
+
+-- ---- own reads
+
+-- what a step answers that asks for a read has the client and the number of this ask
+abbrev pub IsOfItsAsk : Option Step → ℕ → ℕ → Type 0
+IsOfItsAsk (Some (step.Ask server asker asked cred call)) client number =
+    is_update call ≡ false → (client ≡ asker) × (number ≡ asked)
+IsOfItsAsk s client number = Unit {0}
+
+-- an answered read is that of its step's ask
+abbrev pub AnswersItsAsk : Trace → Line → Type 0
+AnswersItsAsk before (line.Answered server client number index reply) =
+    IsOfItsAsk (step_under_way before) client number
+AnswersItsAsk before l = Unit {0}
+
+-- each read is answered to who asks for it
+abbrev pub ReadsAreOwn : Trace → Type 0
+ReadsAreOwn trace = AtEachPlace AnswersItsAsk trace
 
 -- ---- promise use
 

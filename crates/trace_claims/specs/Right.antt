@@ -6,7 +6,7 @@ use Rattle.trace_claims.specs.Faithful.{IsFaithful}
 use Rattle.trace_claims.specs.LaterViews.{AllSurvive}
 use Rattle.trace_claims.specs.Listing.{AllListTheTree, ListsTree}
 use Rattle.trace_claims.specs.LocalSteps.{StepsAreLocal}
-use Rattle.trace_claims.specs.Reading.{AreExclusive, PromisesAreUsed}
+use Rattle.trace_claims.specs.Reading.{AreExclusive, PromisesAreUsed, ReadsAreOwn}
 use Rattle.trace_claims.specs.Trace.{AtPlacesAmid, HasStep, IsClosed, Trace}
 
 -- of a whole trace
@@ -15,6 +15,7 @@ pub record IsRight (trace : Trace) : Type 0 where
   pub faithful : IsFaithful trace
   pub acknowledged : AreAcknowledged trace
   pub answered_at_once : AreAnsweredAtOnce trace
+  pub own_reads : ReadsAreOwn trace
   pub promises : PromisesAreUsed trace
   pub exclusive : AreExclusive trace
   pub later_views : AllSurvive trace
@@ -30,6 +31,7 @@ pub record IsRightSoFar (part : Trace) : Type 0 where
   pub faithful : IsFaithful part
   pub acknowledged : AreAcknowledged part
   pub answered_at_once : InStepsBefore AnswersAtOnce part
+  pub own_reads : ReadsAreOwn part
   pub promises : PromisesAreUsed part
   pub exclusive : AreExclusive part
   pub later_views : AllSurvive part

@@ -3,7 +3,7 @@
 //!
 //! # What is proved
 //!
-//! What a trace has to be (`IsRight`), in nine parts, which `GUARANTEES.md` explains. A faithful
+//! What a trace has to be (`IsRight`), in ten parts, which `GUARANTEES.md` explains. A faithful
 //! trace is what the field calls linearizable (`faithful_is_linearizable`).
 #![tactic(auto)]
 

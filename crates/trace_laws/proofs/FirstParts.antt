@@ -10,14 +10,14 @@ use Rattle.trace_claims.specs.Faithful.{IsBookReply, IsNumbered, WasAsked}
 use Rattle.trace_claims.specs.LaterViews.{HasAbove, HasHere, SurvivesLater}
 use Rattle.trace_claims.specs.Listing.{ListsTree, listing_front}
 use Rattle.trace_claims.specs.LocalSteps.{AddsRecords, IsNextPacket, IsOfItsStep}
-use Rattle.trace_claims.specs.Reading.{ReadsExclusively, UsesPromise}
+use Rattle.trace_claims.specs.Reading.{AnswersItsAsk, ReadsExclusively, UsesPromise}
 use Rattle.trace_claims.specs.Trace.{AtPlacesAfter, AtPlacesAmid, HasStep, Trace, entries}
 use Rattle.trace_claims.proofs.Places.{entries-append}
 use Rattle.file_tree.specs.Book.{Entry, IsBook, MayFollowAll}
 use Rattle.trace_laws.specs.FirstParts.{FirstPartsAreRight}
 use Rattle.group_trace.specs.Run.{AreTaken, run_lines}
 use Rattle.group_trace.specs.Scene.{Measures, first_scene}
-use Rattle.trace_laws.proofs.LeaderLaws.{acknowledged_step, exclusive_step, promise_step}
+use Rattle.trace_laws.proofs.LeaderLaws.{acknowledged_step, exclusive_step, own_step, promise_step}
 use Rattle.trace_laws.proofs.RightRuns.{first_stands}
 use Rattle.trace_laws.proofs.RunLaws.{run_places, run_stands, run_at_once, run_lists, run_survives}
 use Rattle.trace_laws.proofs.LocalLaws.{names_step}
@@ -130,6 +130,8 @@ first_parts_right m ss t part rest is =
       };
       acknowledged = places IsAcknowledged (run_places IsAcknowledged
           (λ b s. tt) acknowledged_step m ss [] first_scene first_stands t);
+      own_reads = places AnswersItsAsk (run_places AnswersItsAsk
+          (λ b s. tt) own_step m ss [] first_scene first_stands t);
       promises = places UsesPromise (run_places UsesPromise
           (λ b s. tt) promise_step m ss [] first_scene first_stands t);
       exclusive = places ReadsExclusively (run_places ReadsExclusively

@@ -1,5 +1,5 @@
 -- Acknowledgement, promises and exclusive reading, at each place of a step's lines.
-use Rattle.std.proofs.Common.{◌≡◌, ℕ, ◌<◌, ◌≤◌, ◌⊎◌, true, false, List, [], ◌∷◌, ◌++◌, append-nil, length, Some, refl, sym, ap, ◌∙◌, subst, inl, inr, arith, true≢false, le_trans, ⊎_elim, eq-or-lt_of_le}
+use Rattle.std.proofs.Common.{◌≡◌, ℕ, ◌<◌, ◌≤◌, ◌⊎◌, true, false, not, List, [], ◌∷◌, ◌++◌, append-nil, length, Some, refl, sym, ap, ◌∙◌, subst, inl, inr, arith, true≢false, le_trans, ⊎_elim, eq-or-lt_of_le}
 use Rattle.std.specs.List.{AllByRecursion}
 use Rattle.std.proofs.lemmas.List.Sums.{fold-append}
 use Rattle.std.proofs.lemmas.Bool.{cases_Bool}
@@ -10,10 +10,11 @@ use Rattle.harp_types.specs.declared.state.Role.TheVariants as role
 use Rattle.harp_types.specs.declared.state.StateLine.{StateLine}
 use Rattle.harp_types.specs.Update.{is_update}
 use Rattle.trace_types.specs.declared.step.Step.{Step}
+use Rattle.trace_types.specs.declared.step.Step.TheVariants as step
 use Rattle.trace_types.specs.declared.line.Line.{Line}
 use Rattle.trace_types.specs.declared.line.Line.TheVariants as line
 use Rattle.trace_claims.specs.Acknowledged.{IsAcknowledged, WithinOpening, answers_read}
-use Rattle.trace_claims.specs.Reading.{IsNotOpenAbove, ReadsExclusively, UsesPromise}
+use Rattle.trace_claims.specs.Reading.{AnswersItsAsk, IsNotOpenAbove, IsOfItsAsk, ReadsExclusively, UsesPromise}
 use Rattle.trace_claims.specs.Servers.{AckDelivered, HasShown, PromiseDelivered, clock_after, clock_next, first_open, last_state}
 use Rattle.trace_claims.specs.Trace.{AtPlacesAfter, Trace, entries, step_under_way}
 use Rattle.trace_claims.proofs.Places.{all-append}
@@ -31,7 +32,7 @@ use Rattle.group_safety.proofs.Safe.{sent_known}
 use Rattle.group_rules.specs.Shown.{role_shown, state_of}
 use Rattle.trace_laws.proofs.Amid.{goes_later, goes_may}
 use Rattle.trace_laws.proofs.Answering.{AckUpTo, tails_enter}
-use Rattle.trace_laws.proofs.Asked.{with_event}
+use Rattle.trace_laws.proofs.Asked.{asks_for, with_event}
 use Rattle.trace_laws.proofs.Keeping.{acked_more, acks_came, clock_keeps, clock_stays, promise_more, turn_group, turn_lines, turn_whole}
 use Rattle.trace_laws.proofs.OpenLines.{open_has_line}
 use Rattle.trace_laws.proofs.LineParts.{AreStateless, entered_begin, stateless-entered}
@@ -229,6 +230,36 @@ acknowledged_step before g h s q i ms t = law_step IsAcknowledged before g s q i
           ((acks_came before g h.whole h.packets s q i t.begun o ack.from ack.top ack.lb ack.until
           ack.is).acked n ack.within))),
     )
+
+-- ---- own reads
+
+no_own : (before : Trace) (l : Line) → IsNoAnswer l → AnswersItsAsk before l
+no_own before (line.Answered server client number index reply) h = absurd h
+no_own before l h = tt
+
+-- a step that asks for no read says nothing of reads
+no_read_own : (s : Step) → answers_read (Some s) ≡ false → (client number : ℕ)
+    → IsOfItsAsk (Some s) client number
+no_read_own (step.Ask server asker theirs cred call) none client number =
+    λ read. absurd (true≢false (sym (ap not read) ∙ none))
+no_read_own s none client number = tt
+
+pub own_step : (before : Trace) (g : Group Entry) → Stands before g
+    → (s : Step) (q : Place) (i : Input) (ms : List (Move Entry)) → Turned g s q i ms
+    → AtPlacesAfter AnswersItsAsk before (turn_lines g s q ms)
+own_step before g h s q i ms t = law_step AnswersItsAsk before g s q i ms t (record {
+  of_update = λ ms t a n e x more said quiet.
+      subst (λ w. IsOfItsAsk w e.client e.number) (sym (way_there before s g q ms more said))
+      (no_read_own s (answers_no_read g s q i t.begun (a.each n e x).asks) e.client e.number);
+  of_read = λ e after t o is u l tails.
+      let ms = Reading (g.server q).cp e ∷ after in
+      let b = up_to_answers before s g q ms in
+      let ask = asks_for g s q i e t.begun is in
+      let way = sym (ap step_under_way (append-nil b)) ∙ way_there before s g q ms [] tt
+      ∙ ap Some ask.is in
+      subst (λ w. IsOfItsAsk w e.client e.number) (sym way) (λ read. (refl, refl));
+  other_lines = no_own;
+})
 
 -- ---- promise use
 

@@ -9,7 +9,7 @@ use Rattle.trace_claims.specs.Faithful.{IsBookReply, IsNumbered, WasAsked}
 use Rattle.trace_claims.specs.LaterViews.{SurvivesLater}
 use Rattle.trace_claims.specs.Listing.{ListsTree}
 use Rattle.trace_claims.specs.LocalSteps.{AddsRecords, IsNextPacket, IsOfItsStep}
-use Rattle.trace_claims.specs.Reading.{ReadsExclusively, UsesPromise}
+use Rattle.trace_claims.specs.Reading.{AnswersItsAsk, ReadsExclusively, UsesPromise}
 use Rattle.trace_claims.specs.Servers.{first_state}
 use Rattle.trace_claims.specs.Trace.{AtPlacesAfter, AtPlacesAmid, Ends, Trace, entries}
 use Rattle.trace_claims.proofs.Places.{entries-append, places-append}
@@ -26,7 +26,7 @@ use Rattle.group_trace.specs.Run.{AreTaken, run, run_lines}
 use Rattle.group_trace.specs.Scene.{Measures, first_scene}
 use Rattle.group_trace.specs.Shown.{shown_of}
 use Rattle.trace_laws.proofs.LaterLaws.{HaveBoth}
-use Rattle.trace_laws.proofs.LeaderLaws.{acknowledged_step, exclusive_step, promise_step}
+use Rattle.trace_laws.proofs.LeaderLaws.{acknowledged_step, exclusive_step, own_step, promise_step}
 use Rattle.trace_laws.proofs.LineParts.{shown_at}
 use Rattle.trace_laws.proofs.Listings.{EndsListing}
 use Rattle.trace_laws.proofs.Amid.{PartnerShown}
@@ -165,6 +165,8 @@ run_right m ss t =
                 first_stands t);
             answered_at_once = run_at_once m ss [] first_scene (end ∷ []) first_stands t last.idle
                 last.at_once;
+            own_reads = with_last AnswersItsAsk (λ b m f. tt) (λ b k. tt) lines _ end ends
+                (run_places AnswersItsAsk (λ b s. tt) own_step m ss [] first_scene first_stands t);
             promises = with_last UsesPromise (λ b m f. tt) (λ b k. tt) lines _ end ends
                 (run_places UsesPromise (λ b s. tt) promise_step m ss [] first_scene first_stands
                 t);
