@@ -4,7 +4,7 @@ use Rattle.trace_types.specs.declared.step.Step.{Step}
 use Rattle.group_safety.specs.Disks.{empty_disks}
 use Rattle.group_rules.specs.Places.{Place, is_p2}
 use Rattle.group_safety.proofs.Disks.{first_disks}
-use Rattle.group_safety.proofs.Lawful.{bases_on_both_disks}
+use Rattle.group_safety.proofs.Lawful.{bases_on_both_disks, every_later_view, reads_alone, stands_for, within_limits}
 use Rattle.group_safety.proofs.Safe.{first_whole}
 use Rattle.trace_laws.proofs.Blocks.{few_blocks}
 use Rattle.trace_laws.proofs.StoreRuns.{are_fuzzy, first_stores, read_exactly}
@@ -50,9 +50,15 @@ pub disk_runs_right : (f : Spellings) (ss : List Step) → AreTaken (measures_of
 disk_runs_right f ss t =
     let stands = run_stands f ss first_disk_scene
     (first_whole, (empty_disks, first_disks, first_stores)) t in
+    let group = (disk_run f first_disk_scene ss).scene.group in
     record {
       lines = run_right (measures_of f) ss t;
       scene = same_scene f ss first_disk_scene;
       disks = disk_right (disk_run f first_disk_scene ss) stands;
-      bases = bases_on_both_disks (disk_run f first_disk_scene ss).scene.group stands.0;
+      bases = bases_on_both_disks group stands.0;
+      logs = stands_for group stands.0;
+      later_views = every_later_view group stands.0;
+      alone = reads_alone group stands.0;
+      within = within_limits group stands.0;
+      clocks = stands.0.near;
     }

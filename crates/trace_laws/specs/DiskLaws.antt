@@ -11,9 +11,10 @@ use Rattle.harp_cells.specs.Effect.{after}
 use Rattle.fuzzy_cells.specs.Disk.{Disk, reads}
 use Rattle.fuzzy_cells.specs.Fuzzy.{MayBeLeft}
 use Rattle.group_rules.specs.Moves.{Move}
-use Rattle.group_safety.specs.Laws.{BasesOnBothDisks}
+use Rattle.group_safety.specs.Laws.{BasesOnBothDisks, EveryLaterView, ReadsAlone, StandsFor, WithinLimits}
 use Rattle.group_rules.specs.Places.{Place, is_p2}
 use Rattle.group_rules.specs.State.{Live, Log, Open, Server, top}
+use Rattle.group_rules.specs.Step.{Near}
 use Rattle.trace_laws.specs.StoreLaws.{IsFuzzyAt, ReadsRightly}
 use Rattle.trace_laws.specs.Laws.{RunIsRight}
 use Rattle.group_trace.specs.Calls.{calls_of}
@@ -42,12 +43,20 @@ pub record DiskIsRight (w : DiskScene) (q : Place) : Type 0 where
       → ReadsRightly w.scene.group q w.disks (w.scene.group.server q).cp
 
 -- OF EACH LIST OF STEPS that are taken: its lines are a right trace, its scene is that of the run
--- without disks, each data server's disk is right, and every base is on both disks
+-- without disks, each data server's disk is right, and every base is on both disks. Each log stands
+-- for its view's list, each answered update for good in every later view; who reads under a promise
+-- has the whole book and is the last that opened a view; numbers keep their limits, and clocks are
+-- near each other
 pub record DiskRunIsRight (f : Spellings) (ss : List Step) : Type 0 where
   pub lines : RunIsRight (measures_of f) ss
   pub scene : (disk_run f first_disk_scene ss).scene ≡ run (measures_of f) first_scene ss
   pub disks : (q : Place) → is_p2 q ≡ false → DiskIsRight (disk_run f first_disk_scene ss) q
   pub bases : BasesOnBothDisks (disk_run f first_disk_scene ss).scene.group
+  pub logs : (q : Place) → StandsFor (disk_run f first_disk_scene ss).scene.group q
+  pub later_views : EveryLaterView (disk_run f first_disk_scene ss).scene.group
+  pub alone : ReadsAlone (disk_run f first_disk_scene ss).scene.group
+  pub within : WithinLimits (disk_run f first_disk_scene ss).scene.group
+  pub clocks : Near (disk_run f first_disk_scene ss).scene.group.clock
 
 -- a stop counts the calls that a step makes, kind by kind
 abbrev pub CallsAreCounted : Type 0

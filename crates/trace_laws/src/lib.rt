@@ -24,7 +24,10 @@
 //!   settled. Where it holds a log, the records after the base up to top, made of the disk's
 //!   cells, give each such cell exactly as after so many updates, and stand for their book; so do
 //!   those up to CP where it is settled. No object has a block of number 524,288 or above at any
-//!   moment since the last sync. Every base is on both disks.
+//!   moment since the last sync. Every base is on both disks. Of the group that the steps leave:
+//!   each log stands for its view's list, each answered update stands in every later view, who
+//!   reads under a promise has the whole book and opened the last view, numbers keep their limits,
+//!   and clocks are near each other.
 //! - `stops_count_calls`: the calls that a stop counts are, kind by kind, those that a step makes
 //!   of its disk (`counted`). What a crash by a pick leaves is what a crash may leave, cell by
 //!   cell (`parts`); one that keeps nothing leaves what was synced, and one that keeps all, where
