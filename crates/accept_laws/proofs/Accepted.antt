@@ -40,7 +40,7 @@ right_text m bytes text short =
     }
 
 -- a message has its tag
-take_bytes : TakeBytes (measures_of spellings)
+pub take_bytes : TakeBytes (measures_of spellings)
 take_bytes list message = omega arith
 
 pub accepted : PlaysAreAccepted

@@ -197,6 +197,10 @@ due_falls m b w h among n e r =
     let one = delivers_new w.delivered n k' (omega (arith, more, l)) new.new in
     omega (arith, after, more, old, one)
 
-pub first_left : left first_scene ≤ most_packets
+pub left_few : (w : Scene) → IsGoing w → left w ≤ most_packets
 unfolding left undelivered
-first_left = omega arith
+left_few w h =
+    let n = length w.group.packets in
+    let all = undelivered_more w.delivered n 0 (omega arith) in
+    let packets = h.packets in
+    omega (arith, all, packets)

@@ -7,7 +7,7 @@ use Rattle.group_trace.specs.Scene.{first_scene}
 use Rattle.schedule_play.specs.Reading.{reading}
 use Rattle.schedule_play.specs.Trace.{last_of}
 use Rattle.schedule_play.proofs.TakenLaws.{reading_taken}
-use Rattle.accept_laws.proofs.Deliveries.{first_going, first_left}
+use Rattle.accept_laws.proofs.Deliveries.{first_going, left_few}
 use Rattle.accept_laws.proofs.RunCounts.{runs_short}
 use Rattle.accept_laws.specs.TextLaws.{TracesAreFew}
 use Rattle.accept_laws.proofs.Readings.{reading_told}
@@ -19,7 +19,7 @@ traces_few m b text short =
     let read = reading_told m (lines_of text) 1 first_scene (omega arith) short in
     let told = read.few in
     let steps = reading_few m b (lines_of text) 1 (omega arith) first_scene first_going in
-    let packets = first_left in
+    let packets = left_few first_scene first_going in
     let lines = run_lines m first_scene r.steps in
     let all = runs_short m b r.steps (reading_taken m 1 (lines_of text) first_scene) read.fit in
     let last = length-append lines (last_of m r ∷ []) in

@@ -33,3 +33,4 @@ pub mod Readings
 pub mod Fits
 pub mod StepsRead
 pub mod Few
+pub mod PumpRuns

@@ -8,3 +8,4 @@ pub mod MessageLaws
 pub mod StepMessages
 pub mod AcceptLaws
 pub mod TextLaws
+pub mod PumpLaws

@@ -25,6 +25,7 @@
 //!   a schedule and messages that have bytes, and all of them.
 //! - `accepted_texts`: of each schedule whose lines have at most 19,998 bytes, the text of the
 //!   trace that the group's servers make is a right text (`accepted`).
+//! - `pumped_lines`: behind a pump that isn't refused nothing is due among its servers (`pumped`).
 #![tactic(auto)]
 
 mod accepted_plays;
@@ -35,7 +36,7 @@ mod run_bounds;
 mod trace_texts;
 mod tree_bounds;
 
-pub use accepted_plays::accepted_texts;
+pub use accepted_plays::{accepted_texts, pumped_lines};
 pub use line_counts::count_laws;
 pub use message_bounds::size_laws;
 pub use move_bounds::step_walks;

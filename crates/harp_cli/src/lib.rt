@@ -34,6 +34,7 @@ mod observing;
 mod play;
 mod serve;
 mod sweeping;
+mod texts;
 mod top;
 mod words;
 

@@ -5,16 +5,12 @@ ghost use Rattle.harp_types.specs.Streams.{Rose};
 ghost use Rattle.group_trace.specs.DiskRun.{first_disk_scene};
 ghost use Rattle.schedule_play.specs.Exit.{whole_exit};
 ghost use Rattle.schedule_play.specs.Reading.{reading};
-ghost use Rattle.schedule_play.specs.Trace.{trace_of};
-ghost use Rattle.trace_claims.specs.Linearizable.{IsLinearizable};
 ghost use Rattle.world.specs.World.{IsWorld};
 ghost use Rattle.harp_cli.specs.Play.{EndsPlay, HasPlayed, exit_of_play, sizes};
 
 use crate::exit::Exit;
 use harp_types::{Sink, Source};
-use schedule_play::every_text;
 use std::alloc::Global;
-use trace_claims::faithful_is_linearizable;
 use world::World;
 
 impl From<schedule_play::Exit> for Exit {
@@ -55,12 +51,4 @@ pub fn play<S: Source, K: Sink>(
     ensures sink_rose { result ≡ Exit.SinkFailed → Rose (K.faults sink.old) (K.faults sink.new) }
 {
     Exit::from(schedule_play::play(alloc, world, source, sink))
-}
-
-/// The trace of every text is linearizable.
-pub fn linearizable_texts()
-    ensures { (text : List ℕ) → IsLinearizable (trace_of sizes text) }
-{
-    every_text();
-    faithful_is_linearizable();
 }

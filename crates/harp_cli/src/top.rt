@@ -2,6 +2,7 @@
 
 ghost use Rattle.std.specs.Prelude.{◌≡◌, ◌≢◌, ◌⊎◌, ◌∷◌, [], ℕ, ◌<◌, ◌^◌, List, Some};
 ghost use Rattle.accept_laws.specs.AcceptLaws.{HasShortLines};
+ghost use Rattle.accept_laws.specs.PumpLaws.{PumpsLeaveNone};
 ghost use Rattle.trace_laws.specs.DiskLaws.{DiskRunIsRight};
 ghost use Rattle.group_trace.specs.DiskRun.{first_disk_scene};
 ghost use Rattle.schedule_play.specs.Exit.{whole_exit};
@@ -57,11 +58,12 @@ use crate::door::door_play;
 use crate::door_servers::door_to_servers;
 use crate::generate::generate;
 use crate::observing::{observe, observed_texts};
-use crate::play::{linearizable_texts, play};
+use crate::play::play;
 use crate::serve::{serve_group, serve_node};
 use crate::sweeping::sweep;
+use crate::texts::{linearizable_texts, traced_texts};
 use crate::words::{Command, command_of, write_usage};
-use accept_laws::accepted_texts;
+use accept_laws::{accepted_texts, pumped_lines};
 use audit::audit_laws;
 use harp_store::Store;
 use harp_types::{Cred, Sink, Source, Trio};
@@ -233,10 +235,11 @@ pub fn harp<R: Threads + Sync, S: Source, K: Sink, L: Link, D: Store, C: Clock>(
     ensures link_failed { result ≡ 8 → Rose (L.faults link.old) (L.faults link.new) }
     ensures spent { result ≡ 9 → (door : Way) × IsDoor door words.now }
     ensures net_full { result ≡ 10 → (uid : ℕ) × (gid : ℕ) × IsDoorPlay uid gid words.now }
-    // What each line of a text means, by the grammar of steps, and that no step that is read of one
-    // is refused.
+    // What each line of a text means, by the grammar of steps; that no step that is read of one is
+    // refused; and that behind a pump nothing is due among its servers.
     ensures meaning { (line : List ℕ) → Explains line (meaning_of line) }
     ensures taken { (text : List ℕ) → AreTaken sizes first_scene (reading sizes text).steps }
+    ensures pumped { PumpsLeaveNone sizes }
     // What the trace of a text is: closed, faithful, acknowledged, answered at once, and the rest.
     ensures right { (text : List ℕ) → IsRight (trace_of sizes text) }
     // Each answered call of it took effect at one moment between an ask of it and its answer, and
@@ -259,7 +262,9 @@ pub fn harp<R: Threads + Sync, S: Source, K: Sink, L: Link, D: Store, C: Clock>(
     ensures observed { (text : List ℕ) → IsObservedRightly sizes text }
 {
     every_text();
+    traced_texts();
     linearizable_texts();
+    pumped_lines();
     observed_texts();
     accepted_texts();
     audit_laws();

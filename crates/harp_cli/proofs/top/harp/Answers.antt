@@ -36,24 +36,6 @@ returns-in-Some-Observe-clause-observe_complete g c = λ is text told source sin
       | inr e ↦ inr (c.status-in-Some-Observe.ensures ∙ ap status_of e)
     ]
 
-pub returns-in-Some-Observe-clause-taken : goal.returns-in-Some-Observe-clause-taken
-returns-in-Some-Observe-clause-taken g c = c.every_text.ensures.taken sizes
-
-pub returns-in-Some-Observe-clause-right : goal.returns-in-Some-Observe-clause-right
-returns-in-Some-Observe-clause-right g c = c.every_text.ensures.right sizes
-
-pub returns-in-Some-Observe-clause-events : goal.returns-in-Some-Observe-clause-events
-returns-in-Some-Observe-clause-events g c = c.every_text.ensures.events sizes
-
-pub returns-in-Some-Observe-clause-book : goal.returns-in-Some-Observe-clause-book
-returns-in-Some-Observe-clause-book g c = c.every_text.ensures.book sizes
-
-pub returns-in-Some-Observe-clause-views : goal.returns-in-Some-Observe-clause-views
-returns-in-Some-Observe-clause-views g c = c.every_text.ensures.views sizes
-
-pub returns-in-Some-Observe-clause-parts : goal.returns-in-Some-Observe-clause-parts
-returns-in-Some-Observe-clause-parts g c = c.every_text.ensures.parts sizes
-
 pub returns-in-None-clause-observe : goal.returns-in-None-clause-observe
 returns-in-None-clause-observe g c = λ is. absurd (c.in-None.ensures (command.Observe, is))
 
@@ -167,153 +149,12 @@ pub returns-in-None-clause-group : goal.returns-in-None-clause-group
 returns-in-None-clause-group g c = λ runs is.
     absurd (c.in-None.ensures (command.Group runs, is))
 
-pub returns-in-Some-Play-clause-right : goal.returns-in-Some-Play-clause-right
-returns-in-Some-Play-clause-right g c = c.every_text.ensures.right sizes
-
-pub returns-in-Some-Play-clause-events : goal.returns-in-Some-Play-clause-events
-returns-in-Some-Play-clause-events g c = c.every_text.ensures.events sizes
-
-pub returns-in-Some-Play-clause-book : goal.returns-in-Some-Play-clause-book
-returns-in-Some-Play-clause-book g c = c.every_text.ensures.book sizes
-
-pub returns-in-Some-Play-clause-views : goal.returns-in-Some-Play-clause-views
-returns-in-Some-Play-clause-views g c = c.every_text.ensures.views sizes
-
-pub returns-in-Some-Play-clause-parts : goal.returns-in-Some-Play-clause-parts
-returns-in-Some-Play-clause-parts g c = c.every_text.ensures.parts sizes
-
-pub returns-in-Some-Check-clause-taken : goal.returns-in-Some-Check-clause-taken
-returns-in-Some-Check-clause-taken g c = c.every_text.ensures.taken sizes
-
-pub returns-in-Some-Check-clause-right : goal.returns-in-Some-Check-clause-right
-returns-in-Some-Check-clause-right g c = c.every_text.ensures.right sizes
-
-pub returns-in-Some-Check-clause-events : goal.returns-in-Some-Check-clause-events
-returns-in-Some-Check-clause-events g c = c.every_text.ensures.events sizes
-
-pub returns-in-Some-Check-clause-book : goal.returns-in-Some-Check-clause-book
-returns-in-Some-Check-clause-book g c = c.every_text.ensures.book sizes
-
-pub returns-in-Some-Check-clause-views : goal.returns-in-Some-Check-clause-views
-returns-in-Some-Check-clause-views g c = c.every_text.ensures.views sizes
-
-pub returns-in-Some-Check-clause-parts : goal.returns-in-Some-Check-clause-parts
-returns-in-Some-Check-clause-parts g c = c.every_text.ensures.parts sizes
-
-pub returns-in-Some-Gen-clause-taken : goal.returns-in-Some-Gen-clause-taken
-returns-in-Some-Gen-clause-taken g c = c.every_text.ensures.taken sizes
-
-pub returns-in-Some-Gen-clause-right : goal.returns-in-Some-Gen-clause-right
-returns-in-Some-Gen-clause-right g c = c.every_text.ensures.right sizes
-
-pub returns-in-Some-Gen-clause-events : goal.returns-in-Some-Gen-clause-events
-returns-in-Some-Gen-clause-events g c = c.every_text.ensures.events sizes
-
-pub returns-in-Some-Gen-clause-book : goal.returns-in-Some-Gen-clause-book
-returns-in-Some-Gen-clause-book g c = c.every_text.ensures.book sizes
-
-pub returns-in-Some-Gen-clause-views : goal.returns-in-Some-Gen-clause-views
-returns-in-Some-Gen-clause-views g c = c.every_text.ensures.views sizes
-
-pub returns-in-Some-Gen-clause-parts : goal.returns-in-Some-Gen-clause-parts
-returns-in-Some-Gen-clause-parts g c = c.every_text.ensures.parts sizes
-
-pub returns-in-Some-Sweep-clause-taken : goal.returns-in-Some-Sweep-clause-taken
-returns-in-Some-Sweep-clause-taken g c = c.every_text.ensures.taken sizes
-
-pub returns-in-Some-Sweep-clause-right : goal.returns-in-Some-Sweep-clause-right
-returns-in-Some-Sweep-clause-right g c = c.every_text.ensures.right sizes
-
-pub returns-in-Some-Sweep-clause-events : goal.returns-in-Some-Sweep-clause-events
-returns-in-Some-Sweep-clause-events g c = c.every_text.ensures.events sizes
-
-pub returns-in-Some-Sweep-clause-book : goal.returns-in-Some-Sweep-clause-book
-returns-in-Some-Sweep-clause-book g c = c.every_text.ensures.book sizes
-
-pub returns-in-Some-Sweep-clause-views : goal.returns-in-Some-Sweep-clause-views
-returns-in-Some-Sweep-clause-views g c = c.every_text.ensures.views sizes
-
-pub returns-in-Some-Sweep-clause-parts : goal.returns-in-Some-Sweep-clause-parts
-returns-in-Some-Sweep-clause-parts g c = c.every_text.ensures.parts sizes
-
-pub returns-in-Some-Node-clause-taken : goal.returns-in-Some-Node-clause-taken
-returns-in-Some-Node-clause-taken g c = c.every_text.ensures.taken sizes
-
-pub returns-in-Some-Node-clause-right : goal.returns-in-Some-Node-clause-right
-returns-in-Some-Node-clause-right g c = c.every_text.ensures.right sizes
-
-pub returns-in-Some-Node-clause-events : goal.returns-in-Some-Node-clause-events
-returns-in-Some-Node-clause-events g c = c.every_text.ensures.events sizes
-
-pub returns-in-Some-Node-clause-book : goal.returns-in-Some-Node-clause-book
-returns-in-Some-Node-clause-book g c = c.every_text.ensures.book sizes
-
-pub returns-in-Some-Node-clause-views : goal.returns-in-Some-Node-clause-views
-returns-in-Some-Node-clause-views g c = c.every_text.ensures.views sizes
-
-pub returns-in-Some-Node-clause-parts : goal.returns-in-Some-Node-clause-parts
-returns-in-Some-Node-clause-parts g c = c.every_text.ensures.parts sizes
-
-pub returns-in-Some-Group-clause-taken : goal.returns-in-Some-Group-clause-taken
-returns-in-Some-Group-clause-taken g c = c.every_text.ensures.taken sizes
-
-pub returns-in-Some-Group-clause-right : goal.returns-in-Some-Group-clause-right
-returns-in-Some-Group-clause-right g c = c.every_text.ensures.right sizes
-
-pub returns-in-Some-Group-clause-events : goal.returns-in-Some-Group-clause-events
-returns-in-Some-Group-clause-events g c = c.every_text.ensures.events sizes
-
-pub returns-in-Some-Group-clause-book : goal.returns-in-Some-Group-clause-book
-returns-in-Some-Group-clause-book g c = c.every_text.ensures.book sizes
-
-pub returns-in-Some-Group-clause-views : goal.returns-in-Some-Group-clause-views
-returns-in-Some-Group-clause-views g c = c.every_text.ensures.views sizes
-
-pub returns-in-Some-Group-clause-parts : goal.returns-in-Some-Group-clause-parts
-returns-in-Some-Group-clause-parts g c = c.every_text.ensures.parts sizes
-
-pub returns-in-None-clause-taken : goal.returns-in-None-clause-taken
-returns-in-None-clause-taken g c = c.every_text.ensures.taken sizes
-
-pub returns-in-None-clause-right : goal.returns-in-None-clause-right
-returns-in-None-clause-right g c = c.every_text.ensures.right sizes
-
-pub returns-in-None-clause-events : goal.returns-in-None-clause-events
-returns-in-None-clause-events g c = c.every_text.ensures.events sizes
-
-pub returns-in-None-clause-book : goal.returns-in-None-clause-book
-returns-in-None-clause-book g c = c.every_text.ensures.book sizes
-
-pub returns-in-None-clause-views : goal.returns-in-None-clause-views
-returns-in-None-clause-views g c = c.every_text.ensures.views sizes
-
-pub returns-in-None-clause-parts : goal.returns-in-None-clause-parts
-returns-in-None-clause-parts g c = c.every_text.ensures.parts sizes
-
 pub returns-in-None-clause-audit : goal.returns-in-None-clause-audit
 returns-in-None-clause-audit g c = λ is. absurd (c.in-None.ensures (command.Audit, is))
 
 pub returns-in-None-clause-audit_left : goal.returns-in-None-clause-audit_left
 returns-in-None-clause-audit_left g c = λ is list log h told left.
     absurd (c.in-None.ensures (command.Audit, is))
-
-pub returns-in-Some-Audit-clause-taken : goal.returns-in-Some-Audit-clause-taken
-returns-in-Some-Audit-clause-taken g c = c.every_text.ensures.taken sizes
-
-pub returns-in-Some-Audit-clause-right : goal.returns-in-Some-Audit-clause-right
-returns-in-Some-Audit-clause-right g c = c.every_text.ensures.right sizes
-
-pub returns-in-Some-Audit-clause-events : goal.returns-in-Some-Audit-clause-events
-returns-in-Some-Audit-clause-events g c = c.every_text.ensures.events sizes
-
-pub returns-in-Some-Audit-clause-book : goal.returns-in-Some-Audit-clause-book
-returns-in-Some-Audit-clause-book g c = c.every_text.ensures.book sizes
-
-pub returns-in-Some-Audit-clause-views : goal.returns-in-Some-Audit-clause-views
-returns-in-Some-Audit-clause-views g c = c.every_text.ensures.views sizes
-
-pub returns-in-Some-Audit-clause-parts : goal.returns-in-Some-Audit-clause-parts
-returns-in-Some-Audit-clause-parts g c = c.every_text.ensures.parts sizes
 
 pub returns-in-Some-Audit-clause-audit : goal.returns-in-Some-Audit-clause-audit
 returns-in-Some-Audit-clause-audit g c = λ is. (
@@ -352,24 +193,6 @@ returns-in-Some-DoorPlay-clause-door_play g c = λ uid gid is.
           (c.door_play.ensures.ends input left),
     )
 
-pub returns-in-Some-DoorPlay-clause-taken : goal.returns-in-Some-DoorPlay-clause-taken
-returns-in-Some-DoorPlay-clause-taken g c = c.every_text.ensures.taken sizes
-
-pub returns-in-Some-DoorPlay-clause-right : goal.returns-in-Some-DoorPlay-clause-right
-returns-in-Some-DoorPlay-clause-right g c = c.every_text.ensures.right sizes
-
-pub returns-in-Some-DoorPlay-clause-events : goal.returns-in-Some-DoorPlay-clause-events
-returns-in-Some-DoorPlay-clause-events g c = c.every_text.ensures.events sizes
-
-pub returns-in-Some-DoorPlay-clause-book : goal.returns-in-Some-DoorPlay-clause-book
-returns-in-Some-DoorPlay-clause-book g c = c.every_text.ensures.book sizes
-
-pub returns-in-Some-DoorPlay-clause-views : goal.returns-in-Some-DoorPlay-clause-views
-returns-in-Some-DoorPlay-clause-views g c = c.every_text.ensures.views sizes
-
-pub returns-in-Some-DoorPlay-clause-parts : goal.returns-in-Some-DoorPlay-clause-parts
-returns-in-Some-DoorPlay-clause-parts g c = c.every_text.ensures.parts sizes
-
 pub returns-in-None-clause-door : goal.returns-in-None-clause-door
 returns-in-None-clause-door g c = λ door is. absurd (c.in-None.ensures (command.Door door, is))
 
@@ -385,21 +208,3 @@ returns-in-Some-Door-clause-door g c = λ door is.
       λ input left. same_servers d door input _ _ _ _ _ c.door_to_servers.result once
           (c.door_to_servers.ensures.ends input left),
     )
-
-pub returns-in-Some-Door-clause-taken : goal.returns-in-Some-Door-clause-taken
-returns-in-Some-Door-clause-taken g c = c.every_text.ensures.taken sizes
-
-pub returns-in-Some-Door-clause-right : goal.returns-in-Some-Door-clause-right
-returns-in-Some-Door-clause-right g c = c.every_text.ensures.right sizes
-
-pub returns-in-Some-Door-clause-events : goal.returns-in-Some-Door-clause-events
-returns-in-Some-Door-clause-events g c = c.every_text.ensures.events sizes
-
-pub returns-in-Some-Door-clause-book : goal.returns-in-Some-Door-clause-book
-returns-in-Some-Door-clause-book g c = c.every_text.ensures.book sizes
-
-pub returns-in-Some-Door-clause-views : goal.returns-in-Some-Door-clause-views
-returns-in-Some-Door-clause-views g c = c.every_text.ensures.views sizes
-
-pub returns-in-Some-Door-clause-parts : goal.returns-in-Some-Door-clause-parts
-returns-in-Some-Door-clause-parts g c = c.every_text.ensures.parts sizes

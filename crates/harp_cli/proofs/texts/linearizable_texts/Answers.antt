@@ -1,6 +1,6 @@
 use Rattle.schedule_play.specs.Trace.{trace_of}
 use Rattle.harp_cli.specs.Play.{sizes}
-use Rattle.harp_cli.proofs.play.linearizable_texts.Goals as goal
+use Rattle.harp_cli.proofs.texts.linearizable_texts.Goals as goal
 
 pub returns : goal.returns
 returns c text = c.faithful_is_linearizable.ensures (trace_of sizes text)
