@@ -88,7 +88,7 @@ def main():
             path = os.path.join(place, folder.name)
             folder.made(path)
             ended = subprocess.run(
-                [*program, "audit", path], stdout=subprocess.PIPE, timeout=110, check=False
+                [*program, "audit", path], capture_output=True, timeout=110, check=False
             )
             tried += 1
             if (ended.returncode, ended.stdout) != (folder.status, "".join(folder.lines).encode()):

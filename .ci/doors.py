@@ -70,7 +70,7 @@ def run(program, words, stream):
             ended = subprocess.run(
                 [*program, *at_port],
                 input=stream,
-                stdout=subprocess.PIPE,
+                capture_output=True,
                 timeout=SECONDS,
                 check=False,
                 cwd=folder,

@@ -6,6 +6,7 @@
 runs `PROGRAM WORD.. ..`, in a fresh folder, with each of
 
 - the words of `.ci/cases/refused`, a line each, which are refused with the text of `usage`;
+- the words of `.ci/cases/reasons`, of which standard error says what is wrong;
 - the words of `.ci/cases/*.words` behind their status, which write what stands in `*.stdout`;
 - schedules that are too large for a file, whose traces are made here by the rules;
 - a schedule whose next line is written once the lines of the last one came;
@@ -18,6 +19,7 @@ It prints what goes wrong, and how many were tried. The exit status is 0 where a
 import contextlib
 import glob
 import os
+import re
 import shlex
 import socket
 import struct
@@ -51,12 +53,19 @@ class Tries:
     def __init__(self, program):
         self.program = program
         self.tried = self.failed = 0
+        self.reason = ""
 
     def run(self, words, text=b""):
-        """The exit status and the output."""
+        """The exit status and the output. Why it ended stands on standard error, in one line
+        where what was wanted wasn't done, and else nothing does."""
         ended = subprocess.run(
-            [*self.program, *words], input=text, stdout=subprocess.PIPE, timeout=110, check=False
+            [*self.program, *words], input=text, capture_output=True, timeout=110, check=False
         )
+        told = re.fullmatch(rb"harp: [^\n]+\n", ended.stderr) is not None
+        if (ended.stderr == b"") == (ended.returncode > 1) or (ended.stderr != b"") != told:
+            self.failed += 1
+            print(f"words: {words}: standard error: {shown(ended.stderr)}")
+        self.reason = ended.stderr.decode()
         return ended.returncode, ended.stdout
 
     def expect(self, name, wanted, got):
@@ -85,6 +94,16 @@ def refused_words(tries):
         tries.expect_run(f"refused: {line}", words, REFUSED_WORDS, usage, b"end 0\n")
     no_text = ["node", "0", "4000", b"\xff", "5"]
     tries.expect_run("refused: a word that is no text", no_text, REFUSED_WORDS, usage)
+
+
+def reasons(tries):
+    """Standard error says which word is wrong, and what stands there."""
+    for line in case("reasons").decode().splitlines():
+        words, reason = line.split("\t")
+        tries.run(shlex.split(words))
+        tries.expect(f"reason: {words}", f"harp: {reason}\n", tries.reason)
+    tries.run([])
+    tries.expect("reason: no words", "harp: no word names a form\n", tries.reason)
 
 
 def files(tries):
@@ -243,6 +262,7 @@ def main():
         os.chdir(folder)
         for part in (
             refused_words,
+            reasons,
             files,
             same_sweep_again,
             one_line_too_many,

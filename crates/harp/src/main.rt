@@ -6,9 +6,12 @@
 //! `main`, proved safe.
 #![tactic(auto)]
 
+mod reason;
+
+use crate::reason::Ended;
 use harp_cli::{Exit, harp};
 use harp_store::Store;
-use harp_types::{ReaderSource, Sink, Source, Trio, WriterSink};
+use harp_types::{ReaderSource, ServerId, Sink, Source, Trio, WriterSink};
 use node_link::{Clock, Link, UdpLink, WallClock};
 use std::alloc::{AllocError, Global};
 use std::cell::RefCell;
@@ -105,8 +108,21 @@ impl<S: Source, K: Sink, L: Link, D: Store, C: Clock> Outside<S, K, L, D, C> {
     }
 }
 
-/// Does what the words say, writes to the output, and returns the exit status.
-fn run<R, W: Write>(rt: &R, output: &RefCell<W>, words: &[String]) -> u8
+/// The disk that failed, if one did.
+fn failed<F>(disks: &Trio<FolderStore<F>>) -> Option<ServerId> {
+    if disks.zero.faults() > 0 {
+        Some(ServerId::Zero)
+    } else if disks.one.faults() > 0 {
+        Some(ServerId::One)
+    } else if disks.two.faults() > 0 {
+        Some(ServerId::Two)
+    } else {
+        None
+    }
+}
+
+/// Does what the words say, writes to the output, and returns how that ended.
+fn run<'w, R, W: Write>(rt: &R, output: &RefCell<W>, words: &'w [String]) -> Ended<'w>
 where
     R: Input + Files + Net + Threads + DayClock + AllocGlobal + Sync,
     R::Reader: Drop,
@@ -125,7 +141,12 @@ where
         },
         clock: WallClock::new(rt),
     };
-    outside.status_of(rt, rt.alloc(), words)
+    let status = outside.status_of(rt, rt.alloc(), words);
+    Ended {
+        words,
+        status,
+        failed: failed(&outside.disks),
+    }
 }
 
 /// The words behind the program's name; none where one of them is no text, since such a word is
@@ -146,10 +167,14 @@ fn main(rt: HostRuntime) -> ExitCode {
     let Ok(words) = words_or_none(&rt) else {
         return ExitCode::from(Exit::NoMemory.status());
     };
-    let status = run(&rt, &output, words.as_slice());
+    let mut ended = run(&rt, &output, words.as_slice());
     // What still stands in memory is written however the words ended.
-    match output.into_inner().flush() {
-        Ok(()) => ExitCode::from(status),
-        Err(_) => ExitCode::from(Exit::SinkFailed.status()),
+    if output.into_inner().flush().is_err() {
+        ended.status = Exit::SinkFailed.status();
     }
+    if ended.is_told() {
+        // Whether anybody reads it changes nothing.
+        let _ = eprintln!(&rt; "harp: {ended}");
+    }
+    ExitCode::from(ended.status)
 }

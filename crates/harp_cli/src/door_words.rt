@@ -13,7 +13,7 @@ use harp_types::Cred;
 use node_link::LAST_PORT;
 
 /// The greatest number of a client.
-const LAST_CLIENT: u64 = 4095;
+pub(crate) const LAST_CLIENT: u64 = 4095;
 
 /// A door to three servers: who makes its calls, and where the servers are; place s has this port
 /// plus s.

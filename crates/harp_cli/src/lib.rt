@@ -18,7 +18,8 @@
 //! with three, `node` with a server, and `group`, both with a port, a folder that isn't empty,
 //! turns and perhaps the length of promises, each number within its bounds, `audit` with such a
 //! folder, `door play` with a user and a group below 2^32, and `door` with such a user and group, a
-//! client, a port, a folder and turns (`IsForm`).
+//! client, a port, a folder and turns (`IsForm`). `word_fault` tells what is wrong with words
+//! exactly where they are no form; which word it names no clause says.
 #![tactic(auto)]
 
 mod auditing;
@@ -36,7 +37,9 @@ mod serve;
 mod sweeping;
 mod texts;
 mod top;
+mod word_faults;
 mod words;
 
 pub use exit::Exit;
 pub use top::harp;
+pub use word_faults::{Wanted, WordFault, word_fault};

@@ -12,13 +12,13 @@ use crate::number::number_within;
 use harp_types::{ServerId, Sink, SinkFault, write_all};
 
 /// The greatest seed of a schedule.
-const LAST_SEED: u64 = 999_999_999_999_999_999;
+pub(crate) const LAST_SEED: u64 = 999_999_999_999_999_999;
 
 /// The most lines that are drawn.
-const MOST_LINES: u64 = 40_000;
+pub(crate) const MOST_LINES: u64 = 40_000;
 
 /// The most runs of a sweep.
-const MOST_RUNS: u64 = 10_000;
+pub(crate) const MOST_RUNS: u64 = 10_000;
 
 /// What the words of a command ask for.
 #[derive(Clone, Copy, PartialEq, Eq)]
