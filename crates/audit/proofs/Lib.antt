@@ -17,3 +17,4 @@ pub mod NamedLaw
 pub mod Listed
 pub mod Contents
 pub mod Rescued
+pub mod Cuts

@@ -4,7 +4,9 @@ use Rattle.std.proofs.Common.{Bool, true, false, List, [], ◌∷◌, length, ma
 use Rattle.std.proofs.Common.{Option, Some, None, refl, sym, ap, subst, ◌∙◌, arith, inl, inr}
 use Rattle.std.proofs.Common.{if◌then◌else◌}
 use Rattle.std.specs.List.{flat_map, list_any, range_with_len}
-use Rattle.std.proofs.lemmas.Bool.{cases_eq, cases_lt, eq-eqb, eqb-true, ne_eqb}
+use Rattle.std.specs.Prelude.{nat_lt}
+use Rattle.std.proofs.lemmas.Bool.{cases_eq, cases_lt, eq-eqb, eqb-true, ltb-false, ne_eqb}
+use Rattle.std.proofs.lemmas.Bool.{or_parts}
 use Rattle.std.proofs.lemmas.List.Folds.{flat_map-map, list_any_at, list_any_more}
 use Rattle.std.proofs.lemmas.List.{append-nil, flat_map_more, get_or-map, get_or_default}
 use Rattle.std.proofs.lemmas.List.{length-map, map-append, map-id, take_all, take_more}
@@ -92,45 +94,6 @@ pub any_map : {X Y : Type 0} (p : Y → Bool) (f : X → Y) (xs : List X)
 any_map p f [] = refl
 any_map p f (x ∷ xs) = ap (λ (b : Bool). p (f x) || b) (any_map p f xs)
 
--- ---- findings
-
-pub finding_more : (p : Picture) (flaws : List (Option Flaw)) (old new : List Finding) (i : ℕ)
-    (d : Portrait) → i < length p.objects → flaws ≡ map (first_flaw p.objects) p.objects
-    → old ≡ finding_where (has_no_root p.objects) flaw.Root
-    ++ finding_where (has_wrong_space p) flaw.Space
-    ++ flat_map (finding_at p.objects) (take i p.objects)
-    → new ≡ old ++ finding_of (get_or p.objects i d).number (get_or flaws i None)
-    → new ≡ finding_where (has_no_root p.objects) flaw.Root
-    ++ finding_where (has_wrong_space p) flaw.Space
-    ++ flat_map (finding_at p.objects) (take (i + 1) p.objects)
-finding_more p flaws old new i d lt are is made =
-    let x = get_or p.objects i d in
-    let own : get_or p.objects i x ≡ x = get_or_default p.objects i x d lt in
-    flat_more (finding_at p.objects)
-    (finding_where (has_no_root p.objects) flaw.Root
-    ++ finding_where (has_wrong_space p) flaw.Space) old new p.objects i x lt (sym own) is
-    (made ∙ ap (λ (f : Option Flaw). old ++ finding_of x.number f)
-    (ap (λ (l : List (Option Flaw)). get_or l i None) are
-    ∙ get_or-map (first_flaw p.objects) p.objects i d None lt))
-
-pub first_findings : (p : Picture) (found : List Finding)
-    → found ≡ finding_where (has_no_root p.objects) flaw.Root
-    ++ finding_where (has_wrong_space p) flaw.Space
-    → found ≡ finding_where (has_no_root p.objects) flaw.Root
-    ++ finding_where (has_wrong_space p) flaw.Space
-    ++ flat_map (finding_at p.objects) (take 0 p.objects)
-first_findings p found is = is ∙ sym (append-nil (finding_where (has_no_root p.objects) flaw.Root
-    ++ finding_where (has_wrong_space p) flaw.Space))
-
-pub findings_done : (p : Picture) (found : List Finding) (i : ℕ) → length p.objects ≤ i
-    → found ≡ finding_where (has_no_root p.objects) flaw.Root
-    ++ finding_where (has_wrong_space p) flaw.Space
-    ++ flat_map (finding_at p.objects) (take i p.objects)
-    → found ≡ findings p
-findings_done p found i le is =
-    flat_done (finding_at p.objects) (finding_where (has_no_root p.objects) flaw.Root
-    ++ finding_where (has_wrong_space p) flaw.Space) found p.objects i le is
-
 -- ---- ways
 
 pub ways_long : (steps : ℕ) (objects : List Portrait)
@@ -201,6 +164,36 @@ same_number objects next steps k h le = elim (cases_eq k 1) [
       subst (λ (m : ℕ). ancestor steps objects m ≡ m) (sym zero_is)
       (nothing_stays steps objects (none_below 1 next objects 0 h (omega arith)))
 ]
+
+-- no step leads further from what is no object but the root's number
+none_further : (objects xs : List Portrait) (next steps more : ℕ) → AreInOrder 1 next objects
+    → list_any (nat_lt 1) (map (λ x. ancestor steps objects x.number) xs) ≡ false
+    → map (λ x. ancestor steps objects x.number) xs
+    ≡ map (λ x. ancestor (steps + more) objects x.number) xs
+none_further objects [] next steps more h none = refl
+none_further objects (x ∷ xs) next steps more h none =
+    let way = ancestor steps objects x.number in
+    let rest = map (λ (y : Portrait). ancestor (steps + more) objects y.number) xs in
+    let parts = or_parts (nat_lt 1 way)
+    (list_any (nat_lt 1) (map (λ y. ancestor steps objects y.number) xs)) none in
+    let stays : way ≡ ancestor (steps + more) objects x.number =
+    sym (further_up steps more objects x.number
+    ∙ same_number objects next more way h (ltb-false 1 way parts.0)) in
+    ap (λ (ws : List ℕ). way ∷ ws) (none_further objects xs next steps more h parts.1)
+    ∙ ap (λ (w : ℕ). w ∷ rest) stays
+
+-- ways that have all ended are as long as any
+pub ended : (objects : List Portrait) (ways : List ℕ) (steps : ℕ) → AreByNumber objects
+    → AreWays steps objects ways → list_any (nat_lt 1) ways ≡ false
+    → AreWays (length objects) objects ways
+ended objects ways steps order w none = record {
+  made = w.made + length objects;
+  some = omega (arith, w.some);
+  enough = omega arith;
+  are = w.are
+      ∙ none_further objects objects order.0 w.made (length objects) order.1
+      (ap (list_any (nat_lt 1)) (sym w.are) ∙ none);
+}
 
 -- some portrait, where a place of a list wants one
 pub some_portrait : Portrait

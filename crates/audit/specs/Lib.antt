@@ -5,3 +5,4 @@ pub mod Sound
 pub mod Rescued
 pub mod Laws
 pub mod Named
+pub mod Stretches

@@ -1,8 +1,8 @@
 //! What is wrong in a picture.
 
 ghost use Rattle.std.specs.Prelude.{◌≡◌, ℕ, ◌+◌, ◌≤◌, ◌==◌, ◌↔◌, ◌++◌, ◌∷◌, [], ◌<◌, List, length};
-ghost use Rattle.std.specs.Prelude.{map, min, slice_index_or, Option, None, IfOk, OnOk};
-ghost use Rattle.std.specs.List.{flat_map};
+ghost use Rattle.std.specs.Prelude.{map, min, slice_index_or, Option, None, IfOk, OnOk, nat_lt};
+ghost use Rattle.std.specs.List.{AllZip, flat_map, list_any};
 ghost use Rattle.file_tree.specs.Tree.{blocks_of};
 ghost use Rattle.audit.specs.Entries.{AreByNumber, AreEntriesOf, AreWays, ways_after};
 ghost use Rattle.audit.specs.declared.flaw.Flaw.TheVariants as flaw;
@@ -10,6 +10,7 @@ ghost use Rattle.audit.specs.Flaws.{ancestor, blocks_in, finding_of, finding_whe
 ghost use Rattle.audit.specs.Flaws.{first_flaw, has_no_root, has_wrong_space, portrait_at};
 ghost use Rattle.audit.specs.Pictures.{IsShaped};
 ghost use Rattle.audit.specs.Sound.{IsSoundPicture};
+ghost use Rattle.audit.specs.Stretches.{ArePrepared, findings_in, findings_of_whole};
 
 use crate::attributes::{attributes_in, is_directory};
 use crate::entries::{Entry, entries_of};
@@ -17,10 +18,11 @@ use crate::flaw::{Finding, Flaw};
 use crate::flaws::first_flaw;
 use crate::objects::{above, at, twice};
 use crate::picture::{Picture, Portrait};
+use crate::stretches::{Stretch, stretches_of};
 use harp_types::{BLOCK_SIZE, TREE_BLOCKS};
 use rayon::prelude::*;
 use std::alloc::{AllocError, Global};
-use std::thread::Threads;
+use std::thread::{Threads, join};
 
 // ---- the whole
 
@@ -98,7 +100,7 @@ fn further_at(objects: &[Portrait], ways: &[u32], at: usize) -> u32
 }
 
 /// Twice as many steps up from each object.
-fn further_one(alloc: Global, objects: &[Portrait], ways: &[u32]) -> Result<Vec<u32>, AllocError>
+fn further_of(alloc: Global, objects: &[Portrait], ways: &[u32]) -> Result<Vec<u32>, AllocError>
     requires order { AreByNumber objects.now }
     requires length { length ways.now ≡ length objects.now }
     ensures { IfOk result (λ v. (steps : ℕ) → 1 ≤ steps → ways.now ≡ ways_after steps objects.now
@@ -111,15 +113,32 @@ fn further_one(alloc: Global, objects: &[Portrait], ways: &[u32]) -> Result<Vec<
     Ok(further)
 }
 
+/// Whether a number is neither the root's nor none.
+fn goes_on(way: u32) -> bool
+    ensures { result ≡ nat_lt 1 way }
+{
+    way > 1
+}
+
+/// Whether further steps up lead anywhere else, from some object.
+fn go_on(ways: &[u32]) -> bool
+    ensures { result ≡ list_any (nat_lt 1) ways.now }
+{
+    ways.iter().any(|way| goes_on(*way))
+}
+
 /// As many steps up as there are objects, or more, from each.
-fn ways_one(alloc: Global, objects: &[Portrait]) -> Result<Vec<u32>, AllocError>
+fn ways_of(alloc: Global, objects: &[Portrait]) -> Result<Vec<u32>, AllocError>
     requires { AreByNumber objects.now }
     ensures { IfOk result (λ ways. AreWays (length objects.now) objects.now ways.items) }
 {
     let mut ways = first_ways(alloc, objects)?;
     let mut steps: usize = 1;
     while steps < objects.len() {
-        ways = further_one(alloc, objects, ways.as_slice())?;
+        if !go_on(ways.as_slice()) {
+            return Ok(ways);
+        }
+        ways = further_of(alloc, objects, ways.as_slice())?;
         steps = steps.saturating_mul(2);
     }
     Ok(ways)
@@ -130,9 +149,7 @@ fn ways_one(alloc: Global, objects: &[Portrait]) -> Result<Vec<u32>, AllocError>
 /// What was found of the whole.
 fn found_of_whole(alloc: Global, picture: &Picture) -> Result<Vec<Finding>, AllocError>
     requires { AreByNumber picture.now.objects }
-    ensures { IfOk result (λ v. v.items
-        ≡ finding_where (has_no_root picture.now.objects) flaw.Root
-        ++ finding_where (has_wrong_space picture.now) flaw.Space) }
+    ensures { IfOk result (λ v. v.items ≡ findings_of_whole picture.now) }
 {
     let mut found = Vec::new(alloc);
     if has_no_root(picture.objects.as_slice()) {
@@ -163,24 +180,6 @@ fn add_finding(found: &mut Vec<Finding>, number: u32, flaw: &Option<Flaw>) -> Re
     }
 }
 
-/// The findings of a picture whose objects have these first flaws.
-fn findings_by(
-    alloc: Global,
-    picture: &Picture,
-    flaws: &[Option<Flaw>],
-) -> Result<Vec<Finding>, AllocError>
-    requires order { AreByNumber picture.now.objects }
-    requires flaws { flaws.now ≡ map (first_flaw picture.now.objects) picture.now.objects }
-    ensures { IfOk result (λ v. v.items ≡ findings picture.now) }
-{
-    let objects = picture.objects.as_slice();
-    let mut found = found_of_whole(alloc, picture)?;
-    for at in 0..objects.len() {
-        add_finding(&mut found, objects[at].number, &flaws[at])?;
-    }
-    Ok(found)
-}
-
 /// The first flaw of the object at a place.
 fn flaw_at(
     alloc: Global,
@@ -199,24 +198,36 @@ fn flaw_at(
     first_flaw(alloc, objects, entries, ways[at], &objects[at])
 }
 
-/// The first flaw of each object.
-fn flaws_one(
+/// The findings of the objects of a stretch.
+fn findings_in(
     alloc: Global,
     objects: &[Portrait],
     entries: &[Entry],
     ways: &[u32],
-) -> Result<Vec<Option<Flaw>>, AllocError>
+    stretch: Stretch,
+) -> Result<Vec<Finding>, AllocError>
     requires order { AreByNumber objects.now }
     requires entries { AreEntriesOf objects.now entries.now }
     requires ways { AreWays (length objects.now) objects.now ways.now }
-    ensures { IfOk result (λ v. v.items ≡ map (first_flaw objects.now) objects.now) }
+    ensures { IfOk result (λ v. v.items ≡ findings_in objects.now stretch) }
 {
-    let mut flaws = Vec::new(alloc);
-    for at in 0..objects.len() {
+    let mut found = Vec::new(alloc);
+    for at in stretch.from..stretch.to.min(objects.len()) {
         let flaw = flaw_at(alloc, objects, entries, ways, at)?;
-        flaws.push(flaw)?;
+        add_finding(&mut found, objects[at].number, &flaw)?;
     }
-    Ok(flaws)
+    Ok(found)
+}
+
+/// Adds the findings of several stretches.
+fn add_findings(found: &mut Vec<Finding>, parts: &[Vec<Finding>]) -> Result<(), AllocError>
+    ensures { OnOk result
+        (found.new.items ≡ found.old.items ++ flat_map (λ part. part.items) parts.now) }
+{
+    for part in parts {
+        found.extend_from_slice(part.as_slice())?;
+    }
+    Ok(())
 }
 
 /// The findings of a picture: those of the whole under number 0, and then the first flaw of each
@@ -229,83 +240,80 @@ pub fn audit_one(alloc: Global, picture: &Picture) -> Result<Vec<Finding>, Alloc
     let objects = picture.objects.as_slice();
     let mut entries = entries_of(alloc, objects)?;
     entries.sort_unstable();
-    let ways = ways_one(alloc, objects)?;
-    let flaws = flaws_one(alloc, objects, entries.as_slice(), ways.as_slice())?;
-    findings_by(alloc, picture, flaws.as_slice())
+    let ways = ways_of(alloc, objects)?;
+    let mut found = found_of_whole(alloc, picture)?;
+    let all = Stretch {
+        from: 0,
+        to: objects.len(),
+    };
+    let more = findings_in(alloc, objects, entries.as_slice(), ways.as_slice(), all)?;
+    found.extend_from_slice(more.as_slice())?;
+    Ok(found)
 }
 
-/// Twice as many steps up from each object, by several threads.
-fn further_many<R: Threads + Sync>(
+// ---- several threads
+
+// How few objects one thread audits alone.
+const LEAST: usize = 1024;
+
+/// The entries of all directories in order, sorted by several threads.
+fn entries_many<R: Threads + Sync>(
     rt: &R,
     alloc: Global,
     objects: &[Portrait],
-    ways: &[u32],
-) -> Result<Vec<u32>, AllocError>
-    requires order { AreByNumber objects.now }
-    requires length { length ways.now ≡ length objects.now }
-    ensures { IfOk result (λ v. (steps : ℕ) → 1 ≤ steps → ways.now ≡ ways_after steps objects.now
-        → v.items ≡ ways_after (steps + steps) objects.now) }
+) -> Result<Vec<Entry>, AllocError>
+    ensures { IfOk result (λ entries. AreEntriesOf objects.now entries.items) }
 {
-    (0..objects.len())
-        .into_par_iter()
-        .map(
-            |at: usize| -> u32
-                requires order { AreByNumber objects.now }
-                requires length { length ways.now ≡ length objects.now }
-                requires place { at < length objects.now }
-                ensures { (steps : ℕ) → 1 ≤ steps
-                    → ways.entry.now ≡ ways_after steps objects.entry.now
-                    → result ≡ slice_index_or (ways_after (steps + steps) objects.entry.now) at 0 }
-            { further_at(objects, ways, at) },
-        )
-        .collect::<Vec<u32>>(rt, alloc)
+    let mut entries = entries_of(alloc, objects)?;
+    par_sort_unstable(rt, entries.as_mut_slice());
+    Ok(entries)
 }
 
-/// The same by several threads.
-fn ways_many<R: Threads + Sync>(
-    rt: &R,
+/// What is found of the whole, and what the audit of each stretch takes beside the entries: the
+/// ways up, and the stretches.
+fn prepared(
     alloc: Global,
-    objects: &[Portrait],
-) -> Result<Vec<u32>, AllocError>
-    requires { AreByNumber objects.now }
-    ensures { IfOk result (λ ways. AreWays (length objects.now) objects.now ways.items) }
+    picture: &Picture,
+) -> Result<(Vec<Finding>, Vec<u32>, Vec<Stretch>), AllocError>
+    requires { AreByNumber picture.now.objects }
+    ensures { IfOk result (λ made. ArePrepared picture.now made.0.items made.1.items made.2.items) }
 {
-    let mut ways = first_ways(alloc, objects)?;
-    let mut steps: usize = 1;
-    while steps < objects.len() {
-        ways = further_many(rt, alloc, objects, ways.as_slice())?;
-        steps = steps.saturating_mul(2);
-    }
-    Ok(ways)
+    let objects = picture.objects.as_slice();
+    let ways = ways_of(alloc, objects)?;
+    let found = found_of_whole(alloc, picture)?;
+    let stretches = stretches_of(alloc, objects)?;
+    Ok((found, ways, stretches))
 }
 
-/// The first flaw of each object, looked for by several threads.
-fn flaws_many<R: Threads + Sync>(
+/// The findings of each stretch, looked for by several threads.
+fn findings_many<R: Threads + Sync>(
     rt: &R,
     alloc: Global,
     objects: &[Portrait],
     entries: &[Entry],
     ways: &[u32],
-) -> Result<Vec<Option<Flaw>>, AllocError>
+    stretches: &[Stretch],
+) -> Result<Vec<Vec<Finding>>, AllocError>
     requires order { AreByNumber objects.now }
     requires entries { AreEntriesOf objects.now entries.now }
     requires ways { AreWays (length objects.now) objects.now ways.now }
-    ensures { IfOk result (λ v. v.items ≡ map (first_flaw objects.now) objects.now) }
+    ensures { IfOk result (λ v. AllZip (λ stretch part. part.items
+        ≡ findings_in objects.now stretch) stretches.now v.items) }
 {
-    (0..objects.len())
-        .into_par_iter()
+    stretches
+        .par_iter()
+        .with_min_len(1)
         .map(
-            |at: usize| -> Result<Option<Flaw>, AllocError>
+            |stretch: &Stretch| -> Result<Vec<Finding>, AllocError>
                 requires order { AreByNumber objects.now }
                 requires entries { AreEntriesOf objects.now entries.now }
                 requires ways { AreWays (length objects.now) objects.now
                     ways.now }
-                requires place { at < length objects.now }
-                ensures { IfOk result (λ flaw. flaw ≡ slice_index_or
-                    (map (first_flaw objects.entry.now) objects.entry.now) at None) }
-            { flaw_at(alloc, objects, entries, ways, at) },
+                ensures { IfOk result
+                    (λ v. v.items ≡ findings_in objects.entry.now stretch.now) }
+            { findings_in(alloc, objects, entries, ways, *stretch) },
         )
-        .collect::<Result<Vec<Option<Flaw>>, AllocError>>(rt, alloc)?
+        .collect::<Result<Vec<Vec<Finding>>, AllocError>>(rt, alloc)?
 }
 
 /// The same findings, looked for by several threads.
@@ -319,9 +327,31 @@ pub fn audit_many<R: Threads + Sync>(
     ensures sound { IfOk result (λ v. v.items ≡ [] ↔ IsSoundPicture picture.now) }
 {
     let objects = picture.objects.as_slice();
-    let mut entries = entries_of(alloc, objects)?;
-    par_sort_unstable(rt, entries.as_mut_slice());
-    let ways = ways_many(rt, alloc, objects)?;
-    let flaws = flaws_many(rt, alloc, objects, entries.as_slice(), ways.as_slice())?;
-    findings_by(alloc, picture, flaws.as_slice())
+    if objects.len() < LEAST {
+        return audit_one(alloc, picture);
+    }
+    let (entries, made) = join(
+        rt,
+        || -> Result<Vec<Entry>, AllocError>
+            ensures { IfOk result
+                (λ entries. AreEntriesOf objects.entry.now entries.items) }
+        { entries_many(rt, alloc, objects) },
+        || -> Result<(Vec<Finding>, Vec<u32>, Vec<Stretch>), AllocError>
+            requires { AreByNumber picture.now.objects }
+            ensures { IfOk result
+                (λ made. ArePrepared picture.entry.now made.0.items made.1.items made.2.items) }
+        { prepared(alloc, picture) },
+    );
+    let entries = entries?;
+    let (mut found, ways, stretches) = made?;
+    let parts = findings_many(
+        rt,
+        alloc,
+        objects,
+        entries.as_slice(),
+        ways.as_slice(),
+        stretches.as_slice(),
+    )?;
+    add_findings(&mut found, parts.as_slice())?;
+    Ok(found)
 }

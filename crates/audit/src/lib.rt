@@ -34,6 +34,7 @@ mod laws;
 mod named;
 mod objects;
 mod picture;
+mod stretches;
 
 pub use auditing::{audit_many, audit_one};
 pub use flaw::{Finding, Flaw};

@@ -1,0 +1,32 @@
+-- Stretches of the objects of a picture, what is found in one, and what that takes.
+use Rattle.std.specs.Prelude.{◌≡◌, ℕ, ◌≤◌, List, [], ◌∷◌, ◌++◌, drop, take, length}
+use Rattle.std.specs.List.{flat_map}
+use Rattle.audit.specs.declared.flaw.Finding.{Finding}
+use Rattle.audit.specs.declared.flaw.Flaw.TheVariants as flaw
+use Rattle.audit.specs.declared.picture.Picture.{Picture}
+use Rattle.audit.specs.declared.picture.Portrait.{Portrait}
+use Rattle.audit.specs.declared.stretches.Stretch.{Stretch}
+use Rattle.audit.specs.Entries.{AreWays}
+use Rattle.audit.specs.Flaws.{finding_at, finding_where, has_no_root, has_wrong_space}
+
+-- each begins where the one before ends, from a place up to another
+abbrev pub AreStretches : ℕ → ℕ → List Stretch → Type 0
+AreStretches from to [] = from ≡ to
+AreStretches from to (s ∷ rest) = (s.from ≡ from) × (from ≤ s.to) × AreStretches s.to to rest
+
+-- the findings of its objects
+abbrev pub findings_in : List Portrait → Stretch → List Finding
+findings_in objects s = flat_map (finding_at objects) (drop s.from (take s.to objects))
+
+-- the findings of the whole
+abbrev pub findings_of_whole : Picture → List Finding
+findings_of_whole p =
+    finding_where (has_no_root p.objects) flaw.Root
+    ++ finding_where (has_wrong_space p) flaw.Space
+
+-- what was found of the whole, ways up of enough steps, and stretches of all objects
+pub record ArePrepared (p : Picture) (found : List Finding) (ways : List ℕ)
+    (stretches : List Stretch) : Type 0 where
+  pub whole : found ≡ findings_of_whole p
+  pub enough : AreWays (length p.objects) p.objects ways
+  pub all : AreStretches 0 (length p.objects) stretches
