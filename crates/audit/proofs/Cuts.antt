@@ -130,8 +130,9 @@ all_found items p found new stretches parts whole are each made =
     ∙ ap (flat_map f) (take_all (length p.objects) p.objects (omega arith)))
 
 -- one stretch has them all
-pub all_in_one : (p : Picture) (objects : List Portrait) (s : Stretch) (found more new : List Finding)
-    → objects ≡ p.objects → s.from ≡ 0 → s.to ≡ length objects → found ≡ findings_of_whole p
+pub all_in_one : (p : Picture) (objects : List Portrait) (s : Stretch)
+    (found more new : List Finding) → objects ≡ p.objects → s.from ≡ 0
+    → s.to ≡ length objects → found ≡ findings_of_whole p
     → more ≡ findings_in objects s → new ≡ found ++ more → new ≡ findings p
 all_in_one p objects s found more new same low high whole is made =
     let f = finding_at objects in

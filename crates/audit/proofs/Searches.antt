@@ -16,6 +16,7 @@ use Rattle.std.proofs.lemmas.Bool.{cases_lt, eq-eqb, eqb-true, false_from_ne_tru
 use Rattle.std.proofs.lemmas.Bool.{leb-false, leb-true, ltb-false, ltb-true, ne_eqb, not_from_false}
 use Rattle.std.proofs.lemmas.Bool.{or_from, or_left}
 use Rattle.std.proofs.lemmas.Cmp.{nat_cmp_total, on_total, ranked, then_total, tied_itself}
+use Rattle.std.proofs.lemmas.List.{get_or_default}
 use Rattle.std.proofs.lemmas.List.Folds.{list_any-append, list_any_at}
 use Rattle.std.proofs.lemmas.List.Sorted.{list_any-IsPermutation, searchable_from_sorted}
 use Rattle.std.proofs.lemmas.List.Sorted.{sorted_far, ranks_by, sum_by-IsPermutation}
@@ -90,6 +91,18 @@ place_found from next xs n i h lt same = (
   λ d.
       subst (λ (m : ℕ). portrait_at xs m ≡ Some (get_or xs i d))
       (tied (get_or xs i d).number n (same d)) (at_place from next xs i d h lt).1,
+)
+
+pub place_read : (from next : ℕ) (xs : List Portrait) (n i : ℕ) (x : Portrait)
+    → AreInOrder from next xs → i < length xs → x ≡ get_or xs i x → x.number ≡ n
+    → IsPlace xs n (Some i)
+place_read from next xs n i x h lt read same = (
+  lt,
+  λ d.
+      let number : (get_or xs i d).number ≡ n =
+      ap (λ (y : Portrait). y.number) (sym (read ∙ get_or_default xs i x d lt)) ∙ same in
+      subst (λ (m : ℕ). portrait_at xs m ≡ Some (get_or xs i d)) number
+      (at_place from next xs i d h lt).1,
 )
 
 pub no_place : (from next : ℕ) (xs : List Portrait) (n i : ℕ) → AreInOrder from next xs

@@ -8,7 +8,7 @@ use Rattle.std.specs.Prelude.{nat_lt}
 use Rattle.std.proofs.lemmas.Bool.{cases_eq, cases_lt, eq-eqb, eqb-true, ltb-false, ne_eqb}
 use Rattle.std.proofs.lemmas.Bool.{or_parts}
 use Rattle.std.proofs.lemmas.List.Folds.{flat_map-map, list_any_at, list_any_more}
-use Rattle.std.proofs.lemmas.List.{append-nil, flat_map_more, get_or-map, get_or_default}
+use Rattle.std.proofs.lemmas.List.{append-nil, flat_map_more, get_or-map}
 use Rattle.std.proofs.lemmas.List.{length-map, map-append, map-id, take_all, take_more}
 use Rattle.std.proofs.lemmas.List.Concat.{flat_map-append}
 use Rattle.std.proofs.lemmas.List.FromFn.{map-range_with_len_more}
@@ -18,15 +18,11 @@ use Rattle.harp_cells.specs.declared.value.Value.TheVariants as value
 use Rattle.harp_cells.specs.declared.cell.Cell.{Cell}
 use Rattle.harp_cells.specs.declared.value.Value.{Value}
 use Rattle.harp_cells.specs.Effect.{Cells, Reads}
-use Rattle.audit.specs.declared.flaw.Finding.{Finding}
-use Rattle.audit.specs.declared.flaw.Flaw.{Flaw}
-use Rattle.audit.specs.declared.flaw.Flaw.TheVariants as flaw
 use Rattle.audit.specs.declared.picture.Picture.{Picture}
 use Rattle.audit.specs.declared.picture.Portrait.{Portrait}
 use Rattle.audit.specs.Entries.{AreByNumber, AreWays, IsPlace, entries_by, entry_at, ways_after}
-use Rattle.audit.specs.Flaws.{above, ancestor, blocks_by, blocks_in, entry_in, finding_at}
-use Rattle.audit.specs.Flaws.{finding_of, finding_where, findings, first_flaw, has_no_root}
-use Rattle.audit.specs.Flaws.{has_wrong_space, is_directory, parent_shown, portrait_at, slots_in}
+use Rattle.audit.specs.Flaws.{above, ancestor, blocks_by, blocks_in, entry_in}
+use Rattle.audit.specs.Flaws.{is_directory, parent_shown, portrait_at, slots_in}
 use Rattle.audit.specs.Pictures.{AreInOrder, IsShaped, picture_of, portraits_at, portraits_below}
 use Rattle.audit.specs.Pictures.{slot_read, slots_by, totals_read}
 use Rattle.audit.proofs.Gathered.{gathered_order}

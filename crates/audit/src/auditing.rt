@@ -1,13 +1,13 @@
 //! What is wrong in a picture.
 
-ghost use Rattle.std.specs.Prelude.{◌≡◌, ℕ, ◌+◌, ◌≤◌, ◌==◌, ◌↔◌, ◌++◌, ◌∷◌, [], ◌<◌, List, length};
-ghost use Rattle.std.specs.Prelude.{map, min, slice_index_or, Option, None, IfOk, OnOk, nat_lt};
+ghost use Rattle.std.specs.Prelude.{◌≡◌, ℕ, ◌+◌, ◌≤◌, ◌↔◌, ◌++◌, [], ◌<◌, length, map, min, nat_lt};
+ghost use Rattle.std.specs.Prelude.{slice_index_or, Option, None, IfOk, OnOk};
 ghost use Rattle.std.specs.List.{AllZip, flat_map, list_any};
 ghost use Rattle.file_tree.specs.Tree.{blocks_of};
 ghost use Rattle.audit.specs.Entries.{AreByNumber, AreEntriesOf, AreWays, ways_after};
 ghost use Rattle.audit.specs.declared.flaw.Flaw.TheVariants as flaw;
-ghost use Rattle.audit.specs.Flaws.{ancestor, blocks_in, finding_of, finding_where, findings};
-ghost use Rattle.audit.specs.Flaws.{first_flaw, has_no_root, has_wrong_space, portrait_at};
+ghost use Rattle.audit.specs.Flaws.{blocks_in, finding_of, findings, first_flaw, has_no_root};
+ghost use Rattle.audit.specs.Flaws.{has_wrong_space};
 ghost use Rattle.audit.specs.Pictures.{IsShaped};
 ghost use Rattle.audit.specs.Sound.{IsSoundPicture};
 ghost use Rattle.audit.specs.Stretches.{ArePrepared, findings_in, findings_of_whole};
@@ -253,8 +253,8 @@ pub fn audit_one(alloc: Global, picture: &Picture) -> Result<Vec<Finding>, Alloc
 
 // ---- several threads
 
-// How few objects one thread audits alone.
-const LEAST: usize = 1024;
+// One thread alone audits fewer objects than these: others cost it more than they spare.
+const LEAST: usize = 4096;
 
 /// The entries of all directories in order, sorted by several threads.
 fn entries_many<R: Threads + Sync>(

@@ -14,8 +14,9 @@
 //!   the first flaw of each object, by number (`found`). There are none exactly where the picture
 //!   is sound (`sound`). Names are looked up by searches of what was sorted, ways up by doubled
 //!   steps, so nothing takes a square of the objects' number.
-//! - `audit_many` gives the same by several threads, for every number of them. That any two ran at
-//!   once isn't claimed.
+//! - `audit_many` gives the same by several threads, for every number of them: each takes stretches
+//!   of the objects, which are cut by how many slots these have. That any two ran at once isn't
+//!   claimed.
 //! - `Named` meets `CellRead`: of other cells those that a picture's objects name.
 //! - `audit_laws`: the findings are empty exactly where the picture is sound (`sound`), as in the
 //!   picture of cells that stand for a tree (`nothing`). Cells that are each absent or of their own

@@ -1,7 +1,7 @@
 //! The objects of a picture by their numbers, and the ways up from them.
 
 ghost use Rattle.std.specs.Prelude.{◌≡◌, ℕ, ◌+◌, ◌≤◌, ◌<◌, ◌==◌, ◌∷◌, List, length, map, Option};
-ghost use Rattle.std.specs.Prelude.{IfOk, Some};
+ghost use Rattle.std.specs.Prelude.{IfOk, IsTrue, Some};
 ghost use Rattle.std.specs.Option.{option_copied};
 ghost use Rattle.audit.specs.Entries.{AreByNumber, AreWays, IsPlace, ways_after};
 ghost use Rattle.audit.specs.Flaws.{above, ancestor, portrait_at};
@@ -10,11 +10,27 @@ use crate::attributes::attributes_in;
 use crate::picture::Portrait;
 use std::alloc::{AllocError, Global};
 
-/// The place of the object of a number.
+/// Whether the object of a number has a place.
+fn stands_at(objects: &[Portrait], place: usize, number: u32) -> bool
+    requires { AreByNumber objects.now }
+    ensures { IsTrue result → IsPlace objects.now number (Some place) }
+{
+    if place >= objects.len() {
+        return false;
+    }
+    objects[place].number == number
+}
+
+/// The place of the object of a number: it is the number before, where each number up to it is that
+/// of an object.
 pub(crate) fn place_of(objects: &[Portrait], number: u32) -> Option<usize>
     requires { AreByNumber objects.now }
     ensures { IsPlace objects.now number result }
 {
+    let likely = (number as usize).saturating_sub(1);
+    if stands_at(objects, likely, number) {
+        return Some(likely);
+    }
     match objects.binary_search_by_key(&number, |object| object.number) {
         Ok(place) => Some(place),
         Err(_) => None,

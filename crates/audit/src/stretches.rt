@@ -43,10 +43,7 @@ fn place_of_load(loads: &[usize], load: usize, from: usize) -> usize
 }
 
 /// Stretches of objects that take about as long one as another.
-pub(crate) fn stretches_of(
-    alloc: Global,
-    objects: &[Portrait],
-) -> Result<Vec<Stretch>, AllocError>
+pub(crate) fn stretches_of(alloc: Global, objects: &[Portrait]) -> Result<Vec<Stretch>, AllocError>
     ensures { IfOk result (λ v. AreStretches 0 (length objects.now) v.items) }
 {
     let loads = loads_of(alloc, objects)?;
