@@ -28,7 +28,6 @@ pub mod LedFormed
 pub mod Storing
 pub mod Booting
 pub mod Powering
-pub mod Idle
 pub mod Cached
 pub mod Stores
 pub mod Asks

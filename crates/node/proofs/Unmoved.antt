@@ -1,5 +1,5 @@
 -- A step that leaves a server as it is, and makes no move.
-use Rattle.std.proofs.Common.{◌≡◌, ◌+◌, ◌==◌, ℕ, Bool, true, false, if◌then◌else◌, length, List, [], ◌∷◌, refl, sym, ap, ◌∙◌}
+use Rattle.std.proofs.Common.{◌≡◌, ◌+◌, ◌==◌, ℕ, Bool, true, false, if◌then◌else◌, length, List, [], ◌∷◌, refl, ap}
 use Rattle.std.specs.Prelude.{Option}
 use Rattle.event_record.specs.declared.record.RecordFields.{RecordFields}
 use Rattle.file_tree.specs.Book.{Entry}
@@ -9,22 +9,18 @@ use Rattle.group_rules.specs.Limits.{is_joins, is_pulls}
 use Rattle.group_rules.specs.Moves.{Move}
 use Rattle.group_rules.specs.Places.{Place, all_of}
 use Rattle.group_rules.specs.State.{Plan, Server}
-use Rattle.harp_types.specs.declared.server.ServerId.{ServerId}
 use Rattle.harp_store.specs.Disk.{Moments}
 use Rattle.harp_store.specs.Mark.{MarkFields}
 use Rattle.node.proofs.Heeds.{no_first}
 use Rattle.node.proofs.Saying.{disk_so, makes_so, mark_so, unsaid}
 use Rattle.node.proofs.Stocks.{stocks_so}
 use Rattle.node.specs.Disk.{disk_after, marked_by}
-use Rattle.node.specs.Node.{NodeValue, server, value}
-use Rattle.node.specs.State.{mode_in}
+use Rattle.node.specs.Misfits.{pulls_view}
+use Rattle.node.specs.Node.{NodeValue, server}
 use Rattle.node.specs.Stock.{Stocks, stock}
-use Rattle.node.specs.declared.state.State.{State}
-use Rattle.node.specs.declared.state.Task.{Task}
 use Rattle.node_outputs.specs.Makes.{Makes}
 use Rattle.node_outputs.specs.Said.{said}
 use Rattle.node_outputs.specs.declared.outputs.Outputs.{Outputs}
-use Rattle.promise.specs.Promise.{HorizonValue}
 
 pub none_makes : (clock : ℕ) (n new : NodeValue) (items : List Entry) (ms : List (Move Entry))
     (outs : Outputs) → new ≡ n → ms ≡ []
@@ -53,12 +49,6 @@ none_written ms mark told none = disk_so told ms [] mark told none refl
 
 -- ---- which servers make no move
 
-pub mode_at : (me : ServerId) (mark : MarkFields) (horizon : HorizonValue) (served : ℕ)
-    (duty : Task) (s t : State) (n : NodeValue) → value me mark horizon served duty s ≡ n → s ≡ t
-    → n.plain.mode ≡ mode_in t
-mode_at me mark horizon served duty s t n of at =
-    ap (λ (x : NodeValue). x.plain.mode) (sym of) ∙ ap mode_in at
-
 pub unjoined : (q : Place) (s : Server Entry) (plan : Plan) → is_joins s.mode ≡ false
     → form_moves q s plan ≡ []
 unjoined q s plan out = if_not (all_of (is_joins s.mode ∷ fits q s plan ∷ [])) _ []
@@ -68,20 +58,14 @@ pub other_form : (q : Place) (s : Server Entry) (v : ℕ) (plan : Plan)
     → (v == s.promised) ≡ false → on_form q s v plan ≡ []
 other_form q s v plan other = if_not (v == s.promised) _ [] other
 
-pub unpulled : (q : Place) (s : Server Entry) (v index : ℕ) (items : List Entry)
-    → is_pulls s.mode ≡ false → on_give q s v index items ≡ []
-unpulled q s v index items out = if_not (all_of (pull_tests s v index items)) _ []
-    (no_first (is_pulls s.mode) _ out)
-
-second_fails : (a b c : Bool) (ms : List (Move Entry)) → b ≡ false
+both_fail : (a b c : Bool) (ms : List (Move Entry)) → all_of (b ∷ a ∷ []) ≡ false
     → (if all_of (a ∷ b ∷ c ∷ []) then ms else []) ≡ []
 unfolding all_of
-second_fails true true c ms h = cc
-second_fails true false c ms h = refl
-second_fails false b c ms h = refl
+both_fail true true c ms h = cc
+both_fail true false c ms h = refl
+both_fail false b c ms h = refl
 
-pub other_give : (q : Place) (s : Server Entry) (v index : ℕ) (items : List Entry)
-    → (v == s.promised) ≡ false → on_give q s v index items ≡ []
-other_give q s v index items other =
-    second_fails (is_pulls s.mode) (v == s.promised) (index == s.wanted_from + length s.staged + 1)
-    _ other
+pub unpulled_for : (q : Place) (s : Server Entry) (v index : ℕ) (items : List Entry)
+    → pulls_view s v ≡ false → on_give q s v index items ≡ []
+unpulled_for q s v index items h =
+    both_fail (is_pulls s.mode) (v == s.promised) (index == s.wanted_from + length s.staged + 1) _ h

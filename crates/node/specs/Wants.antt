@@ -1,5 +1,5 @@
 -- What a server shows of what is wanted of it, and what that leaves.
-use Rattle.std.specs.Prelude.{◌≡◌, ℕ, true, false, Option, None, Some, Result, Ok, Err, if◌then◌else◌}
+use Rattle.std.specs.Prelude.{◌≡◌, ◌≢◌, ℕ, true, false, Option, None, Some, Result, Ok, Err, if◌then◌else◌}
 use Rattle.group_rules.specs.Limits.{is_log}
 use Rattle.cell_cache.specs.Entries.{AreOf}
 use Rattle.harp_cells.specs.Effect.{Cells, Reads}
@@ -40,6 +40,13 @@ LeavesNode (Ok o) old new = new ≡ record old { cached = new.cached }
 LeavesNode (Err Halted) old new = new ≡ old
 LeavesNode (Err StoreFailed) old new = (new.halted ≡ true) × (new.me ≡ old.me)
 LeavesNode (Err NoMemory) old new = (new.halted ≡ true) × (new.me ≡ old.me)
+
+-- a call of a server that isn't halted leaves that, and halts nothing
+abbrev pub OnlyCaches : {A : Type 0} → Result A NodeFault → (old new : NodeValue)
+    → (before after : Option Moments) → Type 0
+OnlyCaches (Ok x) old new before after = (new ≡ record old { cached = new.cached })
+    × AreOf (cells_told after) new.cached × (after ≡ before)
+OnlyCaches (Err why) old new before after = (new.me ≡ old.me) × (why ≢ Halted) × (after ≡ before)
 
 -- WHAT SHOWING LEAVES: that, and the store as it was, whose cells the server keeps
 abbrev pub LeavesShown : Result (Option Shown) NodeFault → (old new : NodeValue)

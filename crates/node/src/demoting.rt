@@ -1,26 +1,21 @@
 //! How the witness leaves its view.
 
-ghost use Rattle.node.specs.Stock.{Stocks, stock, stock_in};
-ghost use Rattle.std.specs.Prelude.{◌≡◌, ◌≤◌, [], List, ℕ, Err, IfSome, OnErr, OnOk, false, if◌then◌else◌, nat_lt, true, ◌∷◌};
+ghost use Rattle.node.specs.Stock.{Stocks, stock};
+ghost use Rattle.std.specs.Prelude.{◌≡◌, ◌≤◌, [], List, ℕ, Err, OnErr, OnOk, false, if◌then◌else◌, nat_lt, true, ◌∷◌};
 ghost use Rattle.file_tree.specs.Book.{Entry};
 ghost use Rattle.group_rules.specs.Disk.{on_demote};
 ghost use Rattle.group_rules.specs.Effects.{demoted};
 ghost use Rattle.group_rules.specs.Moves.{Demoting};
-ghost use Rattle.group_rules.specs.Places.{Place, is_p2};
-ghost use Rattle.harp_store.specs.Mark.{MarkFields};
+ghost use Rattle.group_rules.specs.Places.{is_p2};
 ghost use Rattle.harp_types.specs.View.{above};
 ghost use Rattle.group_rules.specs.Names.{number_of_view};
 ghost use Rattle.harp_types.specs.Streams.{Rose};
 ghost use Rattle.node.specs.Cached.{IsCachedAs};
 ghost use Rattle.node.specs.Disk.{MayLeave, disk_after, marked, marked_by};
-ghost use Rattle.node.specs.Active.{is_followed, is_led};
-ghost use Rattle.node.specs.Demoting.{GoesOn};
 ghost use Rattle.node.specs.Node.{server};
-ghost use Rattle.node.specs.State.{Fits, cached_in, is_gone, pulled_in};
 ghost use Rattle.node_outputs.specs.Makes.{Makes};
 
 use crate::fault::NodeFault;
-use crate::joining::kept_of;
 use crate::node::Node;
 use crate::state::{State, Task};
 use harp_store::{Mark, Store};
@@ -103,7 +98,7 @@ impl Node {
     {
         self.mark = mark;
         self.served = 0;
-        self.state = without_log(mem::replace(&mut self.state, State::Gone));
+        self.state = mem::replace(&mut self.state, State::Gone).without_log();
     }
 
     /// A server that promised no view above the one that it is demoted of drops its log, and rests.
@@ -125,32 +120,8 @@ impl Node {
         self.mark = mark;
         self.served = 0;
         self.duty = Task::Free;
-        let kept = kept_of(mem::replace(&mut self.state, State::Gone));
+        let kept = mem::replace(&mut self.state, State::Gone).into_kept();
         self.state = State::Rests(kept.forget());
-    }
-}
-
-/// The same part in a view that isn't accepted, without a log.
-fn without_log(state: State) -> State
-    requires up { is_gone state ≡ false }
-    requires closed { (is_led state ≡ false) × (is_followed state ≡ false) }
-    ensures up { is_gone result ≡ false }
-    ensures drops { GoesOn state result }
-    ensures cached { cached_in result ≡ [] }
-    ensures stock { stock_in result
-        ≡ record { log = []; pulled = pulled_in state; waits = [] } }
-    ensures fits { (q : Place) (old new : MarkFields) → is_p2 q ≡ true → Fits q old state
-        → Fits q new result }
-{
-    match state {
-        State::Gone => unreachable!(),
-        State::Rests(kept) => State::Rests(kept.forget()),
-        State::Joined(kept, joining) => State::Joined(kept.forget(), joining),
-        State::Pulls(kept, joining, plan, staged) => {
-            State::Pulls(kept.forget(), joining, plan, staged)
-        }
-        State::Leads(_, _) => unreachable!(),
-        State::Follows(_, _) => unreachable!(),
     }
 }
 

@@ -107,28 +107,11 @@ impl Node {
             (D.faults store.new) }
         ensures count { D.faults store.old ≤ D.faults store.new }
     {
-        match mem::replace(&mut self.state, State::Gone) {
-            State::Joined(kept, joining) => {
-                self.take_part(alloc, kept, joining, form, store, outs)
-            }
-            State::Gone => unreachable!(),
-            State::Rests(kept) => {
-                self.state = State::Rests(kept);
-                Ok(())
-            }
-            State::Pulls(kept, joining, plan, staged) => {
-                self.state = State::Pulls(kept, joining, plan, staged);
-                Ok(())
-            }
-            State::Leads(leader, plan) => {
-                self.state = State::Leads(leader, plan);
-                Ok(())
-            }
-            State::Follows(partner, plan) => {
-                self.state = State::Follows(partner, plan);
-                Ok(())
-            }
+        if !self.is_joined() {
+            return Ok(());
         }
+        let part = mem::replace(&mut self.state, State::Gone).into_joined();
+        self.take_part(alloc, part.0, part.1, form, store, outs)
     }
 
     /// The part of a server that joined the view with this.
@@ -212,8 +195,9 @@ impl Node {
         } = pull;
         let view = self.mark.promised();
         let first = staged.next();
-        outs.send(form.source, Message::Fetch { view, first })?;
+        let source = form.source;
         self.state = State::Pulls(kept, joining, form, staged);
+        outs.send(source, Message::Fetch { view, first })?;
         Ok(())
     }
 }

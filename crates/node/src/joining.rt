@@ -6,15 +6,12 @@ ghost use Rattle.file_tree.specs.Book.{Entry};
 ghost use Rattle.group_rules.specs.Effects.{joined_server, report_of};
 ghost use Rattle.group_rules.specs.Joining.{suspect};
 ghost use Rattle.group_rules.specs.Names.{number_of_view};
-ghost use Rattle.group_rules.specs.Places.{Place};
 ghost use Rattle.harp_store.specs.Disk.{MayHaveMade, after_step, with_mark};
 ghost use Rattle.harp_types.specs.Streams.{Rose};
-ghost use Rattle.harp_store.specs.Mark.{MarkFields};
-ghost use Rattle.idle_log.specs.Kept.{ap_in as kept_ap, base_in as kept_base, cp_in as kept_cp, held_in as kept_held, items_in as kept_items, log_in};
 ghost use Rattle.node.specs.Cached.{IsCachedAs};
 ghost use Rattle.node.specs.Disk.{MayLeave, disk_after, marked_by, promising};
 ghost use Rattle.node.specs.Node.{server};
-ghost use Rattle.node.specs.State.{CollectsStill, IsKept, Fits, ap_in, base_in, cp_in, duty_of, held_in, is_gone, items_in, records_in};
+ghost use Rattle.node.specs.State.{CollectsStill, duty_of};
 ghost use Rattle.node_outputs.specs.Makes.{Makes};
 ghost use Rattle.group_rules.specs.State.{Log};
 ghost use Rattle.view_form.specs.Choice.{report};
@@ -26,7 +23,6 @@ use crate::places::{next_view, others};
 use crate::state::{Joining, State, Task};
 use harp_store::{Mark, Store};
 use harp_types::{Held, ServerId, Trio, ViewNo};
-use idle_log::Kept;
 use node_outputs::Outputs;
 use promise::Deadline;
 use std::alloc::Global;
@@ -87,7 +83,7 @@ impl Node {
         store.write_mark(alloc, &mark)?;
         self.mark = mark;
         self.duty = duty;
-        let kept = kept_of(mem::replace(&mut self.state, State::Gone));
+        let kept = mem::replace(&mut self.state, State::Gone).into_kept();
         self.state = State::Joined(kept, first_joining(told));
         Ok(())
     }
@@ -157,28 +153,6 @@ fn first_joining(told: JoinInfo) -> Joining
         two: None,
     };
     Joining { told, formed }
-}
-
-/// What a state keeps of the list of updates.
-pub(crate) fn kept_of(state: State) -> Kept
-    requires { is_gone state ≡ false }
-    ensures held { kept_held result ≡ held_in state }
-    ensures base { kept_base result ≡ base_in state }
-    ensures ap { kept_ap result ≡ ap_in state }
-    ensures cp { kept_cp result ≡ cp_in state }
-    ensures items { kept_items result ≡ items_in state }
-    ensures records { (log_in result).records ≡ records_in state }
-    ensures kept { (me : Place) (mark : MarkFields) → Fits me mark state
-        → IsKept me mark result }
-{
-    match state {
-        State::Gone => unreachable!(),
-        State::Rests(kept) => kept,
-        State::Joined(kept, _) => kept,
-        State::Pulls(kept, _, _, _) => kept,
-        State::Leads(leader, _) => Kept::Held(leader.freeze()),
-        State::Follows(partner, _) => Kept::Held(partner.freeze()),
-    }
 }
 
 /// What a server with an active log tells.

@@ -2,12 +2,13 @@
 
 ghost use Rattle.std.specs.Prelude.{◌≡◌, IfSome, false, is_some};
 ghost use Rattle.group_rules.specs.Joining.{joined_tests};
-ghost use Rattle.group_rules.specs.Limits.{is_log};
+ghost use Rattle.group_rules.specs.Limits.{is_joins, is_log};
 ghost use Rattle.group_rules.specs.Names.{number_of_view};
 ghost use Rattle.group_rules.specs.Places.{all_of};
 ghost use Rattle.group_rules.specs.Replicate.{is_in_view};
 ghost use Rattle.group_rules.specs.State.{top};
 ghost use Rattle.idle_log.specs.Kept.{held_in, plan_of};
+ghost use Rattle.node.specs.Misfits.{pulls_view};
 
 use crate::node::Node;
 use crate::state::State;
@@ -43,6 +44,38 @@ impl Node {
             State::Pulls(kept, _, _, _) => kept.top(),
             State::Leads(leader, _) => leader.log().top(),
             State::Follows(partner, _) => partner.log().top(),
+        }
+    }
+
+    /// Whether the server joined its promised view, and neither pulls for it nor accepted it.
+    pub(crate) fn is_joined(&self) -> bool
+        ensures { result ≡ is_joins self.now.plain.mode }
+    {
+        match &self.state {
+            State::Joined(_, _) => true,
+            State::Gone => false,
+            State::Rests(_) => false,
+            State::Pulls(_, _, _, _) => false,
+            State::Leads(_, _) => false,
+            State::Follows(_, _) => false,
+        }
+    }
+
+    /// Whether the server pulls the records of this view.
+    #[tactic(auto, unfolding(group_rules::specs::Places::all_of))]
+    pub(crate) fn pulls_for(&self, view: ViewNo) -> bool
+        ensures { result ≡ pulls_view self.now.plain (number_of_view view) }
+    {
+        if !is_view(view, self.mark.promised()) {
+            return false;
+        }
+        match &self.state {
+            State::Pulls(_, _, _, _) => true,
+            State::Gone => false,
+            State::Rests(_) => false,
+            State::Joined(_, _) => false,
+            State::Leads(_, _) => false,
+            State::Follows(_, _) => false,
         }
     }
 

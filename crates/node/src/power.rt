@@ -13,7 +13,6 @@ ghost use Rattle.power_save.specs.Saved.{IsUnsaved, IsUnsavedOrSaved, SavesInPar
 ghost use Rattle.volatile_log.specs.Log.{AreNumberedAfter, room};
 
 use crate::fault::NodeFault;
-use crate::joining::kept_of;
 use crate::node::Node;
 use harp_store::{Mark, Store};
 use power_save::{SaveFault, save};
@@ -44,7 +43,7 @@ impl Node {
             return Err(NodeFault::Halted);
         }
         let mark = self.mark;
-        let kept = kept_of(self.state);
+        let kept = self.state.into_kept();
         if mark.saved().is_some() {
             return Ok(());
         }

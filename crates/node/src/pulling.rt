@@ -76,37 +76,11 @@ impl Node {
             (D.faults store.new) }
         ensures count { D.faults store.old ≤ D.faults store.new }
     {
-        if !self.has_promised(view) {
+        if !self.pulls_for(view) {
             return Ok(());
         }
-        match mem::replace(&mut self.state, State::Gone) {
-            State::Pulls(kept, joining, form, staged) => {
-                let pull = Pull {
-                    kept,
-                    joining,
-                    form,
-                    staged,
-                };
-                self.take_given(alloc, pull, first, records, store, outs)
-            }
-            State::Gone => unreachable!(),
-            State::Rests(kept) => {
-                self.state = State::Rests(kept);
-                Ok(())
-            }
-            State::Joined(kept, joining) => {
-                self.state = State::Joined(kept, joining);
-                Ok(())
-            }
-            State::Leads(leader, plan) => {
-                self.state = State::Leads(leader, plan);
-                Ok(())
-            }
-            State::Follows(partner, plan) => {
-                self.state = State::Follows(partner, plan);
-                Ok(())
-            }
-        }
+        let pull = mem::replace(&mut self.state, State::Gone).into_pull();
+        self.take_given(alloc, pull, first, records, store, outs)
     }
 
     /// The records of a Give of the promised view, at a server that pulls.

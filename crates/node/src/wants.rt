@@ -8,7 +8,7 @@ ghost use Rattle.harp_store.specs.Disk.{cells_told};
 ghost use Rattle.node.specs.Active.{is_active};
 ghost use Rattle.node.specs.State.{cached_in};
 ghost use Rattle.node.specs.Stored.{log_in, with_log};
-ghost use Rattle.node.specs.Wants.{LeavesShown, Shows, ShowsCell, records_shown};
+ghost use Rattle.node.specs.Wants.{LeavesShown, OnlyCaches, Shows, ShowsCell, records_shown};
 ghost use Rattle.shown.specs.Truth.{IsLowShown};
 ghost use Rattle.tree_log.specs.Committed.{committed_over};
 
@@ -65,11 +65,8 @@ impl Node {
         requires cached { AreOf (cells_told (D.told store.old)) self.old.cached }
         ensures shown { IfOk result (Shows self.old (cells_told (D.told store.old)) want.now) }
         ensures low { IfOk result (λ o. IfSome o IsLowShown) }
-        ensures leaves { OnOk result (self.new ≡ record self.old { cached = self.new.cached }) }
-        ensures me { self.new.me ≡ self.old.me }
-        ensures cached { OnOk result (AreOf (cells_told (D.told store.new)) self.new.cached) }
-        ensures kept { D.told store.new ≡ D.told store.old }
-        ensures running { result ≡ Err NodeFault.Halted → ⊥ }
+        ensures leaves { OnlyCaches result self.old self.new (D.told store.old)
+            (D.told store.new) }
         ensures rose { result ≡ Err NodeFault.StoreFailed → Rose (D.faults store.old)
             (D.faults store.new) }
         ensures count { D.faults store.old ≤ D.faults store.new }
@@ -91,11 +88,8 @@ impl Node {
         requires cached { AreOf (cells_told (D.told store.old)) self.old.cached }
         ensures shown { IfOk result (ShowsCell self.old (cells_told (D.told store.old)) cell) }
         ensures low { IfOk result (λ o. IfSome o IsLowShown) }
-        ensures leaves { OnOk result (self.new ≡ record self.old { cached = self.new.cached }) }
-        ensures me { self.new.me ≡ self.old.me }
-        ensures cached { OnOk result (AreOf (cells_told (D.told store.new)) self.new.cached) }
-        ensures kept { D.told store.new ≡ D.told store.old }
-        ensures running { result ≡ Err NodeFault.Halted → ⊥ }
+        ensures leaves { OnlyCaches result self.old self.new (D.told store.old)
+            (D.told store.new) }
         ensures rose { result ≡ Err NodeFault.StoreFailed → Rose (D.faults store.old)
             (D.faults store.new) }
         ensures count { D.faults store.old ≤ D.faults store.new }

@@ -93,5 +93,10 @@ pub fn serve_three<L: Link, D: Store, C: Clock>(
 {
     let mut three = Three::start(alloc, port, delta, link, stores, clock)?;
     three.take_turns(alloc, turns, link, stores, clock)?;
-    Ok(three.served(turns))
+    let served = three.served(turns);
+    end(three);
+    Ok(served)
 }
+
+/// Ends the servers. That they may be dropped is proved here, and not amid what they came to.
+fn end(_three: Three) {}

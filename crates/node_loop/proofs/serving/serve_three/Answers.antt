@@ -31,5 +31,5 @@ returns-clause-run g c =
       disks_are = refl;
       link_is = refl;
       clock_is = refl;
-      served_is = c.served.ensures;
+      served_is = c.served-served.ensures;
     }

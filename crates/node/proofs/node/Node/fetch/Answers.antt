@@ -1,4 +1,4 @@
-use Rattle.std.proofs.Common.{◌∷◌, ◌≤◌, [], ap, arith, refl, subst, sym}
+use Rattle.std.proofs.Common.{◌∷◌, ◌≡◌, ◌≤◌, [], ap, arith, refl, subst, sym}
 use Rattle.std.proofs.lemmas.Result.{IfOk-from_err}
 use Rattle.group_rules.specs.Moves.{Sending}
 use Rattle.group_rules.specs.Names.{place_of}
@@ -6,8 +6,10 @@ use Rattle.group_rules.specs.State.{Fetch}
 use Rattle.idle_log.specs.Kept.{plan_of}
 use Rattle.node.proofs.Given.{pulled_so}
 use Rattle.node.proofs.Sent.{sent_as}
-use Rattle.node.specs.Node.{NodeValue}
+use Rattle.node.specs.Forming.{pulling_with}
+use Rattle.node.specs.Node.{NodeValue, server, value}
 use Rattle.node.specs.State.{HearsOthers, IsKept, IsPulling}
+use Rattle.node.specs.declared.state.State.TheVariants as state
 use Rattle.volatile_log.specs.Log.{next}
 use Rattle.node.proofs.node.Node.fetch.Goals as goal
 
@@ -20,7 +22,7 @@ returns-in_err-send-clause-state c = IfOk-from_err c.from_residual.result _
     c.from_residual.ensures.0
 
 pub returns-in_err-send-clause-me : goal.returns-in_err-send-clause-me
-returns-in_err-send-clause-me c = refl
+returns-in_err-send-clause-me c = ap (λ (n : NodeValue). n.me) c.self.view_is
 
 pub returns-in_err-send-clause-stock : goal.returns-in_err-send-clause-stock
 returns-in_err-send-clause-stock c = IfOk-from_err c.from_residual.result _
@@ -31,7 +33,7 @@ returns-in_err-send-clause-cached c = IfOk-from_err c.from_residual.result _
     c.from_residual.ensures.0
 
 pub returns-in_err-send-clause-mark : goal.returns-in_err-send-clause-mark
-returns-in_err-send-clause-mark c = refl
+returns-in_err-send-clause-mark c = ap (λ (n : NodeValue). n.mark) c.self.view_is
 
 pub returns-in_err-send-clause-up : goal.returns-in_err-send-clause-up
 returns-in_err-send-clause-up c = IfOk-from_err c.from_residual.result _
@@ -62,9 +64,14 @@ returns-clause-sends c s clock =
     c.in_ok-send.ensures.said
 
 pub returns-clause-state : goal.returns-clause-state
-returns-clause-state c items = pulled_so c.self.inside.me c.self.inside.mark
-    c.self.inside.horizon c.self.inside.served c.self.inside.duty c.self.inside.state
-    c.args.self.now c.args.pull c.args.pull.staged items c.self.view_is c.requires.kept refl
+returns-clause-state c items =
+    let n = c.self.inside in
+    let is : server (value n.me n.mark n.horizon n.served n.duty (state.Pulls c.args.pull.kept
+    c.args.pull.joining c.args.pull.form c.args.pull.staged)) items
+    ≡ pulling_with (server c.args.self.now items) c.args.pull =
+    pulled_so n.me n.mark n.horizon n.served n.duty n.state c.args.self.now c.args.pull
+    c.args.pull.staged items c.self.view_is c.requires.kept refl in
+    is
 
 pub returns-clause-me : goal.returns-clause-me
 returns-clause-me c = ap (λ (n : NodeValue). n.me) c.self.view_is

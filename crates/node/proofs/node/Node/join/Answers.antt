@@ -32,8 +32,8 @@ invariant_of-self g c = (
   c.requires.duty,
   (
     kept_on (place_of c.self.inside.me) c.self.inside.mark c.promised_mark-mark.result c.args.view
-        c.kept_of-kept.result c.promised_mark-mark.ensures
-        (c.kept_of-kept.ensures.kept (place_of c.self.inside.me) c.self.inside.mark
+        c.into_kept-kept.result c.promised_mark-mark.ensures
+        (c.into_kept-kept.ensures.kept (place_of c.self.inside.me) c.self.inside.mark
         (subst (λ (s : State). Fits (place_of c.self.inside.me) c.self.inside.mark s)
         (sym c.replace.ensures.value) c.self.invariant.1)),
     ap (λ (j : Joining). get (heard_of j.formed) (place_of c.self.inside.me))

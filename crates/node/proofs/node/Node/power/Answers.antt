@@ -13,10 +13,10 @@ use Rattle.node.proofs.node.Node.power.Goals as goal
 pub returns-in-Some-clause-machine : goal.returns-in-Some-clause-machine
 returns-in-Some-clause-machine g c = λ items clock.
     let n = c.self.inside in
-    let kept = c.kept_of-kept.ensures in
+    let kept = c.into_kept-kept.ensures in
     subst (λ (v : NodeValue). mark_left v items ≡ mark_of (act v.me clock (server v items) Saving))
     c.self.view_is
-    (left_is n.me n.mark n.horizon n.served n.duty n.state c.kept_of-kept.result items clock
+    (left_is n.me n.mark n.horizon n.served n.duty n.state c.into_kept-kept.result items clock
     (kept.kept (place_of n.me) n.mark c.self.invariant.1) kept.held kept.ap)
 
 pub returns-in-Some-clause-moments : goal.returns-in-Some-clause-moments
@@ -24,9 +24,9 @@ returns-in-Some-clause-moments g c up saves =
     let old = g.D.Store.told c.args.store.now in
     let new = g.D.Store.told c.save_log.new.store in
     let n = c.self.inside in
-    let kept = c.kept_of-kept.ensures in
+    let kept = c.into_kept-kept.ensures in
     let mark : saved_mark room c.in-Some.log n.mark ≡ saving_mark c.args.self =
-    saving_is n.me n.mark n.horizon n.served n.duty n.state c.kept_of-kept.result c.in-Some.log
+    saving_is n.me n.mark n.horizon n.served n.duty n.state c.into_kept-kept.result c.in-Some.log
     c.args.self c.self.view_is c.in-Some.ensures.value kept.base kept.ap kept.cp kept.items in
     record {
       log = c.in-Some.log;

@@ -9,7 +9,7 @@ use Rattle.node.specs.Demoting.{GoesOn}
 use Rattle.node.specs.State.{Fits}
 use Rattle.node.specs.declared.state.State.{State}
 use Rattle.node.specs.declared.state.State.TheVariants as state
-use Rattle.node.proofs.demoting.without_log.Goals as goal
+use Rattle.node.proofs.state.State.without_log.Goals as goal
 
 -- what is dropped is dropped of any server
 any : Server Entry
