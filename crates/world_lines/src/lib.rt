@@ -38,6 +38,7 @@ mod listing;
 mod listings;
 mod packet;
 mod packets;
+mod record;
 mod shown;
 mod size;
 mod states;

@@ -32,8 +32,6 @@ pub struct Packets {
     bytes: u64,
     /// The first that are due.
     due: Ways,
-    /// Where records are spelled, to be counted.
-    room: Vec<u8>,
 }
 
 impl Model for Packets {
@@ -67,7 +65,6 @@ impl Packets {
                 one: none,
                 two: none,
             },
-            room: Vec::new(alloc),
         }
     }
 
@@ -87,7 +84,7 @@ impl Packets {
             → StandFor self.old packets numbers → heard message.now ≡ Some body
             → StandFor self.new (sent from to body ∷ packets) numbers) }
     {
-        let size = message_size(alloc, message, &mut self.room)?;
+        let size = message_size(message);
         let kept = Kept::new(alloc, from, to, message, size)?;
         let n = self.kept.len() as u64;
         self.kept.push(kept)?;

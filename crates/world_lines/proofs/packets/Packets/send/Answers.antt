@@ -15,7 +15,7 @@ invariant_of-self-2 c =
     let p = posted c.args.from c.args.to c.args.message.now in
     let items : c.push.new.self.items ≡ ps ++ p ∷ [] = c.in_ok-push.ensures.items
     ∙ ap (λ (x : Posted). ps ++ x ∷ []) c.in_ok-kept.ensures in
-    let size : c.in_ok-size.size ≡ bytes_of p = c.in_ok-size.ensures in
+    let size : c.message_size-size.result ≡ bytes_of p = c.message_size-size.ensures in
     let n : c.len-n.result ≡ length ps = omega (arith, c.len-n.ensures, c.self.inside.kept.ok.0) in
     let ways : with_way due c.args.from c.args.to
     (option_or (way due c.args.from c.args.to) (Some (length ps)))
