@@ -56,16 +56,21 @@ pub struct Clocks<'a, R> {
     told: WallClock<Told<'a>>,
 }
 
-impl<'a, R> Clocks<'a, R> {
+impl<'a, R: Drop> Clocks<'a, R> {
     /// Clocks that weren't read. The day is one after September 2020.
-    pub(crate) fn new(rt: R, alloc: Global, seconds: &'a Seconds) -> Clocks<'a, R> {
-        Clocks {
-            list: ListClock::new(alloc, Vec::new(alloc)),
+    pub(crate) fn new(
+        rt: R,
+        alloc: Global,
+        seconds: &'a Seconds,
+    ) -> Result<Clocks<'a, R>, AllocError> {
+        let list = ListClock::new(alloc, Vec::new(alloc))?;
+        Ok(Clocks {
+            list,
             day: WallClock::new(rt),
             least: 1_600_000_000_000,
             seconds,
             told: WallClock::new(Told(seconds)),
-        }
+        })
     }
 }
 
@@ -88,8 +93,13 @@ fn set_readings(alloc: Global, list: &mut ListClock, line: &str) -> Answer {
     if !readings_rise(readings.as_slice()) {
         return Answer::Nothing;
     }
-    *list = ListClock::new(alloc, readings);
-    Answer::Done
+    match ListClock::new(alloc, readings) {
+        Ok(clock) => {
+            *list = clock;
+            Answer::Done
+        }
+        Err(_) => Answer::NoMemory,
+    }
 }
 
 /// A reading of the clock in memory, and how many it told.

@@ -101,10 +101,11 @@ fn main(rt: HostRuntime) -> io::Result<()> {
     let alloc = rt.alloc();
     let seconds = Seconds::new();
     let links = Links::new(rt, alloc)?;
+    let clocks = Clocks::new(rt, alloc, &seconds)?;
     let mut player = Player {
         store: FolderStore::new(rt),
         links,
-        clocks: Clocks::new(rt, alloc, &seconds),
+        clocks,
     };
     for line in BufReader::new(alloc, rt.reader())?.lines(alloc) {
         play(rt, &mut player, line?.as_str())?;

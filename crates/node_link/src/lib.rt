@@ -6,9 +6,9 @@
 //! `Link` and `Clock`. A link tells, where it can, the datagrams taken and sent, and those left for
 //! each place: `receive` takes the first one left, and none exactly where none is left; after an
 //! error nothing is taken or sent. A clock's readings never fall and are below 2^62. `MemLink` and
-//! `ListClock` are exact, with faults exactly where their lists say so, and the readings that a
-//! `ListClock` shows are those it told; `UdpLink` and `WallClock` tell nothing and count each
-//! fault.
+//! `ListClock` are exact, with faults exactly where their lists say so. A `ListClock` tells each
+//! reading of its list (`ticks`), and shows those that it told. `UdpLink` and `WallClock` tell
+//! nothing and count each fault; that they send, receive and read at all no clause says.
 #![tactic(auto)]
 
 mod clock;

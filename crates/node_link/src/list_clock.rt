@@ -1,13 +1,14 @@
 //! A clock in memory.
 
-ghost use Rattle.std.specs.Prelude.{◌≡◌, ◌≤◌, ◌<◌, ◌^◌, ◌++◌, [], ◌∷◌, drop, true, Some, None};
+ghost use Rattle.std.specs.Prelude.{◌≡◌, ◌≤◌, ◌<◌, ◌^◌, ◌≢◌, ℕ, List, [], drop, true, Some, IfOk};
 ghost use Rattle.std.specs.Option.{option_copied};
 ghost use Rattle.harp_types.specs.declared.server.ServerId.{ServerId as Place};
-ghost use Rattle.node_link.specs.Readings.{MayTell, next_reading, rises_from};
+ghost use Rattle.node_link.specs.Readings.{MayTell, Ticks, next_reading, rises_from, with_reading};
+ghost use Rattle.node_link.specs.Told.{HasRoom, shown};
 
 use crate::clock::{Clock, Reading};
 use harp_types::ServerId;
-use std::alloc::Global;
+use std::alloc::{AllocError, Global};
 use std::marker::Model;
 
 /// Whether readings never fall and are below 2^62.
@@ -24,64 +25,33 @@ pub fn readings_rise(readings: &[u64]) -> bool
     true
 }
 
-/// A clock that gives the readings of a list, all places from the same one. Behind its end the last
-/// reading is repeated; without any it is 0.
+/// The readings of a list, from a place in it on.
 #[derive(Drop)]
-pub struct ListClock {
+struct Ahead {
     readings: Vec<u64>,
     at: usize,
     last: u64,
-    told: Option<Vec<Reading>>,
 }
 
-impl Model for ListClock {
+impl Model for Ahead {
     ghost use Rattle.std.specs.Prelude.{◌≡◌, ◌≤◌, ◌<◌, ◌^◌, drop, length, true};
-    ghost use Rattle.std.specs.Option.{option_map};
-    ghost use Rattle.node_link.specs.Readings.{Ticking, rises_from};
+    ghost use Rattle.node_link.specs.Readings.{Coming, rises_from};
 
-    ghost Value = { Ticking };
+    ghost Value = { Coming };
 
-    ghost view = { λ c. record {
-      ahead = drop c.at c.readings.items;
-      last = c.last;
-      told = option_map (λ told. told.items) c.told;
-    } };
+    ghost view = { λ a. record { ahead = drop a.at a.readings.items; last = a.last } };
 
-    ghost invariant = { λ c. (c.at ≤ length c.readings.items) × (c.last < 2 ^ 62)
-        × (rises_from c.last (drop c.at c.readings.items) ≡ true) };
+    ghost invariant = { λ a. (a.at ≤ length a.readings.items) × (a.last < 2 ^ 62)
+        × (rises_from a.last (drop a.at a.readings.items) ≡ true) };
 }
 
-impl ListClock {
-    /// A clock that gives these readings, which never fall and are below 2^62.
-    pub fn new(alloc: Global, readings: Vec<u64>) -> ListClock
-        requires { rises_from 0 readings.items ≡ true }
-        ensures { result ≡ record { ahead = readings.items; last = 0; told = Some [] } }
-    {
-        ListClock {
-            readings,
-            at: 0,
-            last: 0,
-            told: Some(Vec::new(alloc)),
-        }
-    }
-
-    /// The readings given, in order; None once no memory was found to keep one.
-    pub fn told(&self) -> Option<&[Reading]>
-        ensures { option_copied result ≡ self.now.told }
-    {
-        match &self.told {
-            Some(told) => Some(told.as_slice()),
-            None => None,
-        }
-    }
-
+impl Ahead {
     // The next reading of the list.
     fn step(&mut self) -> u64
         ensures value { result ≡ next_reading self.old.last self.old.ahead }
         ensures order { self.old.last ≤ result }
         ensures bound { result < 2 ^ 62 }
-        ensures step { self.new
-            ≡ record self.old { ahead = drop 1 self.old.ahead; last = result } }
+        ensures step { self.new ≡ record { ahead = drop 1 self.old.ahead; last = result } }
     {
         if self.at < self.readings.len() {
             self.last = self.readings[self.at];
@@ -89,18 +59,75 @@ impl ListClock {
         }
         self.last
     }
+}
 
-    // Keeps a reading. Where memory runs out, none is told any more.
-    fn keep(&mut self, reading: Reading)
-        ensures told { MayTell reading self.old.told self.new.told }
-        ensures kept { self.new ≡ record self.old { told = self.new.told } }
+/// A clock that gives the readings of a list, all places from the same one. Behind its end the last
+/// reading is repeated; without any it is 0. It has room to tell each reading of the list.
+#[derive(Drop)]
+pub struct ListClock {
+    list: Ahead,
+    told: Option<Vec<Reading>>,
+}
+
+impl Model for ListClock {
+    ghost use Rattle.std.specs.Prelude.{length};
+    ghost use Rattle.std.specs.Option.{option_map};
+    ghost use Rattle.node_link.specs.Readings.{Ticking};
+    ghost use Rattle.node_link.specs.Told.{HasRoom};
+
+    ghost Value = { Ticking };
+
+    ghost view = { λ c. record {
+      ahead = c.list.ahead;
+      last = c.list.last;
+      told = option_map (λ told. told.items) c.told;
+    } };
+
+    ghost invariant = { λ c. HasRoom c.list.ahead c.told };
+}
+
+// Keeps a reading. Only where there is no room for it, none is told any more.
+fn keep(reading: Reading, told: &mut Option<Vec<Reading>>)
+    ensures told { MayTell reading (shown told.old) (shown told.new) }
+    ensures room { (ahead : List ℕ) → HasRoom ahead told.old → HasRoom (drop 1 ahead) told.new
+        × (ahead ≢ [] → shown told.new ≡ with_reading reading (shown told.old)) }
+{
+    let kept = match told {
+        Some(readings) => readings.push(reading).is_ok(),
+        None => true,
+    };
+    if !kept {
+        *told = None;
+    }
+}
+
+impl ListClock {
+    /// A clock that gives these readings, which never fall and are below 2^62.
+    pub fn new(alloc: Global, readings: Vec<u64>) -> Result<ListClock, AllocError>
+        requires { rises_from 0 readings.items ≡ true }
+        ensures { IfOk result (λ c. c
+            ≡ record { ahead = readings.items; last = 0; told = Some [] }) }
     {
-        let kept = match &mut self.told {
-            Some(told) => told.push(reading).is_ok(),
-            None => true,
+        let told = Vec::with_capacity(alloc, readings.len())?;
+        let list = Ahead {
+            readings,
+            at: 0,
+            last: 0,
         };
-        if !kept {
-            self.told = None;
+        Ok(ListClock {
+            list,
+            told: Some(told),
+        })
+    }
+
+    /// The readings given, in order; None once no memory was found to keep one behind the end of
+    /// the list.
+    pub fn told(&self) -> Option<&[Reading]>
+        ensures { option_copied result ≡ self.now.told }
+    {
+        match &self.told {
+            Some(told) => Some(told.as_slice()),
+            None => None,
         }
     }
 }
@@ -110,7 +137,7 @@ impl Clock for ListClock {
 
     ghost least = { λ c _. c.last };
 
-    /// The next reading of the list, whatever the place.
+    /// The next reading of the list, whatever the place. Where there is one, it is told.
     fn now(&mut self, place: ServerId) -> u64
         ensures bound { result < 2 ^ 62 }
         ensures order { self.old.last ≤ result }
@@ -119,15 +146,10 @@ impl Clock for ListClock {
         ensures told { MayTell (record { place = place; millis = result }) self.old.told
             self.new.told }
 
-        ensures value { result ≡ next_reading self.old.last self.old.ahead }
-        ensures step { self.new ≡ record self.old {
-          ahead = drop 1 self.old.ahead;
-          last = result;
-          told = self.new.told;
-        } }
+        ensures ticks { Ticks place result self.old self.new }
     {
-        let millis = self.step();
-        self.keep(Reading { place, millis });
+        let millis = self.list.step();
+        keep(Reading { place, millis }, &mut self.told);
         millis
     }
 }

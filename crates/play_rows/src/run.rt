@@ -11,7 +11,7 @@ use std::thread::Threads;
 use world::World;
 
 /// A clock with these readings, where they never fall; else one that stays at 0.
-fn clock_of(alloc: Global, readings: Vec<u64>) -> ListClock {
+fn clock_of(alloc: Global, readings: Vec<u64>) -> Result<ListClock, AllocError> {
     if !readings_rise(&readings) {
         return ListClock::new(alloc, Vec::new(alloc));
     }
@@ -65,7 +65,7 @@ impl Scene {
             sink: MemSink::new(alloc, sink_fails)?,
             link: MemLink::new(alloc, waiting, link_fails)?,
             disks,
-            clock: clock_of(alloc, readings),
+            clock: clock_of(alloc, readings)?,
         })
     }
 
