@@ -1,15 +1,17 @@
 -- A node's boot, and its steps.
 use Rattle.std.specs.Prelude.{◌≡◌, ℕ, false, List, [], Option, Some}
+use Rattle.event_record.specs.declared.record.RecordFields.{RecordFields}
 use Rattle.file_tree.specs.Book.{Entry}
 use Rattle.group_rules.specs.Effects.{booted}
 use Rattle.group_rules.specs.Names.{place_of}
 use Rattle.harp_types.specs.declared.server.ServerId.{ServerId}
 use Rattle.harp_store.specs.Disk.{Moments, reads}
-use Rattle.node.specs.Boot.{HasBase, HoldSaved, after_boot, boot_mark, booted_without, mark_before}
+use Rattle.node.specs.Boot.{HasBase, HoldSaved, HoldWhole, after_boot, boot_mark, booted_stock, booted_without, mark_before}
 use Rattle.node.specs.Input.{FillsInput, input_of}
-use Rattle.node.specs.Node.{NodeValue, server}
+use Rattle.node.specs.Node.{IsServer, NodeValue, server}
 use Rattle.node.specs.Serving.{entry_size}
 use Rattle.node.specs.Step.{StepsWhole}
+use Rattle.node.specs.Stock.{stock}
 use Rattle.node.specs.Stored.{disk_by, mark_by}
 use Rattle.node.specs.Taking.{stepped}
 use Rattle.node.specs.declared.input.Input.{Input}
@@ -17,7 +19,7 @@ use Rattle.node_outputs.specs.declared.outputs.Outputs.{Outputs}
 use Rattle.power_save.specs.Saved.{IsNotSaved}
 
 -- A node is booted from its disk at a reading of its clock: with the log that was saved there, or
--- without one where that isn't whole
+-- without one where that isn't whole; and the records of that log are those on the disk, whole
 pub record IsBoot (me : ServerId) (delta now : ℕ) (old new : Option Moments)
     (n : NodeValue) : Type 0 where
   pub boots : (h : Moments) (items : List Entry) → old ≡ Some h
@@ -27,9 +29,14 @@ pub record IsBoot (me : ServerId) (delta now : ℕ) (old new : Option Moments)
       → IsNotSaved (reads h.now) (boot_mark me delta h.now.mark)
       → server n items
       ≡ booted_without (place_of me) now delta (mark_before me delta items h.now.mark)
+  pub records : (h : Moments) (saved : List RecordFields) → old ≡ Some h
+      → HoldWhole (reads h.now) (boot_mark me delta h.now.mark) saved
+      → stock n ≡ booted_stock n.plain saved
   pub me_is : n.me ≡ place_of me
+  pub is_server : IsServer n
   pub up : n.halted ≡ false
   pub peers : n.peers ≡ []
+  pub cached : n.cached ≡ []
   pub mark : (h : Moments) → old ≡ Some h → HasBase (place_of me) (boot_mark me delta h.now.mark)
       → n.mark ≡ boot_mark me delta h.now.mark
   pub written : new ≡ after_boot me delta old
