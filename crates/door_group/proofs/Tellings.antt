@@ -1,12 +1,10 @@
 -- What an asker of lent servers tells behind a door.
-use Rattle.std.proofs.Common.{◌≡◌, ℕ, Bool, false, List, [], ◌++◌, Option, Result, Ok, Err, ap, refl, subst, sym}
+use Rattle.std.proofs.Common.{◌≡◌, ℕ, Bool, true, false, List, [], ◌++◌, Option, Result, Ok, Err, ap, inl, inr, refl, subst, sym}
 use Rattle.std.specs.Prelude.{MatchResult, ⊤}
 use Rattle.harp_types.specs.declared.server.ServerId.{ServerId}
-use Rattle.door_group.specs.Rule.{AreMade, Before, GivesUp, IsMade, Outcome}
+use Rattle.door_group.specs.Rule.{AreMade, Before, GaveUpOne, GivesUp, IsMade, Outcome}
 use Rattle.door_group.specs.Local.{AskBreaks, AskedAt, TurnBreaks, Turned}
-use Rattle.node_link.specs.declared.link.SentDatagram.{SentDatagram}
-use Rattle.node_loop.specs.Scene.{Scene, start, with_heard}
-use Rattle.node_loop.specs.Turn.{sent_of}
+use Rattle.node_loop.specs.Scene.{Around, Scene, around_in, start, with_heard}
 use Rattle.rpc_door.specs.Group.{Tells, Unanswered}
 use Rattle.rpc_door.specs.Serving.{DoorEnds, RunsAfter, Side, closed, side}
 use Rattle.rpc_door.specs.declared.fault.DoorFault.{DoorFault}
@@ -15,22 +13,25 @@ use Rattle.rpc_door.specs.declared.group.Exchange.{Exchange}
 use Rattle.rpc_door.specs.declared.group.GroupFault.{GroupFault}
 use Rattle.rpc_door.specs.declared.group.GroupFault.TheVariants as group
 use Rattle.rpc_door.proofs.TellLaws.{Leaves, Says, door_ends}
-use Rattle.door_group.specs.Served.{Answered, AnsweredSoFar, Becomes, EndsAfter, GivenUp, IsOver}
+use Rattle.door_group.specs.Served.{Answered, AnsweredOrGivenUp, AnsweredSoFar, Becomes, EndsAfter, GivenUp, IsOver}
 use Rattle.door_group.specs.declared.served.Caller.{Caller}
 
 -- ---- what an asker tells
 
--- it made these calls since its first one, and they are here now unless it was stopped
+-- it made these calls since its first one, and they are here now unless it was stopped, where one
+-- more was given up
 abbrev pub Telling : (client turns next : ℕ) → ServerId → Bool → Scene → Tells (Before Scene)
 Telling client turns next place stopped s first made =
     (c : Before Scene) × AreMade Turned AskedAt TurnBreaks AskBreaks client turns made first c
     × (next ≡ c.number) × (place ≡ c.place) × (stopped ≡ false → c.scene ≡ with_heard [] s)
+    × (stopped ≡ true → GaveUpOne Turned AskedAt TurnBreaks AskBreaks client turns
+    (λ v. v ≡ with_heard [] s) (around_in s) c)
 
 -- and then gave up one more
 abbrev pub Leaving : (client turns : ℕ) → Scene → Type 0 → Unanswered (Before Scene)
 Leaving client turns s failed why first made cred call =
     (c : Before Scene) × AreMade Turned AskedAt TurnBreaks AskBreaks client turns made first c
-    × GivesUp (λ v. v ≡ with_heard [] s) (sent_of s.link)
+    × GivesUp (λ v. v ≡ with_heard [] s) (around_in s)
     (λ o. IsMade Turned AskedAt TurnBreaks AskBreaks turns
     (record { client = client; number = c.number; cred = cred; call = call }) o c.place c.scene) why
     × (why ≡ group.Failed → failed)
@@ -43,9 +44,9 @@ is_over : (s c : Scene) → c ≡ with_heard [] s → IsOver (around s) c
 is_over s c is =
     (ap (λ (x : Scene). x.disks) is, ap (λ (x : Scene). x.link) is, ap (λ (x : Scene). x.clock) is)
 
-gives_over : (s : Scene) (becomes : Outcome Scene (Option (List SentDatagram)) → Type 0)
-    (why : GroupFault) → GivesUp (λ v. v ≡ with_heard [] s) (sent_of s.link) becomes why
-    → GivesUp (IsOver (around s)) (sent_of s.link) becomes why
+gives_over : (s : Scene) (becomes : Outcome Scene Around → Type 0)
+    (why : GroupFault) → GivesUp (λ v. v ≡ with_heard [] s) (around_in s) becomes why
+    → GivesUp (IsOver (around s)) (around_in s) becomes why
 gives_over s becomes group.Failed h = h
 gives_over s becomes group.Spent h = (h.0, h.1, is_over s h.0 h.2)
 gives_over s becomes group.NoMemory h = h
@@ -87,6 +88,19 @@ module _ (caller : Caller) (input : List ℕ) (source after : Option (List ℕ))
   anywhere : (made : List Exchange) → now.told first made → Answered caller first tt made
   anywhere made h = (h.0, h.1)
 
+  -- by whether it was stopped
+  either : (b : Bool) → stopped ≡ b → (made : List Exchange) → now.told first made
+      → AnsweredOrGivenUp caller first (around s) tt made
+  either false runs made h = inl (h.0, h.1, is_over s h.0.scene (h.4 runs))
+  either true over made h =
+      let last = h.5 over in
+      inr (
+        last.0,
+        last.1,
+        last.2,
+        (h.0, h.1, gives_over s (Becomes caller last.1 last.2 h.0) last.0 last.3),
+      )
+
   here : stopped ≡ false → (made : List Exchange) → now.told first made
       → AnsweredSoFar caller first (around s) tt made
   here runs made h = (h.0, h.1, is_over s h.0.scene (h.4 runs))
@@ -107,7 +121,8 @@ module _ (caller : Caller) (input : List ℕ) (source after : Option (List ℕ))
   ends_after runs goes (Err door.GroupSpent) run ends =
       ended_with (Answered caller first) anywhere (Err door.GroupSpent) ends
   ends_after runs goes (Err door.NoMemory) run ends =
-      ended_with (Answered caller first) anywhere (Err door.NoMemory) ends
+      ended_with (AnsweredOrGivenUp caller first (around s)) (either stopped refl) (Err door.NoMemory)
+      ends
 
   -- where the servers failed they show it
   pub shows : DoorEnds caller.cred input source old now (Err door.GroupFailed) → failed

@@ -6,10 +6,10 @@ use Rattle.harp_types.specs.declared.server.ServerId.{ServerId}
 use Rattle.harp_types.specs.declared.trio.Trio.{Trio}
 use Rattle.door_group.specs.declared.servers.ServersFault.{ServersFault}
 use Rattle.door_group.specs.declared.servers.ServersFault.TheVariants.{Failed, NoMemory}
-use Rattle.node_link.specs.declared.link.SentDatagram.{SentDatagram}
 use Rattle.node_loop.specs.Chain.{Chain, Stops}
-use Rattle.node_loop.specs.Run.{Asked, AsksAt, AsksAtInPart, TurnsAt, TurnsAtInPart}
-use Rattle.node_loop.specs.Scene.{NoneFell, OneRose, Scene, all_places, with_heard}
+use Rattle.node_loop.specs.Cut.{AsksAtInPart, TurnsAtInPart}
+use Rattle.node_loop.specs.Run.{Asked, AsksAt, TurnsAt}
+use Rattle.node_loop.specs.Scene.{Around, NoneFell, OneRose, Scene, all_places, with_heard}
 use Rattle.node_loop.specs.declared.fault.LoopFault.{LoopFault}
 use Rattle.node_loop.specs.declared.fault.LoopFault.TheVariants as fault
 use Rattle.node_loop.specs.declared.heard.Heard.{Heard}
@@ -38,14 +38,14 @@ Turned w said v = Chain TurnsAt all_places w (with_heard said v)
 abbrev pub AskedAt : ServerId → Asked → Scene → List Heard → Scene → Type 0
 AskedAt place q w said v = AsksAt place q w (with_heard said v)
 
--- a turn is cut off, whatever was heard before; these datagrams were sent by then
-abbrev pub TurnBreaks : Scene → Option (List SentDatagram) → Type 0
-TurnBreaks w sent =
-    (hs : List Heard) × Stops TurnsAt TurnsAtInPart all_places (with_heard hs w) sent
+-- a turn is cut off, whatever was heard before, and leaves this
+abbrev pub TurnBreaks : Scene → Around → Type 0
+TurnBreaks w left =
+    (hs : List Heard) × Stops TurnsAt TurnsAtInPart all_places (with_heard hs w) left
 
 -- so is an ask of the server of a place
-abbrev pub AskBreaks : ServerId → Asked → Scene → Option (List SentDatagram) → Type 0
-AskBreaks place q w sent = (hs : List Heard) × AsksAtInPart place q (with_heard hs w) sent
+abbrev pub AskBreaks : ServerId → Asked → Scene → Around → Type 0
+AskBreaks place q w left = (hs : List Heard) × AsksAtInPart place q (with_heard hs w) left
 
 -- ---- what they run on
 

@@ -1,6 +1,7 @@
 -- HOW A CALL IS ASKED until it ends: where, and when again.
 use Rattle.std.specs.Prelude.{◌≡◌, ◌⊎◌, ℕ, zero, suc, ◌+◌, ◌==◌, ◌&&◌, Bool, true, List, [], ◌∷◌, ◌++◌, fold, Some, None, ⊤, if◌then◌else◌}
 use Rattle.harp_types.specs.declared.call.Call.{Call}
+use Rattle.harp_types.specs.declared.cred.Cred.{Cred}
 use Rattle.harp_types.specs.declared.reply.Reply.{Reply}
 use Rattle.harp_types.specs.declared.server.ServerId.{ServerId}
 use Rattle.harp_types.specs.declared.server.ServerId.TheVariants.{Zero, One, Two}
@@ -185,3 +186,11 @@ module _ {W T : Type 0} (turns : W → List Heard → W → Type 0)
       (record { client = client; number = a.number; cred = x.cred; call = x.call })
       (Done x.reply b.place b.scene) a.place a.scene
       × AreMade xs b c
+
+  -- one more was given up, for some reason, where the servers stand so and show this
+  abbrev pub GaveUpOne : (W → Type 0) → T → Before W → Type 0
+  GaveUpOne stands trail c =
+      (why : GroupFault) × (cred : Cred) × (call : Call)
+      × GivesUp stands trail (λ o. IsMade turns asks turn_breaks ask_breaks most
+      (record { client = client; number = c.number; cred = cred; call = call })
+      o c.place c.scene) why

@@ -8,11 +8,10 @@ use Rattle.door_group.specs.Rule.{AreMade, Before, GivesUp, IsMade, Outcome}
 use Rattle.door_group.specs.First.{first_number}
 use Rattle.door_group.specs.Local.{AskBreaks, AskedAt, TurnBreaks, Turned}
 use Rattle.node_link.specs.Readings.{MayTell}
-use Rattle.node_link.specs.declared.link.SentDatagram.{SentDatagram}
 use Rattle.node_loop.specs.Chain.{Chain}
+use Rattle.node_loop.specs.Cut.{IsUnstarted}
 use Rattle.node_loop.specs.Run.{BootsAt}
-use Rattle.node_loop.specs.Scene.{Scene, all_places}
-use Rattle.node_loop.specs.Turn.{sent_of}
+use Rattle.node_loop.specs.Scene.{Around, Scene, all_places, around_in}
 use Rattle.node_loop.specs.declared.fault.LoopFault.{LoopFault}
 use Rattle.node_loop.specs.declared.fault.LoopFault.TheVariants as loop
 use Rattle.rpc_door.specs.Group.{Tells, Unanswered}
@@ -20,6 +19,7 @@ use Rattle.rpc_door.specs.Serving.{DoorEnds, closed, side}
 use Rattle.rpc_door.specs.declared.fault.DoorFault.{DoorFault}
 use Rattle.rpc_door.specs.declared.fault.DoorFault.TheVariants as door
 use Rattle.rpc_door.specs.declared.group.Exchange.{Exchange}
+use Rattle.rpc_door.specs.declared.group.GroupFault.{GroupFault}
 use Rattle.door_group.specs.declared.fault.ServedFault.{ServedFault}
 use Rattle.door_group.specs.declared.fault.ServedFault.TheVariants as fault
 use Rattle.door_group.specs.declared.served.Caller.{Caller}
@@ -73,7 +73,7 @@ AreMadeBy caller made a c =
 
 -- this becomes of a call that is made of them now
 abbrev pub Becomes : Caller → Cred → Call → Before Scene
-    → Outcome Scene (Option (List SentDatagram)) → Type 0
+    → Outcome Scene Around → Type 0
 Becomes caller cred call c o =
     IsMade Turned AskedAt TurnBreaks AskBreaks caller.turns
     (record { client = caller.client; number = c.number; cred = cred; call = call })
@@ -98,9 +98,17 @@ AnsweredSoFar caller first now start made =
 abbrev pub GivenUp : Caller → Before Scene → Scene → Unanswered ⊤
 GivenUp caller first now why start made cred call =
     (c : Before Scene) × AreMadeBy caller made first c
-    × GivesUp (IsOver now) (sent_of now.link) (Becomes caller cred call c) why
+    × GivesUp (IsOver now) (around_in now) (Becomes caller cred call c) why
 
--- what is told of the calls where a door ended so; a fault of the servers leaves them anywhere
+-- the servers are where the last one left them, or one more was given up
+abbrev pub AnsweredOrGivenUp : Caller → Before Scene → Scene → Tells ⊤
+AnsweredOrGivenUp caller first now start made =
+    AnsweredSoFar caller first now start made
+    ⊎ ((why : GroupFault) × (cred : Cred) × (call : Call)
+    × GivenUp caller first now why start made cred call)
+
+-- what is told of the calls where a door ended so; of a call that wasn't answered more is told
+-- beside it
 abbrev pub told_of : Result ℕ DoorFault → Caller → Before Scene → Scene → Tells ⊤
 told_of (Ok number) caller first now = AnsweredSoFar caller first now
 told_of (Err door.ReadFault) caller first now = AnsweredSoFar caller first now
@@ -108,7 +116,7 @@ told_of (Err door.WriteFault) caller first now = AnsweredSoFar caller first now
 told_of (Err (door.BadRecord number)) caller first now = AnsweredSoFar caller first now
 told_of (Err door.GroupFailed) caller first now = Answered caller first
 told_of (Err door.GroupSpent) caller first now = Answered caller first
-told_of (Err door.NoMemory) caller first now = Answered caller first
+told_of (Err door.NoMemory) caller first now = AnsweredOrGivenUp caller first now
 
 -- ---- the end
 
@@ -146,12 +154,12 @@ IsServed caller input source before after booted now (Err fault.CallSpent) =
 IsServed caller input source before after booted now (Err fault.NoMemory) =
     HasServed caller input source before after booted now (Err door.NoMemory)
 
--- the servers weren't started, by this: nothing was read or written, and no datagram was sent
+-- the servers weren't started, by this: nothing was read or written, and at most they were booted
 pub record WasShut (input : List ℕ) (source before after : Option (List ℕ)) (a now : Scene)
     (ended : Result ℕ ServedFault) : Type 0 where
   pub unread : source ≡ Some input
   pub unwritten : after ≡ before
-  pub unsent : now.link ≡ a.link
+  pub unstarted : IsUnstarted first_promise all_places a (around_in now)
   pub why : Shuts ended
 
 -- THREE SERVERS ARE STARTED: they are booted from their disks, where promises last as long as at

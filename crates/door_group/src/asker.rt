@@ -5,8 +5,9 @@ ghost use Rattle.harp_types.specs.declared.server.ServerId.TheVariants.{Zero};
 ghost use Rattle.rpc_door.specs.Results.{is_reply_to};
 ghost use Rattle.rpc_door.specs.declared.group.Exchange.{Exchange as Made};
 ghost use Rattle.rpc_door.specs.declared.group.GroupFault.TheVariants as group;
-ghost use Rattle.door_group.specs.Rule.{AreMade, AreReady, Before, EndsRightly, Fails, GivesUp};
-ghost use Rattle.door_group.specs.Rule.{IsMade, LeadsOn, Standing, TurnBrings, asked, brings};
+ghost use Rattle.door_group.specs.Rule.{AreMade, AreReady, Before, EndsRightly, Fails, GaveUpOne};
+ghost use Rattle.door_group.specs.Rule.{GivesUp, IsMade, LeadsOn, Standing, TurnBrings, asked};
+ghost use Rattle.door_group.specs.Rule.{brings};
 ghost use Rattle.door_group.specs.Rule.Outcome.{Done};
 
 use crate::brought::{Brought, Next, follow, hear};
@@ -219,10 +220,13 @@ impl<S: Servers> Asker<S> {
 impl<S: Servers> Group for Asker<S> {
     ghost Start = { Before S.Scene };
 
+    // After a call that was given up it tells that one too.
     ghost told = { λ a first made. (c : Before S.Scene)
         × AreMade S.turns S.asks S.turn_breaks S.ask_breaks a.client a.turns made first c
         × (a.next ≡ c.number) × (a.place ≡ c.place)
-        × (a.stopped ≡ false → S.stands a.servers c.scene) };
+        × (a.stopped ≡ false → S.stands a.servers c.scene)
+        × (a.stopped ≡ true → GaveUpOne S.turns S.asks S.turn_breaks S.ask_breaks a.client a.turns
+        (S.stands a.servers) (S.trail a.servers) c) };
 
     // A call that was given up was asked just by the rule too.
     ghost unanswered = { λ a why first made cred call. (c : Before S.Scene)

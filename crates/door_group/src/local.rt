@@ -1,9 +1,7 @@
 //! Three servers that run in this process.
 
 ghost use Rattle.std.specs.Prelude.{◌≡◌, ◌≤◌, ℕ, List, [], Option, None, Some, Err, OnErr, OnOk};
-ghost use Rattle.node_link.specs.declared.link.SentDatagram.{SentDatagram};
-ghost use Rattle.node_loop.specs.Scene.{AreUp, Scene, each, scene_of, with_heard};
-ghost use Rattle.node_loop.specs.Turn.{sent_of};
+ghost use Rattle.node_loop.specs.Scene.{AreUp, Around, Scene, around, each, scene_of, with_heard};
 ghost use Rattle.door_group.specs.Local.{AskBreaks, AskedAt, Basis, HasFailed, IsLater, IsLent};
 ghost use Rattle.door_group.specs.Local.{TurnBreaks, Turned, all_faults, of_loop};
 
@@ -83,10 +81,11 @@ impl<L: Link, D: Store, C: Clock> Servers for LocalServers<'_, L, D, C> {
 
     ghost asks = { AskedAt };
 
-    // Which datagrams were sent, as far as the link tells.
-    ghost Trail = { Option (List SentDatagram) };
+    // What their disks, the link and the clock tell.
+    ghost Trail = { Around };
 
-    ghost trail = { λ s. sent_of (L.told s.link.now) };
+    ghost trail = { λ s. around (each D.told s.disks.now) (L.told s.link.now)
+        (C.told s.clock.now) };
 
     ghost turn_breaks = { TurnBreaks };
 

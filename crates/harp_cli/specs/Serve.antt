@@ -3,13 +3,9 @@ use Rattle.std.specs.Prelude.{◌≡◌, ◌⊎◌, ℕ, List, [], ◌∷◌, �
 use Rattle.std.specs.Io.KnownBytes.{Appends}
 use Rattle.harp_types.specs.Streams.{GrewByPart}
 use Rattle.harp_types.specs.declared.server.ServerId.{ServerId}
-use Rattle.harp_types.specs.declared.trio.Trio.{Trio}
-use Rattle.harp_store.specs.Disk.{Moments}
-use Rattle.node_link.specs.Traffic.{Traffic}
-use Rattle.node_link.specs.declared.clock.Reading.{Reading}
-use Rattle.node_loop.specs.Run.{IsCutOff, IsRun}
-use Rattle.node_loop.specs.Scene.{start}
-use Rattle.node_loop.specs.Turn.{sent_of}
+use Rattle.node_loop.specs.Cut.{IsCutOff}
+use Rattle.node_loop.specs.Run.{IsRun}
+use Rattle.node_loop.specs.Scene.{Around, start}
 use Rattle.node_loop.specs.declared.counts.Served.{Served}
 use Rattle.text_spelling.specs.Text.{spaced}
 use Rattle.harp_cli.specs.declared.exit.Exit.{Exit}
@@ -25,28 +21,18 @@ served_line s =
     codes "turns" ++ spaced (decimal s.turns) ++ codes " taken" ++ spaced (decimal s.taken)
     ++ codes " sent" ++ spaced (decimal s.sent) ++ 10 ∷ []
 
--- ---- what servers run over
-
--- the disks, the link and the clock, as far as they tell
-pub record Outside : Type 0 where
-  pub disks : Trio (Option Moments)
-  pub link : Option Traffic
-  pub clock : Option (List Reading)
-
-abbrev pub outside : Trio (Option Moments) → Option Traffic → Option (List Reading) → Outside
-outside disks link clock = record { disks = disks; link = link; clock = clock }
+-- ---- what servers did
 
 -- the servers of these places took all their turns, and did this
-abbrev pub HaveServed : List ServerId → Loop → Outside → Outside → Served → Type 0
+abbrev pub HaveServed : List ServerId → Loop → Around → Around → Served → Type 0
 HaveServed places runs old new served =
     IsRun (delta_of runs.delta) places runs.turns (start old.disks old.link old.clock) served
     new.disks new.link new.clock
 
--- they were cut off, with a front of what their turns send
-abbrev pub AreCutOff : List ServerId → Loop → Outside → Outside → Type 0
+-- they were cut off, and left this
+abbrev pub AreCutOff : List ServerId → Loop → Around → Around → Type 0
 AreCutOff places runs old new =
-    IsCutOff (delta_of runs.delta) places runs.turns (start old.disks old.link old.clock)
-    (sent_of new.link)
+    IsCutOff (delta_of runs.delta) places runs.turns (start old.disks old.link old.clock) new
 
 -- ---- the exits
 
@@ -66,7 +52,7 @@ WriteEnds served before after exit.DiskFailed = ⊥
 WriteEnds served before after exit.LinkFailed = ⊥
 
 -- they took all their turns, and what they did was written, so far as this exit says
-pub record TellServed (places : List ServerId) (runs : Loop) (old new : Outside)
+pub record TellServed (places : List ServerId) (runs : Loop) (old new : Around)
     (before after : Option (List ℕ)) (e : Exit) : Type 0 where
   pub served : Served
   pub run : HaveServed places runs old new served
@@ -75,7 +61,7 @@ pub record TellServed (places : List ServerId) (runs : Loop) (old new : Outside)
 -- How servers of these places end: with 0 they took all their turns and the line was written, and
 -- where the sink failed a part of it. Where a disk or the link failed they were cut off, and
 -- nothing was written. Without memory it is either
-abbrev pub ServeEnds : List ServerId → Loop → Outside → Outside → Option (List ℕ)
+abbrev pub ServeEnds : List ServerId → Loop → Around → Around → Option (List ℕ)
     → Option (List ℕ) → Exit → Type 0
 ServeEnds places runs old new before after exit.Done =
     TellServed places runs old new before after exit.Done

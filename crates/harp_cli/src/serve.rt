@@ -3,9 +3,9 @@
 ghost use Rattle.std.specs.Prelude.{◌≡◌, ◌≤◌, ◌∷◌, [], ◌++◌, Err, IfOk};
 ghost use Rattle.harp_types.specs.Streams.{Rose};
 ghost use Rattle.node_link.specs.Traffic.{last_port};
-ghost use Rattle.node_loop.specs.Scene.{NoneFell, OneRose, all_places, each, only};
+ghost use Rattle.node_loop.specs.Scene.{NoneFell, OneRose, all_places, around, each, only};
 ghost use Rattle.harp_cli.specs.Exit.{exit_of_loop, exit_of_store};
-ghost use Rattle.harp_cli.specs.Serve.{ServeEnds, WriteEnds, outside, served_line};
+ghost use Rattle.harp_cli.specs.Serve.{ServeEnds, WriteEnds, served_line};
 
 use crate::exit::Exit;
 use crate::loop_words::Loop;
@@ -78,8 +78,8 @@ pub fn serve_node<K: Sink, L: Link, D: Store, C: Clock>(
 ) -> Exit
     requires { runs.port ≤ last_port }
     ensures ends { ServeEnds (place ∷ []) runs
-        (outside (only place (D.told disk.old)) (L.told link.old) (C.told clock.old))
-        (outside (only place (D.told disk.new)) (L.told link.new) (C.told clock.new))
+        (around (only place (D.told disk.old)) (L.told link.old) (C.told clock.old))
+        (around (only place (D.told disk.new)) (L.told link.new) (C.told clock.new))
         (K.written sink.old) (K.written sink.new) result }
     ensures disk_rose { result ≡ Exit.DiskFailed
         → Rose (D.faults disk.old) (D.faults disk.new) }
@@ -151,8 +151,8 @@ pub fn serve_group<K: Sink, L: Link, D: Store, C: Clock>(
 ) -> Exit
     requires { runs.port ≤ last_port }
     ensures ends { ServeEnds all_places runs
-        (outside (each D.told disks.old) (L.told link.old) (C.told clock.old))
-        (outside (each D.told disks.new) (L.told link.new) (C.told clock.new))
+        (around (each D.told disks.old) (L.told link.old) (C.told clock.old))
+        (around (each D.told disks.new) (L.told link.new) (C.told clock.new))
         (K.written sink.old) (K.written sink.new) result }
     ensures disk_rose { result ≡ Exit.DiskFailed
         → OneRose (each D.faults disks.old) (each D.faults disks.new) }

@@ -24,7 +24,7 @@ ghost use Rattle.observe_laws.specs.Peeks.{IsObservedRightly};
 ghost use Rattle.observe_laws.specs.Reading.{observed_reading};
 ghost use Rattle.observed_text.specs.Grammar.{ExplainsObserved};
 ghost use Rattle.observed_text.specs.Reading.{observed_meaning};
-ghost use Rattle.node_loop.specs.Scene.{OneRose, all_places, each, only, start};
+ghost use Rattle.node_loop.specs.Scene.{OneRose, all_places, around, each, only, start};
 ghost use Rattle.schedule_text.specs.Grammar.{Explains};
 ghost use Rattle.schedule_text.specs.Reading.{meaning_of};
 ghost use Rattle.sweep.specs.Lines.{generated};
@@ -46,7 +46,7 @@ ghost use Rattle.harp_cli.specs.Door.{DoorPlayed, DoorServes};
 ghost use Rattle.harp_cli.specs.Gen.{GenEnds};
 ghost use Rattle.harp_cli.specs.Observe.{HasObserved};
 ghost use Rattle.harp_cli.specs.Play.{HasPlayed, WroteRightText, exit_of_play, sizes};
-ghost use Rattle.harp_cli.specs.Serve.{ServeEnds, outside};
+ghost use Rattle.harp_cli.specs.Serve.{ServeEnds};
 ghost use Rattle.harp_cli.specs.Sweep.{SweepEnds};
 ghost use Rattle.harp_cli.specs.Words.{IsAudit, IsCheck, IsDoor, IsDoorPlay, IsForm, IsGen};
 ghost use Rattle.harp_cli.specs.Words.{IsGroup, IsNode, IsObserve, IsPlay, IsSweep, Serves};
@@ -176,9 +176,9 @@ pub fn harp<R: Threads + Sync, S: Source, K: Sink, L: Link, D: Store, C: Clock>(
     ensures node { (place : Place) (runs : Runs) → IsNode place runs words.now
         → (exit : Exit) × (result ≡ status_of exit)
         × ServeEnds (place ∷ []) runs
-        (outside (only place (D.told (value_of disks.old place))) (L.told link.old)
+        (around (only place (D.told (value_of disks.old place))) (L.told link.old)
         (C.told clock.old))
-        (outside (only place (D.told (value_of disks.new place))) (L.told link.new)
+        (around (only place (D.told (value_of disks.new place))) (L.told link.new)
         (C.told clock.new))
         (K.written sink.old) (K.written sink.new) exit
         × (disks.new ≡ with_value disks.old place (value_of disks.new place))
@@ -186,8 +186,8 @@ pub fn harp<R: Threads + Sync, S: Source, K: Sink, L: Link, D: Store, C: Clock>(
     ensures group { (runs : Runs) → IsGroup runs words.now
         → (exit : Exit) × (result ≡ status_of exit)
         × ServeEnds all_places runs
-        (outside (each D.told disks.old) (L.told link.old) (C.told clock.old))
-        (outside (each D.told disks.new) (L.told link.new) (C.told clock.new))
+        (around (each D.told disks.old) (L.told link.old) (C.told clock.old))
+        (around (each D.told disks.new) (L.told link.new) (C.told clock.new))
         (K.written sink.old) (K.written sink.new) exit
         × (world.new ≡ world.old) × (source.new ≡ source.old) }
     // The verdict on the disk of place 0, as far as it tells it, and what was written of it.

@@ -1,14 +1,14 @@
 -- What was heard before makes no difference to what servers do: it stays in front of what they say.
-use Rattle.std.proofs.Common.{◌≡◌, ◌∙◌, ℕ, List, [], ◌∷◌, ◌++◌, Option, ap, inl, inr, refl, subst, sym}
+use Rattle.std.proofs.Common.{◌≡◌, ◌∙◌, ℕ, List, [], ◌∷◌, ◌++◌, ap, inl, inr, refl, subst, sym}
 use Rattle.std.proofs.lemmas.List.{append-nil, append_assoc}
 use Rattle.harp_types.specs.declared.server.ServerId.{ServerId}
-use Rattle.node_link.specs.declared.link.SentDatagram.{SentDatagram}
 use Rattle.node.specs.declared.input.Input.{Input}
 use Rattle.node_loop.specs.declared.heard.Heard.{Heard}
 use Rattle.node_loop.specs.Chain.{Chain, Stops}
 use Rattle.node_loop.specs.Outgoing.{heards}
-use Rattle.node_loop.specs.Run.{Gives, GivesAt, IsGiven, IsGivenInPart, IsTurnInPart, Turns, TurnsAt, TurnsAtInPart}
-use Rattle.node_loop.specs.Scene.{AtWork, Scene, Spot, at_work, with_heard}
+use Rattle.node_loop.specs.Cut.{IsGivenInPart, IsTurnInPart, SpotLeft, TurnsAtInPart, WorkLeft, work_left}
+use Rattle.node_loop.specs.Run.{Gives, GivesAt, IsGiven, Turns, TurnsAt}
+use Rattle.node_loop.specs.Scene.{Around, AtWork, Scene, Spot, at_work, with_heard}
 
 -- A move says this, and leads on so whatever was heard before
 pub record Says {S : Type 0} (heard_of : S → List Heard) (with_heard : List Heard → S → S)
@@ -80,17 +80,14 @@ given_says place now input a c h = record {
 }
 
 given_part : (place : ServerId) (now : ℕ) (input : Input) (a : AtWork)
-    (sent : Option (List SentDatagram)) → IsGivenInPart place now input a sent → (hs : List Heard)
-    → IsGivenInPart place now input (work_heard hs a) sent
-given_part place now input a sent (inl h) hs = inl h
-given_part place now input a sent (inr h) hs = inr (record {
+    (left : WorkLeft) → IsGivenInPart place now input a left → (hs : List Heard)
+    → IsGivenInPart place now input (work_heard hs a) left
+given_part place now input a left (inl h) hs = inl (record { disk = h.disk; link = h.link })
+given_part place now input a left (inr h) hs = inr (record {
   node = h.node;
-  disk = h.disk;
   outs = h.outs;
-  after = h.after;
   step = h.step;
   sends = h.sends;
-  sent_is = h.sent_is;
 })
 
 -- ---- at a spot
@@ -118,19 +115,20 @@ turns_say place a c h =
       };
     }
 
-turn_part : (place : ServerId) (a : Spot) (sent : Option (List SentDatagram))
-    → IsTurnInPart place a sent → (hs : List Heard) → IsTurnInPart place (spot_heard hs a) sent
-turn_part place a sent (inl h) hs = inl h
-turn_part place a sent (inr h) hs = inr (record {
+turn_part : (place : ServerId) (a : Spot) (left : SpotLeft)
+    → IsTurnInPart place a left → (hs : List Heard) → IsTurnInPart place (spot_heard hs a) left
+turn_part place a left (inl h) hs = inl (record { fails = h.fails; disk = h.disk })
+turn_part place a left (inr h) hs = inr (record {
   turned = h.turned;
   before = h.before;
   pace = h.pace;
   turn = h.turn;
   link = h.link;
+  clock = h.clock;
   given = stops_say (λ (w : AtWork). w.heard) work_heard (IsGiven place h.turned.now)
       (IsGivenInPart place h.turned.now) (given_says place h.turned.now)
       (given_part place h.turned.now) h.turned.inputs.items
-      (at_work (record a { link = h.before })) sent h.given hs;
+      (at_work (record a { link = h.before })) (work_left left.disk left.link) h.given hs;
 })
 
 gives_say : (place : ServerId) (input : Input) (a c : Spot) → Gives place input a c
@@ -175,21 +173,23 @@ pub turns-say : (places : List ServerId) (a c : Scene) → Chain TurnsAt places 
     → Says heard_in with_heard (Chain TurnsAt places) a c
 turns-say places a c h = chain_says heard_in with_heard TurnsAt turn_says places a c h
 
-part_says : (place : ServerId) (a : Scene) (sent : Option (List SentDatagram))
-    → TurnsAtInPart place a sent → (hs : List Heard)
-    → TurnsAtInPart place (with_heard hs a) sent
-part_says place a sent h hs = record {
+part_says : (place : ServerId) (a : Scene) (left : Around)
+    → TurnsAtInPart place a left → (hs : List Heard)
+    → TurnsAtInPart place (with_heard hs a) left
+part_says place a left h hs = record {
   old = spot_heard hs h.old;
+  new = h.new;
   was = ap (with_heard hs) h.was;
-  turns = turn_part place h.old sent h.turns hs;
+  turns = turn_part place h.old h.new h.turns hs;
+  is = h.is;
 }
 
 -- also where it stops
-pub stops-say : (places : List ServerId) (a : Scene) (sent : Option (List SentDatagram))
-    → Stops TurnsAt TurnsAtInPart places a sent → (hs : List Heard)
-    → Stops TurnsAt TurnsAtInPart places (with_heard hs a) sent
-stops-say places a sent h hs =
-    stops_say heard_in with_heard TurnsAt TurnsAtInPart turn_says part_says places a sent h hs
+pub stops-say : (places : List ServerId) (a : Scene) (left : Around)
+    → Stops TurnsAt TurnsAtInPart places a left → (hs : List Heard)
+    → Stops TurnsAt TurnsAtInPart places (with_heard hs a) left
+stops-say places a left h hs =
+    stops_say heard_in with_heard TurnsAt TurnsAtInPart turn_says part_says places a left h hs
 
 -- AND SO DOES AN INPUT between turns
 pub gives-say : (place : ServerId) (input : Input) (a c : Scene) → GivesAt place input a c

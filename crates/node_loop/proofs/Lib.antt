@@ -1,4 +1,4 @@
-mod SentLaws
+mod ClockLaws
 mod Chains
 mod Fronts
 mod Results

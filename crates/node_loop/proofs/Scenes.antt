@@ -8,14 +8,14 @@ use Rattle.harp_types.specs.declared.server.ServerId.TheVariants.{Zero, One, Two
 use Rattle.harp_store.specs.Disk.{Moments}
 use Rattle.node_link.specs.Traffic.{Traffic}
 use Rattle.node_link.specs.declared.clock.Reading.{Reading}
-use Rattle.node_link.specs.declared.link.SentDatagram.{SentDatagram}
 use Rattle.node_loop.specs.declared.counts.Counts.{Counts}
 use Rattle.node_loop.specs.declared.heard.Heard.{Heard}
 use Rattle.node_loop.specs.declared.ledger.Ledger.{Ledger}
 use Rattle.node_loop.specs.declared.running.Running.{Running}
 use Rattle.node_loop.specs.Chain.{Chain, Stops}
-use Rattle.node_loop.specs.Run.{BootsAt, Gives, GivesAt, GivesAtInPart, GivesInPart, IsBooted, IsTurnInPart, Turns, TurnsAt, TurnsAtInPart, rounds}
-use Rattle.node_loop.specs.Scene.{AreUp, IsUp, NoneFell, Scene, Spot, all_places, alone, each, nobody, only, scene, spot, start, with_spot}
+use Rattle.node_loop.specs.Cut.{BootsAtInPart, BootsInPart, GivesAtInPart, GivesInPart, IsTurnInPart, SpotLeft, TurnsAtInPart, spot_left, with_left}
+use Rattle.node_loop.specs.Run.{BootsAt, Gives, GivesAt, IsBooted, Turns, TurnsAt, rounds}
+use Rattle.node_loop.specs.Scene.{AreUp, IsUp, NoneFell, Scene, Spot, all_places, alone, around, each, nobody, only, scene, spot, start, with_spot}
 use Rattle.node_loop.proofs.Chains.{stops-front}
 
 -- the last one counts
@@ -37,12 +37,20 @@ turns-alone place s t h = record {
   is = sym (spot-again place s t (start nobody None None));
 }
 
-pub part-alone : (place : ServerId) (s : Spot) (sent : Option (List SentDatagram))
-    → IsTurnInPart place s sent → TurnsAtInPart place (alone place s) sent
-part-alone place s sent h = record {
+left_alone : (place : ServerId) (s : Spot) (left : SpotLeft)
+    → around (only place left.disk) left.link left.clock ≡ with_left place left (alone place s)
+left_alone Zero s left = refl
+left_alone One s left = refl
+left_alone Two s left = refl
+
+pub part-alone : (place : ServerId) (s : Spot) (left : SpotLeft) → IsTurnInPart place s left
+    → TurnsAtInPart place (alone place s) (around (only place left.disk) left.link left.clock)
+part-alone place s left h = record {
   old = s;
+  new = left;
   was = sym (spot-again place s s (start nobody None None));
   turns = h;
+  is = left_alone place s left;
 }
 
 disk_of : (place : ServerId) (disk : Option Moments) → value_of (only place disk) place ≡ disk
@@ -114,6 +122,25 @@ boots-alone delta place r old new link before after k counts heard h =
       },
       refl,
     )
+
+around_from : (place : ServerId) (old new : Option Moments) (link : Option Traffic)
+    (after : Option (List Reading))
+    → around (only place new) link after ≡ around (with_value (only place old) place new) link after
+around_from Zero old new link after = refl
+around_from One old new link after = refl
+around_from Two old new link after = refl
+
+-- or it failed
+pub boots-in-part : (delta : ℕ) (place : ServerId) (old new : Option Moments)
+    (link : Option Traffic) (before after : Option (List Reading))
+    → BootsInPart place delta old new before after
+    → Stops (BootsAt delta) (BootsAtInPart delta) (place ∷ []) (start (only place old) link before)
+    (around (only place new) link after)
+boots-in-part delta place old new link before after h = inl (record {
+  disk = new;
+  boots = subst (λ d. BootsInPart place delta d new before after) (sym (disk_of place old)) h;
+  is = around_from place old new link after;
+})
 
 -- ---- rounds
 
@@ -198,6 +225,45 @@ boots-three delta r old new link before first second after k counts heard h0 h1 
       ),
     )
 
+module _ (delta : ℕ) (old : Trio (Option Moments)) (link : Option Traffic)
+    (before : Option (List Reading)) where
+  pub boot-first : (disk : Option Moments) (after : Option (List Reading))
+      → BootsInPart Zero delta old.zero disk before after
+      → Stops (BootsAt delta) (BootsAtInPart delta) all_places (start old link before)
+      (around (record { zero = disk; one = old.one; two = old.two }) link after)
+  boot-first disk after h = inl (record { disk = disk; boots = h; is = refl })
+
+  module _ (r0 : Running) (disk0 : Option Moments) (first : Option (List Reading))
+      (h0 : IsBooted Zero delta r0 old.zero disk0 before first) where
+    abbrev booted_0 : Scene
+    booted_0 = booted_in Zero r0 disk0 first (start old link before)
+
+    boots_0 : BootsAt delta Zero (start old link before) booted_0
+    boots_0 = record { server = r0; disk = disk0; clock = first; boots = h0; is = refl }
+
+    pub boot-second : (disk : Option Moments) (after : Option (List Reading))
+        → BootsInPart One delta old.one disk first after
+        → Stops (BootsAt delta) (BootsAtInPart delta) all_places (start old link before)
+        (around (record { zero = disk0; one = disk; two = old.two }) link after)
+    boot-second disk after h =
+        inr (booted_0, boots_0, inl (record { disk = disk; boots = h; is = refl }))
+
+    pub boot-third : (r1 : Running) (disk1 : Option Moments) (second : Option (List Reading))
+        → IsBooted One delta r1 old.one disk1 first second
+        → (disk : Option Moments) (after : Option (List Reading))
+        → BootsInPart Two delta old.two disk second after
+        → Stops (BootsAt delta) (BootsAtInPart delta) all_places (start old link before)
+        (around (record { zero = disk0; one = disk1; two = disk }) link after)
+    boot-third r1 disk1 second h1 disk after h = inr (
+      booted_0,
+      boots_0,
+      inr (
+        booted_in One r1 disk1 second booted_0,
+        record { server = r1; disk = disk1; clock = second; boots = h1; is = refl },
+        inl (record { disk = disk; boots = h; is = refl }),
+      ),
+    )
+
 -- a server with its disk, which shares what is shared at a spot
 abbrev pub beside : Running → Option Moments → Spot → Spot
 beside r disk s = record s { server = r; disk = disk }
@@ -232,13 +298,14 @@ turn_in place r d s t h = record {
 }
 
 part_in : (place : ServerId) (r : Trio Running) (d : Trio (Option Moments)) (s : Spot)
-    (sent : Option (List SentDatagram))
-    → IsTurnInPart place (beside (value_of r place) (value_of d place) s) sent
-    → TurnsAtInPart place (sharing r d s) sent
-part_in place r d s sent h = record {
+    (left : SpotLeft) → IsTurnInPart place (beside (value_of r place) (value_of d place) s) left
+    → TurnsAtInPart place (sharing r d s) (with_left place left (sharing r d s))
+part_in place r d s left h = record {
   old = beside (value_of r place) (value_of d place) s;
+  new = left;
   was = stands place r d s;
   turns = h;
+  is = refl;
 }
 
 -- an input between turns
@@ -257,15 +324,29 @@ gives-in place here is input r d s t h =
     })
 
 pub gives-part : (place here : ServerId) → here ≡ place → (input : Input) (r : Trio Running)
-    (d : Trio (Option Moments)) (s : Spot) (sent : Option (List SentDatagram))
-    → GivesInPart place input (beside (value_of r place) (value_of d place) s) sent
-    → GivesAtInPart here input (sharing r d s) sent
-gives-part place here is input r d s sent h =
-    subst (λ p. GivesAtInPart p input (sharing r d s) sent) (sym is) (record {
+    (d : Trio (Option Moments)) (s : Spot) (left : SpotLeft)
+    → GivesInPart place input (beside (value_of r place) (value_of d place) s) left
+    → GivesAtInPart here input (sharing r d s) (with_left place left (sharing r d s))
+gives-part place here is input r d s left h =
+    subst (λ p. GivesAtInPart p input (sharing r d s) (with_left place left (sharing r d s)))
+    (sym is) (record {
       old = beside (value_of r place) (value_of d place) s;
+      new = left;
       was = stands place r d s;
       gives = h;
+      is = refl;
     })
+
+-- nothing was done yet
+pub gives-none : (place : ServerId) (input : Input) (r : Trio Running)
+    (d : Trio (Option Moments)) (s : Spot)
+    → GivesAtInPart place input (sharing r d s) (around d s.link s.clock)
+gives-none Zero input r d s =
+    gives-part Zero Zero refl input r d s (spot_left d.zero s.link s.clock) (inl refl)
+gives-none One input r d s =
+    gives-part One One refl input r d s (spot_left d.one s.link s.clock) (inl refl)
+gives-none Two input r d s =
+    gives-part Two Two refl input r d s (spot_left d.two s.link s.clock) (inl refl)
 
 module _ (r : Trio Running) (d : Trio (Option Moments)) (s : Spot) where
   -- once server 0 has turned
@@ -308,33 +389,34 @@ module _ (r : Trio Running) (d : Trio (Option Moments)) (s : Spot) where
     ),
   )
 
-  pub round-first : (sent : Option (List SentDatagram))
-      → IsTurnInPart Zero (beside r.zero d.zero s) sent
-      → Stops TurnsAt TurnsAtInPart all_places (sharing r d s) sent
-  round-first sent h0 = inl (part_in Zero r d s sent h0)
+  pub round-first : (left : SpotLeft) → IsTurnInPart Zero (beside r.zero d.zero s) left
+      → Stops TurnsAt TurnsAtInPart all_places (sharing r d s)
+      (around (record { zero = left.disk; one = d.one; two = d.two }) left.link left.clock)
+  round-first left h0 = inl (part_in Zero r d s left h0)
 
-  pub round-second : (t : Spot) (sent : Option (List SentDatagram))
-      → Turns Zero (beside r.zero d.zero s) t → IsTurnInPart One (beside r.one d.one t) sent
-      → Stops TurnsAt TurnsAtInPart all_places (sharing r d s) sent
-  round-second t sent h0 h1 = inr (
+  pub round-second : (t : Spot) (left : SpotLeft) → Turns Zero (beside r.zero d.zero s) t
+      → IsTurnInPart One (beside r.one d.one t) left
+      → Stops TurnsAt TurnsAtInPart all_places (sharing r d s)
+      (around (record { zero = t.disk; one = left.disk; two = d.two }) left.link left.clock)
+  round-second t left h0 h1 = inr (
     scene_1 t,
     first_turn t h0,
     inl (part_in One (record { zero = t.server; one = r.one; two = r.two })
-        (record { zero = t.disk; one = d.one; two = d.two }) t sent h1),
+        (record { zero = t.disk; one = d.one; two = d.two }) t left h1),
   )
 
-  pub round-third : (t u : Spot) (sent : Option (List SentDatagram))
-      → Turns Zero (beside r.zero d.zero s) t → Turns One (beside r.one d.one t) u
-      → IsTurnInPart Two (beside r.two d.two u) sent
-      → Stops TurnsAt TurnsAtInPart all_places (sharing r d s) sent
-  round-third t u sent h0 h1 h2 = inr (
+  pub round-third : (t u : Spot) (left : SpotLeft) → Turns Zero (beside r.zero d.zero s) t
+      → Turns One (beside r.one d.one t) u → IsTurnInPart Two (beside r.two d.two u) left
+      → Stops TurnsAt TurnsAtInPart all_places (sharing r d s)
+      (around (record { zero = t.disk; one = u.disk; two = left.disk }) left.link left.clock)
+  round-third t u left h0 h1 h2 = inr (
     scene_1 t,
     first_turn t h0,
     inr (
       scene_2 t u,
       second_turn t u h1,
       inl (part_in Two (record { zero = t.server; one = u.server; two = r.two })
-          (record { zero = t.disk; one = u.disk; two = d.two }) u sent h2),
+          (record { zero = t.disk; one = u.disk; two = d.two }) u left h2),
     ),
   )
 

@@ -6,3 +6,4 @@ pub mod Chain
 pub mod Step
 pub mod Scene
 pub mod Run
+pub mod Cut

@@ -1,5 +1,5 @@
 -- THE NODE RUN: what servers are given and send, turn by turn, from their boots on.
-use Rattle.std.specs.Prelude.{◌≡◌, ◌⊎◌, ℕ, zero, suc, List, [], ◌++◌, Option, Some}
+use Rattle.std.specs.Prelude.{◌≡◌, ℕ, zero, suc, List, [], ◌++◌, Option, Some}
 use Rattle.harp_types.specs.Trio.{value_of, with_value}
 use Rattle.harp_types.specs.declared.call.Call.{Call}
 use Rattle.harp_types.specs.declared.cred.Cred.{Cred}
@@ -7,24 +7,22 @@ use Rattle.harp_types.specs.declared.peer.Peer.TheVariants.{Local}
 use Rattle.harp_types.specs.declared.server.ServerId.{ServerId}
 use Rattle.harp_types.specs.declared.trio.Trio.{Trio}
 use Rattle.harp_store.specs.Disk.{Moments}
-use Rattle.node.specs.Node.{NodeValue}
 use Rattle.node.specs.declared.input.Input.{Input}
 use Rattle.node.specs.declared.input.Input.TheVariants.{Ask}
 use Rattle.node_link.specs.Readings.{MayTell}
 use Rattle.node_link.specs.Traffic.{Traffic}
 use Rattle.node_link.specs.declared.clock.Reading.{Reading}
-use Rattle.node_link.specs.declared.link.SentDatagram.{SentDatagram}
 use Rattle.node_outputs.specs.declared.outputs.Outputs.{Outputs}
 use Rattle.node_loop.specs.declared.counts.Served.{Served}
 use Rattle.node_loop.specs.declared.heard.Heard.{Heard}
 use Rattle.node_loop.specs.declared.running.Running.{Running}
 use Rattle.node_loop.specs.declared.turned.Turned.{Turned}
-use Rattle.node_loop.specs.Chain.{Chain, Stops}
+use Rattle.node_loop.specs.Chain.{Chain}
 use Rattle.node_loop.specs.Outgoing.{datagrams, heards}
 use Rattle.node_loop.specs.Scene.{AtWork, Scene, Spot, all_places, at_work, sent_after, taken_after, with_all_sent, with_heard, with_spot}
 use Rattle.node_loop.specs.Step.{IsBoot, IsStep}
-use Rattle.node_loop.specs.Turn.{IsTurn, LinkTurns, MayTellAll, readings_of, sent_of}
-use Rattle.node_loop.specs.Turns.{Pacing, first_pace}
+use Rattle.node_loop.specs.Turn.{IsTurn, LinkTurns, MayTellAll, readings_of}
+use Rattle.node_loop.specs.Turns.{first_pace}
 
 -- ---- a boot
 
@@ -47,28 +45,6 @@ pub record IsGiven (place : ServerId) (now : ℕ) (input : Input) (a b : AtWork)
   pub sent : b.sent ≡ sent_after (datagrams place outs) a.sent
   pub heard : b.heard ≡ a.heard ++ heards outs
 
--- a front of these datagrams was sent
-pub record SendsInPart (all : List SentDatagram) (old new : Option Traffic) : Type 0 where
-  pub front : List SentDatagram
-  pub rest : List SentDatagram
-  pub parts : all ≡ front ++ rest
-  pub sent : new ≡ with_all_sent front old
-
--- it takes the step, and a front of what goes out is sent
-pub record SendsAFront (place : ServerId) (now : ℕ) (input : Input) (a : AtWork)
-    (sent : Option (List SentDatagram)) : Type 0 where
-  pub node : NodeValue
-  pub disk : Option Moments
-  pub outs : Outputs
-  pub after : Option Traffic
-  pub step : IsStep input now a.node node a.disk disk outs
-  pub sends : SendsInPart (datagrams place outs) a.link after
-  pub sent_is : sent ≡ sent_of after
-
--- or nothing of it is sent
-abbrev pub IsGivenInPart : ServerId → ℕ → Input → AtWork → Option (List SentDatagram) → Type 0
-IsGivenInPart place now input a sent = (sent ≡ sent_of a.link) ⊎ SendsAFront place now input a sent
-
 -- ---- one turn of a place
 
 -- A TURN, of a server with the role that its mark has: it is given what the turn gives, one input
@@ -83,20 +59,6 @@ pub record Turns (place : ServerId) (a c : Spot) : Type 0 where
   pub given : Chain (IsGiven place turned.now) turned.inputs.items
       (at_work (record a { link = before })) (at_work c)
 
--- it is given a front of that, and the next input in part
-pub record GivesAFront (place : ServerId) (a : Spot) (sent : Option (List SentDatagram)) : Type 0 where
-  pub turned : Turned
-  pub before : Option Traffic
-  pub pace : Pacing
-  pub turn : IsTurn place a.server.node.mark.role a.server.pace pace turned
-  pub link : LinkTurns place a.server.pace turned a.link before
-  pub given : Stops (IsGiven place turned.now) (IsGivenInPart place turned.now) turned.inputs.items
-      (at_work (record a { link = before })) sent
-
--- or nothing of the turn is sent
-abbrev pub IsTurnInPart : ServerId → Spot → Option (List SentDatagram) → Type 0
-IsTurnInPart place a sent = (sent ≡ sent_of a.link) ⊎ GivesAFront place a sent
-
 -- ---- between turns
 
 -- A server is given an input between its turns, at a reading of its clock
@@ -106,10 +68,6 @@ pub record Gives (place : ServerId) (input : Input) (a c : Spot) : Type 0 where
   pub given : IsGiven place now input (at_work a) (at_work c)
   pub pace : c.server.pace ≡ a.server.pace
   pub taken : c.counts.taken ≡ a.counts.taken
-
--- or it is given in part
-abbrev pub GivesInPart : ServerId → Input → Spot → Option (List SentDatagram) → Type 0
-GivesInPart place input a sent = (now : ℕ) × IsGivenInPart place now input (at_work a) sent
 
 -- ---- in a scene
 
@@ -133,13 +91,6 @@ pub record TurnsAt (place : ServerId) (a c : Scene) : Type 0 where
   pub turns : Turns place old new
   pub is : c ≡ with_spot place new a
 
--- or a part of one
-pub record TurnsAtInPart (place : ServerId) (a : Scene)
-    (sent : Option (List SentDatagram)) : Type 0 where
-  pub old : Spot
-  pub was : a ≡ with_spot place old a
-  pub turns : IsTurnInPart place old sent
-
 -- the server of a place is given an input between its turns
 pub record GivesAt (place : ServerId) (input : Input) (a c : Scene) : Type 0 where
   pub old : Spot
@@ -147,13 +98,6 @@ pub record GivesAt (place : ServerId) (input : Input) (a c : Scene) : Type 0 whe
   pub was : a ≡ with_spot place old a
   pub gives : Gives place input old new
   pub is : c ≡ with_spot place new a
-
--- or in part
-pub record GivesAtInPart (place : ServerId) (input : Input) (a : Scene)
-    (sent : Option (List SentDatagram)) : Type 0 where
-  pub old : Spot
-  pub was : a ≡ with_spot place old a
-  pub gives : GivesInPart place input old sent
 
 -- a call, as a client's program asks it under a number
 pub record Asked : Type 0 where
@@ -169,9 +113,6 @@ ask_of q = Ask Local q.client q.number q.cred q.call
 -- THE SERVER OF A PLACE IS ASKED a call by the program that it runs in, between its turns
 abbrev pub AsksAt : ServerId → Asked → Scene → Scene → Type 0
 AsksAt place q a c = GivesAt place (ask_of q) a c
-
-abbrev pub AsksAtInPart : ServerId → Asked → Scene → Option (List SentDatagram) → Type 0
-AsksAtInPart place q a sent = GivesAtInPart place (ask_of q) a sent
 
 -- ---- the run
 
@@ -198,10 +139,3 @@ pub record IsRun (delta : ℕ) (places : List ServerId) (turns : ℕ) (a : Scene
   pub clock_is : clock ≡ end.clock
   pub served_is : served
       ≡ record { turns = turns; taken = end.counts.taken; sent = end.counts.sent }
-
--- A RUN THAT WAS CUT OFF: nothing was sent, or what a front of its turns sends, and a part of what
--- the next turn does
-abbrev pub IsCutOff : ℕ → List ServerId → ℕ → Scene → Option (List SentDatagram) → Type 0
-IsCutOff delta places turns a sent = (sent ≡ sent_of a.link)
-    ⊎ ((booted : Scene) × Chain (BootsAt delta) places a booted
-    × Stops TurnsAt TurnsAtInPart (rounds turns places) booted sent)

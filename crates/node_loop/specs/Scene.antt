@@ -152,6 +152,18 @@ scene servers disks link clock ledger = record {
   heard = ledger.heard.items;
 }
 
+-- what servers run on: the disks, the link and the clock, as far as they tell
+pub record Around : Type 0 where
+  pub disks : Trio (Option Moments)
+  pub link : Option Traffic
+  pub clock : Option (List Reading)
+
+abbrev pub around : Trio (Option Moments) → Option Traffic → Option (List Reading) → Around
+around disks link clock = record { disks = disks; link = link; clock = clock }
+
+abbrev pub around_in : Scene → Around
+around_in a = around a.disks a.link a.clock
+
 abbrev pub scene_of : Three → Trio (Option Moments) → Option Traffic → Option (List Reading)
     → Scene
 scene_of three disks link clock = scene three.servers disks link clock three.ledger

@@ -1,5 +1,5 @@
 -- A node's boot, and its steps.
-use Rattle.std.specs.Prelude.{◌≡◌, ℕ, false, List, [], Option, Some}
+use Rattle.std.specs.Prelude.{◌≡◌, ◌⊎◌, ℕ, false, List, [], Option, Some}
 use Rattle.event_record.specs.declared.record.RecordFields.{RecordFields}
 use Rattle.file_tree.specs.Book.{Entry}
 use Rattle.group_rules.specs.Effects.{booted}
@@ -12,7 +12,7 @@ use Rattle.node.specs.Node.{IsServer, NodeValue, server}
 use Rattle.node.specs.Serving.{entry_size}
 use Rattle.node.specs.Step.{StepsWhole}
 use Rattle.node.specs.Stock.{stock}
-use Rattle.node.specs.Stored.{disk_by, mark_by}
+use Rattle.node.specs.Stored.{LeavesBy, disk_by, mark_by}
 use Rattle.node.specs.Taking.{stepped}
 use Rattle.node.specs.declared.input.Input.{Input}
 use Rattle.node_outputs.specs.declared.outputs.Outputs.{Outputs}
@@ -41,6 +41,10 @@ pub record IsBoot (me : ServerId) (delta now : ℕ) (old new : Option Moments)
       → n.mark ≡ boot_mark me delta h.now.mark
   pub written : new ≡ after_boot me delta old
 
+-- A boot fails: the disk is as it was, or has the mark that a boot of it goes on from
+abbrev pub FailsBoot : ServerId → (delta : ℕ) → (old new : Option Moments) → Type 0
+FailsBoot me delta old new = (new ≡ old) ⊎ (new ≡ after_boot me delta old)
+
 -- A node takes a step at a reading of its clock: it does what the rules of the group say of what it
 -- is given, its outputs are just what they say, and so are its mark and its disk. Where the rules
 -- read the tree, its disk can tell it
@@ -54,3 +58,9 @@ pub record IsStep (input : Input) (now : ℕ) (n m : NodeValue) (old new : Optio
       ≡ mark_by n (stepped size n.me now list n.plain (input_of input)) (input_of input)
   pub written : (size : List Entry → Entry → ℕ) (list : List Entry) → new
       ≡ disk_by n (stepped size n.me now list n.plain (input_of input)) (input_of input) old
+
+-- A step fails: its disk has a part of what the step makes of it
+abbrev pub FailsStep : Input → ℕ → NodeValue → (old new : Option Moments) → Type 0
+FailsStep input now n old new =
+    (size : List Entry → Entry → ℕ) (list : List Entry)
+    → LeavesBy n (stepped size n.me now list n.plain (input_of input)) (input_of input) old new

@@ -1,11 +1,11 @@
 -- One turn at a place: what it gives to the server, of the readings of the clock and the datagram
 -- that came.
-use Rattle.std.specs.Prelude.{◌≡◌, ℕ, Bool, true, false, List, [], ◌∷◌, ◌++◌, nat_le, Option, Some, None}
+use Rattle.std.specs.Prelude.{◌≡◌, ◌⊎◌, ℕ, Bool, true, false, List, [], ◌∷◌, ◌++◌, nat_le, Option, Some, None}
 use Rattle.harp_types.specs.declared.server.ServerId.{ServerId}
 use Rattle.harp_types.specs.declared.state.Role.{Role}
+use Rattle.node_link.specs.Readings.{MayTell}
 use Rattle.node_link.specs.Traffic.{Traffic, TakesNext}
 use Rattle.node_link.specs.declared.link.Datagram.{Datagram}
-use Rattle.node_link.specs.declared.link.SentDatagram.{SentDatagram}
 use Rattle.node_link.specs.declared.clock.Reading.{Reading}
 use Rattle.node.specs.declared.input.Input.{Input}
 use Rattle.node_loop.specs.declared.turned.Turned.{Turned}
@@ -61,11 +61,6 @@ LinkTurnsBy false place t old new = TakesNext place t.taken old new
 abbrev pub LinkTurns : ServerId → Pacing → Turned → Option Traffic → Option Traffic → Type 0
 LinkTurns place p t old new = LinkTurnsBy (nat_le p.due t.began) place t old new
 
--- what a link has sent so far
-abbrev pub sent_of : Option Traffic → Option (List SentDatagram)
-sent_of None = None
-sent_of (Some t) = Some t.sent
-
 -- the clock was read again where a datagram came
 abbrev pub second_of : ServerId → ℕ → Option Datagram → List Reading
 second_of place now None = []
@@ -80,3 +75,29 @@ abbrev pub MayTellAll : List Reading → Option (List Reading) → Option (List 
 MayTellAll readings told None = Unit {0}
 MayTellAll readings None (Some new) = ⊥
 MayTellAll readings (Some old) (Some new) = new ≡ old ++ readings
+
+-- ---- what a turn leaves of both that is cut off before it gives anything
+
+-- the clock was read, and nothing was taken
+pub record TakesNothing (place : ServerId) (old new : Option Traffic)
+    (before after : Option (List Reading)) : Type 0 where
+  pub began : ℕ
+  pub link : new ≡ old
+  pub clock : MayTell (record { place = place; millis = began }) before after
+
+-- or it was no time to tick, the next datagram was taken, and the clock was read again
+pub record TakesAlone (place : ServerId) (p : Pacing) (old new : Option Traffic)
+    (before after : Option (List Reading)) : Type 0 where
+  pub began : ℕ
+  pub now : ℕ
+  pub datagram : Datagram
+  pub quiet : nat_le p.due began ≡ false
+  pub link : TakesNext place (Some datagram) old new
+  pub clock : MayTellAll
+      (record { place = place; millis = began } ∷ second_of place now (Some datagram))
+      before after
+
+abbrev pub FailsTurn : ServerId → Pacing → (old new : Option Traffic)
+    → (before after : Option (List Reading)) → Type 0
+FailsTurn place p old new before after =
+    TakesNothing place old new before after ⊎ TakesAlone place p old new before after

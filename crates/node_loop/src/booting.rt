@@ -1,7 +1,8 @@
 //! Booting a server at its place.
 
-ghost use Rattle.std.specs.Prelude.{◌≡◌, ◌≤◌, IfOk, Err};
+ghost use Rattle.std.specs.Prelude.{◌≡◌, ◌≤◌, IfOk, OnErr, Err};
 ghost use Rattle.harp_types.specs.Streams.{Rose};
+ghost use Rattle.node_loop.specs.Cut.{BootsInPart};
 ghost use Rattle.node_loop.specs.Run.{IsBooted};
 ghost use Rattle.node_loop.specs.Scene.{IsUp};
 
@@ -25,6 +26,8 @@ pub fn boot<D: Store, C: Clock>(
     clock: &mut C,
 ) -> Result<Running, LoopFault>
     ensures boots { IfOk result (λ r. IsBooted me delta r (D.told store.old) (D.told store.new)
+        (C.told clock.old) (C.told clock.new)) }
+    ensures part { OnErr result (BootsInPart me delta (D.told store.old) (D.told store.new)
         (C.told clock.old) (C.told clock.new)) }
     ensures up { IfOk result (λ r. IsUp r.node (D.told store.new)) }
     ensures rose { result ≡ Err LoopFault.StoreFailed

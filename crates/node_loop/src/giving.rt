@@ -3,9 +3,9 @@
 ghost use Rattle.std.specs.Prelude.{◌≡◌, ◌≤◌, ◌<◌, ◌^◌, OnErr, OnOk, Err};
 ghost use Rattle.harp_types.specs.Streams.{Rose};
 ghost use Rattle.node_loop.specs.Chain.{Chain, Stops};
-ghost use Rattle.node_loop.specs.Run.{IsGiven, IsGivenInPart, SendsInPart};
+ghost use Rattle.node_loop.specs.Cut.{IsGivenInPart, SendsInPart, work_left};
+ghost use Rattle.node_loop.specs.Run.{IsGiven};
 ghost use Rattle.node_loop.specs.Scene.{IsUp, sent_after, with_all_sent, work};
-ghost use Rattle.node_loop.specs.Turn.{sent_of};
 
 use crate::counts::Counts;
 use crate::fault::{LoopFault, of_link};
@@ -66,7 +66,7 @@ pub fn give<L: Link, D: Store>(
         (work node.new (D.told store.new) (L.told link.new) ledger.new)) }
     ensures part { OnErr result (IsGivenInPart me now input
         (work node.old (D.told store.old) (L.told link.old) ledger.old)
-        (sent_of (L.told link.new))) }
+        (work_left (D.told store.new) (L.told link.new))) }
     ensures up { OnOk result (IsUp node.new (D.told store.new)) }
     ensures taken { ledger.new.counts.taken ≡ ledger.old.counts.taken }
     ensures link_rose { result ≡ Err LoopFault.LinkFailed
@@ -106,7 +106,7 @@ pub fn give_all<L: Link, D: Store>(
         (work node.new (D.told store.new) (L.told link.new) ledger.new)) }
     ensures part { OnErr result (Stops (IsGiven me now) (IsGivenInPart me now) inputs.items
         (work node.old (D.told store.old) (L.told link.old) ledger.old)
-        (sent_of (L.told link.new))) }
+        (work_left (D.told store.new) (L.told link.new))) }
     ensures up { OnOk result (IsUp node.new (D.told store.new)) }
     ensures taken { ledger.new.counts.taken ≡ ledger.old.counts.taken }
     ensures link_rose { result ≡ Err LoopFault.LinkFailed

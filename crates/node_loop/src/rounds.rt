@@ -3,10 +3,9 @@
 ghost use Rattle.std.specs.Prelude.{◌≡◌, ◌≤◌, ◌∷◌, [], OnErr, OnOk, Err};
 ghost use Rattle.harp_types.specs.Streams.{Rose};
 ghost use Rattle.node_loop.specs.Chain.{Chain, Stops};
-ghost use Rattle.node_loop.specs.Run.{Gives, GivesInPart, IsTurnInPart, Turns, TurnsAt};
-ghost use Rattle.node_loop.specs.Run.{TurnsAtInPart, rounds};
-ghost use Rattle.node_loop.specs.Scene.{IsUp, alone, spot};
-ghost use Rattle.node_loop.specs.Turn.{sent_of};
+ghost use Rattle.node_loop.specs.Cut.{GivesInPart, IsTurnInPart, TurnsAtInPart, spot_left};
+ghost use Rattle.node_loop.specs.Run.{Gives, Turns, TurnsAt, rounds};
+ghost use Rattle.node_loop.specs.Scene.{IsUp, alone, around, only, spot};
 
 use crate::fault::LoopFault;
 use crate::giving::{give, give_all};
@@ -40,7 +39,7 @@ pub fn turn<L: Link, D: Store, C: Clock>(
         (spot running.new (D.told store.new) (L.told link.new) (C.told clock.new) ledger.new)) }
     ensures part { OnErr result (IsTurnInPart me
         (spot running.old (D.told store.old) (L.told link.old) (C.told clock.old) ledger.old)
-        (sent_of (L.told link.new))) }
+        (spot_left (D.told store.new) (L.told link.new) (C.told clock.new))) }
     ensures up { OnOk result (IsUp running.new.node (D.told store.new)) }
     ensures link_rose { result ≡ Err LoopFault.LinkFailed
         → Rose (L.faults link.old) (L.faults link.new) }
@@ -82,7 +81,7 @@ pub fn give_now<L: Link, D: Store, C: Clock>(
         (spot running.new (D.told store.new) (L.told link.new) (C.told clock.new) ledger.new)) }
     ensures part { OnErr result (GivesInPart me input
         (spot running.old (D.told store.old) (L.told link.old) (C.told clock.old) ledger.old)
-        (sent_of (L.told link.new))) }
+        (spot_left (D.told store.new) (L.told link.new) (C.told clock.new))) }
     ensures up { OnOk result (IsUp running.new.node (D.told store.new)) }
     ensures link_rose { result ≡ Err LoopFault.LinkFailed
         → Rose (L.faults link.old) (L.faults link.new) }
@@ -123,7 +122,8 @@ pub fn turns_alone<L: Link, D: Store, C: Clock>(
         ledger.new))) }
     ensures part { OnErr result (Stops TurnsAt TurnsAtInPart (rounds turns (me ∷ []))
         (alone me (spot running.old (D.told store.old) (L.told link.old) (C.told clock.old)
-        ledger.old)) (sent_of (L.told link.new))) }
+        ledger.old))
+        (around (only me (D.told store.new)) (L.told link.new) (C.told clock.new))) }
     ensures link_rose { result ≡ Err LoopFault.LinkFailed
         → Rose (L.faults link.old) (L.faults link.new) }
     ensures link_count { L.faults link.old ≤ L.faults link.new }

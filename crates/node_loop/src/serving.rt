@@ -3,9 +3,9 @@
 ghost use Rattle.std.specs.Prelude.{◌≡◌, ◌≤◌, ◌∷◌, [], IfOk, OnErr, Err};
 ghost use Rattle.harp_types.specs.Streams.{Rose};
 ghost use Rattle.node_link.specs.Traffic.{last_port};
-ghost use Rattle.node_loop.specs.Run.{IsCutOff, IsRun};
-ghost use Rattle.node_loop.specs.Scene.{NoneFell, OneRose, all_places, each, only, start};
-ghost use Rattle.node_loop.specs.Turn.{sent_of};
+ghost use Rattle.node_loop.specs.Cut.{IsCutOff};
+ghost use Rattle.node_loop.specs.Run.{IsRun};
+ghost use Rattle.node_loop.specs.Scene.{NoneFell, OneRose, all_places, around, each, only, start};
 
 use crate::binding::open;
 use crate::booting::boot;
@@ -38,7 +38,7 @@ pub fn serve_one<L: Link, D: Store, C: Clock>(
         (only me (D.told store.new)) (L.told link.new) (C.told clock.new)) }
     ensures cut { OnErr result (IsCutOff delta (me ∷ []) turns
         (start (only me (D.told store.old)) (L.told link.old) (C.told clock.old))
-        (sent_of (L.told link.new))) }
+        (around (only me (D.told store.new)) (L.told link.new) (C.told clock.new))) }
     ensures link_rose { result ≡ Err LoopFault.LinkFailed
         → Rose (L.faults link.old) (L.faults link.new) }
     ensures link_count { L.faults link.old ≤ L.faults link.new }
@@ -83,7 +83,7 @@ pub fn serve_three<L: Link, D: Store, C: Clock>(
         (each D.told stores.new) (L.told link.new) (C.told clock.new)) }
     ensures cut { OnErr result (IsCutOff delta all_places turns
         (start (each D.told stores.old) (L.told link.old) (C.told clock.old))
-        (sent_of (L.told link.new))) }
+        (around (each D.told stores.new) (L.told link.new) (C.told clock.new))) }
     ensures link_rose { result ≡ Err LoopFault.LinkFailed
         → Rose (L.faults link.old) (L.faults link.new) }
     ensures link_count { L.faults link.old ≤ L.faults link.new }

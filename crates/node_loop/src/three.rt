@@ -5,11 +5,11 @@ ghost use Rattle.harp_types.specs.Streams.{Rose};
 ghost use Rattle.node_link.specs.Traffic.{Traffic, last_port};
 ghost use Rattle.node_loop.specs.Chain.{Chain, Stops};
 ghost use Rattle.node_loop.specs.Outgoing.{IsNext};
-ghost use Rattle.node_loop.specs.Run.{AsksAt, AsksAtInPart, BootsAt, GivesAt, GivesAtInPart};
-ghost use Rattle.node_loop.specs.Run.{TakesTurns, TurnsAt, TurnsAtInPart, rounds};
-ghost use Rattle.node_loop.specs.Scene.{AreUp, NoneFell, OneRose, all_places, each, scene, scene_of};
-ghost use Rattle.node_loop.specs.Scene.{start};
-ghost use Rattle.node_loop.specs.Turn.{sent_of};
+ghost use Rattle.node_loop.specs.Cut.{AsksAtInPart, BootsAtInPart, GivesAtInPart, IsUnstarted};
+ghost use Rattle.node_loop.specs.Cut.{TurnsAtInPart};
+ghost use Rattle.node_loop.specs.Run.{AsksAt, BootsAt, GivesAt, TakesTurns, TurnsAt, rounds};
+ghost use Rattle.node_loop.specs.Scene.{AreUp, NoneFell, OneRose, all_places, around, each, scene};
+ghost use Rattle.node_loop.specs.Scene.{scene_of, start};
 
 use crate::binding::open_all;
 use crate::booting::boot;
@@ -49,6 +49,10 @@ fn boot_all<D: Store, C: Clock>(
         Chain (BootsAt delta) all_places
         (start (each D.told stores.old) link (C.told clock.old))
         (scene_of three (each D.told stores.new) link (C.told clock.new))) }
+    ensures part { (link : Option Traffic) → OnErr result (Stops (BootsAt delta)
+        (BootsAtInPart delta) all_places
+        (start (each D.told stores.old) link (C.told clock.old))
+        (around (each D.told stores.new) link (C.told clock.new))) }
     ensures up { IfOk result (λ three. AreUp three.servers (each D.told stores.new)) }
     ensures disk_rose { result ≡ Err LoopFault.StoreFailed
         → OneRose (each D.faults stores.old) (each D.faults stores.new) }
@@ -81,7 +85,7 @@ fn round<L: Link, D: Store, C: Clock>(
         ledger.new)) }
     ensures part { OnErr result (Stops TurnsAt TurnsAtInPart all_places
         (scene servers.old (each D.told stores.old) (L.told link.old) (C.told clock.old) ledger.old)
-        (sent_of (L.told link.new))) }
+        (around (each D.told stores.new) (L.told link.new) (C.told clock.new))) }
     ensures up { OnOk result (AreUp servers.new (each D.told stores.new)) }
     ensures link_rose { result ≡ Err LoopFault.LinkFailed
         → Rose (L.faults link.old) (L.faults link.new) }
@@ -140,7 +144,7 @@ fn give_at<L: Link, D: Store, C: Clock>(
         ledger.new)) }
     ensures part { OnErr result (GivesAtInPart place input
         (scene servers.old (each D.told stores.old) (L.told link.old) (C.told clock.old) ledger.old)
-        (sent_of (L.told link.new))) }
+        (around (each D.told stores.new) (L.told link.new) (C.told clock.new))) }
     ensures up { OnOk result (AreUp servers.new (each D.told stores.new)) }
     ensures link_rose { result ≡ Err LoopFault.LinkFailed
         → Rose (L.faults link.old) (L.faults link.new) }
@@ -199,7 +203,9 @@ impl Three {
             (start (each D.told stores.old) (L.told link.old) (C.told clock.old))
             (scene_of three (each D.told stores.new) (L.told link.new) (C.told clock.new))) }
         ensures up { IfOk result (λ three. AreUp three.servers (each D.told stores.new)) }
-        ensures sent { L.told link.new ≡ L.told link.old }
+        ensures part { OnErr result (IsUnstarted delta all_places
+            (start (each D.told stores.old) (L.told link.old) (C.told clock.old))
+            (around (each D.told stores.new) (L.told link.new) (C.told clock.new))) }
         ensures link_rose { result ≡ Err LoopFault.LinkFailed
             → Rose (L.faults link.old) (L.faults link.new) }
         ensures link_count { L.faults link.old ≤ L.faults link.new }
@@ -225,7 +231,7 @@ impl Three {
             (scene_of self.new (each D.told stores.new) (L.told link.new) (C.told clock.new))) }
         ensures part { OnErr result (Stops TurnsAt TurnsAtInPart all_places
             (scene_of self.old (each D.told stores.old) (L.told link.old) (C.told clock.old))
-            (sent_of (L.told link.new))) }
+            (around (each D.told stores.new) (L.told link.new) (C.told clock.new))) }
         ensures up { OnOk result (AreUp self.new.servers (each D.told stores.new)) }
         ensures link_rose { result ≡ Err LoopFault.LinkFailed
             → Rose (L.faults link.old) (L.faults link.new) }
@@ -266,7 +272,7 @@ impl Three {
         ensures part { OnErr result (AsksAtInPart place
             (record { client = client; number = number; cred = cred; call = call.now })
             (scene_of self.old (each D.told stores.old) (L.told link.old) (C.told clock.old))
-            (sent_of (L.told link.new))) }
+            (around (each D.told stores.new) (L.told link.new) (C.told clock.new))) }
         ensures up { OnOk result (AreUp self.new.servers (each D.told stores.new)) }
         ensures link_rose { result ≡ Err LoopFault.LinkFailed
             → Rose (L.faults link.old) (L.faults link.new) }
@@ -319,7 +325,7 @@ impl Three {
             (scene_of self.new (each D.told stores.new) (L.told link.new) (C.told clock.new))) }
         ensures part { OnErr result (Stops TurnsAt TurnsAtInPart (rounds turns all_places)
             (scene_of self.old (each D.told stores.old) (L.told link.old) (C.told clock.old))
-            (sent_of (L.told link.new))) }
+            (around (each D.told stores.new) (L.told link.new) (C.told clock.new))) }
         ensures link_rose { result ≡ Err LoopFault.LinkFailed
             → Rose (L.faults link.old) (L.faults link.new) }
         ensures link_count { L.faults link.old ≤ L.faults link.new }

@@ -3,7 +3,8 @@
 ghost use Rattle.std.specs.Prelude.{◌≡◌, ◌≤◌, ◌<◌, ◌^◌, IfOk, OnErr, Err};
 ghost use Rattle.harp_types.specs.Streams.{Rose};
 ghost use Rattle.harp_types.specs.declared.server.ServerId.{ServerId as Place};
-ghost use Rattle.node_loop.specs.Turn.{Comes, IsTurn, LinkTurns, MayTellAll, readings_of, sent_of};
+ghost use Rattle.node_loop.specs.Turn.{Comes, FailsTurn, IsTurn, LinkTurns, MayTellAll};
+ghost use Rattle.node_loop.specs.Turn.{readings_of};
 
 use crate::arriving::arrived;
 use crate::fault::{LoopFault, of_link};
@@ -37,8 +38,8 @@ fn come(
 
 /// A turn at a place, of a server with this role in the view that it accepted. Where the reading
 /// of the clock has reached the time of its next tick, it ticks. Otherwise it waits about so many
-/// milliseconds for a datagram, and reads the clock again where one comes. It sends nothing.
-#[tactic(auto, using(crate::proofs::SentLaws::takes_sent))]
+/// milliseconds for a datagram, and reads the clock again where one comes. It sends nothing. After
+/// an error the datagram that came may be lost.
 pub fn take_turn<L: Link, C: Clock>(
     alloc: Global,
     place: ServerId,
@@ -48,22 +49,19 @@ pub fn take_turn<L: Link, C: Clock>(
     link: &mut L,
     clock: &mut C,
 ) -> Result<Turned, LoopFault>
-    ensures turn { IfOk result (λ t. IsTurn place role pace.old pace.new t) }
-    ensures link { IfOk result (λ t. LinkTurns place pace.old t (L.told link.old)
-        (L.told link.new)) }
-    ensures kept { OnErr result (pace.new ≡ pace.old) }
-    ensures sent { sent_of (L.told link.new) ≡ sent_of (L.told link.old) }
-    ensures clock { IfOk result (λ t. MayTellAll (readings_of place t) (C.told clock.old)
-        (C.told clock.new)) }
-    ensures bound { IfOk result (λ t. t.now < 2 ^ 62) }
-    ensures order { IfOk result (λ t. C.least clock.old place ≤ t.began) }
-    ensures later { IfOk result (λ t. t.began ≤ t.now) }
-    ensures least { IfOk result (λ t. t.now ≤ C.least clock.new place) }
+    ensures turn { IfOk result (λ t. IsTurn place role pace.old pace.new t
+        × LinkTurns place pace.old t (L.told link.old) (L.told link.new)
+        × MayTellAll (readings_of place t) (C.told clock.old) (C.told clock.new)) }
+    ensures times { IfOk result (λ t. (C.least clock.old place ≤ t.began) × (t.began ≤ t.now)
+        × (t.now ≤ C.least clock.new place) × (t.now < 2 ^ 62)) }
     ensures others { (p : Place) → C.least clock.old p ≤ C.least clock.new p }
+    ensures part { OnErr result ((pace.new ≡ pace.old)
+        × FailsTurn place pace.old (L.told link.old) (L.told link.new)
+        (C.told clock.old) (C.told clock.new)) }
     ensures rose { result ≡ Err LoopFault.LinkFailed
         → Rose (L.faults link.old) (L.faults link.new) }
-    ensures disk { result ≡ Err LoopFault.StoreFailed → ⊥ }
     ensures count { L.faults link.old ≤ L.faults link.new }
+    ensures disk { result ≡ Err LoopFault.StoreFailed → ⊥ }
 {
     let began = clock.now(place);
     if pace.is_due(began) {

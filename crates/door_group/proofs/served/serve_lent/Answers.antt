@@ -99,6 +99,7 @@ begun g c = (
   refl,
   refl,
   λ runs. ap (λ (hs : List Heard). with_heard hs (was g c)) c.requires.2,
+  λ stopped. absurd cc (stopped, c.requires.0),
 )
 
 ended : (g : given.Over) (c : goal.After-serve_rpc g) (input : List ℕ)

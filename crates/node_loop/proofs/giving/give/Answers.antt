@@ -1,8 +1,10 @@
-use Rattle.std.proofs.Common.{◌∙◌, ap, inr, refl, subst}
+use Rattle.std.proofs.Common.{◌∙◌, [], ap, inr, refl, subst}
 use Rattle.node_loop.specs.declared.counts.Counts.{Counts}
-use Rattle.node_loop.specs.Run.{SendsInPart}
+use Rattle.node_loop.specs.Cut.{SendsInPart}
+use Rattle.node_loop.specs.Outgoing.{datagrams}
 use Rattle.node_loop.specs.Scene.{sent_after, with_all_sent}
-use Rattle.node_loop.proofs.Results.{on_err-one, on_ok-both}
+use Rattle.node_loop.proofs.Fronts.{sent-none}
+use Rattle.node_loop.proofs.Results.{on_err, on_err-one, on_ok-both}
 use Rattle.node_loop.proofs.giving.give.Goals as goal
 
 pub returns-in_ok-datagrams-in-Ok-clause-given : goal.returns-in_ok-datagrams-in-Ok-clause-given
@@ -29,9 +31,7 @@ returns-in_ok-datagrams-in-Ok-clause-part g c =
     let new = g.L.Link.told c.send_all.new.link in
     on_err-one c.send_all.result (λ part. inr (record {
       node = c.step.new.self;
-      disk = g.D.Store.told c.step.new.store;
       outs = c.in-Ok.outs;
-      after = new;
       step = record {
         steps = c.in-Ok.ensures.steps;
         me_stays = c.in-Ok.ensures.me;
@@ -39,5 +39,23 @@ returns-in_ok-datagrams-in-Ok-clause-part g c =
         written = c.in-Ok.ensures.written;
       };
       sends = subst (λ ds. SendsInPart ds old new) c.in_ok-datagrams-in-Ok.ensures.sent part;
-      sent_is = refl;
     })) c.send_all.ensures.part
+
+pub returns-in_err-datagrams-in-Ok-clause-part : goal.returns-in_err-datagrams-in-Ok-clause-part
+returns-in_err-datagrams-in-Ok-clause-part g c =
+    on_err c.from_residual.result (inr (record {
+      node = c.step.new.self;
+      outs = c.in-Ok.outs;
+      step = record {
+        steps = c.in-Ok.ensures.steps;
+        me_stays = c.in-Ok.ensures.me;
+        mark = c.in-Ok.ensures.mark;
+        written = c.in-Ok.ensures.written;
+      };
+      sends = record {
+        front = [];
+        rest = datagrams c.args.me c.in-Ok.outs;
+        parts = refl;
+        sent = sent-none (g.L.Link.told c.args.link.now);
+      };
+    }))

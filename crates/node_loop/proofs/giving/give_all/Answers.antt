@@ -2,9 +2,9 @@ use Rattle.std.proofs.Common.{rules, ◌∙◌, ◌∷◌, arith, drop, inl, len
 use Rattle.std.proofs.lemmas.Iterator.Adapters.{YieldsList-from_vec}
 use Rattle.std.proofs.lemmas.Iterator.Consumers.{YieldsList-so_far, YieldsList-turn}
 use Rattle.node_loop.specs.Chain.{Stops}
-use Rattle.node_loop.specs.Run.{IsGiven, IsGivenInPart}
+use Rattle.node_loop.specs.Cut.{IsGivenInPart, work_left}
+use Rattle.node_loop.specs.Run.{IsGiven}
 use Rattle.node_loop.specs.Scene.{work}
-use Rattle.node_loop.specs.Turn.{sent_of}
 use Rattle.node_loop.proofs.Chains.{chain-push, stops-behind}
 use Rattle.node_loop.proofs.Fronts.{split-here}
 use Rattle.node_loop.proofs.giving.give_all.Goals as goal
@@ -37,12 +37,12 @@ returns-in-Err-clause-part g c =
     (g.L.Link.told c.args.link.now) c.args.ledger.now in
     let here = work c.loop-input.node (g.D.Store.told c.loop-input.store)
     (g.L.Link.told c.loop-input.link) c.loop-input.ledger in
-    let sent = sent_of (g.L.Link.told c.give.new.link) in
+    let left = work_left (g.D.Store.told c.give.new.store) (g.L.Link.told c.give.new.link) in
     subst (λ xs. Stops (IsGiven c.args.me c.args.now) (IsGivenInPart c.args.me c.args.now) xs start
-    sent)
+    left)
     (sym (split-here all so_far c.in-Some.input
     (YieldsList-so_far from so_far c.loop-input.input-iterator c.loop-input.yielded_by)
     turn.0 turn.1))
     (stops-behind (IsGiven c.args.me c.args.now) (IsGivenInPart c.args.me c.args.now) so_far
-    (c.in-Some.input ∷ drop (suc (length so_far)) all) start here sent
+    (c.in-Some.input ∷ drop (suc (length so_far)) all) start here left
     c.loop-input.invariant.given (inl c.in-Err.ensures.part))

@@ -1,10 +1,11 @@
-use Rattle.std.proofs.Common.{◌∙◌, ap, inr, subst}
+use Rattle.std.proofs.Common.{◌∙◌, ap, inl, inr, refl, subst}
 use Rattle.node_loop.specs.declared.counts.Counts.{Counts}
 use Rattle.node_loop.specs.Chain.{Chain, Stops}
-use Rattle.node_loop.specs.Run.{IsGiven, IsGivenInPart}
+use Rattle.node_loop.specs.Cut.{IsGivenInPart, work_left}
+use Rattle.node_loop.specs.Run.{IsGiven}
 use Rattle.node_loop.specs.Scene.{work}
-use Rattle.node_loop.specs.Turn.{IsTurn, sent_of}
-use Rattle.node_loop.proofs.Results.{on_err-one, on_ok-one}
+use Rattle.node_loop.specs.Turn.{IsTurn}
+use Rattle.node_loop.proofs.Results.{on_err, on_err-one, on_ok-one}
 use Rattle.node_loop.proofs.rounds.turn.Goals as goal
 
 pub returns-clause-turns : goal.returns-clause-turns
@@ -14,9 +15,9 @@ returns-clause-turns g c =
       turned = t;
       before = g.L.Link.told c.take_turn.new.link;
       turn = subst (λ role. IsTurn c.args.me role c.args.running.now.pace c.take_turn.new.pace t)
-          c.role-role.ensures c.in_ok-turned.ensures.turn;
-      link = c.in_ok-turned.ensures.link;
-      clock = c.in_ok-turned.ensures.clock;
+          c.role-role.ensures c.in_ok-turned.ensures.turn.0;
+      link = c.in_ok-turned.ensures.turn.1;
+      clock = c.in_ok-turned.ensures.turn.2;
       taken = c.give_all.ensures.taken ∙ ap (λ (n : Counts). n.taken) c.take.ensures;
       given = subst (λ n. Chain (IsGiven c.args.me t.now) t.inputs.items
           (record {
@@ -31,6 +32,11 @@ returns-clause-turns g c =
           (ap (λ (n : Counts). n.sent) c.take.ensures) given;
     }) c.give_all.ensures.given
 
+pub returns-in_err-turned-clause-part : goal.returns-in_err-turned-clause-part
+returns-in_err-turned-clause-part g c =
+    on_err c.from_residual.result
+    (inl (record { fails = c.in_err-turned.ensures.part.1; disk = refl }))
+
 pub returns-clause-part : goal.returns-clause-part
 returns-clause-part g c =
     let t = c.in_ok-turned.turned in
@@ -39,8 +45,9 @@ returns-clause-part g c =
       before = g.L.Link.told c.take_turn.new.link;
       pace = c.take_turn.new.pace;
       turn = subst (λ role. IsTurn c.args.me role c.args.running.now.pace c.take_turn.new.pace t)
-          c.role-role.ensures c.in_ok-turned.ensures.turn;
-      link = c.in_ok-turned.ensures.link;
+          c.role-role.ensures c.in_ok-turned.ensures.turn.0;
+      link = c.in_ok-turned.ensures.turn.1;
+      clock = c.in_ok-turned.ensures.turn.2;
       given = subst (λ n. Stops (IsGiven c.args.me t.now) (IsGivenInPart c.args.me t.now)
           t.inputs.items
           (record {
@@ -50,6 +57,6 @@ returns-clause-part g c =
             sent = n;
             heard = c.args.ledger.now.heard.items;
           })
-          (sent_of (g.L.Link.told c.give_all.new.link)))
+          (work_left (g.D.Store.told c.give_all.new.store) (g.L.Link.told c.give_all.new.link)))
           (ap (λ (n : Counts). n.sent) c.take.ensures) part;
     })) c.give_all.ensures.part

@@ -1,8 +1,8 @@
 use Rattle.std.proofs.Common.{◌+◌, ◌-◌, ◌∷◌, [], arith, inl, subst, sym}
 use Rattle.node_loop.specs.Chain.{Chain, Stops}
-use Rattle.node_loop.specs.Run.{TurnsAt, TurnsAtInPart, rounds}
-use Rattle.node_loop.specs.Scene.{alone, spot}
-use Rattle.node_loop.specs.Turn.{sent_of}
+use Rattle.node_loop.specs.Cut.{TurnsAtInPart, spot_left}
+use Rattle.node_loop.specs.Run.{TurnsAt, rounds}
+use Rattle.node_loop.specs.Scene.{alone, around, only, spot}
 use Rattle.node_loop.proofs.Chains.{chain-push, stops-behind}
 use Rattle.node_loop.proofs.Scenes.{part-alone, rounds-more, stops-sooner, turns-alone}
 use Rattle.node_loop.proofs.rounds.turns_alone.Goals as goal
@@ -34,12 +34,14 @@ returns-in-Err-clause-part g c =
     (g.L.Link.told c.args.link.now) (g.C.Clock.told c.args.clock.now) c.args.ledger.now in
     let here = spot c.loop.running (g.D.Store.told c.loop.store)
     (g.L.Link.told c.loop.link) (g.C.Clock.told c.loop.clock) c.loop.ledger in
-    let sent = sent_of (g.L.Link.told c.turn.new.link) in
+    let at = spot_left (g.D.Store.told c.turn.new.store) (g.L.Link.told c.turn.new.link)
+    (g.C.Clock.told c.turn.new.clock) in
+    let left = around (only me at.disk) at.link at.clock in
     let n = c.loop.counter in
-    stops-sooner TurnsAtInPart (me ∷ []) (alone me before) sent (c.args.turns - (n + 1)) (n + 1)
+    stops-sooner TurnsAtInPart (me ∷ []) (alone me before) left (c.args.turns - (n + 1)) (n + 1)
     c.args.turns (omega arith)
-    (subst (λ xs. Stops TurnsAt TurnsAtInPart xs (alone me before) sent)
+    (subst (λ xs. Stops TurnsAt TurnsAtInPart xs (alone me before) left)
     (sym (rounds-more n (me ∷ [])))
     (stops-behind TurnsAt TurnsAtInPart (rounds n (me ∷ [])) (me ∷ []) (alone me before)
-    (alone me here) sent c.loop.invariant.turned
-    (inl (part-alone me here sent c.in-Err.ensures.part))))
+    (alone me here) left c.loop.invariant.turned
+    (inl (part-alone me here at c.in-Err.ensures.part))))

@@ -1,19 +1,31 @@
 use Rattle.std.proofs.Common.{◌∷◌, [], ap, inl, inr, refl, subst}
-use Rattle.node_loop.specs.Chain.{Chain}
+use Rattle.node_loop.specs.Chain.{Chain, Stops}
+use Rattle.node_loop.specs.Cut.{BootsAtInPart}
 use Rattle.node_loop.specs.Run.{BootsAt}
-use Rattle.node_loop.specs.Scene.{alone, only, spot, start}
-use Rattle.node_loop.specs.Turn.{sent_of}
+use Rattle.node_loop.specs.Scene.{alone, around, only, spot, start}
 use Rattle.node_loop.proofs.Results.{on_err}
-use Rattle.node_loop.proofs.Scenes.{boots-alone}
+use Rattle.node_loop.proofs.Scenes.{boots-alone, boots-in-part}
 use Rattle.node_loop.proofs.serving.serve_one.Goals as goal
 
 pub returns-in_err-open-clause-cut : goal.returns-in_err-open-clause-cut
 returns-in_err-open-clause-cut g c =
-    on_err c.from_residual.result (inl (ap sent_of c.open.ensures.kept))
+    let disk = only c.args.me (g.D.Store.told c.args.store.now) in
+    let clock = g.C.Clock.told c.args.clock.now in
+    on_err c.from_residual.result (inl (inl (ap (λ l. around disk l clock) c.open.ensures.kept)))
 
 pub returns-in_err-running-clause-cut : goal.returns-in_err-running-clause-cut
 returns-in_err-running-clause-cut g c =
-    on_err c.from_residual-in_err-running.result (inl (ap sent_of c.open.ensures.kept))
+    let me = c.args.me in
+    let delta = c.args.delta in
+    let old = g.D.Store.told c.args.store.now in
+    let before = g.C.Clock.told c.args.clock.now in
+    let link = g.L.Link.told c.open.new.link in
+    let new = g.D.Store.told c.boot.new.store in
+    let after = g.C.Clock.told c.boot.new.clock in
+    on_err c.from_residual-in_err-running.result (inl (inr
+    (subst (λ l. Stops (BootsAt delta) (BootsAtInPart delta) (me ∷ [])
+    (start (only me old) l before) (around (only me new) link after)) c.open.ensures.kept
+    (boots-in-part delta me old new link before after c.in_err-running.ensures.part))))
 
 pub returns-in_err-turns_alone-clause-cut : goal.returns-in_err-turns_alone-clause-cut
 returns-in_err-turns_alone-clause-cut g c =

@@ -1,12 +1,11 @@
-use Rattle.std.proofs.Common.{ap, inl, inr, refl}
+use Rattle.std.proofs.Common.{inl, inr, refl}
 use Rattle.node_loop.specs.Scene.{each, scene_of, with_heard}
-use Rattle.node_loop.specs.Turn.{sent_of}
 use Rattle.node_loop.proofs.Results.{on_err}
 use Rattle.node_loop.proofs.serving.serve_three.Goals as goal
 
 pub returns-in_err-three-clause-cut : goal.returns-in_err-three-clause-cut
 returns-in_err-three-clause-cut g c =
-    on_err c.from_residual.result (inl (ap sent_of c.start.ensures.sent))
+    on_err c.from_residual.result (inl c.in_err-three.ensures.part)
 
 pub returns-in_err-take_turns-clause-cut : goal.returns-in_err-take_turns-clause-cut
 returns-in_err-take_turns-clause-cut g c =

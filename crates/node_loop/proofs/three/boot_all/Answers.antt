@@ -1,7 +1,8 @@
 use Rattle.std.proofs.Common.{rules, arith}
 use Rattle.harp_types.specs.declared.server.ServerId.TheVariants.{Zero, One, Two}
 use Rattle.node_loop.specs.Scene.{each}
-use Rattle.node_loop.proofs.Scenes.{are-up, boots-three, none-fell}
+use Rattle.node_loop.proofs.Results.{on_err}
+use Rattle.node_loop.proofs.Scenes.{are-up, boot-first, boot-second, boot-third, boots-three, none-fell}
 use Rattle.node_loop.proofs.three.boot_all.Goals as goal
 
 pub returns-in_err-zero-clause-disk_rose : goal.returns-in_err-zero-clause-disk_rose
@@ -59,3 +60,29 @@ returns-clause-disk_count g c =
     none-fell (each g.D.Store.faults c.args.stores.now) (each g.D.Store.faults
     (record { zero = c.boot.new.store; one = c.boot-2.new.store; two = c.boot-3.new.store }))
     c.boot.ensures.count c.boot-2.ensures.count c.boot-3.ensures.count
+
+pub returns-in_err-zero-clause-part : goal.returns-in_err-zero-clause-part
+returns-in_err-zero-clause-part g c = λ link.
+    on_err c.from_residual.result
+    (boot-first c.args.delta (each g.D.Store.told c.args.stores.now) link
+    (g.C.Clock.told c.args.clock.now) (g.D.Store.told c.boot.new.store)
+    (g.C.Clock.told c.boot.new.clock) c.in_err-zero.ensures.part)
+
+pub returns-in_err-one-clause-part : goal.returns-in_err-one-clause-part
+returns-in_err-one-clause-part g c = λ link.
+    on_err c.from_residual-in_err-one.result
+    (boot-second c.args.delta (each g.D.Store.told c.args.stores.now) link
+    (g.C.Clock.told c.args.clock.now) c.in_ok-zero.zero (g.D.Store.told c.boot.new.store)
+    (g.C.Clock.told c.boot.new.clock) c.in_ok-zero.ensures.boots
+    (g.D.Store.told c.boot-2.new.store) (g.C.Clock.told c.boot-2.new.clock)
+    c.in_err-one.ensures.part)
+
+pub returns-in_err-two-clause-part : goal.returns-in_err-two-clause-part
+returns-in_err-two-clause-part g c = λ link.
+    on_err c.from_residual-in_err-two.result
+    (boot-third c.args.delta (each g.D.Store.told c.args.stores.now) link
+    (g.C.Clock.told c.args.clock.now) c.in_ok-zero.zero (g.D.Store.told c.boot.new.store)
+    (g.C.Clock.told c.boot.new.clock) c.in_ok-zero.ensures.boots
+    c.in_ok-one.one (g.D.Store.told c.boot-2.new.store) (g.C.Clock.told c.boot-2.new.clock)
+    c.in_ok-one.ensures.boots (g.D.Store.told c.boot-3.new.store)
+    (g.C.Clock.told c.boot-3.new.clock) c.in_err-two.ensures.part)

@@ -1,7 +1,7 @@
 use Rattle.std.proofs.Common.{arith}
 use Rattle.harp_types.specs.declared.server.ServerId.TheVariants.{Zero, One, Two}
+use Rattle.node_loop.specs.Cut.{spot_left}
 use Rattle.node_loop.specs.Scene.{each, spot}
-use Rattle.node_loop.specs.Turn.{sent_of}
 use Rattle.node_loop.proofs.Results.{on_err-one, on_ok-one}
 use Rattle.node_loop.proofs.Scenes.{are-up, gives-in, gives-part, none-fell}
 use Rattle.node_loop.proofs.three.give_at.Goals as goal
@@ -29,7 +29,8 @@ returns-in-Zero-clause-part g c =
     c.args.ledger.now in
     on_err-one c.give_now.result
     (gives-part Zero c.args.place c.in-Zero.is c.args.input r d s
-    (sent_of (g.L.Link.told c.give_now.new.link)))
+    (spot_left (g.D.Store.told c.give_now.new.store) (g.L.Link.told c.give_now.new.link)
+    (g.C.Clock.told c.give_now.new.clock)))
     c.give_now.ensures.part
 
 pub returns-in-Zero-clause-up : goal.returns-in-Zero-clause-up
@@ -77,7 +78,8 @@ returns-in-One-clause-part g c =
     c.args.ledger.now in
     on_err-one c.give_now-in-One.result
     (gives-part One c.args.place c.in-One.is c.args.input r d s
-    (sent_of (g.L.Link.told c.give_now-in-One.new.link)))
+    (spot_left (g.D.Store.told c.give_now-in-One.new.store) (g.L.Link.told c.give_now-in-One.new.link)
+    (g.C.Clock.told c.give_now-in-One.new.clock)))
     c.give_now-in-One.ensures.part
 
 pub returns-in-One-clause-up : goal.returns-in-One-clause-up
@@ -125,7 +127,8 @@ returns-in-Two-clause-part g c =
     c.args.ledger.now in
     on_err-one c.give_now-in-Two.result
     (gives-part Two c.args.place c.in-Two.is c.args.input r d s
-    (sent_of (g.L.Link.told c.give_now-in-Two.new.link)))
+    (spot_left (g.D.Store.told c.give_now-in-Two.new.store) (g.L.Link.told c.give_now-in-Two.new.link)
+    (g.C.Clock.told c.give_now-in-Two.new.clock)))
     c.give_now-in-Two.ensures.part
 
 pub returns-in-Two-clause-up : goal.returns-in-Two-clause-up

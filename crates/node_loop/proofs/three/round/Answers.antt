@@ -1,7 +1,7 @@
 use Rattle.std.proofs.Common.{arith, rules}
 use Rattle.harp_types.specs.declared.server.ServerId.TheVariants.{Zero, One, Two}
+use Rattle.node_loop.specs.Cut.{spot_left}
 use Rattle.node_loop.specs.Scene.{each, spot}
-use Rattle.node_loop.specs.Turn.{sent_of}
 use Rattle.node_loop.proofs.Results.{on_err, on_err-one, on_ok-one}
 use Rattle.node_loop.proofs.Scenes.{are-up, none-fell, round-first, round-second, round-third, round-turns}
 use Rattle.node_loop.proofs.three.round.Goals as goal
@@ -22,7 +22,8 @@ returns-in_err-turn-clause-part g c =
     let s = spot r.zero d.zero (g.L.Link.told c.args.link.now) (g.C.Clock.told c.args.clock.now)
     c.args.ledger.now in
     on_err c.from_residual.result
-    (round-first r d s (sent_of (g.L.Link.told c.turn.new.link)) c.in_err-turn.ensures.part)
+    (round-first r d s (spot_left (g.D.Store.told c.turn.new.store)
+    (g.L.Link.told c.turn.new.link) (g.C.Clock.told c.turn.new.clock)) c.in_err-turn.ensures.part)
 
 pub returns-in_err-turn-clause-disk_count : goal.returns-in_err-turn-clause-disk_count
 returns-in_err-turn-clause-disk_count g c =
@@ -67,7 +68,8 @@ returns-in_err-turn-2-clause-part g c =
     let t = spot c.turn.new.running (g.D.Store.told c.turn.new.store)
     (g.L.Link.told c.turn.new.link) (g.C.Clock.told c.turn.new.clock) c.turn.new.ledger in
     on_err c.from_residual-in_err-turn-2.result
-    (round-second r d s t (sent_of (g.L.Link.told c.turn-2.new.link))
+    (round-second r d s t (spot_left (g.D.Store.told c.turn-2.new.store)
+    (g.L.Link.told c.turn-2.new.link) (g.C.Clock.told c.turn-2.new.clock))
     c.in_ok-turn.ensures.turns c.in_err-turn-2.ensures.part)
 
 pub returns-in_err-turn-2-clause-disk_rose : goal.returns-in_err-turn-2-clause-disk_rose
@@ -100,7 +102,8 @@ returns-clause-part g c =
     let u = spot c.turn-2.new.running (g.D.Store.told c.turn-2.new.store)
     (g.L.Link.told c.turn-2.new.link) (g.C.Clock.told c.turn-2.new.clock) c.turn-2.new.ledger in
     on_err-one c.turn-3.result
-    (round-third r d s t u (sent_of (g.L.Link.told c.turn-3.new.link))
+    (round-third r d s t u (spot_left (g.D.Store.told c.turn-3.new.store)
+    (g.L.Link.told c.turn-3.new.link) (g.C.Clock.told c.turn-3.new.clock))
     c.in_ok-turn.ensures.turns c.in_ok-turn-2.ensures.turns) c.turn-3.ensures.part
 
 pub returns-clause-disk_rose : goal.returns-clause-disk_rose

@@ -40,6 +40,7 @@ returns-in-Ok-clause-told g c first before h =
       refl,
       refl,
       λ runs. d.2,
+      λ stopped. absurd cc (stopped, c.requires.0),
     )
 
 pub returns-after-eq-clause-unanswered : goal.returns-after-eq-clause-unanswered
@@ -75,7 +76,41 @@ returns-after-eq-clause-told g c first before h =
     g.S.Servers.turn_breaks g.S.Servers.ask_breaks
     c.args.self.now.client c.args.self.now.turns xs first h.0)
     (sym (append-nil before)) h.1 in
+    let turns = g.S.Servers.turns in
+    let asks = g.S.Servers.asks in
+    let turn_breaks = g.S.Servers.turn_breaks in
+    let ask_breaks = g.S.Servers.ask_breaks in
+    let a = c.args.self.now in
+    let becomes : ServerId → ℕ → Outcome g.S.Servers.Scene g.S.Servers.Trail → Type 0 =
+    λ p n o. IsMade turns asks turn_breaks ask_breaks a.turns (record {
+      client = a.client;
+      number = n;
+      cred = c.args.cred;
+      call = c.args.call.now;
+    }) o p h.0.scene in
+    let gives : ServerId → ℕ → Type 0 = λ p n. GivesUp
+    (g.S.Servers.stands c.make_call.new.servers) (g.S.Servers.trail c.make_call.new.servers)
+    (becomes p n) c.in-Err.fault in
+    let given : gives h.0.place h.0.number =
+    subst (gives h.0.place) h.2 (subst (λ (p : ServerId). gives p a.next) h.3
+    (c.in-Err.ensures.given_up h.0.scene (h.4 c.requires.0))) in
     elim c.if-eq.branch [
-      | then-eq w ↦ rw w.self-is (h.0, all, h.2, h.3, λ e. absurd cc)
-      | else-eq w ↦ rw w.self-is (h.0, all, h.2, h.3, λ e. absurd cc)
+      | then-eq w ↦
+          rw w.self-is (
+            h.0,
+            all,
+            h.2,
+            h.3,
+            λ e. absurd cc,
+            λ e. (c.in-Err.fault, c.args.cred, c.args.call.now, given),
+          )
+      | else-eq w ↦
+          rw w.self-is (
+            h.0,
+            all,
+            h.2,
+            h.3,
+            λ e. absurd cc,
+            λ e. (c.in-Err.fault, c.args.cred, c.args.call.now, given),
+          )
     ]

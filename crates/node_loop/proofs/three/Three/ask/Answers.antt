@@ -1,12 +1,12 @@
-use Rattle.std.proofs.Common.{inl, refl, subst}
+use Rattle.std.proofs.Common.{subst}
 use Rattle.std.specs.Prelude.{OnOk, OnErr}
 use Rattle.harp_types.specs.declared.peer.Peer.TheVariants.{Local}
 use Rattle.node.specs.declared.input.Input.TheVariants.{Ask}
-use Rattle.node_loop.specs.Run.{GivesAt, GivesAtInPart}
-use Rattle.node_loop.specs.Scene.{each, scene, spot}
-use Rattle.node_loop.specs.Turn.{sent_of}
+use Rattle.node_loop.specs.Cut.{GivesAtInPart}
+use Rattle.node_loop.specs.Run.{GivesAt}
+use Rattle.node_loop.specs.Scene.{around, each, scene, spot}
 use Rattle.node_loop.proofs.Results.{on_err}
-use Rattle.node_loop.proofs.Scenes.{gives-part}
+use Rattle.node_loop.proofs.Scenes.{gives-none}
 use Rattle.node_loop.proofs.three.Three.ask.Goals as goal
 
 pub returns-in_err-call-clause-part : goal.returns-in_err-call-clause-part
@@ -16,9 +16,8 @@ returns-in_err-call-clause-part g c =
     let link = g.L.Link.told c.args.link.now in
     let s = spot r.zero d.zero link (g.C.Clock.told c.args.clock.now) c.args.self.now.ledger in
     on_err c.from_residual.result
-    (gives-part c.args.place c.args.place refl
-    (Ask Local c.args.client c.args.number c.args.cred c.args.call.now) r d s (sent_of link)
-    (0, inl refl))
+    (gives-none c.args.place
+    (Ask Local c.args.client c.args.number c.args.cred c.args.call.now) r d s)
 
 pub returns-clause-asks : goal.returns-clause-asks
 returns-clause-asks g c =
@@ -37,5 +36,6 @@ returns-clause-part g c =
     (g.L.Link.told c.args.link.now) (g.C.Clock.told c.args.clock.now) c.args.self.now.ledger in
     subst (λ x. OnErr c.give_at.result (GivesAtInPart c.args.place
     (Ask Local c.args.client c.args.number c.args.cred x) old
-    (sent_of (g.L.Link.told c.give_at.new.link))))
+    (around (each g.D.Store.told c.give_at.new.stores) (g.L.Link.told c.give_at.new.link)
+    (g.C.Clock.told c.give_at.new.clock))))
     c.in_ok-call.ensures c.give_at.ensures.part

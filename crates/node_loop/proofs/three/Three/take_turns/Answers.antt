@@ -1,8 +1,8 @@
 use Rattle.std.proofs.Common.{◌≡◌, ◌+◌, ◌-◌, ◌++◌, arith, refl, subst, sym}
 use Rattle.node_loop.specs.Chain.{Chain, Stops}
-use Rattle.node_loop.specs.Run.{TakesTurns, TurnsAt, TurnsAtInPart, rounds}
-use Rattle.node_loop.specs.Scene.{all_places, each, scene_of, with_heard}
-use Rattle.node_loop.specs.Turn.{sent_of}
+use Rattle.node_loop.specs.Cut.{TurnsAtInPart}
+use Rattle.node_loop.specs.Run.{TakesTurns, TurnsAt, rounds}
+use Rattle.node_loop.specs.Scene.{all_places, around, each, scene_of, with_heard}
 use Rattle.node_loop.proofs.Chains.{chain-append, stops-behind}
 use Rattle.node_loop.proofs.HeardLaws.{stops-say, turns-say}
 use Rattle.node_loop.proofs.Scenes.{rounds-more, stops-sooner}
@@ -52,15 +52,16 @@ returns-in-Err-clause-part g c =
     (g.C.Clock.told c.args.clock.now) in
     let here = scene_of c.loop.self (each g.D.Store.told c.loop.stores)
     (g.L.Link.told c.loop.link) (g.C.Clock.told c.loop.clock) in
-    let sent = sent_of (g.L.Link.told c.turn.new.link) in
+    let left = around (each g.D.Store.told c.turn.new.stores) (g.L.Link.told c.turn.new.link)
+    (g.C.Clock.told c.turn.new.clock) in
     let n = c.loop.counter in
     let so_far = c.loop.invariant.turned in
-    stops-sooner TurnsAtInPart all_places before sent (c.args.turns - (n + 1)) (n + 1)
+    stops-sooner TurnsAtInPart all_places before left (c.args.turns - (n + 1)) (n + 1)
     c.args.turns (omega arith)
-    (subst (λ xs. Stops TurnsAt TurnsAtInPart xs before sent) (sym (rounds-more n all_places))
+    (subst (λ xs. Stops TurnsAt TurnsAtInPart xs before left) (sym (rounds-more n all_places))
     (stops-behind TurnsAt TurnsAtInPart (rounds n all_places) all_places before
-    (with_heard so_far.0 here) sent so_far.1
-    (stops-say all_places here sent c.in-Err.ensures.part so_far.0)))
+    (with_heard so_far.0 here) left so_far.1
+    (stops-say all_places here left c.in-Err.ensures.part so_far.0)))
 
 pub returns-in-Err-clause-link_count : goal.returns-in-Err-clause-link_count
 returns-in-Err-clause-link_count g c =
