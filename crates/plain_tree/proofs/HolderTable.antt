@@ -1,12 +1,9 @@
 -- A table of holders that is filled slot by slot.
-use Rattle.std.proofs.Common.{◌≡◌, ℕ, ◌+◌, ◌<◌, ◌≤◌, ◌==◌, Bool, true, false, cond, List, length, get_or, set, take, drop, Option, refl, sym, ap, ◌∙◌, arith, inl, inr}
+use Rattle.std.proofs.Common.{◌≡◌, ℕ, ◌+◌, ◌<◌, ◌≤◌, ◌==◌, Bool, true, false, cond, List, length, get_or, set, drop, Option, refl, sym, ap, ◌∙◌, arith, inl, inr}
 use Rattle.std.proofs.lemmas.Bool.{cases_eq, eq-eqb, ne_eqb}
 use Rattle.std.proofs.lemmas.List.{get_or-set_same, get_or-set_other, at_drop_more, at_drop_all}
-use Rattle.std.proofs.lemmas.List.Sums.{sum_by_more}
-use Rattle.file_tree.specs.declared.object.Slot.{Slot}
 use Rattle.file_tree.specs.declared.object.Object.{Object}
-use Rattle.file_tree.specs.Tree.{Tree, Slots, slots_of, names_it, names_in, names_at, holder_from}
-use Rattle.file_tree.proofs.SlotLaws.{share}
+use Rattle.file_tree.specs.Tree.{Tree, slots_of, names_in, names_at, holder_from}
 
 -- a number that is set is read there, and the others as before
 pub get_or-noted : (xs : List ℕ) (i y n : ℕ) → n < length xs

@@ -1,3 +1,5 @@
 pub mod Above
+pub mod CountLaws
 pub mod HolderTable
 pub mod PageLemmas
+pub mod Writing

@@ -7,6 +7,7 @@ ghost use Rattle.file_tree.specs.Tree.{place, names_it, names_in, is_directory_a
 ghost use Rattle.file_tree.specs.Rename.{is_above};
 
 use crate::computed::{is_directory, is_directory_at, place, slots_of};
+use crate::objects::Objects;
 use file_tree::{Object, Slot};
 use std::alloc::{AllocError, Global};
 
@@ -50,7 +51,7 @@ fn holders_of(alloc: Global, tree: &[Option<Object>]) -> Result<Vec<u32>, AllocE
 }
 
 #[tactic(auto, unfolding(file_tree::specs::Tree::parent_of))]
-fn parent_by(tree: &[Option<Object>], holders: &[u32], number: u32) -> u32
+fn parent_by(tree: &Objects, holders: &[u32], number: u32) -> u32
     requires { AreHolders tree.now holders.now }
     ensures { result ≡ parent_of tree.now number }
 {
@@ -70,11 +71,11 @@ fn parent_by(tree: &[Option<Object>], holders: &[u32], number: u32) -> u32
 
 /// Whether an object is a directory, or above it.
 #[tactic(auto, using(crate::proofs::Above::aboves))]
-fn is_above(alloc: Global, tree: &[Option<Object>], top: u32, dir: u32) -> Result<bool, AllocError>
+fn is_above(alloc: Global, tree: &Objects, top: u32, dir: u32) -> Result<bool, AllocError>
     requires { length tree.now ≤ object_numbers }
     ensures { IfOk result (λ above. above ≡ is_above (length tree.now) tree.now top dir) }
 {
-    let holders = holders_of(alloc, tree)?;
+    let holders = holders_of(alloc, tree.as_slice())?;
     let mut at = dir;
     for _ in 0..tree.len() {
         if at == top {
@@ -88,7 +89,7 @@ fn is_above(alloc: Global, tree: &[Option<Object>], top: u32, dir: u32) -> Resul
 /// Whether an object is a directory that can't move to another one, since that is below it.
 pub fn holds_itself(
     alloc: Global,
-    tree: &[Option<Object>],
+    tree: &Objects,
     moved: u32,
     to_dir: u32,
 ) -> Result<bool, AllocError>

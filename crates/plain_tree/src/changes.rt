@@ -1,14 +1,17 @@
-//! Changes of a tree. What can want memory is done first, and the tree is changed last.
+//! Changes of the objects of a tree, by which nothing is counted.
 
-ghost use Rattle.std.specs.Prelude.{◌≡◌, ◌<◌, ◌≤◌, ◌+◌, ◌*◌, ◌++◌, ◌∷◌, [], IfOk, OnOk, OnErr, length, Some, None, Option, IsSome, IsTrue};
+ghost use Rattle.std.specs.Prelude.{◌≡◌, ◌<◌, ◌≤◌, ◌+◌, ◌*◌, ◌^◌, ℕ, IfOk, OnOk, OnErr, length, None, Option, slice_set, true};
 ghost use Rattle.harp_types.specs.Limits.{object_numbers, slot_size, tree_blocks};
 ghost use Rattle.file_tree.specs.Within.{IsWithinLimits, SameBlocks};
-ghost use Rattle.file_tree.specs.Tree.{place, with_entry, size_of, blocks_at, blocks_of, used_blocks};
-ghost use Rattle.file_tree.specs.Outcome.{change, reslotted, rewritten, set_ctime, slot_changed, slot_replaced, lost_entry, with_object};
+ghost use Rattle.file_tree.specs.Tree.{place, with_entry, size_of, blocks_at, blocks_of, names_in, used_blocks};
+ghost use Rattle.file_tree.specs.declared.object.Body.TheVariants.{Regular};
+ghost use Rattle.plain_tree.specs.Counts.{bytes_of, bytes_within, one};
+ghost use Rattle.file_tree.specs.Outcome.{change, is_regular, is_regular_at, written, reslotted, rewritten, set_ctime, slot_changed, slot_replaced};
 
-use crate::computed::{free_place, names_of};
+use crate::computed::free_place;
+use crate::files::write_in;
 use file_tree::{Body, Object, Slot, Slots};
-use harp_types::{Bytes, Time};
+use harp_types::Time;
 use std::alloc::{AllocError, Global};
 
 /// Equal slots.
@@ -34,9 +37,8 @@ fn copy_slot(alloc: Global, slot: &Option<Slot>) -> Result<Option<Slot>, AllocEr
     }
 }
 
-/// The slots with a further entry.
 #[tactic(auto, using(file_tree::proofs::FreeSlots::further_entries))]
-pub fn with_entry(alloc: Global, slots: &[Option<Slot>], slot: Slot) -> Result<Slots, AllocError>
+fn entered(alloc: Global, slots: &[Option<Slot>], slot: Slot) -> Result<Slots, AllocError>
     ensures value { IfOk result (λ new. new ≡ with_entry slots.now slot) }
     ensures size { IfOk result (λ new. length new ≤ length slots.now + 1) }
 {
@@ -48,6 +50,19 @@ pub fn with_entry(alloc: Global, slots: &[Option<Slot>], slot: Slot) -> Result<S
     }
     new.push(Some(slot))?;
     Ok(Slots::of(new))
+}
+
+/// The slots with a further entry.
+pub fn with_entry(alloc: Global, slots: &[Option<Slot>], slot: Slot) -> Result<Slots, AllocError>
+    ensures value { IfOk result (λ new. new ≡ with_entry slots.now slot) }
+    ensures size { IfOk result (λ new. length new ≤ length slots.now + 1) }
+    ensures names { IfOk result (λ new. (k : ℕ)
+        → names_in k new ≡ names_in k slots.now + one slot.number k) }
+{
+    match entered(alloc, slots, slot) {
+        Ok(new) => Ok(new),
+        Err(e) => Err(e),
+    }
 }
 
 /// A directory with other slots.
@@ -66,20 +81,58 @@ pub fn reslot(tree: &mut Vec<Option<Object>>, dir: u32, slots: Slots, now: Time)
     }
 }
 
-/// A file with other bytes.
-#[tactic(auto, using(file_tree::proofs::Kept::keeps_set))]
-pub fn rewrite(tree: &mut Vec<Option<Object>>, handle: u32, bytes: Bytes, now: Time)
-    requires few { length tree.old.items ≤ object_numbers }
-    requires within { handle < length tree.old.items }
-    requires room { used_blocks tree.old.items + blocks_of (length bytes) ≤ tree_blocks + blocks_at
-        (place tree.old.items handle) }
-    ensures value { tree.new.items ≡ change tree.old.items handle (rewritten now bytes) }
-    ensures kept { IsWithinLimits tree.new.items }
+fn write_body(alloc: Global, body: &mut Body, offset: usize, bytes: &[u8]) -> Result<(), AllocError>
+    requires file { is_regular body.old ≡ true }
+    requires fits { offset + length bytes.now < 2 ^ 64 }
+    ensures ok { OnOk result
+        (body.new ≡ Regular (written (bytes_within body.old) offset bytes.now)) }
+    ensures err { OnErr result (body.new ≡ body.old) }
 {
-    if let Some(object) = &mut tree[handle as usize] {
-        object.mtime = now;
-        object.ctime = now;
-        object.body = Body::Regular { bytes };
+    match body {
+        Body::Regular { bytes: file } => write_in(alloc, file, offset, bytes),
+        Body::Directory { .. } => unreachable!(),
+        Body::Link { .. } => unreachable!(),
+    }
+}
+
+fn write_object(
+    alloc: Global,
+    object: &mut Object,
+    offset: usize,
+    bytes: &[u8],
+    now: Time,
+) -> Result<(), AllocError>
+    requires file { is_regular object.old.body ≡ true }
+    requires fits { offset + length bytes.now < 2 ^ 64 }
+    ensures ok { OnOk result (object.new
+        ≡ rewritten now (written (bytes_within object.old.body) offset bytes.now) object.old) }
+    ensures err { OnErr result (object.new ≡ object.old) }
+{
+    write_body(alloc, &mut object.body, offset, bytes)?;
+    object.mtime = now;
+    object.ctime = now;
+    Ok(())
+}
+
+/// A file with bytes placed at an offset. Where memory runs out it is as before.
+pub fn write_at(
+    alloc: Global,
+    tree: &mut Vec<Option<Object>>,
+    handle: u32,
+    offset: usize,
+    bytes: &[u8],
+    now: Time,
+) -> Result<(), AllocError>
+    requires within { handle < length tree.old.items }
+    requires file { is_regular_at (place tree.old.items handle) ≡ true }
+    requires fits { offset + length bytes.now < 2 ^ 64 }
+    ensures ok { OnOk result (tree.new.items ≡ change tree.old.items handle
+        (rewritten now (written (bytes_of (place tree.old.items handle)) offset bytes.now))) }
+    ensures err { OnErr result (tree.new.items ≡ tree.old.items) }
+{
+    match &mut tree[handle as usize] {
+        Some(object) => write_object(alloc, object, offset, bytes, now),
+        None => unreachable!(),
     }
 }
 
@@ -123,42 +176,14 @@ fn set_in(body: &mut Body, i: usize, slot: Option<Slot>)
     }
 }
 
-/// An object that lost an entry: it is gone where that was its last.
-#[tactic(auto, using(file_tree::proofs::Kept::pasts), unfolding(file_tree::specs::Outcome::lost_entry))]
-pub fn lost_entry(tree: &mut Vec<Option<Object>>, number: u32, now: Time)
+/// No object has the number.
+#[tactic(auto, using(file_tree::proofs::Kept::pasts))]
+pub fn clear(tree: &mut Vec<Option<Object>>, number: u32)
     requires tree { IsWithinLimits tree.old.items }
-    ensures value { tree.new.items ≡ lost_entry tree.old.items number now }
+    ensures value { tree.new.items ≡ slice_set tree.old.items number None }
     ensures kept { IsWithinLimits tree.new.items }
 {
-    if names_of(tree, number) == 0 {
-        if (number as usize) < tree.len() {
-            tree[number as usize] = None;
-        }
-    } else {
-        set_ctime(tree, number, now);
+    if (number as usize) < tree.len() {
+        tree[number as usize] = None;
     }
-}
-
-/// A new object, and the directory with its entry.
-#[tactic(auto, using(file_tree::proofs::Kept::pushes))]
-pub fn add_object(
-    tree: &mut Vec<Option<Object>>,
-    dir: u32,
-    slots: Slots,
-    object: Object,
-    now: Time,
-) -> Result<(), AllocError>
-    requires tree { IsWithinLimits tree.old.items }
-    requires within { dir < length tree.old.items }
-    requires few { length tree.old.items < object_numbers }
-    requires room { used_blocks tree.old.items + blocks_of (size_of object.body) + blocks_of
-        (slot_size * length slots)
-        ≤ tree_blocks + blocks_at (place tree.old.items dir) }
-    ensures ok { OnOk result (tree.new.items ≡ with_object tree.old.items dir slots object now) }
-    ensures err { OnErr result (tree.new.items ≡ tree.old.items) }
-    ensures kept { IsWithinLimits tree.new.items }
-{
-    tree.push(Some(object))?;
-    reslot(tree, dir, slots, now);
-    Ok(())
 }

@@ -7,6 +7,7 @@ ghost use Rattle.std.specs.Prelude.{◌+◌, ◌*◌, ◌/◌, count_by};
 ghost use Rattle.file_tree.specs.Within.{IsWithinLimits};
 ghost use Rattle.file_tree.specs.Tree.{place, slots_within, slots_of, is_directory, is_directory_at, kind_of, size_of, blocks_of, blocks_at, used_blocks, names_it, names_in, names_at, names_of, is_subdirectory, links_of, holder_from, parent_of, attr_of, attr_at, entry_from, free_from};
 
+use crate::objects::Objects;
 use file_tree::{Body, Object, Slot};
 use harp_types::{Attr, BLOCK_SIZE, Kind, SLOT_SIZE, Time};
 
@@ -91,12 +92,12 @@ fn place_of(tree: &[Option<Object>], number: u32) -> Option<&Object>
 }
 
 /// The object that a number names.
-pub fn place(tree: &[Option<Object>], number: u32) -> Option<&Object>
+pub fn place(tree: &Objects, number: u32) -> Option<&Object>
     ensures value { option_copied result ≡ place tree.now number }
     ensures fits { IfSome result (λ o. blocks_of (size_of o.now.body) ≤ used_blocks tree.now) }
     ensures within { IfSome result (λ _. number < length tree.now) }
 {
-    match place_of(tree, number) {
+    match place_of(tree.as_slice(), number) {
         Some(object) => Some(object),
         None => None,
     }
@@ -164,44 +165,31 @@ pub fn size_of(body: &Body) -> u32
     }
 }
 
-fn blocks_at(object: &Option<Object>) -> u32
-    requires { blocks_at object.now ≤ tree_blocks }
-    ensures { result ≡ blocks_at object.now }
+/// The blocks of the object of a number in a list; 0 where it has none.
+#[tactic(auto, using(file_tree::proofs::Bounds::blocks_placed, file_tree::proofs::Bounds::place_fits))]
+pub fn blocks_in(tree: &[Option<Object>], number: u32) -> u32
+    requires { used_blocks tree.now ≤ tree_blocks }
+    ensures value { result ≡ blocks_at (place tree.now number) }
+    ensures within { result ≤ used_blocks tree.now }
 {
-    match object {
+    match place_of(tree, number) {
         None => 0,
         Some(object) => blocks_of(size_of(&object.body)),
     }
 }
 
-/// The blocks of all objects.
-#[tactic(auto, using(file_tree::proofs::Bounds::steps), unfolding(file_tree::specs::Tree::used_blocks))]
-pub fn used_blocks(tree: &[Option<Object>]) -> u32
-    requires { used_blocks tree.now ≤ tree_blocks }
-    ensures { result ≡ used_blocks tree.now }
+/// The slots of the directory of a number in a list; none of anything else.
+pub fn slots_at(tree: &[Option<Object>], number: u32) -> &[Option<Slot>]
+    ensures { result.now ≡ slots_of (place tree.now number) }
 {
-    let mut used = 0;
-    for object in tree {
-        used += blocks_at(object);
+    match place_of(tree, number) {
+        None => &[],
+        Some(object) => slots_within(&object.body),
     }
-    used
-}
-
-/// How many slots of a tree name an object.
-#[tactic(auto, using(file_tree::proofs::Bounds::steps), unfolding(file_tree::specs::Tree::names_of))]
-pub fn names_of(tree: &[Option<Object>], number: u32) -> u32
-    requires { used_blocks tree.now ≤ tree_blocks }
-    ensures { result ≡ names_of tree.now number }
-{
-    let mut names = 0;
-    for object in tree {
-        names += names_in(number, slots_of(object)) as u32;
-    }
-    names
 }
 
 /// Whether a number names a directory.
-pub fn is_directory_at(tree: &[Option<Object>], number: u32) -> bool
+pub fn is_directory_at(tree: &Objects, number: u32) -> bool
     ensures { result ≡ is_directory_at (place tree.now number) }
 {
     match place(tree, number) {
@@ -210,7 +198,7 @@ pub fn is_directory_at(tree: &[Option<Object>], number: u32) -> bool
     }
 }
 
-fn is_subdirectory(tree: &[Option<Object>], slot: &Option<Slot>) -> bool
+fn is_subdirectory(tree: &Objects, slot: &Option<Slot>) -> bool
     ensures { result ≡ is_subdirectory tree.now slot.now }
 {
     match slot {
@@ -219,7 +207,7 @@ fn is_subdirectory(tree: &[Option<Object>], slot: &Option<Slot>) -> bool
     }
 }
 
-fn subdirectories(tree: &[Option<Object>], slots: &[Option<Slot>]) -> usize
+fn subdirectories(tree: &Objects, slots: &[Option<Slot>]) -> usize
     ensures { result ≡ count_by (is_subdirectory tree.now) slots.now }
 {
     slots
@@ -230,21 +218,21 @@ fn subdirectories(tree: &[Option<Object>], slots: &[Option<Slot>]) -> usize
 
 /// The number of links: of a directory 2 and its subdirectories, else the slots that name it.
 #[tactic(auto, using(file_tree::proofs::Bounds::links), unfolding(file_tree::specs::Tree::links_of))]
-pub fn links_of(tree: &[Option<Object>], number: u32, body: &Body) -> u32
+pub fn links_of(tree: &Objects, number: u32, body: &Body) -> u32
     requires tree { used_blocks tree.now ≤ tree_blocks }
     requires body { blocks_of (size_of body.now) ≤ tree_blocks }
     ensures { result ≡ links_of tree.now number body.now }
 {
     match body {
         Body::Directory { slots } => 2 + subdirectories(tree, slots.as_slice()) as u32,
-        Body::Regular { .. } => names_of(tree, number),
-        Body::Link { .. } => names_of(tree, number),
+        Body::Regular { .. } => tree.names_of(number),
+        Body::Link { .. } => tree.names_of(number),
     }
 }
 
 /// The parent of a directory; 0 for any other number.
 #[tactic(auto, unfolding(file_tree::specs::Tree::parent_of))]
-pub fn parent_of(tree: &[Option<Object>], number: u32) -> u32
+pub fn parent_of(tree: &Objects, number: u32) -> u32
     requires { length tree.now ≤ object_numbers }
     ensures { result ≡ parent_of tree.now number }
 {
@@ -254,11 +242,11 @@ pub fn parent_of(tree: &[Option<Object>], number: u32) -> u32
     if number == 1 {
         return 1;
     }
-    holder_of(tree, number)
+    holder_of(tree.as_slice(), number)
 }
 
 /// The attributes of an object.
-pub fn attr_of(tree: &[Option<Object>], number: u32, object: &Object) -> Attr
+pub fn attr_of(tree: &Objects, number: u32, object: &Object) -> Attr
     requires tree { used_blocks tree.now ≤ tree_blocks }
     requires body { blocks_of (size_of object.now.body) ≤ tree_blocks }
     ensures { result ≡ attr_of tree.now number object.now }
@@ -280,7 +268,7 @@ pub fn attr_of(tree: &[Option<Object>], number: u32, object: &Object) -> Attr
 }
 
 /// The blocks of the object that a number names; 0 where it names none.
-pub fn blocks_placed(tree: &[Option<Object>], number: u32) -> u32
+pub fn blocks_placed(tree: &Objects, number: u32) -> u32
     requires { used_blocks tree.now ≤ tree_blocks }
     ensures value { result ≡ blocks_at (place tree.now number) }
     ensures bound { result ≤ tree_blocks }
@@ -293,7 +281,7 @@ pub fn blocks_placed(tree: &[Option<Object>], number: u32) -> u32
 
 /// The attributes of the object that a number names; zeros where it names none.
 #[tactic(auto, unfolding(file_tree::specs::Tree::attr_at))]
-pub fn attr_at(tree: &[Option<Object>], number: u32) -> Attr
+pub fn attr_at(tree: &Objects, number: u32) -> Attr
     requires { used_blocks tree.now ≤ tree_blocks }
     ensures { result ≡ attr_at tree.now number }
 {
@@ -305,7 +293,7 @@ pub fn attr_at(tree: &[Option<Object>], number: u32) -> Attr
 
 /// The slots of the directory that a number names; none of anything else.
 #[tactic(auto, using(file_tree::proofs::Bounds::slots_fit))]
-pub fn slots_of_place(tree: &[Option<Object>], number: u32) -> &[Option<Slot>]
+pub fn slots_of_place(tree: &Objects, number: u32) -> &[Option<Slot>]
     requires { used_blocks tree.now ≤ tree_blocks }
     ensures value { result.now ≡ slots_of (place tree.now number) }
     ensures fits { slot_size * length result.now ≤ 268435456 }

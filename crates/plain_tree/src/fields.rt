@@ -1,14 +1,15 @@
 //! Attributes that are set.
 
-ghost use Rattle.std.specs.Prelude.{◌≡◌, ◌<◌, ◌≤◌, ◌+◌, length, IfOk, IfSome, Option};
+ghost use Rattle.std.specs.Prelude.{◌≡◌, ◌<◌, ◌≤◌, ◌+◌, length, IfOk, IfSome, Option, true};
 ghost use Rattle.harp_types.specs.Limits.{tree_blocks};
 ghost use Rattle.file_tree.specs.Within.{IsWithinLimits};
 ghost use Rattle.plain_tree.specs.Plain.{DoesStep, Gives};
 ghost use Rattle.file_tree.specs.Tree.{used_blocks, blocks_at, blocks_of, size_of, place};
-ghost use Rattle.file_tree.specs.Outcome.{given, given_mode, given_time, mtime_for_size, made, body_with, with_fields, with_size, set_fields, change};
+ghost use Rattle.file_tree.specs.Outcome.{given, given_mode, given_time, mtime_for_size, made, body_with, with_fields, with_size, set_fields, change, is_regular};
 
 use crate::error::TreeError;
 use crate::files::resized;
+use crate::objects::Objects;
 use crate::permissions::allowed;
 use crate::tries::{bytes_in, live, refuse, room};
 use file_tree::{Body, Object, TO_WRITE, may_set};
@@ -66,7 +67,7 @@ fn mtime_for_size(size: u32, old: Time, now: Time) -> Time
 #[tactic(auto, unfolding(file_tree::specs::Outcome::with_size))]
 fn with_size(
     alloc: Global,
-    tree: &[Option<Object>],
+    tree: &Objects,
     cred: Cred,
     number: u32,
     body: &Body,
@@ -78,6 +79,7 @@ fn with_size(
     ensures enough { IfOk result (λ b. IfSome b (λ bytes.
         used_blocks tree.now + blocks_of (length bytes) ≤ tree_blocks + blocks_at
         (place tree.now number))) }
+    ensures file { IfOk result (λ b. IfSome b (λ bytes. is_regular body.now ≡ true)) }
 {
     if size == FIELD_LEFT {
         return Ok(None);
@@ -106,7 +108,13 @@ fn set_in(object: &mut Object, a: &SetAttr, bytes: Option<Bytes>, now: Time)
 
 /// An object with the given fields set.
 #[tactic(auto, using(file_tree::proofs::Kept::pasts))]
-fn set_at(tree: &mut Vec<Option<Object>>, handle: u32, a: &SetAttr, bytes: Option<Bytes>, now: Time)
+pub fn set_at(
+    tree: &mut Vec<Option<Object>>,
+    handle: u32,
+    a: &SetAttr,
+    bytes: Option<Bytes>,
+    now: Time,
+)
     requires tree { IsWithinLimits tree.old.items }
     requires enough { IfSome bytes (λ b.
         used_blocks tree.old.items + blocks_of (length b) ≤ tree_blocks + blocks_at
@@ -125,20 +133,20 @@ fn set_at(tree: &mut Vec<Option<Object>>, handle: u32, a: &SetAttr, bytes: Optio
 #[tactic(auto, unfolding(file_tree::specs::Outcome::set_fields))]
 pub fn set_fields(
     alloc: Global,
-    tree: &mut Vec<Option<Object>>,
+    tree: &mut Objects,
     cred: Cred,
     handle: u32,
     a: &SetAttr,
     now: Time,
 ) -> Result<(), TreeError>
-    requires { IsWithinLimits tree.old.items }
-    ensures does { DoesStep tree.old.items tree.new.items result
-        (set_fields tree.old.items cred handle a.now now) }
-    ensures kept { IsWithinLimits tree.new.items }
+    requires { IsWithinLimits tree.old }
+    ensures does { DoesStep tree.old tree.new result
+        (set_fields tree.old cred handle a.now now) }
+    ensures kept { IsWithinLimits tree.new }
 {
     let object = live(tree, handle)?;
     refuse(Status::Perm, !may_set(cred, a, object.uid, object.gid))?;
     let bytes = with_size(alloc, tree, cred, handle, &object.body, a.size)?;
-    set_at(tree, handle, a, bytes, now);
+    tree.set_fields(handle, a, bytes, now);
     Ok(())
 }

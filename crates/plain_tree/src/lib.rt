@@ -6,9 +6,10 @@
 //!
 //! The program that computes outcomes on a plain list of objects. `PlainTree::apply` gives exactly
 //! the outcome's reply and tree (`ok`), and after want of memory, its only error, leaves the tree
-//! (`err`). Inside, a `TreeError` is that or the status that a call is refused with. The checker of
-//! traces uses it, and tests compare with it: it shares no code with `nfs_calls` but the tests of
-//! permissions, and must not.
+//! (`err`). `Objects` counts the blocks in use and the slots that name each number, and an invariant
+//! says that the counts are those of the objects. Inside, a `TreeError` is want of memory or the
+//! status that a call is refused with. The checker of traces uses the tree, and tests compare with
+//! it: it shares no code with `nfs_calls` but the tests of permissions, and must not.
 #![tactic(auto)]
 
 mod ancestry;
@@ -18,6 +19,7 @@ mod entries;
 mod error;
 mod fields;
 mod files;
+mod objects;
 mod pages;
 mod permissions;
 mod plain;

@@ -8,9 +8,10 @@ ghost use Rattle.file_tree.specs.Outcome.{entry_at, entries_of, entry_size, page
 
 use crate::computed::parent_of;
 use crate::error::TreeError;
+use crate::objects::Objects;
 use crate::permissions::allowed;
 use crate::tries::directory;
-use file_tree::{Object, Slot, TO_READ};
+use file_tree::{Slot, TO_READ};
 use harp_types::{Bounded, Cred, DirEntry, Entries, LONGEST_TRANSFER, Reply};
 use std::alloc::{AllocError, Global};
 
@@ -49,7 +50,7 @@ fn push_entry(
 #[tactic(auto, using(crate::proofs::PageLemmas::entry_steps))]
 fn entries_of(
     alloc: Global,
-    tree: &[Option<Object>],
+    tree: &Objects,
     dir: u32,
     slots: &[Option<Slot>],
 ) -> Result<Vec<DirEntry>, AllocError>
@@ -106,7 +107,7 @@ fn page(
 #[tactic(auto, unfolding(file_tree::specs::Outcome::read_dir))]
 pub fn read_dir(
     alloc: Global,
-    tree: &[Option<Object>],
+    tree: &Objects,
     cred: Cred,
     dir: u32,
     cookie: u32,

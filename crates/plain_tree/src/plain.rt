@@ -10,22 +10,17 @@ ghost use Rattle.file_tree.specs.Calls.{answered, outcome};
 
 use crate::entries::{link, make_dir, make_link, remove, remove_dir};
 use crate::error::TreeError;
+use crate::objects::Objects;
 use crate::pages::read_dir;
 use crate::reads::{get_attr, lookup, read, read_link, stat_fs};
 use crate::rename::rename;
 use crate::writes::{create, set_attr, write};
-use file_tree::{Body, Object, Slots};
 use harp_types::{Call, Cred, Reply, Time, changes_entries, is_update, time_of};
 use std::alloc::{AllocError, Global};
 use std::marker::Model;
 
 /// The reply to a read, or its refusal.
-fn read_answered(
-    alloc: Global,
-    tree: &[Option<Object>],
-    cred: Cred,
-    call: &Call,
-) -> Result<Reply, TreeError>
+fn read_answered(alloc: Global, tree: &Objects, cred: Cred, call: &Call) -> Result<Reply, TreeError>
     requires tree { IsWithinLimits tree.now }
     requires read { is_update call.now ≡ false }
     ensures { (now : Time) → Gives (λ r. (r, tree.now)) result
@@ -52,16 +47,16 @@ fn read_answered(
 /// The reply to an update of entries, or its refusal.
 fn entries_answered(
     alloc: Global,
-    tree: &mut Vec<Option<Object>>,
+    tree: &mut Objects,
     cred: Cred,
     call: &Call,
     now: Time,
 ) -> Result<Reply, TreeError>
-    requires tree { IsWithinLimits tree.old.items }
+    requires tree { IsWithinLimits tree.old }
     requires entries { changes_entries call.now ≡ true }
-    ensures does { Does tree.old.items tree.new.items result
-        (answered tree.old.items cred call.now now) }
-    ensures kept { IsWithinLimits tree.new.items }
+    ensures does { Does tree.old tree.new result
+        (answered tree.old cred call.now now) }
+    ensures kept { IsWithinLimits tree.new }
 {
     match call {
         Call::Remove { dir, name } => remove(tree, cred, *dir, name.as_slice(), now),
@@ -85,17 +80,17 @@ fn entries_answered(
 /// The reply to an update that sets attributes or bytes, or its refusal.
 fn content_answered(
     alloc: Global,
-    tree: &mut Vec<Option<Object>>,
+    tree: &mut Objects,
     cred: Cred,
     call: &Call,
     now: Time,
 ) -> Result<Reply, TreeError>
-    requires tree { IsWithinLimits tree.old.items }
+    requires tree { IsWithinLimits tree.old }
     requires update { is_update call.now ≡ true }
     requires content { changes_entries call.now ≡ false }
-    ensures does { Does tree.old.items tree.new.items result
-        (answered tree.old.items cred call.now now) }
-    ensures kept { IsWithinLimits tree.new.items }
+    ensures does { Does tree.old tree.new result
+        (answered tree.old cred call.now now) }
+    ensures kept { IsWithinLimits tree.new }
 {
     match call {
         Call::SetAttr { handle, attr } => set_attr(alloc, tree, cred, *handle, attr, now),
@@ -126,15 +121,15 @@ fn content_answered(
 /// The reply to a call, or its refusal.
 fn call_answered(
     alloc: Global,
-    tree: &mut Vec<Option<Object>>,
+    tree: &mut Objects,
     cred: Cred,
     call: &Call,
     now: Time,
 ) -> Result<Reply, TreeError>
-    requires { IsWithinLimits tree.old.items }
-    ensures does { Does tree.old.items tree.new.items result
-        (answered tree.old.items cred call.now now) }
-    ensures kept { IsWithinLimits tree.new.items }
+    requires { IsWithinLimits tree.old }
+    ensures does { Does tree.old tree.new result
+        (answered tree.old cred call.now now) }
+    ensures kept { IsWithinLimits tree.new }
 {
     if !is_update(call) {
         read_answered(alloc, tree, cred, call)
@@ -149,7 +144,7 @@ fn call_answered(
 /// its objects have at most 65,536 blocks of 4096 bytes.
 #[derive(Drop)]
 pub struct PlainTree {
-    objects: Vec<Option<Object>>,
+    objects: Objects,
 }
 
 impl Model for PlainTree {
@@ -159,9 +154,9 @@ impl Model for PlainTree {
 
     ghost Value = { List (Option Object) };
 
-    ghost view = { λ t. t.objects.items };
+    ghost view = { λ t. t.objects };
 
-    ghost invariant = { λ t. IsWithinLimits t.objects.items };
+    ghost invariant = { λ t. IsWithinLimits t.objects };
 }
 
 impl PlainTree {
@@ -169,29 +164,13 @@ impl PlainTree {
     pub fn new(alloc: Global) -> Result<PlainTree, AllocError>
         ensures { IfOk result (λ tree. tree ≡ first_tree) }
     {
-        let zero = Time {
-            seconds: 0,
-            micros: 0,
-        };
-        let mut objects = Vec::new(alloc);
-        objects.push(None)?;
-        objects.push(Some(Object {
-            mode: 493,
-            uid: 0,
-            gid: 0,
-            atime: zero,
-            mtime: zero,
-            ctime: zero,
-            body: Body::Directory {
-                slots: Slots::of(Vec::new(alloc)),
-            },
-        }))?;
+        let objects = Objects::new(alloc)?;
         Ok(PlainTree { objects })
     }
 
     /// The outcome of a caller's call at a stamp in milliseconds: its reply, and the new tree. An
-    /// update changes the tree in place, and copies no more than the file or the slots that it
-    /// changes. Where memory runs out the tree is as before.
+    /// update changes the tree in place: it copies the slots of a directory that gets an entry, and
+    /// the bytes of a file that gets a size. Where memory runs out the tree is as before.
     pub fn apply(
         &mut self,
         alloc: Global,

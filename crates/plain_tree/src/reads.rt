@@ -6,18 +6,19 @@ ghost use Rattle.plain_tree.specs.Plain.{Gives};
 ghost use Rattle.file_tree.specs.Tree.{used_blocks};
 ghost use Rattle.file_tree.specs.Outcome.{get_attr, lookup, read_link, read, stat_fs};
 
-use crate::computed::{attr_at, used_blocks};
+use crate::computed::attr_at;
 use crate::error::TreeError;
 use crate::files::part;
+use crate::objects::Objects;
 use crate::permissions::{allowed, searched};
 use crate::tries::{bytes_in, live, resolve, text_in};
-use file_tree::{Object, TO_READ};
+use file_tree::TO_READ;
 use harp_types::{BLOCK_SIZE, Bounded, Cred, LONGEST_TRANSFER, Reply, TREE_BLOCKS};
 use std::alloc::Global;
 
 /// GETATTR (RFC 1094, section 2.2.2).
 #[tactic(auto, unfolding(file_tree::specs::Outcome::get_attr))]
-pub fn get_attr(tree: &[Option<Object>], handle: u32) -> Result<Reply, TreeError>
+pub fn get_attr(tree: &Objects, handle: u32) -> Result<Reply, TreeError>
     requires { IsWithinLimits tree.now }
     ensures { Gives (λ r. (r, tree.now)) result (get_attr tree.now handle) }
 {
@@ -29,12 +30,7 @@ pub fn get_attr(tree: &[Option<Object>], handle: u32) -> Result<Reply, TreeError
 
 /// LOOKUP (RFC 1094, section 2.2.5): `.` and `..` stand for the directory and its parent.
 #[tactic(auto, unfolding(file_tree::specs::Outcome::lookup))]
-pub fn lookup(
-    tree: &[Option<Object>],
-    cred: Cred,
-    dir: u32,
-    name: &[u8],
-) -> Result<Reply, TreeError>
+pub fn lookup(tree: &Objects, cred: Cred, dir: u32, name: &[u8]) -> Result<Reply, TreeError>
     requires { IsWithinLimits tree.now }
     ensures { Gives (λ r. (r, tree.now)) result (lookup tree.now cred dir name.now) }
 {
@@ -48,7 +44,7 @@ pub fn lookup(
 
 /// READLINK (RFC 1094, section 2.2.6).
 #[tactic(auto, unfolding(file_tree::specs::Outcome::read_link))]
-pub fn read_link(alloc: Global, tree: &[Option<Object>], handle: u32) -> Result<Reply, TreeError>
+pub fn read_link(alloc: Global, tree: &Objects, handle: u32) -> Result<Reply, TreeError>
     requires { IsWithinLimits tree.now }
     ensures { Gives (λ r. (r, tree.now)) result (read_link tree.now handle) }
 {
@@ -63,7 +59,7 @@ pub fn read_link(alloc: Global, tree: &[Option<Object>], handle: u32) -> Result<
 #[tactic(auto, unfolding(file_tree::specs::Outcome::read))]
 pub fn read(
     alloc: Global,
-    tree: &[Option<Object>],
+    tree: &Objects,
     cred: Cred,
     handle: u32,
     offset: u32,
@@ -84,12 +80,12 @@ pub fn read(
 
 /// STATFS (RFC 1094, section 2.2.18): in blocks of 4096 bytes.
 #[tactic(auto, unfolding(file_tree::specs::Outcome::stat_fs))]
-pub fn stat_fs(tree: &[Option<Object>], handle: u32) -> Result<Reply, TreeError>
+pub fn stat_fs(tree: &Objects, handle: u32) -> Result<Reply, TreeError>
     requires { IsWithinLimits tree.now }
     ensures { Gives (λ r. (r, tree.now)) result (stat_fs tree.now handle) }
 {
     live(tree, handle)?;
-    let free = TREE_BLOCKS - used_blocks(tree);
+    let free = TREE_BLOCKS - tree.used_blocks();
     Ok(Reply::Space {
         transfer: LONGEST_TRANSFER as u32,
         block: BLOCK_SIZE,

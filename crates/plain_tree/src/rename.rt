@@ -1,23 +1,24 @@
 //! Renaming.
 
-ghost use Rattle.std.specs.Prelude.{◌≡◌, ◌<◌, ◌≤◌, ◌*◌, ◌+◌, length, IfOk, IfErr, OnOk, OnErr, Option};
+ghost use Rattle.std.specs.Prelude.{◌≡◌, ◌<◌, ◌≤◌, ◌*◌, ◌+◌, length, IfOk, IfErr, OnOk, OnErr, Option, true};
 ghost use Rattle.harp_types.specs.Limits.{longest_name, tree_blocks};
 ghost use Rattle.plain_tree.specs.declared.error.TreeError.TheVariants.{NoMemory};
 ghost use Rattle.file_tree.specs.Within.{IsWithinLimits};
 ghost use Rattle.plain_tree.specs.Plain.{Does, DoesStep, Gives};
-ghost use Rattle.file_tree.specs.Tree.{used_blocks, place, slots_of, entry};
+ghost use Rattle.file_tree.specs.Tree.{used_blocks, place, slots_of, is_directory_at, entry};
 ghost use Rattle.harp_types.specs.declared.reply.Status.TheVariants.{NoEnt};
 ghost use Rattle.file_tree.specs.Tries.{some_or};
 ghost use Rattle.file_tree.specs.Outcome.{has_no_entry};
 ghost use Rattle.file_tree.specs.Rename.{check_target, freed, moved_in, moved_over, moved_to, rename};
 
 use crate::ancestry::holds_itself;
-use crate::changes::{copy_slots, lost_entry, reslot, set_ctime, set_slot, with_entry};
+use crate::changes::{copy_slots, with_entry};
 use crate::computed::{entry, is_directory_at, slots_of_place};
 use crate::error::TreeError;
+use crate::objects::Objects;
 use crate::permissions::allowed;
 use crate::tries::{check_name, is_dots, live, refuse, room, slots_in};
-use file_tree::{Object, Slot, TO_SEARCH, TO_WRITE};
+use file_tree::{Slot, TO_SEARCH, TO_WRITE};
 use harp_types::{Bounded, Cred, Reply, SLOT_SIZE, Status, Time};
 use std::alloc::{AllocError, Global};
 
@@ -29,11 +30,7 @@ pub fn has_no_entry(slots: &[Option<Slot>]) -> bool
 
 /// What a target refuses.
 #[tactic(auto, unfolding(file_tree::specs::Rename::check_target))]
-fn check_target(
-    tree: &[Option<Object>],
-    moved: u32,
-    target: Option<(usize, u32)>,
-) -> Result<(), TreeError>
+fn check_target(tree: &Objects, moved: u32, target: Option<(usize, u32)>) -> Result<(), TreeError>
     requires { used_blocks tree.now ≤ tree_blocks }
     ensures { Gives (λ x. x) result (check_target tree.now moved target) }
 {
@@ -73,20 +70,21 @@ fn freed(
 #[tactic(auto, unfolding(file_tree::specs::Rename::moved_in))]
 fn move_in(
     alloc: Global,
-    tree: &mut Vec<Option<Object>>,
+    tree: &mut Objects,
     dir: u32,
     x: (usize, u32),
     to_dir: u32,
     to_name: &[u8],
     now: Time,
 ) -> Result<(), TreeError>
-    requires tree { IsWithinLimits tree.old.items }
-    requires within { to_dir < length tree.old.items }
+    requires tree { IsWithinLimits tree.old }
+    requires directory { is_directory_at (place tree.old to_dir) ≡ true }
+    requires moved { x.1 < length tree.old }
     requires name { length to_name.now ≤ longest_name }
-    ensures does { DoesStep tree.old.items tree.new.items result
-        (moved_in tree.old.items dir x to_dir
-        (slots_of (place tree.old.items to_dir)) to_name.now now) }
-    ensures kept { IsWithinLimits tree.new.items }
+    ensures does { DoesStep tree.old tree.new result
+        (moved_in tree.old dir x to_dir
+        (slots_of (place tree.old to_dir)) to_name.now now) }
+    ensures kept { IsWithinLimits tree.new }
 {
     let to_slots = slots_of_place(tree, to_dir);
     let free = freed(alloc, dir, to_dir, x.0, to_slots)?;
@@ -94,9 +92,9 @@ fn move_in(
     let slot = Slot { name, number: x.1 };
     let slots = with_entry(alloc, &free, slot)?;
     room(tree, to_dir, (SLOT_SIZE as usize * slots.len()) as u32)?;
-    set_slot(tree, dir, x.0, None, now);
-    reslot(tree, to_dir, slots, now);
-    set_ctime(tree, x.1, now);
+    tree.set_slot(dir, x.0, None, now);
+    tree.reslot(to_dir, slots, x.1, now);
+    tree.set_ctime(x.1, now);
     Ok(())
 }
 
@@ -104,7 +102,7 @@ fn move_in(
 #[tactic(auto, unfolding(file_tree::specs::Rename::moved_over))]
 fn move_over(
     alloc: Global,
-    tree: &mut Vec<Option<Object>>,
+    tree: &mut Objects,
     dir: u32,
     x: (usize, u32),
     to_dir: u32,
@@ -112,26 +110,27 @@ fn move_over(
     y: (usize, u32),
     now: Time,
 ) -> Result<(), AllocError>
-    requires tree { IsWithinLimits tree.old.items }
+    requires tree { IsWithinLimits tree.old }
+    requires moved { x.1 < length tree.old }
     requires name { length to_name.now ≤ longest_name }
     ensures ok { OnOk result
-        (tree.new.items ≡ moved_over tree.old.items dir x to_dir to_name.now y now) }
-    ensures err { OnErr result (tree.new.items ≡ tree.old.items) }
-    ensures kept { IsWithinLimits tree.new.items }
+        (tree.new ≡ moved_over tree.old dir x to_dir to_name.now y now) }
+    ensures err { OnErr result (tree.new ≡ tree.old) }
+    ensures kept { IsWithinLimits tree.new }
 {
     let name = Bounded::new(Vec::from_slice(alloc, to_name)?);
     let slot = Slot { name, number: x.1 };
-    set_slot(tree, to_dir, y.0, Some(slot), now);
-    set_slot(tree, dir, x.0, None, now);
-    lost_entry(tree, y.1, now);
-    set_ctime(tree, x.1, now);
+    tree.set_slot(to_dir, y.0, Some(slot), now);
+    tree.set_slot(dir, x.0, None, now);
+    tree.lost_entry(y.1, now);
+    tree.set_ctime(x.1, now);
     Ok(())
 }
 
 /// The move of an entry to its new place.
 fn move_to(
     alloc: Global,
-    tree: &mut Vec<Option<Object>>,
+    tree: &mut Objects,
     dir: u32,
     x: (usize, u32),
     to_dir: u32,
@@ -139,13 +138,14 @@ fn move_to(
     target: Option<(usize, u32)>,
     now: Time,
 ) -> Result<(), TreeError>
-    requires tree { IsWithinLimits tree.old.items }
-    requires within { to_dir < length tree.old.items }
+    requires tree { IsWithinLimits tree.old }
+    requires directory { is_directory_at (place tree.old to_dir) ≡ true }
+    requires moved { x.1 < length tree.old }
     requires name { length to_name.now ≤ longest_name }
-    ensures does { DoesStep tree.old.items tree.new.items result
-        (moved_to tree.old.items dir x to_dir
-        (slots_of (place tree.old.items to_dir)) to_name.now target now) }
-    ensures kept { IsWithinLimits tree.new.items }
+    ensures does { DoesStep tree.old tree.new result
+        (moved_to tree.old dir x to_dir
+        (slots_of (place tree.old to_dir)) to_name.now target now) }
+    ensures kept { IsWithinLimits tree.new }
 {
     match target {
         None => move_in(alloc, tree, dir, x, to_dir, to_name, now),
@@ -159,10 +159,17 @@ fn move_to(
     }
 }
 
-fn entry_or_none(slots: &[Option<Slot>], name: &[u8]) -> Result<(usize, u32), TreeError>
-    ensures { Gives (λ x. x) result (some_or NoEnt (entry slots.now name.now)) }
+/// The entry of a directory with a name.
+fn entry_in(tree: &Objects, dir: u32, name: &[u8]) -> Result<(usize, u32), TreeError>
+    requires { used_blocks tree.now ≤ tree_blocks }
+    ensures step { Gives (λ x. x) result
+        (some_or NoEnt (entry (slots_of (place tree.now dir)) name.now)) }
+    ensures within { IfOk result (λ x. x.1 < length tree.now) }
 {
-    entry(slots, name).ok_or(TreeError::Status(Status::NoEnt))
+    match tree.entry(dir, name) {
+        Some(x) => Ok(x),
+        None => Err(TreeError::Status(Status::NoEnt)),
+    }
 }
 
 /// RENAME (RFC 1094, section 2.2.12): a target is replaced, where it is of the same kind and no
@@ -170,7 +177,7 @@ fn entry_or_none(slots: &[Option<Slot>], name: &[u8]) -> Result<(usize, u32), Tr
 #[tactic(auto, unfolding(file_tree::specs::Rename::rename))]
 pub fn rename(
     alloc: Global,
-    tree: &mut Vec<Option<Object>>,
+    tree: &mut Objects,
     cred: Cred,
     dir: u32,
     name: &[u8],
@@ -178,14 +185,14 @@ pub fn rename(
     to_name: &[u8],
     now: Time,
 ) -> Result<Reply, TreeError>
-    requires { IsWithinLimits tree.old.items }
-    ensures does { Does tree.old.items tree.new.items result
-        (rename tree.old.items cred dir name.now to_dir to_name.now now) }
-    ensures kept { IsWithinLimits tree.new.items }
+    requires { IsWithinLimits tree.old }
+    ensures does { Does tree.old tree.new result
+        (rename tree.old cred dir name.now to_dir to_name.now now) }
+    ensures kept { IsWithinLimits tree.new }
 {
     let d = live(tree, dir)?;
     let e = live(tree, to_dir)?;
-    let slots = slots_in(&d.body)?;
+    slots_in(&d.body)?;
     let to_slots = slots_in(&e.body)?;
     allowed(tree, cred, dir, TO_SEARCH)?;
     allowed(tree, cred, to_dir, TO_SEARCH)?;
@@ -193,7 +200,7 @@ pub fn rename(
     refuse(Status::Perm, is_dots(to_name))?;
     check_name(name)?;
     check_name(to_name)?;
-    let x = entry_or_none(slots, name)?;
+    let x = entry_in(tree, dir, name)?;
     allowed(tree, cred, dir, TO_WRITE)?;
     allowed(tree, cred, to_dir, TO_WRITE)?;
     let below_itself = holds_itself(alloc, tree, x.1, to_dir)?;

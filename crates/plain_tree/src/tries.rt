@@ -1,18 +1,20 @@
 //! The steps that a call is made of.
 
-ghost use Rattle.std.specs.Prelude.{◌≡◌, ◌<◌, ◌≤◌, ◌||◌, ◌==◌, [], ◌∷◌, ◌+◌, ◌*◌, false, IfOk, length, Some, Option, None, nat_lt};
+ghost use Rattle.std.specs.Prelude.{◌≡◌, ◌<◌, ◌≤◌, ◌||◌, ◌==◌, [], ◌∷◌, ◌+◌, ◌*◌, false, IfOk, length, Some, Option, None, nat_lt, true};
 ghost use Rattle.harp_types.specs.Limits.{longest_name, object_numbers, slot_size, tree_blocks};
 ghost use Rattle.std.specs.List.{list_any};
 ghost use Rattle.file_tree.specs.declared.object.Body.TheVariants.{Regular, Directory};
 ghost use Rattle.file_tree.specs.Within.{IsWithinLimits};
 ghost use Rattle.plain_tree.specs.Plain.{Gives};
-ghost use Rattle.file_tree.specs.Tree.{place, entry, used_blocks, size_of, blocks_of, blocks_at, parent_of};
+ghost use Rattle.plain_tree.specs.Counts.{HasRoomFor, IsEntered};
+ghost use Rattle.file_tree.specs.Tree.{place, slots_of, is_directory_at, entry, used_blocks, size_of, blocks_of, blocks_at, parent_of};
 ghost use Rattle.file_tree.specs.Tries.{refuse, live, slots_in, bytes_in, text_in, directory, is_dot, is_dot_dot, is_dots, is_odd_byte, is_odd, check_name, entry_name, room};
 ghost use Rattle.file_tree.specs.Outcome.{has_entry, find, resolve, free_name, room_for, doomed};
 
 use crate::changes::with_entry;
-use crate::computed::{blocks_of, blocks_placed, entry, parent_of, place, used_blocks};
+use crate::computed::{blocks_of, blocks_placed, entry, parent_of, place, slots_of_place};
 use crate::error::TreeError;
+use crate::objects::Objects;
 use file_tree::{Body, Object, Slot, Slots};
 use harp_types::{
     Bounded, LONGEST_NAME, LONGEST_PATH, OBJECT_NUMBERS, SLOT_SIZE, Status, TREE_BLOCKS,
@@ -32,7 +34,7 @@ pub fn refuse(status: Status, when: bool) -> Result<(), TreeError>
 }
 
 /// The object that a number names.
-pub fn live(tree: &[Option<Object>], number: u32) -> Result<&Object, TreeError>
+pub fn live(tree: &Objects, number: u32) -> Result<&Object, TreeError>
     requires { used_blocks tree.now ≤ tree_blocks }
     ensures object { Gives (λ o. o.now) result (live tree.now number) }
     ensures fits { IfOk result (λ o. blocks_of (size_of o.now.body) ≤ tree_blocks) }
@@ -69,11 +71,12 @@ pub fn bytes_in(body: &Body) -> Result<&[u8], TreeError>
 }
 
 /// The slots of the directory that a number names.
-pub fn directory(tree: &[Option<Object>], number: u32) -> Result<&[Option<Slot>], TreeError>
+pub fn directory(tree: &Objects, number: u32) -> Result<&[Option<Slot>], TreeError>
     requires { used_blocks tree.now ≤ tree_blocks }
     ensures step { Gives (λ s. s.now) result (directory tree.now number) }
     ensures fits { IfOk result (λ s. blocks_of (slot_size * length s.now) ≤ tree_blocks) }
     ensures within { IfOk result (λ _. number < length tree.now) }
+    ensures directory { IfOk result (λ _. is_directory_at (place tree.now number) ≡ true) }
 {
     let object = live(tree, number)?;
     slots_in(&object.body)
@@ -135,7 +138,7 @@ pub fn find(slots: &[Option<Slot>], name: &[u8]) -> Result<(usize, u32), TreeErr
 
 /// The object that a name stands for in a directory.
 pub fn resolve(
-    tree: &[Option<Object>],
+    tree: &Objects,
     dir: u32,
     slots: &[Option<Slot>],
     name: &[u8],
@@ -154,7 +157,7 @@ pub fn resolve(
 }
 
 /// The blocks stay within the limit where the object of a number gets a size.
-pub fn room(tree: &[Option<Object>], number: u32, size: u32) -> Result<(), TreeError>
+pub fn room(tree: &Objects, number: u32, size: u32) -> Result<(), TreeError>
     requires tree { used_blocks tree.now ≤ tree_blocks }
     requires size { size < 2147483648 }
     ensures step { Gives (λ x. x) result (room tree.now number size) }
@@ -162,7 +165,7 @@ pub fn room(tree: &[Option<Object>], number: u32, size: u32) -> Result<(), TreeE
         used_blocks tree.now + blocks_of size ≤ tree_blocks + blocks_at (place tree.now number)) }
 {
     let limit = TREE_BLOCKS + blocks_placed(tree, number);
-    refuse(Status::NoSpc, limit < used_blocks(tree) + blocks_of(size))
+    refuse(Status::NoSpc, limit < tree.used_blocks() + blocks_of(size))
 }
 
 /// Whether a directory has an entry of a name.
@@ -194,21 +197,19 @@ pub fn free_name(slots: &[Option<Slot>], name: &[u8]) -> Result<(), TreeError>
 #[tactic(auto, unfolding(file_tree::specs::Outcome::room_for))]
 pub fn room_for(
     alloc: Global,
-    tree: &[Option<Object>],
+    tree: &Objects,
     dir: u32,
-    slots: &[Option<Slot>],
     name: &[u8],
     size: u32,
 ) -> Result<Slots, TreeError>
     requires tree { IsWithinLimits tree.now }
-    requires slots { blocks_of (slot_size * length slots.now) ≤ tree_blocks }
+    requires directory { is_directory_at (place tree.now dir) ≡ true }
     requires name { length name.now ≤ longest_name }
     requires size { size < 2147483648 }
-    ensures step { Gives (λ s. s) result (room_for tree.now dir slots.now name.now size) }
-    ensures few { IfOk result (λ _. length tree.now < object_numbers) }
-    ensures enough { IfOk result (λ s.
-        used_blocks tree.now + blocks_of size + blocks_of (slot_size * length s)
-        ≤ tree_blocks + blocks_at (place tree.now dir)) }
+    ensures step { Gives (λ s. s) result
+        (room_for tree.now dir (slots_of (place tree.now dir)) name.now size) }
+    ensures room { IfOk result (λ s. HasRoomFor tree.now dir s size) }
+    ensures entered { IfOk result (λ s. IsEntered tree.now dir s (length tree.now)) }
 {
     let number = tree.len();
     refuse(Status::NoSpc, number >= OBJECT_NUMBERS as usize)?;
@@ -217,9 +218,9 @@ pub fn room_for(
         name,
         number: number as u32,
     };
-    let new = with_entry(alloc, slots, slot)?;
+    let new = with_entry(alloc, slots_of_place(tree, dir), slot)?;
     let limit = TREE_BLOCKS + blocks_placed(tree, dir);
-    let wanted = used_blocks(tree)
+    let wanted = tree.used_blocks()
         + blocks_of(size)
         + blocks_of((SLOT_SIZE as usize * new.len()) as u32);
     refuse(Status::NoSpc, limit < wanted)?;
