@@ -172,10 +172,14 @@ impl Judge {
         match reader.next(alloc, source) {
             Ok(Next::End) => Ok(Some(self.at_end())),
             Ok(Next::TooLong) => Ok(Some(self.too_long())),
-            Ok(Next::Line(line)) => match self.take_line(alloc, line.as_slice()) {
-                Ok(verdict) => Ok(verdict),
-                Err(_) => Err(ReadFault::NoMemory),
-            },
+            Ok(Next::Line(line)) => {
+                let verdict = self.take_line(alloc, line.as_slice());
+                reader.take_back(line);
+                match verdict {
+                    Ok(verdict) => Ok(verdict),
+                    Err(_) => Err(ReadFault::NoMemory),
+                }
+            }
             Err(fault) => Err(fault),
         }
     }

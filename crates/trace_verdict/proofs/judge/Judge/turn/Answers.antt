@@ -23,6 +23,7 @@ pub returns-in-Ok-clause-after : goal.returns-in-Ok-clause-after
 returns-in-Ok-clause-after g c text left is way =
     let old = text_left c.args.reader.now (g.S.Source.left c.args.source.now) in
     let told = text_left c.next.new.self (g.S.Source.left c.next.new.source) in
-    line_turn text left old told c.in-Ok-Line.line c.take_line.new.self c.in-Ok.verdict is
+    rw c.take_back.ensures (line_turn text left old told c.in-Ok-Line.line
+    c.take_line-verdict.new.self c.in-Ok.verdict is
     (subst (λ n. GivesKnown old told n) c.in-Ok-Line.field-0-is c.in-Ok-Line.ensures.ok)
-    (λ after e. c.in-Ok.ensures.after text left after way (e ∙ search (rules)))
+    (λ after e. c.in-Ok.ensures.after text left after way (e ∙ search (rules))))
