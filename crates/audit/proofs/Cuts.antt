@@ -12,6 +12,7 @@ use Rattle.audit.specs.declared.flaw.Flaw.{Flaw}
 use Rattle.audit.specs.declared.picture.Picture.{Picture}
 use Rattle.audit.specs.declared.picture.Portrait.{Portrait}
 use Rattle.audit.specs.declared.stretches.Stretch.{Stretch}
+use Rattle.audit.specs.Entries.{entries_by, entries_in}
 use Rattle.audit.specs.Flaws.{finding_at, finding_of, findings, first_flaw}
 use Rattle.audit.specs.Stretches.{AreStretches, findings_in, findings_of_whole}
 
@@ -142,3 +143,14 @@ all_in_one p objects s found more new same low high whole is made =
     ∙ ap (λ (xs : List Portrait). flat_map (finding_at xs) xs) same in
     made ∙ ap (λ (l : List Finding). l ++ more) whole
     ∙ ap (λ (l : List Finding). findings_of_whole p ++ l) all
+
+-- ---- entries
+
+pub entries_joined : (objects low high : List Portrait) (mid : ℕ) → low ≡ take mid objects
+    → high ≡ drop mid objects → entries_in low ++ entries_in high ≡ entries_in objects
+unfolding entries_in
+entries_joined objects low high mid front back =
+    ap (λ (xs : List Portrait). entries_in xs ++ entries_in high) front
+    ∙ ap (λ (xs : List Portrait). entries_in (take mid objects) ++ entries_in xs) back
+    ∙ sym (flat_map-append entries_by (take mid objects) (drop mid objects))
+    ∙ ap (flat_map entries_by) (take-append-drop mid objects)

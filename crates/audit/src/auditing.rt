@@ -4,13 +4,14 @@ ghost use Rattle.std.specs.Prelude.{◌≡◌, ℕ, ◌+◌, ◌≤◌, ◌↔�
 ghost use Rattle.std.specs.Prelude.{slice_index_or, Option, None, IfOk, OnOk};
 ghost use Rattle.std.specs.List.{AllZip, flat_map, list_any};
 ghost use Rattle.file_tree.specs.Tree.{blocks_of};
-ghost use Rattle.audit.specs.Entries.{AreByNumber, AreEntriesOf, AreWays, ways_after};
+ghost use Rattle.audit.specs.Entries.{AreByNumber, AreEntriesOf, AreWays, entries_in, ways_after};
 ghost use Rattle.audit.specs.declared.flaw.Flaw.TheVariants as flaw;
 ghost use Rattle.audit.specs.Flaws.{blocks_in, finding_of, findings, first_flaw, has_no_root};
 ghost use Rattle.audit.specs.Flaws.{has_wrong_space};
 ghost use Rattle.audit.specs.Pictures.{IsShaped};
 ghost use Rattle.audit.specs.Sound.{IsSoundPicture};
-ghost use Rattle.audit.specs.Stretches.{ArePrepared, findings_in, findings_of_whole};
+ghost use Rattle.audit.specs.Stretches.{ArePrepared, AreStretches, findings_in};
+ghost use Rattle.audit.specs.Stretches.{findings_of_whole};
 
 use crate::attributes::{attributes_in, is_directory};
 use crate::entries::{Entry, entries_of};
@@ -256,6 +257,30 @@ pub fn audit_one(alloc: Global, picture: &Picture) -> Result<Vec<Finding>, Alloc
 // One thread alone audits fewer objects than these: others cost it more than they spare.
 const LEAST: usize = 4096;
 
+/// The entries of all directories, in no order, gathered by two threads.
+fn gathered_many<R: Threads + Sync>(
+    rt: &R,
+    alloc: Global,
+    objects: &[Portrait],
+) -> Result<Vec<Entry>, AllocError>
+    ensures { IfOk result (λ v. v.items ≡ entries_in objects.now) }
+{
+    let (low, high) = objects.split_at(objects.len() / 2);
+    let (entries, more) = join(
+        rt,
+        || -> Result<Vec<Entry>, AllocError>
+            ensures { IfOk result (λ v. v.items ≡ entries_in low.entry.now) }
+        { entries_of(alloc, low) },
+        || -> Result<Vec<Entry>, AllocError>
+            ensures { IfOk result (λ v. v.items ≡ entries_in high.entry.now) }
+        { entries_of(alloc, high) },
+    );
+    let mut entries = entries?;
+    let more = more?;
+    entries.extend_from_slice(more.as_slice())?;
+    Ok(entries)
+}
+
 /// The entries of all directories in order, sorted by several threads.
 fn entries_many<R: Threads + Sync>(
     rt: &R,
@@ -264,14 +289,26 @@ fn entries_many<R: Threads + Sync>(
 ) -> Result<Vec<Entry>, AllocError>
     ensures { IfOk result (λ entries. AreEntriesOf objects.now entries.items) }
 {
-    let mut entries = entries_of(alloc, objects)?;
+    let mut entries = gathered_many(rt, alloc, objects)?;
     par_sort_unstable(rt, entries.as_mut_slice());
     Ok(entries)
 }
 
+/// What is found of the whole, and the stretches of the objects.
+fn whole_of(alloc: Global, picture: &Picture) -> Result<(Vec<Finding>, Vec<Stretch>), AllocError>
+    requires { AreByNumber picture.now.objects }
+    ensures { IfOk result (λ made. (made.0.items ≡ findings_of_whole picture.now)
+        × AreStretches 0 (length picture.now.objects) made.1.items) }
+{
+    let found = found_of_whole(alloc, picture)?;
+    let stretches = stretches_of(alloc, picture.objects.as_slice())?;
+    Ok((found, stretches))
+}
+
 /// What is found of the whole, and what the audit of each stretch takes beside the entries: the
 /// ways up, and the stretches.
-fn prepared(
+fn prepared<R: Threads + Sync>(
+    rt: &R,
     alloc: Global,
     picture: &Picture,
 ) -> Result<(Vec<Finding>, Vec<u32>, Vec<Stretch>), AllocError>
@@ -279,9 +316,22 @@ fn prepared(
     ensures { IfOk result (λ made. ArePrepared picture.now made.0.items made.1.items made.2.items) }
 {
     let objects = picture.objects.as_slice();
-    let ways = ways_of(alloc, objects)?;
-    let found = found_of_whole(alloc, picture)?;
-    let stretches = stretches_of(alloc, objects)?;
+    let (ways, made) = join(
+        rt,
+        || -> Result<Vec<u32>, AllocError>
+            requires { AreByNumber objects.now }
+            ensures { IfOk result
+                (λ v. AreWays (length objects.entry.now) objects.entry.now v.items) }
+        { ways_of(alloc, objects) },
+        || -> Result<(Vec<Finding>, Vec<Stretch>), AllocError>
+            requires { AreByNumber picture.now.objects }
+            ensures { IfOk result
+                (λ made. (made.0.items ≡ findings_of_whole picture.entry.now)
+                × AreStretches 0 (length picture.entry.now.objects) made.1.items) }
+        { whole_of(alloc, picture) },
+    );
+    let ways = ways?;
+    let (found, stretches) = made?;
     Ok((found, ways, stretches))
 }
 
@@ -340,7 +390,7 @@ pub fn audit_many<R: Threads + Sync>(
             requires { AreByNumber picture.now.objects }
             ensures { IfOk result
                 (λ made. ArePrepared picture.entry.now made.0.items made.1.items made.2.items) }
-        { prepared(alloc, picture) },
+        { prepared(rt, alloc, picture) },
     );
     let entries = entries?;
     let (mut found, ways, stretches) = made?;
