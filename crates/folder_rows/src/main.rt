@@ -1,15 +1,18 @@
-//! Does what each line of standard input says of a store over a folder, of files, of a link or of a
-//! clock, and writes the line and what came of it. A line that says nothing is written alone. A line
-//! `row NAME` begins a case, with a new store and new links; a line `store` is for a new store.
+//! Does what each line of standard input says of a store over a folder, of files, of a link or of
+//! a clock, and writes the line and what came of it. A line that says nothing is written alone. A
+//! line `row NAME` begins a case, with new stores and new links; a line `store` is for a new
+//! store, and one that begins with `other` is about another store.
 #![tactic(auto)]
 
 mod clocks;
 mod disk;
+mod journals;
 mod links;
 mod words;
 
 use crate::clocks::{Clocks, Seconds, clock_answer};
 use crate::disk::store_answer;
+use crate::journals::journal_answer;
 use crate::links::{Links, links_answer};
 use crate::words::{Answer, bytes_of, came, halves};
 use std::alloc::{AllocError, Global};
@@ -22,6 +25,7 @@ use store_folder::{FolderStore, SystemFiles};
 #[derive(Drop)]
 struct Player<'a> {
     store: FolderStore<SystemFiles<HostRuntime>>,
+    other: FolderStore<SystemFiles<HostRuntime>>,
     links: Links<HostRuntime>,
     clocks: Clocks<'a, HostRuntime>,
 }
@@ -51,11 +55,26 @@ impl Player<'_> {
         let is_row = line.starts_with("row ");
         if is_row {
             self.links = Links::new(rt, rt.alloc())?;
+            self.other = FolderStore::new(rt);
         }
         if is_row || line == "store" {
             self.store = FolderStore::new(rt);
         }
         Ok(())
+    }
+
+    /// What came of a line about a disk.
+    fn disk_answer(&mut self, rt: HostRuntime, line: &str, text: &mut String) -> Answer {
+        let alloc = rt.alloc();
+        let (word, rest) = halves(line);
+        if word == "other" {
+            return store_answer(alloc, &mut self.other, rest, text);
+        }
+        let (folder, digits) = halves(rest);
+        match journal_answer(rt, word, folder, digits, text) {
+            Answer::Nothing => store_answer(alloc, &mut self.store, line, text),
+            answer => answer,
+        }
     }
 
     /// What came of a line.
@@ -65,7 +84,7 @@ impl Player<'_> {
             Answer::Nothing => {}
             answer => return answer,
         }
-        match store_answer(alloc, &mut self.store, line, text) {
+        match self.disk_answer(rt, line, text) {
             Answer::Nothing => {}
             answer => return answer,
         }
@@ -104,6 +123,7 @@ fn main(rt: HostRuntime) -> io::Result<()> {
     let clocks = Clocks::new(rt, alloc, &seconds)?;
     let mut player = Player {
         store: FolderStore::new(rt),
+        other: FolderStore::new(rt),
         links,
         clocks,
     };

@@ -15,6 +15,7 @@ use harp_types::{ReaderSource, ServerId, Sink, Source, Trio, WriterSink};
 use node_link::{Clock, Link, UdpLink, WallClock};
 use std::alloc::{AllocError, Global};
 use std::cell::RefCell;
+use std::fs::File;
 use std::io::{BufWriter, ErrorKind, Input, Read, Write};
 use std::net::Net;
 use std::process::ExitCode;
@@ -124,7 +125,7 @@ fn failed<F>(disks: &Trio<FolderStore<F>>) -> Option<ServerId> {
 /// Does what the words say, writes to the output, and returns how that ended.
 fn run<'w, R, W: Write>(rt: &R, output: &RefCell<W>, words: &'w [String]) -> Ended<'w>
 where
-    R: Input + Files + Net + Threads + DayClock + AllocGlobal + Sync,
+    R: Input + Files<File = File> + Net + Threads + DayClock + AllocGlobal + Sync,
     R::Reader: Drop,
 {
     let mut outside = Outside {

@@ -6,5 +6,8 @@ mod BlockLaws
 mod CoverLaws
 mod SeenLaws
 mod SyncLaws
+mod WaitLaws
+mod FrameLaws
+mod BringLaws
 mod MarkCodec
 mod MarkLaws

@@ -1,6 +1,6 @@
 -- What reads give after a change of what isn't synced.
 use Rattle.std.proofs.Common.{◌≡◌, ◌⊎◌, ℕ, Bool, true, false, List, Option, Some, None, Result, Ok, Err, inl, inr, refl, sym, ap, ◌∙◌}
-use Rattle.std.specs.Prelude.{◌||◌, OnErr}
+use Rattle.std.specs.Prelude.{◌||◌, OnErr, OnOk}
 use Rattle.std.specs.Bool.{if◌then◌else◌}
 use Rattle.harp_cells.specs.declared.cell.Cell.{Cell}
 use Rattle.harp_cells.specs.declared.value.Value.{Value}
@@ -148,6 +148,10 @@ put_part old new cell v values touched cuts false e = inl (λ disk c.
     rw (touched, cuts, values c)
     (only_if (is_cell cell c) (is_touched old.touched c || is_cut old.cuts c) v
     (held old.values c) (disk c) (made_at old cell c false e)))
+
+pub on_ok : {A E : Type 0} (r : Result A E) (P : Type 0) → P → OnOk r P
+on_ok (Ok x) P h = h
+on_ok (Err e) P h = tt
 
 pub on_err : {A E : Type 0} (r : Result A E) (P : Type 0) → P → OnErr r P
 on_err (Ok x) P h = tt

@@ -95,8 +95,3 @@ GainsBlock cell old new = (c : Cell)
 -- reads give what the disk holds
 abbrev pub IsNothing : Pending → Type 0
 IsNothing p = (disk : Cells) (c : Cell) → seen p disk c ≡ disk c
-
--- what was read is what was made of the cell, where something was
-abbrev pub ReadsMade : Option (Option Value) → Option Value → Type 0
-ReadsMade None value = Unit {0}
-ReadsMade (Some made) value = value ≡ made

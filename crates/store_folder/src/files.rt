@@ -6,7 +6,7 @@ ghost use Rattle.std.specs.IoError.{error_kind};
 use crate::disk_files::DiskFiles;
 use harp_store::StoreFault;
 use std::alloc::Global;
-use std::fs::{File, OpenFile};
+use std::fs::{File, OpenFile, OpenOptions};
 use std::io::{ErrorKind, Read, Write};
 use std::rt::Files;
 use std::{fs, io};
@@ -113,6 +113,22 @@ fn replace_file<R: Files>(rt: &R, new: &str, path: &str, bytes: &[u8]) -> io::Re
     fs::rename(rt, new, path)
 }
 
+// Puts bytes behind those of a file that is there, for sure.
+fn append_file<R: Files>(rt: &R, path: &str, bytes: &[u8]) -> io::Result<()> {
+    let mut file = OpenOptions::new().append(true).open(rt, path)?;
+    file.write_all(bytes)?;
+    file.sync_data()
+}
+
+// A folder that is opened, and that no other open file has locked.
+fn locked<R: Files<File = File>>(rt: &R, path: &str) -> Result<File, StoreFault> {
+    let folder = of_disk(File::open(rt, path))?;
+    match folder.try_lock() {
+        Ok(()) => Ok(folder),
+        Err(_) => Err(StoreFault::Failed),
+    }
+}
+
 // Removes a file, where there is one.
 fn remove_file<R: Files>(rt: &R, path: &str) -> io::Result<()> {
     match fs::remove_file(rt, path) {
@@ -139,24 +155,32 @@ fn names<R: Files + AllocGlobal + Clone + Drop>(
 }
 
 /// The files of the system. They tell nothing; each error of a file is a failure, but for want of
-/// memory.
+/// memory. A folder is locked by a handle of it, so that nothing is written there, and the lock
+/// goes with the process.
 #[derive(Drop)]
 pub struct SystemFiles<R> {
     rt: R,
+    locked: Option<File>,
 }
 
 impl<R> SystemFiles<R> {
     /// The files that a runtime gives.
     pub fn new(rt: R) -> SystemFiles<R> {
-        SystemFiles { rt }
+        SystemFiles { rt, locked: None }
     }
 }
 
-impl<R: Files + AllocGlobal + Clone + Drop> DiskFiles for SystemFiles<R> {
+impl<R: Files<File = File> + AllocGlobal + Clone + Drop> DiskFiles for SystemFiles<R> {
     ghost told = { λ _. None };
 
     fn make_folder(&mut self, path: &str) -> Result<(), StoreFault> {
         of_disk(make_folder(&self.rt, path))
+    }
+
+    fn lock_folder(&mut self, path: &str) -> Result<(), StoreFault> {
+        self.locked = None;
+        self.locked = Some(locked(&self.rt, path)?);
+        Ok(())
     }
 
     fn is_folder(&self, path: &str) -> bool {
@@ -173,6 +197,10 @@ impl<R: Files + AllocGlobal + Clone + Drop> DiskFiles for SystemFiles<R> {
 
     fn replace(&mut self, new: &str, path: &str, bytes: &[u8]) -> Result<(), StoreFault> {
         of_disk(replace_file(&self.rt, new, path, bytes))
+    }
+
+    fn append(&mut self, path: &str, bytes: &[u8]) -> Result<(), StoreFault> {
+        of_disk(append_file(&self.rt, path, bytes))
     }
 
     fn remove(&mut self, path: &str) -> Result<(), StoreFault> {

@@ -1,16 +1,19 @@
 //! A folder with the files of a store.
 
-ghost use Rattle.std.specs.Prelude.{◌≡◌, [], ◌∷◌, IfOk, IfSome, Some, OnOk, OnErr};
+ghost use Rattle.std.specs.Prelude.{◌≡◌, [], ◌∷◌, IfOk, IfSome, Some, OnOk, OnErr, option_map, string_bytes};
 ghost use Rattle.harp_cells.specs.ValueBytes.{ValueFits};
-ghost use Rattle.store_folder.specs.Files.{after_steps};
+ghost use Rattle.store_folder.specs.Files.{IsHeld, after_steps};
+ghost use Rattle.store_folder.specs.Journal.{cell_step, journal_path};
 ghost use Rattle.store_folder.specs.MarkFile.{MarkFits};
-ghost use Rattle.store_folder.specs.Sync.{KeepsBlocks, WritesAll, WritesSome, cell_step, cells_steps, made_steps, mark_steps};
-ghost use Rattle.store_folder.specs.Unsynced.{HasBlocks, IsAlike, Stays, made_of};
+ghost use Rattle.store_folder.specs.Names.{cell_name, in_folder};
+ghost use Rattle.store_folder.specs.Sync.{ReadsCell, ReadsMark, WritesMarkPart, mark_path as mark_at, mark_steps};
+ghost use Rattle.store_folder.specs.Unsynced.{HasBlocks};
 
 use crate::cell_file::{LONGEST_FILE, read_cell_file, write_cell_file};
 use crate::disk_files::DiskFiles;
+use crate::journal_file::LONGEST_JOURNAL;
 use crate::mark_file::{LONGEST_MARK, read_mark_file, write_mark_file};
-use crate::names::{block_named, cell_path, mark_path, new_path};
+use crate::names::{block_named, cell_path, journal_path, mark_path, new_path};
 use crate::unsynced::Unsynced;
 use harp_cells::{Cell, Key, Value};
 use harp_store::{Mark, StoreFault};
@@ -43,7 +46,10 @@ fn read_in<F: DiskFiles>(
     folder: &str,
     path: &str,
     most: usize,
-) -> Result<Option<Vec<u8>>, StoreFault> {
+) -> Result<Option<Vec<u8>>, StoreFault>
+    ensures { IfOk result (λ found. IsHeld path.now (F.told files.now)
+        (option_map (λ bytes. bytes.items) found)) }
+{
     match files.read(alloc, path, most)? {
         Some(bytes) => Ok(Some(bytes)),
         None if files.is_folder(folder) => Ok(None),
@@ -58,7 +64,9 @@ pub fn read_cell<F: DiskFiles>(
     folder: &str,
     key: Key,
 ) -> Result<Option<Value>, StoreFault>
-    ensures { IfOk result (λ found. IfSome found ValueFits) }
+    ensures fits { IfOk result (λ found. IfSome found ValueFits) }
+    ensures held { IfOk result (λ found. ReadsCell (in_folder folder.now (cell_name key))
+        (F.told files.now) found) }
 {
     let path = cell_path(alloc, folder, key)?;
     match read_in(files, alloc, folder, &path, LONGEST_FILE)? {
@@ -73,7 +81,8 @@ pub fn read_mark<F: DiskFiles>(
     alloc: Global,
     folder: &str,
 ) -> Result<Option<Mark>, StoreFault>
-    ensures { IfOk result (λ found. IfSome found MarkFits) }
+    ensures fits { IfOk result (λ found. IfSome found MarkFits) }
+    ensures held { IfOk result (λ found. ReadsMark (mark_at folder.now) (F.told files.now) found) }
 {
     let path = mark_path(alloc, folder)?;
     match read_in(files, alloc, folder, &path, LONGEST_MARK)? {
@@ -85,8 +94,8 @@ pub fn read_mark<F: DiskFiles>(
     }
 }
 
-// The file of a cell is replaced or removed.
-fn write_cell<F: DiskFiles>(
+/// The file of a cell is replaced or removed.
+pub fn write_cell<F: DiskFiles>(
     files: &mut F,
     alloc: Global,
     folder: &str,
@@ -108,73 +117,17 @@ fn write_cell<F: DiskFiles>(
     }
 }
 
-// Writes what was made of a cell.
-fn write_change<F: DiskFiles>(
-    files: &mut F,
+/// The bytes of the journal, None where the folder has none.
+pub fn read_journal<F: DiskFiles>(
+    files: &F,
     alloc: Global,
     folder: &str,
-    unsynced: &mut Unsynced,
-    cell: Cell,
-) -> Result<(), StoreFault>
-    ensures written { OnOk result (F.told files.new
-        ≡ after_steps (made_steps folder.now cell (made_of unsynced.old cell))
-        (F.told files.old)) }
-    ensures kept { OnErr result (F.told files.new ≡ F.told files.old) }
-    ensures same { Stays unsynced.old unsynced.new }
-    ensures blocks { OnOk result (KeepsBlocks (cell ∷ []) unsynced.old unsynced.new) }
-    ensures all_blocks { OnErr result (HasBlocks unsynced.old unsynced.new) }
+) -> Result<Option<Vec<u8>>, StoreFault>
+    ensures { IfOk result (λ found. IsHeld (journal_path folder.now) (F.told files.now)
+        (option_map (λ bytes. bytes.items) found)) }
 {
-    let Some(value) = unsynced.find(alloc, cell)? else {
-        return Ok(());
-    };
-    write_cell(files, alloc, folder, cell, &value)?;
-    if value.is_none() {
-        unsynced.forget(cell);
-    }
-    Ok(())
-}
-
-// Writes what was made of these cells.
-fn write_cells<F: DiskFiles>(
-    files: &mut F,
-    alloc: Global,
-    folder: &str,
-    unsynced: &mut Unsynced,
-    cells: &[Cell],
-) -> Result<(), StoreFault>
-    ensures all { OnOk result (KeepsBlocks cells.now unsynced.old unsynced.new) }
-    ensures written { OnOk result (F.told files.new
-        ≡ after_steps (cells_steps folder.now unsynced.old cells.now) (F.told files.old)) }
-    ensures some { OnErr result (WritesSome folder.now unsynced.old unsynced.new
-        (F.told files.old) (F.told files.new)) }
-    ensures same { Stays unsynced.old unsynced.new }
-{
-    for cell in cells {
-        if let Err(fault) = write_change(files, alloc, folder, unsynced, *cell) {
-            return Err(fault);
-        }
-    }
-    Ok(())
-}
-
-/// Writes each change and syncs the folder.
-pub fn write_changes<F: DiskFiles>(
-    files: &mut F,
-    alloc: Global,
-    folder: &str,
-    unsynced: &mut Unsynced,
-) -> Result<(), StoreFault>
-    ensures all { OnOk result (WritesAll folder.now unsynced.old unsynced.new
-        (F.told files.old) (F.told files.new)) }
-    ensures some { OnErr result (WritesSome folder.now unsynced.old unsynced.new
-        (F.told files.old) (F.told files.new)) }
-    ensures alike { IsAlike unsynced.old unsynced.new }
-{
-    let cells = unsynced.cells(alloc)?;
-    if let Err(fault) = write_cells(files, alloc, folder, unsynced, &cells) {
-        return Err(fault);
-    }
-    files.sync_folder(folder)
+    let path = journal_path(alloc, folder)?;
+    files.read(alloc, &path, LONGEST_JOURNAL)
 }
 
 /// Writes the mark, and syncs the folder.
@@ -184,8 +137,10 @@ pub fn write_mark<F: DiskFiles>(
     folder: &str,
     mark: &Mark,
 ) -> Result<(), StoreFault>
-    ensures { OnOk result (F.told files.new
+    ensures written { OnOk result (F.told files.new
         ≡ after_steps (mark_steps folder.now mark.now) (F.told files.old)) }
+    ensures part { OnErr result (WritesMarkPart (Some folder.now) mark.now (F.told files.old)
+        (F.told files.new)) }
 {
     let bytes = write_mark_file(alloc, mark)?;
     let path = mark_path(alloc, folder)?;

@@ -29,6 +29,13 @@ pub fn mark_path(alloc: Global, folder: &str) -> Result<String, AllocError>
     format!(in alloc; "{folder}/mark")
 }
 
+/// The path of the journal.
+pub fn journal_path(alloc: Global, folder: &str) -> Result<String, AllocError>
+    ensures { IfOk result (λ path. string_bytes path ≡ in_folder folder.now (codes "journal")) }
+{
+    format!(in alloc; "{folder}/journal")
+}
+
 /// The path at which a new file is written, before it takes the place of the old one.
 pub fn new_path(alloc: Global, folder: &str) -> Result<String, AllocError>
     ensures { IfOk result (λ path. string_bytes path ≡ in_folder folder.now (codes "new")) }

@@ -3,14 +3,16 @@
 ghost use Rattle.std.specs.Prelude.{◌≡◌, ◌⊎◌, ◌≤◌, [], Err, None, Some, IfOk, OnOk, OnErr};
 ghost use Rattle.harp_types.specs.Streams.{Rose};
 ghost use Rattle.harp_cells.specs.declared.change.Change.TheVariants as change;
-ghost use Rattle.store_folder.specs.Sync.{SyncsAll, SyncsSome, WritesMark};
-ghost use Rattle.store_folder.specs.Unsynced.{GainsBlock, HasBlocks, IsAlike, IsChanged, IsNothing, ReadsMade, made_of};
-ghost use Rattle.store_folder.specs.Store.{files_of, folder_of, store_faults, unsynced_of};
+ghost use Rattle.store_folder.specs.Sync.{Attaches, Detaches, MaySync, ReadsHere, ReadsMarkHere, SyncsAll, SyncsSome, WritesMark, WritesMarkPart, made_over};
+ghost use Rattle.store_folder.specs.Unsynced.{GainsBlock, HasBlocks, IsAlike, IsChanged, IsNothing, made_of};
+ghost use Rattle.store_folder.specs.Store.{beside, files_of, folder_of, journal_of, store_faults, unsynced_of};
+ghost use Rattle.store_folder.specs.Waiting.{NothingWaits, waits};
 
 use crate::disk_files::DiskFiles;
 use crate::files::SystemFiles;
-use crate::folder;
+use crate::journal::Journal;
 use crate::unsynced::Unsynced;
+use crate::{folder, syncing};
 use harp_cells::{Cell, Value};
 use harp_store::{Mark, SharedValue, Store, StoreFault};
 use std::alloc::{AllocError, Global};
@@ -22,16 +24,23 @@ use std::alloc::{AllocError, Global};
 /// of the cell's value. The file `mark` holds the mark. A file is replaced in one step: it is
 /// written as `new`, synced and renamed. Other files are left alone.
 ///
-/// Puts and erasures stay in memory until `sync` writes each changed cell once and syncs the folder;
-/// a sync that fails keeps them for the next one. So what was synced last stands after a crash. It
-/// tells nothing of the disk. Each error of a file is a fault, and so are a folder that isn't there,
-/// a call before `attach`, and a file that doesn't hold a value or a mark, whole and with nothing
-/// behind it.
+/// Before the cells' files stands the `journal`. Puts and erasures stay in memory until `sync`
+/// writes all of them as one entry of it, which costs one sync of a file; a sync that fails keeps
+/// them for the next one. So what was synced last stands after a crash, whole. The files of cells
+/// follow, so many at each sync; what they lack stays in memory, and `attach` takes it up from the
+/// journal. An entry that is cut there was never synced, and counts for nothing. A folder without
+/// a journal is one of which each file stands.
+///
+/// A folder has one store at a time. It tells nothing of the disk. Each error of a file is a
+/// fault, and so are a folder that isn't there or that another store has, a call before `attach`,
+/// a file that doesn't hold a value or a mark, whole and with nothing behind it, and a whole entry
+/// of the journal that isn't of changes.
 #[derive(Drop)]
 pub struct FolderStore<F> {
     files: F,
     folder: Option<String>,
     unsynced: Unsynced,
+    journal: Journal,
     faults: u64,
 }
 
@@ -41,12 +50,15 @@ impl<R: AllocGlobal> FolderStore<SystemFiles<R>> {
         ensures faults { store_faults result ≡ 0 }
         ensures unsynced { IsNothing (unsynced_of result) }
         ensures blocks { (unsynced_of result).blocks ≡ [] }
+        ensures waiting { NothingWaits (journal_of result).waiting }
     {
         let unsynced = Unsynced::new(rt.alloc());
+        let journal = Journal::new(rt.alloc());
         FolderStore {
             files: SystemFiles::new(rt),
             folder: None,
             unsynced,
+            journal,
             faults: 0,
         }
     }
@@ -61,7 +73,9 @@ impl<F> FolderStore<F> {
     }
 
     // The path of the folder.
-    fn folder(&self) -> Result<&str, StoreFault> {
+    fn folder(&self) -> Result<&str, StoreFault>
+        ensures { IfOk result (λ folder. folder_of self.now ≡ Some folder.now) }
+    {
         match &self.folder {
             Some(folder) => Ok(folder.as_str()),
             None => Err(StoreFault::Failed),
@@ -74,6 +88,7 @@ impl<F> FolderStore<F> {
         ensures unsynced { unsynced_of self.new ≡ unsynced_of self.old }
         ensures files { files_of self.new ≡ files_of self.old }
         ensures folder { folder_of self.new ≡ folder_of self.old }
+        ensures journal { journal_of self.new ≡ journal_of self.old }
         ensures rose { result ≡ Err StoreFault.Failed
             → Rose (store_faults self.old) (store_faults self.new) }
         ensures count { store_faults self.old ≤ store_faults self.new }
@@ -96,34 +111,85 @@ fn shared(alloc: Global, value: Option<Value>) -> Result<Option<SharedValue>, Al
 }
 
 impl<F: DiskFiles + Drop> FolderStore<F> {
-    fn try_attach(&mut self, alloc: Global, path: &str) -> Result<(), StoreFault>
+    // Lets the folder go. What stands in its journal is taken up where it is attached again.
+    fn detach(&mut self, alloc: Global)
+        ensures unsynced { unsynced_of self.new ≡ unsynced_of self.old }
+        ensures folder { folder_of self.new ≡ None }
+        ensures waiting { NothingWaits (journal_of self.new).waiting }
+        ensures files { files_of self.new ≡ files_of self.old }
+        ensures faults { store_faults self.new ≡ store_faults self.old }
+    {
+        self.folder = None;
+        self.journal = Journal::new(alloc);
+    }
+
+    // The journal of a folder that is made, where there is none, taken for this store, and synced.
+    fn open_folder(&mut self, alloc: Global, path: &str) -> Result<Journal, StoreFault>
         ensures unsynced { unsynced_of self.new
             ≡ record (unsynced_of self.old) { blocks = (unsynced_of self.new).blocks } }
         ensures blocks { HasBlocks (unsynced_of self.old) (unsynced_of self.new) }
-        ensures written { F.told (files_of self.new) ≡ F.told (files_of self.old) }
-        ensures folder { OnOk result (folder_of self.new ≡ Some path.now) }
-        ensures faults { store_faults self.new ≡ store_faults self.old }
+        ensures opened { IfOk result (λ journal. Attaches path.now (Some path.now) journal
+            (F.told (files_of self.old)) (F.told (files_of self.new))) }
+        ensures part { OnErr result (MaySync path.now (F.told (files_of self.old))
+            (F.told (files_of self.new))) }
+        ensures same { (folder_of self.new ≡ folder_of self.old) × (journal_of self.new
+            ≡ journal_of self.old) × (store_faults self.new ≡ store_faults self.old) }
     {
         if path.is_empty() {
             return Err(StoreFault::Failed);
         }
         self.files.make_folder(path)?;
+        self.files.lock_folder(path)?;
+        self.files.sync_folder(path)?;
         folder::list_blocks(&self.files, alloc, path, &mut self.unsynced)?;
-        self.folder = Some(String::from_str(alloc, path)?);
+        let found = folder::read_journal(&self.files, alloc, path)?;
+        let journal = Journal::of(alloc, found)?;
+        journal.waiting.add_blocks(&mut self.unsynced)?;
+        Ok(journal)
+    }
+
+    fn try_attach(&mut self, alloc: Global, path: &str) -> Result<(), StoreFault>
+        ensures unsynced { unsynced_of self.new
+            ≡ record (unsynced_of self.old) { blocks = (unsynced_of self.new).blocks } }
+        ensures blocks { HasBlocks (unsynced_of self.old) (unsynced_of self.new) }
+        ensures attached { OnOk result (Attaches path.now (folder_of self.new)
+            (journal_of self.new) (F.told (files_of self.old)) (F.told (files_of self.new))) }
+        ensures detached { OnErr result (Detaches path.now (folder_of self.new)
+            (journal_of self.new) (F.told (files_of self.old)) (F.told (files_of self.new))) }
+        ensures faults { store_faults self.new ≡ store_faults self.old }
+    {
+        self.detach(alloc);
+        let folder = String::from_str(alloc, path)?;
+        let journal = self.open_folder(alloc, path)?;
+        self.journal = journal;
+        self.folder = Some(folder);
         Ok(())
     }
 
+    // What waits for a cell, and else what its file holds.
+    fn read_synced(&self, alloc: Global, cell: Cell) -> Result<Option<Value>, StoreFault>
+        ensures { IfOk result (λ v. ReadsHere (waits (journal_of self.now).waiting cell)
+            (folder_of self.now) cell (F.told (files_of self.now)) v) }
+    {
+        match self.journal.waiting.find(alloc, cell)? {
+            Some(value) => Ok(value),
+            None => folder::read_cell(&self.files, alloc, self.folder()?, cell.key()),
+        }
+    }
+
     fn try_read(&mut self, alloc: Global, cell: Cell) -> Result<Option<SharedValue>, StoreFault>
-        ensures made { IfOk result (λ v. ReadsMade (made_of (unsynced_of self.old) cell) v) }
+        ensures made { IfOk result (λ v. ReadsHere (made_over (made_of (unsynced_of self.old) cell)
+            (waits (journal_of self.old).waiting cell)) (folder_of self.old) cell
+            (F.told (files_of self.old)) v) }
         ensures alike { IsAlike (unsynced_of self.old) (unsynced_of self.new) }
         ensures blocks { (unsynced_of self.new).blocks ≡ (unsynced_of self.old).blocks }
-        ensures written { F.told (files_of self.new) ≡ F.told (files_of self.old) }
-        ensures folder { folder_of self.new ≡ folder_of self.old }
+        ensures beside { beside (F.told (files_of self.new)) self.new
+            ≡ beside (F.told (files_of self.old)) self.old }
         ensures faults { store_faults self.new ≡ store_faults self.old }
     {
         let value = match self.unsynced.find(alloc, cell)? {
             Some(value) => value,
-            None => folder::read_cell(&self.files, alloc, self.folder()?, cell.key())?,
+            None => self.read_synced(alloc, cell)?,
         };
         Ok(shared(alloc, value)?)
     }
@@ -132,28 +198,43 @@ impl<F: DiskFiles + Drop> FolderStore<F> {
         ensures done { OnOk result (IsNothing (unsynced_of self.new)) }
         ensures alike { OnErr result (IsAlike (unsynced_of self.old) (unsynced_of self.new)) }
         ensures all { OnOk result (SyncsAll (folder_of self.old) (unsynced_of self.old)
-            (unsynced_of self.new) (F.told (files_of self.old)) (F.told (files_of self.new))) }
+            (unsynced_of self.new) (journal_of self.old) (journal_of self.new)
+            (F.told (files_of self.old)) (F.told (files_of self.new))) }
         ensures some { OnErr result (SyncsSome (folder_of self.old) (unsynced_of self.old)
-            (unsynced_of self.new) (F.told (files_of self.old)) (F.told (files_of self.new))) }
+            (unsynced_of self.new) (journal_of self.old) (journal_of self.new)
+            (F.told (files_of self.old)) (F.told (files_of self.new))) }
         ensures folder { folder_of self.new ≡ folder_of self.old }
         ensures faults { store_faults self.new ≡ store_faults self.old }
     {
         let Some(folder) = &self.folder else {
             return Err(StoreFault::Failed);
         };
-        folder::write_changes(&mut self.files, alloc, folder.as_str(), &mut self.unsynced)?;
+        syncing::sync(
+            &mut self.files,
+            alloc,
+            folder.as_str(),
+            &mut self.unsynced,
+            &mut self.journal,
+        )?;
         self.unsynced.clear(alloc);
         Ok(())
     }
 
-    fn try_read_mark(&self, alloc: Global) -> Result<Option<Mark>, StoreFault> {
+    fn try_read_mark(&self, alloc: Global) -> Result<Option<Mark>, StoreFault>
+        ensures { IfOk result (λ mark. ReadsMarkHere (folder_of self.now)
+            (F.told (files_of self.now)) mark) }
+    {
         folder::read_mark(&self.files, alloc, self.folder()?)
     }
 
     fn try_write_mark(&mut self, alloc: Global, mark: &Mark) -> Result<(), StoreFault>
         ensures written { OnOk result (WritesMark (folder_of self.old) mark.now
             (F.told (files_of self.old)) (F.told (files_of self.new))) }
+        ensures part { OnErr result (WritesMarkPart (folder_of self.old) mark.now
+            (F.told (files_of self.old)) (F.told (files_of self.new))) }
         ensures unsynced { unsynced_of self.new ≡ unsynced_of self.old }
+        ensures folder { folder_of self.new ≡ folder_of self.old }
+        ensures journal { journal_of self.new ≡ journal_of self.old }
         ensures faults { store_faults self.new ≡ store_faults self.old }
     {
         let Some(folder) = &self.folder else {
@@ -168,13 +249,16 @@ impl<F: DiskFiles + Drop> Store for FolderStore<F> {
 
     ghost faults = { store_faults };
 
-    /// Makes the folder and those above it, where there are none.
+    /// Makes the folder and those above it, where there are none. What was put and erased since
+    /// the last sync stays; a folder that the store had before is let go first.
     fn attach(&mut self, alloc: Global, path: &str) -> Result<(), StoreFault>
         ensures unsynced { unsynced_of self.new
             ≡ record (unsynced_of self.old) { blocks = (unsynced_of self.new).blocks } }
         ensures blocks { HasBlocks (unsynced_of self.old) (unsynced_of self.new) }
-        ensures written { F.told (files_of self.new) ≡ F.told (files_of self.old) }
-        ensures folder { OnOk result (folder_of self.new ≡ Some path.now) }
+        ensures attached { OnOk result (Attaches path.now (folder_of self.new)
+            (journal_of self.new) (F.told (files_of self.old)) (F.told (files_of self.new))) }
+        ensures detached { OnErr result (Detaches path.now (folder_of self.new)
+            (journal_of self.new) (F.told (files_of self.old)) (F.told (files_of self.new))) }
 
         ensures rose { result ≡ Err StoreFault.Failed
             → Rose (store_faults self.old) (store_faults self.new) }
@@ -185,12 +269,14 @@ impl<F: DiskFiles + Drop> Store for FolderStore<F> {
     }
 
     fn read(&mut self, alloc: Global, cell: Cell) -> Result<Option<SharedValue>, StoreFault>
-        // What was put or erased and isn't synced yet is read.
-        ensures made { IfOk result (λ v. ReadsMade (made_of (unsynced_of self.old) cell) v) }
+        // What was put or erased and isn't synced yet is read, then what waits in the journal.
+        ensures made { IfOk result (λ v. ReadsHere (made_over (made_of (unsynced_of self.old) cell)
+            (waits (journal_of self.old).waiting cell)) (folder_of self.old) cell
+            (F.told (files_of self.old)) v) }
         ensures alike { IsAlike (unsynced_of self.old) (unsynced_of self.new) }
         ensures blocks { (unsynced_of self.new).blocks ≡ (unsynced_of self.old).blocks }
-        ensures written { F.told (files_of self.new) ≡ F.told (files_of self.old) }
-        ensures folder { folder_of self.new ≡ folder_of self.old }
+        ensures beside { beside (F.told (files_of self.new)) self.new
+            ≡ beside (F.told (files_of self.old)) self.old }
 
         ensures rose { result ≡ Err StoreFault.Failed
             → Rose (store_faults self.old) (store_faults self.new) }
@@ -210,8 +296,8 @@ impl<F: DiskFiles + Drop> Store for FolderStore<F> {
         ensures added { OnOk result (GainsBlock cell (unsynced_of self.old)
             (unsynced_of self.new)) }
         ensures blocks { HasBlocks (unsynced_of self.old) (unsynced_of self.new) }
-        ensures written { F.told (files_of self.new) ≡ F.told (files_of self.old) }
-        ensures folder { folder_of self.new ≡ folder_of self.old }
+        ensures beside { beside (F.told (files_of self.new)) self.new
+            ≡ beside (F.told (files_of self.old)) self.old }
 
         ensures rose { result ≡ Err StoreFault.Failed
             → Rose (store_faults self.old) (store_faults self.new) }
@@ -225,8 +311,8 @@ impl<F: DiskFiles + Drop> Store for FolderStore<F> {
             (unsynced_of self.old) (unsynced_of self.new)) }
         ensures alike { OnErr result (IsAlike (unsynced_of self.old) (unsynced_of self.new)) }
         ensures blocks { (unsynced_of self.new).blocks ≡ (unsynced_of self.old).blocks }
-        ensures written { F.told (files_of self.new) ≡ F.told (files_of self.old) }
-        ensures folder { folder_of self.new ≡ folder_of self.old }
+        ensures beside { beside (F.told (files_of self.new)) self.new
+            ≡ beside (F.told (files_of self.old)) self.old }
 
         ensures rose { result ≡ Err StoreFault.Failed
             → Rose (store_faults self.old) (store_faults self.new) }
@@ -240,8 +326,8 @@ impl<F: DiskFiles + Drop> Store for FolderStore<F> {
             (unsynced_of self.old) (unsynced_of self.new)) }
         ensures alike { OnErr result (IsAlike (unsynced_of self.old) (unsynced_of self.new)) }
         ensures blocks { (unsynced_of self.new).blocks ≡ (unsynced_of self.old).blocks }
-        ensures written { F.told (files_of self.new) ≡ F.told (files_of self.old) }
-        ensures folder { folder_of self.new ≡ folder_of self.old }
+        ensures beside { beside (F.told (files_of self.new)) self.new
+            ≡ beside (F.told (files_of self.old)) self.old }
 
         ensures rose { result ≡ Err StoreFault.Failed
             → Rose (store_faults self.old) (store_faults self.new) }
@@ -253,11 +339,13 @@ impl<F: DiskFiles + Drop> Store for FolderStore<F> {
     fn sync(&mut self, alloc: Global) -> Result<(), StoreFault>
         ensures done { OnOk result (IsNothing (unsynced_of self.new)) }
         ensures alike { OnErr result (IsAlike (unsynced_of self.old) (unsynced_of self.new)) }
-        // Each cell that isn't synced is written, or the call fails.
+        // Each cell that isn't synced is written into the journal, or the call fails.
         ensures all { OnOk result (SyncsAll (folder_of self.old) (unsynced_of self.old)
-            (unsynced_of self.new) (F.told (files_of self.old)) (F.told (files_of self.new))) }
+            (unsynced_of self.new) (journal_of self.old) (journal_of self.new)
+            (F.told (files_of self.old)) (F.told (files_of self.new))) }
         ensures some { OnErr result (SyncsSome (folder_of self.old) (unsynced_of self.old)
-            (unsynced_of self.new) (F.told (files_of self.old)) (F.told (files_of self.new))) }
+            (unsynced_of self.new) (journal_of self.old) (journal_of self.new)
+            (F.told (files_of self.old)) (F.told (files_of self.new))) }
         ensures folder { folder_of self.new ≡ folder_of self.old }
 
         ensures rose { result ≡ Err StoreFault.Failed
@@ -269,9 +357,11 @@ impl<F: DiskFiles + Drop> Store for FolderStore<F> {
     }
 
     fn read_mark(&mut self, alloc: Global) -> Result<Option<Mark>, StoreFault>
+        ensures held { IfOk result (λ mark. ReadsMarkHere (folder_of self.old)
+            (F.told (files_of self.old)) mark) }
         ensures unsynced { unsynced_of self.new ≡ unsynced_of self.old }
-        ensures written { F.told (files_of self.new) ≡ F.told (files_of self.old) }
-        ensures folder { folder_of self.new ≡ folder_of self.old }
+        ensures beside { beside (F.told (files_of self.new)) self.new
+            ≡ beside (F.told (files_of self.old)) self.old }
 
         ensures rose { result ≡ Err StoreFault.Failed
             → Rose (store_faults self.old) (store_faults self.new) }
@@ -282,9 +372,13 @@ impl<F: DiskFiles + Drop> Store for FolderStore<F> {
     }
 
     fn write_mark(&mut self, alloc: Global, mark: &Mark) -> Result<(), StoreFault>
-        ensures unsynced { unsynced_of self.new ≡ unsynced_of self.old }
         ensures written { OnOk result (WritesMark (folder_of self.old) mark.now
             (F.told (files_of self.old)) (F.told (files_of self.new))) }
+        ensures part { OnErr result (WritesMarkPart (folder_of self.old) mark.now
+            (F.told (files_of self.old)) (F.told (files_of self.new))) }
+        ensures unsynced { unsynced_of self.new ≡ unsynced_of self.old }
+        ensures folder { folder_of self.new ≡ folder_of self.old }
+        ensures journal { journal_of self.new ≡ journal_of self.old }
 
         ensures rose { result ≡ Err StoreFault.Failed
             → Rose (store_faults self.old) (store_faults self.new) }

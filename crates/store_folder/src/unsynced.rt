@@ -1,15 +1,15 @@
 //! What was put and erased since the last sync.
 
-ghost use Rattle.std.specs.Prelude.{◌≡◌, ◌⊎◌, ◌≤◌, ℕ, [], true, false, Contains, Some, None, IfOk, OnOk, OnErr, if◌then◌else◌};
+ghost use Rattle.std.specs.Prelude.{◌≡◌, ◌⊎◌, ◌≤◌, ◌++◌, ◌∷◌, ℕ, [], true, false, Contains, Some, None, IfOk, OnOk, OnErr, if◌then◌else◌};
 ghost use Rattle.harp_cells.specs.declared.cell.Cell.{Cell as CellName};
 ghost use Rattle.harp_cells.specs.declared.cell.Cell.TheVariants as cell;
 ghost use Rattle.harp_cells.specs.declared.change.Change.TheVariants as change;
 ghost use Rattle.harp_cells.specs.Effect.{is_cell};
-ghost use Rattle.store_folder.specs.Sync.{AreAll};
+ghost use Rattle.store_folder.specs.Sync.{AreAll, AreUnsynced, KeepsBlocks, made_change, made_changes};
 ghost use Rattle.store_folder.specs.Unsynced.{GainsBlock, HasBlocks, IsAlike, IsChanged, IsNothing, Stays, cut_of, earlier, is_cut, is_from, is_stored, is_touched, made_of};
 ghost use Rattle.harp_cells.specs.Memory.{held};
 
-use harp_cells::{Cell, CellRead, Key, MemCells, Value};
+use harp_cells::{Cell, CellRead, Change, Key, MemCells, Value};
 use std::alloc::{AllocError, Global};
 use std::collections::{BTreeMap, BTreeSet};
 use std::marker::Model;
@@ -249,15 +249,80 @@ impl Unsynced {
         Ok(())
     }
 
-    /// The cells to be written, each once: the blocks of the disk from a cut on, and the cells that
-    /// were put or erased.
-    pub fn cells(&self, alloc: Global) -> Result<Vec<Cell>, AllocError>
+    // The cells of which something was made, each once: the blocks of the disk from a cut on, and
+    // the cells that were put or erased.
+    fn cells(&self, alloc: Global) -> Result<Vec<Cell>, AllocError>
         ensures { IfOk result (λ cells. AreAll self.now cells.items) }
     {
         let mut cells = Vec::new(alloc);
         self.add_cuts(&mut cells)?;
         self.add_touched(&mut cells)?;
         Ok(cells)
+    }
+
+    // Adds what was made of a cell, where something was.
+    fn add_made(
+        &mut self,
+        alloc: Global,
+        cell: Cell,
+        changes: &mut Vec<Change>,
+    ) -> Result<(), AllocError>
+        ensures added { OnOk result (changes.new.items
+            ≡ changes.old.items ++ made_change cell (made_of self.old cell)) }
+        ensures same { Stays self.old self.new }
+        ensures blocks { self.new.blocks ≡ self.old.blocks }
+    {
+        match self.find(alloc, cell)? {
+            Some(Some(value)) => changes.push(Change::Put { cell, value })?,
+            Some(None) => changes.push(Change::Erase { cell })?,
+            None => {}
+        }
+        Ok(())
+    }
+
+    // What was made of these cells.
+    fn made_of(&mut self, alloc: Global, cells: &[Cell]) -> Result<Vec<Change>, AllocError>
+        ensures made { IfOk result (λ changes. changes.items ≡ made_changes self.old cells.now) }
+        ensures same { Stays self.old self.new }
+        ensures blocks { self.new.blocks ≡ self.old.blocks }
+    {
+        let mut changes = Vec::new(alloc);
+        for cell in cells {
+            self.add_made(alloc, *cell, &mut changes)?;
+        }
+        Ok(changes)
+    }
+
+    /// What was made of each cell since the last sync.
+    pub fn changes(&mut self, alloc: Global) -> Result<Vec<Change>, AllocError>
+        ensures made { IfOk result (λ changes. AreUnsynced self.old changes.items) }
+        ensures same { Stays self.old self.new }
+        ensures blocks { self.new.blocks ≡ self.old.blocks }
+    {
+        let cells = self.cells(alloc)?;
+        self.made_of(alloc, &cells)
+    }
+
+    // The disk doesn't have the value any more that a change erases.
+    fn forget_one(&mut self, change: &Change)
+        ensures blocks { KeepsBlocks (change.now ∷ []) self.old self.new }
+        ensures same { self.new ≡ record self.old { blocks = self.new.blocks } }
+    {
+        match change {
+            Change::Erase { cell } => self.forget(*cell),
+            Change::Put { .. } => {}
+            Change::EraseFrom { .. } => {}
+        }
+    }
+
+    /// The disk doesn't have the values any more that these changes erase.
+    pub fn forget_erased(&mut self, changes: &[Change])
+        ensures blocks { KeepsBlocks changes.now self.old self.new }
+        ensures same { self.new ≡ record self.old { blocks = self.new.blocks } }
+    {
+        for change in changes {
+            self.forget_one(change);
+        }
     }
 
     /// All changes are on the disk.
