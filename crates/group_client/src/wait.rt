@@ -1,0 +1,101 @@
+//! When and where a call is asked again.
+
+ghost use Rattle.std.specs.Prelude.{◌≡◌, ◌≤◌, ◌<◌, ◌^◌, ◌*◌};
+ghost use Rattle.group_client.specs.Rule.{asked_again, first_wait, longest_pause, next_by};
+ghost use Rattle.group_client.specs.Rule.{next_round, place_after};
+
+use crate::news::{News, Replied};
+use harp_types::{Cause, ServerId};
+
+/// The first pause, in milliseconds.
+const FIRST_PAUSE: u64 = 200;
+
+/// No pause is longer.
+pub const LONGEST_PAUSE: u64 = 2_000;
+
+/// When and where a call is asked again that isn't answered by then.
+#[derive(Clone, Copy)]
+pub struct Wait {
+    pub place: ServerId,
+    /// In milliseconds of the clock.
+    pub due: u64,
+    /// How long the pause is that it ends.
+    pub pause: u64,
+}
+
+/// The next server round.
+fn next_round(place: ServerId) -> ServerId
+    ensures { result ≡ next_round place }
+{
+    match place {
+        ServerId::Zero => ServerId::One,
+        ServerId::One => ServerId::Two,
+        ServerId::Two => ServerId::Zero,
+    }
+}
+
+/// Where a call is asked next that this server can't serve.
+fn place_after(place: ServerId, cause: Cause) -> ServerId
+    ensures { result ≡ place_after place cause }
+{
+    match cause {
+        Cause::NotLeader { hint: Some(hint) } => hint,
+        Cause::NotLeader { hint: None } => next_round(place),
+        Cause::BadClient => place,
+        Cause::NotYetOpen => place,
+        Cause::NoPromise => place,
+        Cause::LogFull => place,
+        Cause::Old => place,
+    }
+}
+
+/// Where a step of a call leads to.
+#[derive(Drop)]
+pub enum Next {
+    /// It waits on.
+    Waits(Wait),
+    /// It is answered.
+    Ends(Replied),
+}
+
+impl Wait {
+    /// That of a call that was asked for the first time, at a server, at this moment.
+    pub fn first(place: ServerId, now: u64) -> Wait
+        requires { now < 2 ^ 62 }
+        ensures { result ≡ first_wait place now }
+    {
+        Wait {
+            place: next_round(place),
+            due: now + FIRST_PAUSE,
+            pause: FIRST_PAUSE,
+        }
+    }
+
+    /// That of one that was asked again at this moment.
+    pub fn again(self, now: u64) -> Wait
+        requires now { now < 2 ^ 62 }
+        requires pause { self.pause ≤ longest_pause }
+        ensures { result ≡ asked_again now self }
+    {
+        let pause = (2 * self.pause).min(LONGEST_PAUSE);
+        Wait {
+            place: next_round(self.place),
+            due: now + pause,
+            pause,
+        }
+    }
+
+    /// What becomes of one that waits so, by what is heard.
+    pub fn next(self, news: News) -> Next
+        ensures { result ≡ next_by self news }
+    {
+        match news {
+            News::Nothing => Next::Waits(self),
+            News::Refused { by, cause } => Next::Waits(Wait {
+                place: place_after(by, cause),
+                ..self
+            }),
+            News::Answered(replied) => Next::Ends(replied),
+        }
+    }
+}
