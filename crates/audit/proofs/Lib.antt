@@ -9,6 +9,7 @@ pub mod Gathered
 pub mod NoFlaw
 pub mod Back
 pub mod Searches
+pub mod Said
 pub mod Steps
 pub mod Twins
 pub mod Shape

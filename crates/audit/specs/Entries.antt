@@ -1,14 +1,13 @@
--- The entries of all directories of a picture, and what is looked up in them.
-use Rattle.std.specs.Prelude.{◌≡◌, ℕ, ◌<◌, ◌≤◌, List, [], ◌∷◌, length, map, slice_index_or, Option}
-use Rattle.std.specs.Prelude.{Some, None, if◌then◌else◌}
-use Rattle.std.specs.List.{flat_map}
-use Rattle.std.specs.List.Sorted.{IsPermutation, IsSorted}
-use Rattle.std.specs.Ordering.{nat_cmp, ordering_then}
-use Rattle.std.specs.declared.cmp.Ordering.{Ordering}
+-- The entries of all directories of a picture, and what they say of each object.
+use Rattle.std.specs.Prelude.{◌≡◌, ℕ, ◌+◌, ◌<◌, ◌≤◌, ◌==◌, ◌&&◌, not, Bool, min, List, [], ◌∷◌, ◌++◌}
+use Rattle.std.specs.Prelude.{length, map, slice_index_or, count_by, Option, Some, None}
+use Rattle.std.specs.Prelude.{if◌then◌else◌}
+use Rattle.std.specs.List.{flat_map, list_any}
 use Rattle.file_tree.specs.declared.object.Slot.{Slot}
+use Rattle.audit.specs.declared.entries.Names.{Names}
 use Rattle.audit.specs.declared.picture.Portrait.{Portrait}
-use Rattle.audit.specs.Pictures.{AreInOrder}
-use Rattle.audit.specs.Flaws.{ancestor, is_directory, portrait_at, slots_in}
+use Rattle.audit.specs.Pictures.{AreInOrder, attributes}
+use Rattle.audit.specs.Flaws.{ancestor, is_directory, names_of, names_shown, portrait_at, slots_in}
 
 -- ---- entries
 
@@ -28,14 +27,44 @@ entries_by x = if is_directory x then flat_map (entry_at x.number) (slots_in x) 
 unfoldable pub entries_in : List Portrait → List (ℕ × ℕ)
 entries_in objects = flat_map entries_by objects
 
--- the order in which they are looked up
-abbrev pub entry_cmp : ℕ × ℕ → ℕ × ℕ → Ordering
-entry_cmp x y = ordering_then (nat_cmp x.0 y.0) (nat_cmp x.1 y.1)
+abbrev pub is_entry : ℕ → ℕ → ℕ × ℕ → Bool
+is_entry n dir e = (e.0 == n) && (e.1 == dir)
 
--- the entries of these objects, in order
-pub record AreEntriesOf (objects : List Portrait) (entries : List (ℕ × ℕ)) : Type 0 where
-  pub same : IsPermutation (entries_in objects) entries
-  pub order : IsSorted entry_cmp entries
+-- ---- what entries say of objects
+
+-- the most that are counted
+abbrev pub most_names : ℕ
+most_names = 18446744073709551615
+
+-- what entries say of an object
+pub record AreSaid (entries : List (ℕ × ℕ)) (x : Portrait) (names : Names) : Type 0 where
+  pub count : names.count ≡ min (count_by (λ e. e.0 == x.number) entries) most_names
+  pub held : names.held ≡ list_any (is_entry x.number (attributes x.object).parent) entries
+
+-- of each
+pub record AreNamed (objects : List Portrait) (entries : List (ℕ × ℕ)) (names : List Names)
+    : Type 0 where
+  pub long : length names ≡ length objects
+  pub each : (i : ℕ) (x : Portrait) (d : Names) → i < length objects
+      → x ≡ slice_index_or objects i x → AreSaid entries x (slice_index_or names i d)
+
+-- what the entries of two parts of the directories say of each
+pub record AreNamedBy (objects : List Portrait) (low high : List Names) : Type 0 where
+  pub some : List (ℕ × ℕ)
+  pub others : List (ℕ × ℕ)
+  pub all : some ++ others ≡ entries_in objects
+  pub first : AreNamed objects some low
+  pub second : AreNamed objects others high
+
+-- an entry of its stored parent names an object
+abbrev pub is_held : List Portrait → Portrait → Bool
+is_held objects x =
+    not (names_shown x.number (portrait_at objects (attributes x.object).parent) == 0)
+
+-- what all entries say of an object
+pub record IsNamed (objects : List Portrait) (x : Portrait) (names : Names) : Type 0 where
+  pub count : names.count ≡ min (names_of objects x.number) most_names
+  pub held : names.held ≡ is_held objects x
 
 -- ---- places and ways
 

@@ -1,12 +1,13 @@
 -- Stretches of the objects of a picture, what is found in one, and what that takes.
 use Rattle.std.specs.Prelude.{◌≡◌, ℕ, ◌≤◌, List, [], ◌∷◌, ◌++◌, drop, take, length}
 use Rattle.std.specs.List.{flat_map}
+use Rattle.audit.specs.declared.auditing.Prepared.{Prepared}
 use Rattle.audit.specs.declared.flaw.Finding.{Finding}
 use Rattle.audit.specs.declared.flaw.Flaw.TheVariants as flaw
 use Rattle.audit.specs.declared.picture.Picture.{Picture}
 use Rattle.audit.specs.declared.picture.Portrait.{Portrait}
 use Rattle.audit.specs.declared.stretches.Stretch.{Stretch}
-use Rattle.audit.specs.Entries.{AreWays}
+use Rattle.audit.specs.Entries.{AreNamedBy, AreWays}
 use Rattle.audit.specs.Flaws.{finding_at, finding_where, has_no_root, has_wrong_space}
 
 -- each begins where the one before ends, from a place up to another
@@ -24,8 +25,13 @@ findings_of_whole p =
     finding_where (has_no_root p.objects) flaw.Root
     ++ finding_where (has_wrong_space p) flaw.Space
 
+-- what entries say of each object, and ways up of enough steps
+pub record ArePrepared (objects : List Portrait) (made : Prepared) : Type 0 where
+  pub named : AreNamedBy objects made.low.items made.high.items
+  pub enough : AreWays (length objects) objects made.ways.items
+
 -- what was found of the whole, ways up of enough steps, and stretches of all objects
-pub record ArePrepared (p : Picture) (found : List Finding) (ways : List ℕ)
+pub record AreOthers (p : Picture) (found : List Finding) (ways : List ℕ)
     (stretches : List Stretch) : Type 0 where
   pub whole : found ≡ findings_of_whole p
   pub enough : AreWays (length p.objects) p.objects ways

@@ -4,23 +4,25 @@ ghost use Rattle.std.specs.Prelude.{◌≡◌, ℕ, ◌+◌, ◌≤◌, ◌↔�
 ghost use Rattle.std.specs.Prelude.{slice_index_or, Option, None, IfOk, OnOk};
 ghost use Rattle.std.specs.List.{AllZip, flat_map, list_any};
 ghost use Rattle.file_tree.specs.Tree.{blocks_of};
-ghost use Rattle.audit.specs.Entries.{AreByNumber, AreEntriesOf, AreWays, entries_in, ways_after};
+ghost use Rattle.audit.specs.Entries.{AreByNumber, AreNamed, AreNamedBy, AreWays, IsNamed};
+ghost use Rattle.audit.specs.Entries.{entries_in, ways_after};
 ghost use Rattle.audit.specs.declared.flaw.Flaw.TheVariants as flaw;
 ghost use Rattle.audit.specs.Flaws.{blocks_in, finding_of, findings, first_flaw, has_no_root};
 ghost use Rattle.audit.specs.Flaws.{has_wrong_space};
 ghost use Rattle.audit.specs.Pictures.{IsShaped};
 ghost use Rattle.audit.specs.Sound.{IsSoundPicture};
-ghost use Rattle.audit.specs.Stretches.{ArePrepared, AreStretches, findings_in};
+ghost use Rattle.audit.specs.Stretches.{AreOthers, ArePrepared, AreStretches, findings_in};
 ghost use Rattle.audit.specs.Stretches.{findings_of_whole};
 
 use crate::attributes::{attributes_in, is_directory};
-use crate::entries::{Entry, entries_of};
+use crate::entries::{Names, names_by, together};
 use crate::flaw::{Finding, Flaw};
 use crate::flaws::first_flaw;
 use crate::objects::{above, at, twice};
 use crate::picture::{Picture, Portrait};
 use crate::stretches::{Stretch, stretches_of};
 use harp_types::{BLOCK_SIZE, TREE_BLOCKS};
+use rayon::current_num_threads;
 use rayon::prelude::*;
 use std::alloc::{AllocError, Global};
 use std::thread::{Threads, join};
@@ -181,40 +183,57 @@ fn add_finding(found: &mut Vec<Finding>, number: u32, flaw: &Option<Flaw>) -> Re
     }
 }
 
+/// What the audit of each object takes beside the objects: what the entries of two parts of them
+/// say of each, and the number so many steps up from each as there are objects.
+#[derive(Drop)]
+struct Prepared {
+    low: Vec<Names>,
+    high: Vec<Names>,
+    ways: Vec<u32>,
+}
+
+/// What all entries say of the object at a place.
+fn names_at(objects: &[Portrait], prepared: &Prepared, at: usize) -> Names
+    requires order { AreByNumber objects.now }
+    requires prepared { ArePrepared objects.now prepared.now }
+    requires place { at < length objects.now }
+    ensures { (x : Portrait) → x ≡ slice_index_or objects.now at x
+        → IsNamed objects.now x result }
+{
+    together(prepared.low[at], prepared.high[at])
+}
+
 /// The first flaw of the object at a place.
 fn flaw_at(
     alloc: Global,
     objects: &[Portrait],
-    entries: &[Entry],
-    ways: &[u32],
+    prepared: &Prepared,
     at: usize,
 ) -> Result<Option<Flaw>, AllocError>
     requires order { AreByNumber objects.now }
-    requires entries { AreEntriesOf objects.now entries.now }
-    requires ways { AreWays (length objects.now) objects.now ways.now }
+    requires prepared { ArePrepared objects.now prepared.now }
     requires place { at < length objects.now }
     ensures { IfOk result (λ flaw. flaw
         ≡ slice_index_or (map (first_flaw objects.now) objects.now) at None) }
 {
-    first_flaw(alloc, objects, entries, ways[at], &objects[at])
+    let names = names_at(objects, prepared, at);
+    first_flaw(alloc, objects, names, prepared.ways[at], &objects[at])
 }
 
 /// The findings of the objects of a stretch.
 fn findings_in(
     alloc: Global,
     objects: &[Portrait],
-    entries: &[Entry],
-    ways: &[u32],
+    prepared: &Prepared,
     stretch: Stretch,
 ) -> Result<Vec<Finding>, AllocError>
     requires order { AreByNumber objects.now }
-    requires entries { AreEntriesOf objects.now entries.now }
-    requires ways { AreWays (length objects.now) objects.now ways.now }
+    requires prepared { ArePrepared objects.now prepared.now }
     ensures { IfOk result (λ v. v.items ≡ findings_in objects.now stretch) }
 {
     let mut found = Vec::new(alloc);
     for at in stretch.from..stretch.to.min(objects.len()) {
-        let flaw = flaw_at(alloc, objects, entries, ways, at)?;
+        let flaw = flaw_at(alloc, objects, prepared, at)?;
         add_finding(&mut found, objects[at].number, &flaw)?;
     }
     Ok(found)
@@ -231,6 +250,18 @@ fn add_findings(found: &mut Vec<Finding>, parts: &[Vec<Finding>]) -> Result<(), 
     Ok(())
 }
 
+/// What the audit of each object takes beside the objects.
+fn prepared_one(alloc: Global, objects: &[Portrait]) -> Result<Prepared, AllocError>
+    requires { AreByNumber objects.now }
+    ensures { IfOk result (λ made. ArePrepared objects.now made) }
+{
+    let (some, others) = objects.split_at(objects.len() / 2);
+    let low = names_by(alloc, objects, some)?;
+    let high = names_by(alloc, objects, others)?;
+    let ways = ways_of(alloc, objects)?;
+    Ok(Prepared { low, high, ways })
+}
+
 /// The findings of a picture: those of the whole under number 0, and then the first flaw of each
 /// object, by number. Nothing is found exactly in a sound picture.
 pub fn audit_one(alloc: Global, picture: &Picture) -> Result<Vec<Finding>, AllocError>
@@ -239,15 +270,13 @@ pub fn audit_one(alloc: Global, picture: &Picture) -> Result<Vec<Finding>, Alloc
     ensures sound { IfOk result (λ v. v.items ≡ [] ↔ IsSoundPicture picture.now) }
 {
     let objects = picture.objects.as_slice();
-    let mut entries = entries_of(alloc, objects)?;
-    entries.sort_unstable();
-    let ways = ways_of(alloc, objects)?;
+    let prepared = prepared_one(alloc, objects)?;
     let mut found = found_of_whole(alloc, picture)?;
     let all = Stretch {
         from: 0,
         to: objects.len(),
     };
-    let more = findings_in(alloc, objects, entries.as_slice(), ways.as_slice(), all)?;
+    let more = findings_in(alloc, objects, &prepared, all)?;
     found.extend_from_slice(more.as_slice())?;
     Ok(found)
 }
@@ -257,63 +286,57 @@ pub fn audit_one(alloc: Global, picture: &Picture) -> Result<Vec<Finding>, Alloc
 // One thread alone audits fewer objects than these: others cost it more than they spare.
 const LEAST: usize = 4096;
 
-/// The entries of all directories, in no order, gathered by two threads.
-fn gathered_many<R: Threads + Sync>(
+/// What the entries of two parts of the objects say of each, counted by two threads.
+fn names_many<R: Threads + Sync>(
     rt: &R,
     alloc: Global,
     objects: &[Portrait],
-) -> Result<Vec<Entry>, AllocError>
-    ensures { IfOk result (λ v. v.items ≡ entries_in objects.now) }
+) -> Result<(Vec<Names>, Vec<Names>), AllocError>
+    requires { AreByNumber objects.now }
+    ensures { IfOk result (λ made. AreNamedBy objects.now made.0.items made.1.items) }
 {
-    let (low, high) = objects.split_at(objects.len() / 2);
-    let (entries, more) = join(
+    let (some, others) = objects.split_at(objects.len() / 2);
+    let (low, high) = join(
         rt,
-        || -> Result<Vec<Entry>, AllocError>
-            ensures { IfOk result (λ v. v.items ≡ entries_in low.entry.now) }
-        { entries_of(alloc, low) },
-        || -> Result<Vec<Entry>, AllocError>
-            ensures { IfOk result (λ v. v.items ≡ entries_in high.entry.now) }
-        { entries_of(alloc, high) },
+        || -> Result<Vec<Names>, AllocError>
+            requires { AreByNumber objects.now }
+            ensures { IfOk result
+                (λ v. AreNamed objects.entry.now (entries_in some.entry.now) v.items) }
+        { names_by(alloc, objects, some) },
+        || -> Result<Vec<Names>, AllocError>
+            requires { AreByNumber objects.now }
+            ensures { IfOk result
+                (λ v. AreNamed objects.entry.now (entries_in others.entry.now) v.items) }
+        { names_by(alloc, objects, others) },
     );
-    let mut entries = entries?;
-    let more = more?;
-    entries.extend_from_slice(more.as_slice())?;
-    Ok(entries)
-}
-
-/// The entries of all directories in order, sorted by several threads.
-fn entries_many<R: Threads + Sync>(
-    rt: &R,
-    alloc: Global,
-    objects: &[Portrait],
-) -> Result<Vec<Entry>, AllocError>
-    ensures { IfOk result (λ entries. AreEntriesOf objects.now entries.items) }
-{
-    let mut entries = gathered_many(rt, alloc, objects)?;
-    par_sort_unstable(rt, entries.as_mut_slice());
-    Ok(entries)
+    let low = low?;
+    let high = high?;
+    Ok((low, high))
 }
 
 /// What is found of the whole, and the stretches of the objects.
-fn whole_of(alloc: Global, picture: &Picture) -> Result<(Vec<Finding>, Vec<Stretch>), AllocError>
+fn whole_of<R: Threads>(
+    rt: &R,
+    alloc: Global,
+    picture: &Picture,
+) -> Result<(Vec<Finding>, Vec<Stretch>), AllocError>
     requires { AreByNumber picture.now.objects }
     ensures { IfOk result (λ made. (made.0.items ≡ findings_of_whole picture.now)
         × AreStretches 0 (length picture.now.objects) made.1.items) }
 {
     let found = found_of_whole(alloc, picture)?;
-    let stretches = stretches_of(alloc, picture.objects.as_slice())?;
+    let stretches = stretches_of(alloc, picture.objects.as_slice(), current_num_threads(rt))?;
     Ok((found, stretches))
 }
 
-/// What is found of the whole, and what the audit of each stretch takes beside the entries: the
-/// ways up, and the stretches.
-fn prepared<R: Threads + Sync>(
+/// What is found of the whole, the ways up, and the stretches of the objects, by two threads.
+fn others_many<R: Threads + Sync>(
     rt: &R,
     alloc: Global,
     picture: &Picture,
 ) -> Result<(Vec<Finding>, Vec<u32>, Vec<Stretch>), AllocError>
     requires { AreByNumber picture.now.objects }
-    ensures { IfOk result (λ made. ArePrepared picture.now made.0.items made.1.items made.2.items) }
+    ensures { IfOk result (λ made. AreOthers picture.now made.0.items made.1.items made.2.items) }
 {
     let objects = picture.objects.as_slice();
     let (ways, made) = join(
@@ -328,7 +351,7 @@ fn prepared<R: Threads + Sync>(
             ensures { IfOk result
                 (λ made. (made.0.items ≡ findings_of_whole picture.entry.now)
                 × AreStretches 0 (length picture.entry.now.objects) made.1.items) }
-        { whole_of(alloc, picture) },
+        { whole_of(rt, alloc, picture) },
     );
     let ways = ways?;
     let (found, stretches) = made?;
@@ -340,13 +363,11 @@ fn findings_many<R: Threads + Sync>(
     rt: &R,
     alloc: Global,
     objects: &[Portrait],
-    entries: &[Entry],
-    ways: &[u32],
+    prepared: &Prepared,
     stretches: &[Stretch],
 ) -> Result<Vec<Vec<Finding>>, AllocError>
     requires order { AreByNumber objects.now }
-    requires entries { AreEntriesOf objects.now entries.now }
-    requires ways { AreWays (length objects.now) objects.now ways.now }
+    requires prepared { ArePrepared objects.now prepared.now }
     ensures { IfOk result (λ v. AllZip (λ stretch part. part.items
         ≡ findings_in objects.now stretch) stretches.now v.items) }
 {
@@ -356,12 +377,10 @@ fn findings_many<R: Threads + Sync>(
         .map(
             |stretch: &Stretch| -> Result<Vec<Finding>, AllocError>
                 requires order { AreByNumber objects.now }
-                requires entries { AreEntriesOf objects.now entries.now }
-                requires ways { AreWays (length objects.now) objects.now
-                    ways.now }
+                requires prepared { ArePrepared objects.now prepared.now }
                 ensures { IfOk result
                     (λ v. v.items ≡ findings_in objects.entry.now stretch.now) }
-            { findings_in(alloc, objects, entries, ways, *stretch) },
+            { findings_in(alloc, objects, prepared, *stretch) },
         )
         .collect::<Result<Vec<Vec<Finding>>, AllocError>>(rt, alloc)?
 }
@@ -380,28 +399,23 @@ pub fn audit_many<R: Threads + Sync>(
     if objects.len() < LEAST {
         return audit_one(alloc, picture);
     }
-    let (entries, made) = join(
+    let (names, made) = join(
         rt,
-        || -> Result<Vec<Entry>, AllocError>
+        || -> Result<(Vec<Names>, Vec<Names>), AllocError>
+            requires { AreByNumber objects.now }
             ensures { IfOk result
-                (λ entries. AreEntriesOf objects.entry.now entries.items) }
-        { entries_many(rt, alloc, objects) },
+                (λ made. AreNamedBy objects.entry.now made.0.items made.1.items) }
+        { names_many(rt, alloc, objects) },
         || -> Result<(Vec<Finding>, Vec<u32>, Vec<Stretch>), AllocError>
             requires { AreByNumber picture.now.objects }
             ensures { IfOk result
-                (λ made. ArePrepared picture.entry.now made.0.items made.1.items made.2.items) }
-        { prepared(rt, alloc, picture) },
+                (λ made. AreOthers picture.entry.now made.0.items made.1.items made.2.items) }
+        { others_many(rt, alloc, picture) },
     );
-    let entries = entries?;
+    let (low, high) = names?;
     let (mut found, ways, stretches) = made?;
-    let parts = findings_many(
-        rt,
-        alloc,
-        objects,
-        entries.as_slice(),
-        ways.as_slice(),
-        stretches.as_slice(),
-    )?;
+    let prepared = Prepared { low, high, ways };
+    let parts = findings_many(rt, alloc, objects, &prepared, stretches.as_slice())?;
     add_findings(&mut found, parts.as_slice())?;
     Ok(found)
 }

@@ -1,17 +1,25 @@
-//! The entries of a picture, each by the number that it names and its directory.
+//! What the entries of directories say of each object.
 
-ghost use Rattle.std.specs.Prelude.{◌≡◌, ◌++◌, ◌==◌, not, List, IfOk, OnOk, take, map};
-ghost use Rattle.audit.specs.Flaws.{entry_in, entry_of_value, names_of, names_shown, portrait_at};
-ghost use Rattle.audit.specs.Entries.{AreByNumber, AreEntriesOf, entries_by, entries_in, entry_at};
-ghost use Rattle.audit.specs.Entries.{number_named};
+ghost use Rattle.std.specs.Prelude.{◌≡◌, ◌+◌, ◌<◌, ◌++◌, ◌∷◌, [], ◌==◌, ◌||◌, ℕ, List, IfOk, Some};
+ghost use Rattle.std.specs.Prelude.{length, min};
+ghost use Rattle.audit.specs.Entries.{AreByNumber, AreNamed, IsPlace, entries_by, entries_in};
+ghost use Rattle.audit.specs.Entries.{entry_at, most_names, number_named};
+ghost use Rattle.audit.specs.Flaws.{entry_in, entry_of_value};
+ghost use Rattle.audit.specs.Pictures.{attributes};
 
 use crate::attributes::{attributes_in, is_directory};
+use crate::objects::place_of;
 use crate::picture::Portrait;
 use harp_cells::Value;
 use std::alloc::{AllocError, Global};
 
-/// The number that a slot names, and its directory.
-pub(crate) type Entry = (u32, u32);
+/// What entries say of an object: how many name it, as far as a usize counts, and whether the
+/// directory of one is its stored parent.
+#[derive(Clone, Copy)]
+pub(crate) struct Names {
+    pub count: usize,
+    pub held: bool,
+}
 
 /// The number that a slot's value names.
 fn number_in(value: &Value) -> Option<u32>
@@ -39,55 +47,95 @@ fn number_of(slot: &Option<Value>) -> Option<u32>
     }
 }
 
-/// Adds the entry in a slot of a directory.
-fn add_entry(dir: u32, slot: &Option<Value>, entries: &mut Vec<Entry>) -> Result<(), AllocError>
-    ensures { OnOk result (entries.new.items
-        ≡ entries.old.items ++ entry_at dir (entry_in slot.now)) }
+/// What these entries and one more of a directory say.
+fn one_more(object: &Portrait, dir: u32, names: Names) -> Names
+    ensures count { result.count ≡ min (names.count + 1) most_names }
+    ensures held { result.held ≡ (names.held || (dir == (attributes object.now.object).parent)) }
+{
+    Names {
+        count: names.count.saturating_add(1),
+        held: names.held || dir == attributes_in(&object.object).parent,
+    }
+}
+
+/// Counts an entry of a directory for the object at a place.
+fn count_at(objects: &[Portrait], place: usize, dir: u32, names: &mut Vec<Names>)
+    requires { place < length objects.now }
+    ensures { (entries : List (ℕ × ℕ)) (number : ℕ) → AreByNumber objects.now
+        → IsPlace objects.now number (Some place) → AreNamed objects.now entries names.old.items
+        → AreNamed objects.now (entries ++ (number, dir) ∷ []) names.new.items }
+{
+    if place >= names.len() {
+        return;
+    }
+    names[place] = one_more(&objects[place], dir, names[place]);
+}
+
+/// Counts an entry of a directory for the object that it names.
+fn count_name(objects: &[Portrait], dir: u32, number: u32, names: &mut Vec<Names>)
+    requires { AreByNumber objects.now }
+    ensures { (entries : List (ℕ × ℕ)) → AreNamed objects.now entries names.old.items
+        → AreNamed objects.now (entries ++ (number, dir) ∷ []) names.new.items }
+{
+    match place_of(objects, number) {
+        Some(place) => count_at(objects, place, dir, names),
+        None => (),
+    }
+}
+
+/// Counts the entry in a slot of a directory.
+fn count_entry(objects: &[Portrait], dir: u32, slot: &Option<Value>, names: &mut Vec<Names>)
+    requires { AreByNumber objects.now }
+    ensures { (entries : List (ℕ × ℕ)) → AreNamed objects.now entries names.old.items
+        → AreNamed objects.now (entries ++ entry_at dir (entry_in slot.now)) names.new.items }
 {
     match number_of(slot) {
-        None => Ok(()),
-        Some(number) => Ok(entries.push((number, dir))?),
+        Some(number) => count_name(objects, dir, number, names),
+        None => (),
     }
 }
 
-/// Adds the entries of an object, if it is a directory.
-fn add_entries(object: &Portrait, entries: &mut Vec<Entry>) -> Result<(), AllocError>
-    ensures { OnOk result (entries.new.items ≡ entries.old.items ++ entries_by object.now) }
+/// Counts the entries of an object, if it is a directory.
+fn count_entries(objects: &[Portrait], object: &Portrait, names: &mut Vec<Names>)
+    requires { AreByNumber objects.now }
+    ensures { (entries : List (ℕ × ℕ)) → AreNamed objects.now entries names.old.items
+        → AreNamed objects.now (entries ++ entries_by object.now) names.new.items }
 {
     if !is_directory(attributes_in(&object.object).kind) {
-        return Ok(());
+        return;
     }
     for slot in object.slots.as_slice() {
-        add_entry(object.number, slot, entries)?;
+        count_entry(objects, object.number, slot, names);
     }
-    Ok(())
 }
 
-/// The entries of all directories, in no order.
-pub(crate) fn entries_of(alloc: Global, objects: &[Portrait]) -> Result<Vec<Entry>, AllocError>
-    ensures { IfOk result (λ v. v.items ≡ entries_in objects.now) }
+/// What the entries of some directories say of each object.
+pub(crate) fn names_by(
+    alloc: Global,
+    objects: &[Portrait],
+    some: &[Portrait],
+) -> Result<Vec<Names>, AllocError>
+    requires { AreByNumber objects.now }
+    ensures { IfOk result (λ v. AreNamed objects.now (entries_in some.now) v.items) }
 {
-    let mut entries = Vec::new(alloc);
-    for object in objects {
-        add_entries(object, &mut entries)?;
+    let none = Names {
+        count: 0,
+        held: false,
+    };
+    let mut names = Vec::from_elem(alloc, none, objects.len())?;
+    for object in some {
+        count_entries(objects, object, &mut names);
     }
-    Ok(entries)
+    Ok(names)
 }
 
-/// How many entries name a number, among those of all directories in order.
-pub(crate) fn names(entries: &[Entry], number: u32) -> usize
-    ensures { (objects : List Portrait) → AreEntriesOf objects entries.now
-        → result ≡ names_of objects number }
+/// What entries say together that say these apart.
+pub(crate) fn together(low: Names, high: Names) -> Names
+    ensures count { result.count ≡ min (low.count + high.count) most_names }
+    ensures held { result.held ≡ (low.held || high.held) }
 {
-    let from = entries.partition_point(|entry| entry.0 < number);
-    let to = entries.partition_point(|entry| entry.0 <= number);
-    to.saturating_sub(from)
-}
-
-/// Whether a directory has an entry that names a number.
-pub(crate) fn holds(entries: &[Entry], dir: u32, number: u32) -> bool
-    ensures { (objects : List Portrait) → AreByNumber objects → AreEntriesOf objects entries.now
-        → result ≡ not (names_shown number (portrait_at objects dir) == 0) }
-{
-    entries.binary_search(&(number, dir)).is_ok()
+    Names {
+        count: low.count.saturating_add(high.count),
+        held: low.held || high.held,
+    }
 }

@@ -1,12 +1,12 @@
 //! The flaws of an object.
 
 ghost use Rattle.std.specs.Prelude.{◌≡◌, ℕ, ◌+◌, ◌==◌, ◌≤◌, not, List, Option, Some, IfOk, length};
-ghost use Rattle.std.specs.Prelude.{map, count_by, if◌then◌else◌};
+ghost use Rattle.std.specs.Prelude.{map, min, count_by, if◌then◌else◌};
 ghost use Rattle.std.specs.List.{list_any};
 ghost use Rattle.std.specs.Option.{option_map};
 ghost use Rattle.file_tree.specs.declared.object.Slot.{Slot};
 ghost use Rattle.file_tree.specs.Tries.{entry_name, is_dot, is_dot_dot, is_odd_byte};
-ghost use Rattle.audit.specs.Entries.{AreByNumber, AreEntriesOf};
+ghost use Rattle.audit.specs.Entries.{AreByNumber, IsNamed, is_held, most_names};
 ghost use Rattle.audit.specs.Flaws.{ancestor, entry_in, entry_of_value, first_flaw, has_bad_slot};
 ghost use Rattle.audit.specs.Flaws.{has_odd_form, has_twins, has_wrong_holder, has_wrong_links};
 ghost use Rattle.audit.specs.Flaws.{has_wrong_parent, is_bad_entry, is_directory as is_dir};
@@ -16,7 +16,7 @@ ghost use Rattle.audit.specs.Flaws.{portrait_at, slots_in};
 ghost use Rattle.audit.specs.Pictures.{attributes};
 
 use crate::attributes::{Attributes, attributes_in, is_directory};
-use crate::entries::{Entry, holds, names};
+use crate::entries::Names;
 use crate::flaw::Flaw;
 use crate::objects::at;
 use crate::picture::Portrait;
@@ -234,7 +234,7 @@ fn subdirectories(objects: &[Portrait], x: &Portrait) -> usize
 /// Whether the stored links are those that are computed; so many entries name the object.
 fn has_right_links(objects: &[Portrait], x: &Portrait, count: usize) -> bool
     requires order { AreByNumber objects.now }
-    requires count { count ≡ names_of objects.now x.now.number }
+    requires count { count ≡ min (names_of objects.now x.now.number) most_names }
     ensures { result ≡ ((attributes x.now.object).links == links_by objects.now x.now) }
 {
     let a = attributes_in(&x.object);
@@ -245,12 +245,11 @@ fn has_right_links(objects: &[Portrait], x: &Portrait, count: usize) -> bool
     }
 }
 
-fn has_wrong_links(objects: &[Portrait], entries: &[Entry], x: &Portrait) -> bool
+fn has_wrong_links(objects: &[Portrait], x: &Portrait, count: usize) -> bool
     requires order { AreByNumber objects.now }
-    requires entries { AreEntriesOf objects.now entries.now }
+    requires count { count ≡ min (names_of objects.now x.now.number) most_names }
     ensures { result ≡ has_wrong_links objects.now x.now }
 {
-    let count = names(entries, x.number);
     if !has_right_links(objects, x, count) {
         return true;
     }
@@ -262,8 +261,9 @@ fn has_wrong_links(objects: &[Portrait], entries: &[Entry], x: &Portrait) -> boo
 
 // ---- parents
 
-fn has_wrong_parent(entries: &[Entry], x: &Portrait) -> bool
-    ensures { (objects : List Portrait) → AreByNumber objects → AreEntriesOf objects entries.now
+/// Whether the stored parent is wrong; an entry of it names the object, or none does.
+fn has_wrong_parent(x: &Portrait, held: bool) -> bool
+    ensures { (objects : List Portrait) → held ≡ is_held objects x.now
         → result ≡ has_wrong_parent objects x.now }
 {
     let a = attributes_in(&x.object);
@@ -273,20 +273,20 @@ fn has_wrong_parent(entries: &[Entry], x: &Portrait) -> bool
     if x.number == 1 {
         return a.parent != 1;
     }
-    !holds(entries, a.parent, x.number)
+    !held
 }
 
-/// The first flaw of an object, by the entries of all directories and the number as many steps up
-/// from it as there are objects.
+/// The first flaw of an object, by what the entries of all directories say of it and the number as
+/// many steps up from it as there are objects.
 pub(crate) fn first_flaw(
     alloc: Global,
     objects: &[Portrait],
-    entries: &[Entry],
+    names: Names,
     way: u32,
     x: &Portrait,
 ) -> Result<Option<Flaw>, AllocError>
     requires order { AreByNumber objects.now }
-    requires entries { AreEntriesOf objects.now entries.now }
+    requires names { IsNamed objects.now x.now names }
     requires way { (way == 1) ≡ (ancestor (length objects.now) objects.now x.now.number == 1) }
     ensures { IfOk result (λ flaw. flaw ≡ first_flaw objects.now x.now) }
 {
@@ -296,10 +296,10 @@ pub(crate) fn first_flaw(
     if has_bad_slot(alloc, objects, x)? {
         return Ok(Some(Flaw::Slot));
     }
-    if has_wrong_links(objects, entries, x) {
+    if has_wrong_links(objects, x, names.count) {
         return Ok(Some(Flaw::Links));
     }
-    if has_wrong_parent(entries, x) {
+    if has_wrong_parent(x, names.held) {
         return Ok(Some(Flaw::Parent));
     }
     if is_directory(attributes_in(&x.object).kind) && way != 1 {

@@ -12,9 +12,9 @@
 //!   what it stands for. StoreFailed comes only where the count of faults rose (`rose`).
 //! - `audit_one` gives the findings of a picture: the flaws of the whole under number 0, and then
 //!   the first flaw of each object, by number (`found`). There are none exactly where the picture
-//!   is sound (`sound`). Names are looked up by searches of what was sorted, ways up by doubled
-//!   steps, so nothing takes a square of the objects' number.
-//! - `audit_many` gives the same by several threads, for every number of them: each takes stretches
+//!   is sound (`sound`). What names each object is counted in one pass over the entries, ways up
+//!   are found by doubled steps, so nothing takes a square of the objects' number.
+//! - `audit_many` gives the same by several threads, for every number of them: each takes a stretch
 //!   of the objects, which are cut by how many slots these have. That any two ran at once isn't
 //!   claimed.
 //! - `Named` meets `CellRead`: of other cells those that a picture's objects name.

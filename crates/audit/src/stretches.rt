@@ -6,8 +6,8 @@ ghost use Rattle.audit.specs.Stretches.{AreStretches};
 use crate::picture::Portrait;
 use std::alloc::{AllocError, Global};
 
-// How many stretches there are: several for each thread, whatever their number.
-const STRETCHES: usize = 64;
+// The most stretches, however many threads there are.
+const MOST_STRETCHES: usize = 64;
 
 // How many objects without slots take as long as a slot does.
 const SLOT_LOAD: usize = 2;
@@ -43,15 +43,21 @@ fn place_of_load(loads: &[usize], load: usize, from: usize) -> usize
 }
 
 /// Stretches of objects that take about as long one as another.
-pub(crate) fn stretches_of(alloc: Global, objects: &[Portrait]) -> Result<Vec<Stretch>, AllocError>
+pub(crate) fn stretches_of(
+    alloc: Global,
+    objects: &[Portrait],
+    threads: usize,
+) -> Result<Vec<Stretch>, AllocError>
     ensures { IfOk result (λ v. AreStretches 0 (length objects.now) v.items) }
 {
     let loads = loads_of(alloc, objects)?;
-    let share = loads.as_slice().last().copied().unwrap_or(0) / STRETCHES + 1;
+    let count = threads.min(MOST_STRETCHES).max(1);
+    let all = loads.as_slice().last().copied().unwrap_or(0);
+    let share = (all / count).saturating_add(1);
     let mut stretches = Vec::new(alloc);
     let mut from = 0;
-    for count in 1..STRETCHES {
-        let to = place_of_load(loads.as_slice(), share.saturating_mul(count), from);
+    for before in 1..count {
+        let to = place_of_load(loads.as_slice(), share.saturating_mul(before), from);
         stretches.push(Stretch { from, to })?;
         from = to;
     }

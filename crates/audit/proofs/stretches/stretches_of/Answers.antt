@@ -4,26 +4,26 @@ use Rattle.audit.specs.Stretches.{AreStretches}
 use Rattle.audit.proofs.Cuts.{stretch_more}
 use Rattle.audit.proofs.stretches.stretches_of.Goals as goal
 
-pub loop-count-preserved : goal.loop-count-preserved
-loop-count-preserved c =
-    let from = c.loop-count.from in
+pub loop-before-preserved : goal.loop-before-preserved
+loop-before-preserved c =
+    let from = c.loop-before.from in
     let to = c.place_of_load-to.result in
     let s : Stretch = record { from = from; to = to } in record {
       within = omega (
         arith,
         c.place_of_load-to.ensures.end,
-        ap length c.as_slice-in-loop-count.ensures.value,
+        ap length c.as_slice-in-loop-before.ensures.value,
       );
       cut = subst (AreStretches 0 to) (sym c.in_ok-push.ensures.items)
-          (stretch_more 0 from c.loop-count.stretches.items s c.loop-count.invariant.cut refl
+          (stretch_more 0 from c.loop-before.stretches.items s c.loop-before.invariant.cut refl
           c.place_of_load-to.ensures.from);
     }
 
 pub returns : goal.returns
 returns c =
-    let from = c.loop-count.from in
+    let from = c.loop-before.from in
     let to = length c.args.objects.now in
     let s : Stretch = record { from = from; to = to } in
     subst (AreStretches 0 to) (sym c.in_ok-push-2.ensures.items)
-    (stretch_more 0 from c.loop-count.stretches.items s c.loop-count.invariant.cut refl
-    (omega (arith, c.loop-count.invariant.within, c.in_ok-loads.ensures)))
+    (stretch_more 0 from c.loop-before.stretches.items s c.loop-before.invariant.cut refl
+    (omega (arith, c.loop-before.invariant.within, c.in_ok-loads.ensures)))

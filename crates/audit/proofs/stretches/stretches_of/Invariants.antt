@@ -2,8 +2,8 @@ use Rattle.std.proofs.Common.{◌≤◌, length}
 use Rattle.audit.specs.Stretches.{AreStretches}
 use Rattle.audit.proofs.stretches.stretches_of.Given as goal
 
-abbrev pub invariant-loop-count : goal.invariant-loop-count
-invariant-loop-count l = record {
+abbrev pub invariant-loop-before : goal.invariant-loop-before
+invariant-loop-before l = record {
   within : l.from ≤ length l.loads.items;
   cut : AreStretches 0 l.from l.stretches.items;
 }

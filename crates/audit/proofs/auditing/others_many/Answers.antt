@@ -2,7 +2,7 @@ use Rattle.std.proofs.Common.{List, length, subst}
 use Rattle.audit.specs.declared.picture.Portrait.{Portrait}
 use Rattle.audit.specs.Entries.{AreWays}
 use Rattle.audit.proofs.Listed.{at_ok}
-use Rattle.audit.proofs.auditing.prepared.Goals as goal
+use Rattle.audit.proofs.auditing.others_many.Goals as goal
 
 pub returns : goal.returns
 returns g c =
