@@ -10,8 +10,8 @@ use Rattle.harp_cells.specs.Effect.{is_cell}
 use Rattle.harp_cells.proofs.CellLemmas.{is_cell_true}
 use Rattle.store_folder.specs.Files.{FileStep, Told, after_steps}
 use Rattle.store_folder.specs.Journal.{BringsUp, Made, Settles, cell_step, cell_steps}
-use Rattle.store_folder.specs.Waiting.{waits}
-use Rattle.store_folder.specs.declared.waiting.Waiting.{Waiting}
+use Rattle.store_journal.specs.Waiting.{waits}
+use Rattle.store_journal.specs.declared.waiting.Waiting.{Waiting}
 use Rattle.store_folder.proofs.SyncLaws.{after_append, after_none}
 
 abbrev Waits : Type 0

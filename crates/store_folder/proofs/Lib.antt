@@ -6,8 +6,6 @@ mod BlockLaws
 mod CoverLaws
 mod SeenLaws
 mod SyncLaws
-mod WaitLaws
-mod FrameLaws
 mod BringLaws
 mod MarkCodec
 mod MarkLaws

@@ -7,11 +7,11 @@ use Rattle.harp_cells.specs.declared.change.Change.{Change}
 use Rattle.harp_cells.specs.Effect.{key}
 use Rattle.harp_cells.specs.ValueBytes.{value_bytes}
 use Rattle.store_folder.specs.Files.{AppendsPart, FileStep, Replaced, Appended, Removed, SyncedFolder, Told, after_steps}
-use Rattle.store_folder.specs.JournalFile.{entry_bytes}
+use Rattle.store_journal.specs.JournalFile.{entry_bytes}
 use Rattle.store_folder.specs.Names.{cell_name, in_folder}
-use Rattle.store_folder.specs.Waiting.{Adds, AddsPart, changes_in, waits}
+use Rattle.store_journal.specs.Waiting.{Adds, AddsPart, changes_in, waits}
 use Rattle.store_folder.specs.declared.journal.Journal.{Journal}
-use Rattle.store_folder.specs.declared.waiting.Waiting.{Waiting}
+use Rattle.store_journal.specs.declared.waiting.Waiting.{Waiting}
 
 abbrev pub journal_path : List ℕ → List ℕ
 journal_path folder = in_folder folder (codes "journal")

@@ -2,8 +2,6 @@ pub mod CellFile
 pub mod MarkFile
 pub mod Unsynced
 pub mod Files
-pub mod JournalFile
-pub mod Waiting
 pub mod Journal
 pub mod Sync
 pub mod Store

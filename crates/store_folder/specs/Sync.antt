@@ -12,7 +12,7 @@ use Rattle.store_folder.specs.Journal.{BringsUp, Journals, JournalsPart, journal
 use Rattle.store_folder.specs.MarkFile.{IsMarkFile, mark_bytes}
 use Rattle.store_folder.specs.Names.{cell_name, in_folder}
 use Rattle.store_folder.specs.Unsynced.{Pending, is_cut, is_stored, is_touched, made_of}
-use Rattle.store_folder.specs.Waiting.{NothingWaits, TakesUp}
+use Rattle.store_journal.specs.Waiting.{NothingWaits, TakesUp}
 use Rattle.store_folder.specs.declared.journal.Journal.{Journal}
 
 -- how many files of cells are brought up at a sync

@@ -11,13 +11,13 @@ ghost use Rattle.store_folder.specs.Unsynced.{HasBlocks};
 
 use crate::cell_file::{LONGEST_FILE, read_cell_file, write_cell_file};
 use crate::disk_files::DiskFiles;
-use crate::journal_file::LONGEST_JOURNAL;
 use crate::mark_file::{LONGEST_MARK, read_mark_file, write_mark_file};
 use crate::names::{block_named, cell_path, journal_path, mark_path, new_path};
 use crate::unsynced::Unsynced;
 use harp_cells::{Cell, Key, Value};
 use harp_store::{Mark, StoreFault};
 use std::alloc::Global;
+use store_journal::LONGEST_JOURNAL;
 
 /// The blocks that the folder has are added.
 pub fn list_blocks<F: DiskFiles>(

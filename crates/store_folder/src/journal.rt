@@ -3,18 +3,19 @@
 ghost use Rattle.std.specs.Prelude.{◌≡◌, ◌≤◌, ◌++◌, IfOk, IsSome, OnOk, OnErr, None, Some, option_map, ◌==◌, if◌then◌else◌};
 ghost use Rattle.store_folder.specs.Files.{AppendsPart, after_steps};
 ghost use Rattle.store_folder.specs.Journal.{BeginsPart, BringsUp, Journals, JournalsPart, Writes, WritesPart, entry_steps, journal_path as journal_at, new_steps};
-ghost use Rattle.store_folder.specs.JournalFile.{entry_bytes};
+ghost use Rattle.store_journal.specs.JournalFile.{entry_bytes};
 ghost use Rattle.store_folder.specs.Sync.{IsJournalOf, at_once};
-ghost use Rattle.store_folder.specs.Waiting.{NothingWaits, changes_in};
+ghost use Rattle.store_folder.specs.Unsynced.{HasBlocks};
+ghost use Rattle.store_journal.specs.Waiting.{NothingWaits, changes_in};
 
 use crate::disk_files::DiskFiles;
 use crate::folder;
-use crate::journal_file::{take_up, write_entry};
 use crate::names::{journal_path, new_path};
-use crate::waiting::{Waiting, add_copies};
-use harp_cells::Change;
+use crate::unsynced::Unsynced;
+use harp_cells::{Cell, Change};
 use harp_store::StoreFault;
-use std::alloc::Global;
+use std::alloc::{AllocError, Global};
+use store_journal::{Waiting, add_copies, take_up, write_entry};
 
 /// How many files of cells are brought up at a sync, each with a sync of its own.
 const AT_ONCE: usize = 32;
@@ -87,6 +88,22 @@ fn whole_length(end: usize, length: usize) -> Option<u64>
     }
 }
 
+// The disk has the block that a change puts, where it puts one.
+fn add_block_of(change: &Change, unsynced: &mut Unsynced) -> Result<(), AllocError>
+    ensures same { unsynced.new ≡ record unsynced.old { blocks = unsynced.new.blocks } }
+    ensures blocks { HasBlocks unsynced.old unsynced.new }
+{
+    match change {
+        Change::Put {
+            cell: Cell::Block { object, block },
+            ..
+        } => unsynced.add_block(*object, *block),
+        Change::Put { .. } => Ok(()),
+        Change::Erase { .. } => Ok(()),
+        Change::EraseFrom { .. } => Ok(()),
+    }
+}
+
 impl Journal {
     /// A journal that isn't there.
     pub fn new(alloc: Global) -> Journal
@@ -111,6 +128,17 @@ impl Journal {
         let end = take_up(alloc, &bytes, &mut journal.waiting)?;
         journal.length = whole_length(end, bytes.len());
         Ok(journal)
+    }
+
+    /// The disk has the blocks for which values wait.
+    pub fn add_blocks(&self, unsynced: &mut Unsynced) -> Result<(), AllocError>
+        ensures same { unsynced.new ≡ record unsynced.old { blocks = unsynced.new.blocks } }
+        ensures blocks { HasBlocks unsynced.old unsynced.new }
+    {
+        for (_, change) in self.waiting.iter() {
+            add_block_of(change, unsynced)?;
+        }
+        Ok(())
     }
 
     // How long the journal may be without being begun anew.

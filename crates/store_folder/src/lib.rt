@@ -37,14 +37,12 @@ mod disk_files;
 mod files;
 mod folder;
 mod journal;
-mod journal_file;
 mod mark_fields;
 mod mark_file;
 mod names;
 mod store;
 mod syncing;
 mod unsynced;
-mod waiting;
 
 pub use cell_file::{LONGEST_FILE, read_cell_file, write_cell_file};
 pub use disk_files::DiskFiles;

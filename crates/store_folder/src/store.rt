@@ -6,7 +6,7 @@ ghost use Rattle.harp_cells.specs.declared.change.Change.TheVariants as change;
 ghost use Rattle.store_folder.specs.Sync.{Attaches, Detaches, MaySync, ReadsHere, ReadsMarkHere, SyncsAll, SyncsSome, WritesMark, WritesMarkPart, made_over};
 ghost use Rattle.store_folder.specs.Unsynced.{GainsBlock, HasBlocks, IsAlike, IsChanged, IsNothing, made_of};
 ghost use Rattle.store_folder.specs.Store.{beside, files_of, folder_of, journal_of, store_faults, unsynced_of};
-ghost use Rattle.store_folder.specs.Waiting.{NothingWaits, waits};
+ghost use Rattle.store_journal.specs.Waiting.{NothingWaits, waits};
 
 use crate::disk_files::DiskFiles;
 use crate::files::SystemFiles;
@@ -144,7 +144,7 @@ impl<F: DiskFiles + Drop> FolderStore<F> {
         folder::list_blocks(&self.files, alloc, path, &mut self.unsynced)?;
         let found = folder::read_journal(&self.files, alloc, path)?;
         let journal = Journal::of(alloc, found)?;
-        journal.waiting.add_blocks(&mut self.unsynced)?;
+        journal.add_blocks(&mut self.unsynced)?;
         Ok(journal)
     }
 

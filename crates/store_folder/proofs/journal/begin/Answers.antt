@@ -1,7 +1,7 @@
 use Rattle.std.proofs.Common.{rules, ◌≡◌, [], ◌∷◌, ◌∙◌}
 use Rattle.store_folder.specs.Files.{Replaced, SyncedFolder, after_steps}
 use Rattle.store_folder.specs.Journal.{BeginsPart, journal_path}
-use Rattle.store_folder.specs.JournalFile.{entry_bytes}
+use Rattle.store_journal.specs.JournalFile.{entry_bytes}
 use Rattle.store_folder.proofs.SeenLaws.{on_err}
 use Rattle.store_folder.proofs.SyncLaws.{two_steps}
 use Rattle.store_folder.proofs.journal.begin.Goals as goal

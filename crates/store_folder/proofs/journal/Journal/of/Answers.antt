@@ -1,6 +1,6 @@
 use Rattle.std.proofs.Common.{◌≡◌, ◌==◌, ℕ, List, Some, None, length, refl, sym, ap, subst, ◌∙◌, arith}
 use Rattle.std.specs.Bool.{if◌then◌else◌}
-use Rattle.store_folder.specs.Waiting.{TakesUp}
+use Rattle.store_journal.specs.Waiting.{TakesUp}
 use Rattle.store_folder.proofs.journal.Journal.of.Goals as goal
 
 pub returns-in_default : goal.returns-in_default

@@ -2,7 +2,7 @@ use Rattle.std.proofs.Common.{◌≡◌, [], ◌∷◌, ℕ, List, Some, Option,
 use Rattle.store_folder.specs.Files.{SyncedFolder, Told, after_steps}
 use Rattle.store_folder.specs.Store.{files_of}
 use Rattle.store_folder.specs.Sync.{MaySync}
-use Rattle.store_folder.specs.Waiting.{NothingWaits}
+use Rattle.store_journal.specs.Waiting.{NothingWaits}
 use Rattle.store_folder.specs.declared.journal.Journal.{Journal}
 use Rattle.store_folder.proofs.SeenLaws.{on_err}
 use Rattle.store_folder.proofs.store.FolderStore.try_attach.Goals as goal
