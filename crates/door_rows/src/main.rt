@@ -10,16 +10,23 @@
 //!   (`memory`), or fails (`failed`);
 //! - `source N`, `sink N`: the call with this number, from 1, fails;
 //! - `serve UID GID NAME`: the input is served for a user and a group. The name and how it ended
-//!   are written, who asked the group which calls, and what was written to the sink.
+//!   are written, who asked the group which calls, and what was written to the sink;
+//! - `from KIND N HEX`: a source of these bytes, of which four reads of two bytes are written. In
+//!   `memory` its call N fails; a `reader` of std gives them; a `broken` one fails always;
+//! - `into KIND N HEX`: a sink that is given nothing, and then each of these bytes. In `memory` its
+//!   call N fails, and what was written is told; a `writer` of std takes them; a `broken` one takes
+//!   nothing.
 #![tactic(auto)]
 
 mod group;
 mod rows;
 mod stream;
+mod streams;
 mod words;
 
 use crate::rows::{put_answer, put_meaning};
 use crate::stream::Stream;
+use crate::streams::{put_sink, put_source};
 use std::alloc::{AllocError, Global};
 use std::io::{self, BufRead, BufReader};
 
@@ -31,6 +38,8 @@ fn outcome(alloc: Global, stream: &mut Stream, row: &str) -> Result<String, Allo
         "read" => put_meaning(alloc, &mut out, rest)?,
         "write" => put_answer(alloc, &mut out, rest)?,
         "serve" => stream.serve(alloc, &mut out, rest)?,
+        "from" => put_source(alloc, &mut out, rest)?,
+        "into" => put_sink(alloc, &mut out, rest)?,
         _ => stream.take(alloc, word, rest)?,
     }
     Ok(out)

@@ -1,6 +1,7 @@
 //! Inputs that are served.
 
 use crate::group::ToldGroup;
+use crate::streams::fails;
 use crate::words::{bytes_of, put_bytes, reply_of};
 use harp_types::{Bytes, Cred, MemSink, MemSource};
 use rpc_door::{DoorFault, GroupFault, serve_rpc};
@@ -16,13 +17,6 @@ pub(crate) struct Stream {
     source: u64,
     /// The same of the sink's calls.
     sink: u64,
-}
-
-/// This call alone fails.
-fn fails(alloc: Global, number: u64) -> Result<Vec<u64>, AllocError> {
-    let mut numbers = Vec::new(alloc);
-    numbers.push(number)?;
-    Ok(numbers)
 }
 
 /// How a door ended.

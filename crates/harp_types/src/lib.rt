@@ -31,8 +31,6 @@ mod server;
 mod standard;
 mod state;
 mod streams;
-#[cfg(test)]
-mod tests;
 mod trio;
 mod update;
 
