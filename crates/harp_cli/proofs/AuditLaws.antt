@@ -10,8 +10,8 @@ use Rattle.file_tree.specs.Book.{Entry}
 use Rattle.tree_listing.specs.declared.listing.Listing.{Listing}
 use Rattle.volatile_log.specs.Log.{LogValue}
 use Rattle.harp_cli.specs.Audit.{VerdictEnds, WritesTree}
-use Rattle.harp_cli.specs.declared.exit.Exit.{Exit}
-use Rattle.harp_cli.specs.declared.exit.Exit.TheVariants as exit
+use Rattle.play_commands.specs.declared.exit.Exit.{Exit}
+use Rattle.play_commands.specs.declared.exit.Exit.TheVariants as exit
 
 text_is : ListingsAreTrees → (list : List Entry) (log : LogValue) (l : Listing)
     → TellsTree list log (verdict.Sound l)

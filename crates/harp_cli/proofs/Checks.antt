@@ -5,10 +5,10 @@ use Rattle.trace_verdict.specs.Verdicts.{IsRightText}
 use Rattle.trace_verdict.specs.declared.verdict.Verdict.{Verdict}
 use Rattle.trace_verdict.specs.declared.verdict.Verdict.TheVariants as verdict
 use Rattle.trace_verdict.specs.Texts.{verdict_line}
-use Rattle.harp_cli.specs.declared.exit.Exit.{Exit}
-use Rattle.harp_cli.specs.declared.exit.Exit.TheVariants as exit
+use Rattle.play_commands.specs.declared.exit.Exit.{Exit}
+use Rattle.play_commands.specs.declared.exit.Exit.TheVariants as exit
 use Rattle.harp_cli.specs.Check.{CheckEnds, IsFound, StatusAgrees, exit_after}
-use Rattle.harp_cli.specs.Exit.{status_of}
+use Rattle.play_commands.specs.Exit.{status_of}
 
 -- a verdict that was found and written whole
 pub told : (text : List ℕ) (source before after : Option (List ℕ)) (v : Verdict)

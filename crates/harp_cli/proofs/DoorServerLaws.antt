@@ -6,8 +6,8 @@ use Rattle.node_loop.specs.Scene.{Scene, around_in}
 use Rattle.door_group.specs.declared.fault.ServedFault.TheVariants as served
 use Rattle.door_group.specs.declared.served.Caller.{Caller}
 use Rattle.harp_cli.specs.declared.door_words.Doorway.{Doorway}
-use Rattle.harp_cli.specs.declared.exit.Exit.{Exit}
-use Rattle.harp_cli.specs.Door.{DoorServes}
+use Rattle.play_commands.specs.declared.exit.Exit.{Exit}
+use Rattle.harp_cli.specs.DoorServers.{DoorServes}
 use Rattle.harp_cli.specs.Exit.{exit_of_store}
 
 module _ (caller : Caller) (input : List ℕ) (source before : Option (List ℕ)) (a now : Scene)

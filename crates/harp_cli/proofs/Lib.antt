@@ -5,5 +5,4 @@ pub mod Checks
 pub mod ServeLaws
 pub mod SweepLaws
 pub mod PlayLaws
-pub mod DoorLaws
 pub mod DoorServerLaws

@@ -9,9 +9,10 @@ use Rattle.schedule_play.specs.declared.exit.Exit.{Exit as Played}
 use Rattle.schedule_play.specs.declared.exit.Exit.TheVariants as played
 use Rattle.world.specs.World.{IsWorld, WorldValue}
 use Rattle.world_rules.specs.Spellings.{spellings}
-use Rattle.harp_cli.specs.declared.exit.Exit.{Exit}
-use Rattle.harp_cli.specs.Exit.{status_of}
-use Rattle.harp_cli.specs.Play.{HasPlayed, WroteRightText, exit_of_play, sizes}
+use Rattle.play_commands.specs.declared.exit.Exit.{Exit}
+use Rattle.play_commands.specs.Exit.{status_of}
+use Rattle.play_commands.specs.Play.{HasPlayed, exit_of_play, sizes}
+use Rattle.harp_cli.specs.Accepted.{WroteRightText}
 
 -- the statuses of a play that wrote its whole trace
 abbrev pub TellsWhole : ℕ → Type 0

@@ -13,7 +13,7 @@ use Rattle.node_loop.specs.Cut.{IsCutOff}
 use Rattle.node_loop.specs.Scene.{Around, around, only, start}
 use Rattle.node_loop.specs.declared.fault.LoopFault.{LoopFault}
 use Rattle.node_loop.specs.declared.fault.LoopFault.TheVariants as loop
-use Rattle.harp_cli.specs.declared.exit.Exit.{Exit}
+use Rattle.play_commands.specs.declared.exit.Exit.{Exit}
 use Rattle.harp_cli.specs.declared.loop_words.Loop.{Loop}
 use Rattle.harp_cli.specs.Exit.{exit_of_loop, exit_of_store}
 use Rattle.harp_cli.specs.Serve.{AreCutOff, ServeEnds}

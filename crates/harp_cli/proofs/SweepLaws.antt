@@ -6,7 +6,7 @@ use Rattle.trace_types.specs.declared.step.Step.{Step}
 use Rattle.sweep.specs.Lines.{generated}
 use Rattle.sweep.specs.Runs.{summaries}
 use Rattle.sweep.specs.declared.summary.Summary.{Summary}
-use Rattle.harp_cli.specs.declared.exit.Exit.{Exit}
+use Rattle.play_commands.specs.declared.exit.Exit.{Exit}
 use Rattle.harp_cli.specs.Sweep.{SweepEnds}
 
 pub same_sweep : (summary_of : List Step → Summary) (s k n seed runs lines : ℕ)

@@ -10,8 +10,8 @@ use Rattle.file_tree.specs.Book.{Entry}
 use Rattle.harp_store.specs.Disk.{Moments}
 use Rattle.harp_types.specs.Streams.{GrewByPart}
 use Rattle.volatile_log.specs.Log.{LogValue}
-use Rattle.harp_cli.specs.declared.exit.Exit.{Exit}
-use Rattle.harp_cli.specs.declared.exit.Exit.TheVariants as exit
+use Rattle.play_commands.specs.declared.exit.Exit.{Exit}
+use Rattle.play_commands.specs.declared.exit.Exit.TheVariants as exit
 
 -- how a command ends that has written a verdict
 abbrev pub exit_of_verdict : Verdict → Exit

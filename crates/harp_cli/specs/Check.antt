@@ -6,8 +6,8 @@ use Rattle.trace_verdict.specs.Verdicts.{IsRightText, IsVerdictOn}
 use Rattle.trace_verdict.specs.declared.verdict.Verdict.{Verdict}
 use Rattle.trace_verdict.specs.declared.verdict.Verdict.TheVariants as verdict
 use Rattle.trace_verdict.specs.Texts.{verdict_line}
-use Rattle.harp_cli.specs.declared.exit.Exit.{Exit}
-use Rattle.harp_cli.specs.declared.exit.Exit.TheVariants as exit
+use Rattle.play_commands.specs.declared.exit.Exit.{Exit}
+use Rattle.play_commands.specs.declared.exit.Exit.TheVariants as exit
 
 -- the exit that tells a verdict
 abbrev pub exit_after : Verdict → Exit

@@ -4,8 +4,8 @@ use Rattle.std.specs.Io.KnownBytes.{Appends}
 use Rattle.harp_types.specs.Streams.{GrewByPart}
 use Rattle.sweep.specs.Lines.{generated}
 use Rattle.sweep.specs.Texts.{schedule_text}
-use Rattle.harp_cli.specs.declared.exit.Exit.{Exit}
-use Rattle.harp_cli.specs.declared.exit.Exit.TheVariants as exit
+use Rattle.play_commands.specs.declared.exit.Exit.{Exit}
+use Rattle.play_commands.specs.declared.exit.Exit.TheVariants as exit
 
 -- the schedule of the seed was written whole, or a first part of its text
 abbrev pub GenEnds : ℕ → ℕ → Option (List ℕ) → Option (List ℕ) → Exit → Type 0

@@ -1,10 +1,9 @@
 pub mod Exit
-pub mod Play
-pub mod Observe
+pub mod Accepted
 pub mod Words
 pub mod Check
 pub mod Gen
 pub mod Sweep
 pub mod Serve
 pub mod Audit
-pub mod Door
+pub mod DoorServers

@@ -8,8 +8,8 @@ use Rattle.node_loop.specs.Run.{IsRun}
 use Rattle.node_loop.specs.Scene.{Around, start}
 use Rattle.node_loop.specs.declared.counts.Served.{Served}
 use Rattle.text_spelling.specs.Text.{spaced}
-use Rattle.harp_cli.specs.declared.exit.Exit.{Exit}
-use Rattle.harp_cli.specs.declared.exit.Exit.TheVariants as exit
+use Rattle.play_commands.specs.declared.exit.Exit.{Exit}
+use Rattle.play_commands.specs.declared.exit.Exit.TheVariants as exit
 use Rattle.harp_cli.specs.declared.loop_words.Loop.{Loop}
 use Rattle.harp_cli.specs.Words.{delta_of}
 

@@ -6,8 +6,8 @@ use Rattle.trace_types.specs.declared.step.Step.{Step}
 use Rattle.sweep.specs.Runs.{summaries}
 use Rattle.sweep.specs.declared.summary.Summary.{Summary}
 use Rattle.sweep.specs.Texts.{summaries_text}
-use Rattle.harp_cli.specs.declared.exit.Exit.{Exit}
-use Rattle.harp_cli.specs.declared.exit.Exit.TheVariants as exit
+use Rattle.play_commands.specs.declared.exit.Exit.{Exit}
+use Rattle.play_commands.specs.declared.exit.Exit.TheVariants as exit
 
 -- what the schedules of so many seeds from this one on come to, as text
 abbrev pub swept_text : (List Step → Summary) → ℕ → ℕ → ℕ → List ℕ

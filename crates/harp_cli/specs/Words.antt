@@ -10,8 +10,8 @@ use Rattle.harp_types.specs.declared.server.ServerId.{ServerId}
 use Rattle.node_link.specs.Traffic.{last_port}
 use Rattle.promise.specs.Promise.{IsDelta}
 use Rattle.harp_cli.specs.declared.door_words.Doorway.{Doorway}
-use Rattle.harp_cli.specs.declared.exit.Exit.{Exit}
-use Rattle.harp_cli.specs.declared.exit.Exit.TheVariants as exit
+use Rattle.play_commands.specs.declared.exit.Exit.{Exit}
+use Rattle.play_commands.specs.declared.exit.Exit.TheVariants as exit
 use Rattle.harp_cli.specs.declared.loop_words.Loop.{Loop}
 use Rattle.harp_cli.specs.declared.words.Command.{Command}
 use Rattle.harp_cli.specs.declared.words.Command.TheVariants as command

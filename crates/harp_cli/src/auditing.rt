@@ -8,11 +8,11 @@ ghost use Rattle.harp_types.specs.Streams.{Rose};
 ghost use Rattle.volatile_log.specs.Log.{LogValue};
 ghost use Rattle.harp_cli.specs.Audit.{AuditEnds, VerdictEnds, WritesTree, exit_of_verdict};
 
-use crate::exit::Exit;
 use crate::serve::exit_of_store;
 use audit_verdict::{Verdict, audit_store, verdict_laws, write_verdict};
 use harp_store::Store;
 use harp_types::{Sink, SinkFault};
+use play_commands::Exit;
 use std::alloc::Global;
 use std::thread::Threads;
 

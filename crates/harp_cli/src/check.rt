@@ -4,9 +4,9 @@ ghost use Rattle.std.specs.Prelude.{◌≡◌, ℕ, List, Some};
 ghost use Rattle.harp_types.specs.Streams.{Rose};
 ghost use Rattle.harp_cli.specs.Check.{CheckEnds, EndsCheck, exit_after};
 
-use crate::exit::Exit;
 use harp_types::{Sink, SinkFault, Source};
 use line_reader::ReadFault;
+use play_commands::Exit;
 use std::alloc::Global;
 use trace_verdict::{Verdict, judge_text, write_verdict};
 

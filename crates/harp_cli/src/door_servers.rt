@@ -4,15 +4,15 @@ ghost use Rattle.std.specs.Prelude.{◌≡◌, ◌≤◌, ℕ, List, Some};
 ghost use Rattle.harp_types.specs.Streams.{Rose};
 ghost use Rattle.node_link.specs.Traffic.{last_port};
 ghost use Rattle.node_loop.specs.Scene.{OneRose, each, start};
-ghost use Rattle.harp_cli.specs.Door.{DoorServes, EndsDoor, exit_of_served};
+ghost use Rattle.harp_cli.specs.DoorServers.{DoorServes, EndsDoor, exit_of_served};
 
 use crate::door_words::Doorway;
-use crate::exit::Exit;
 use crate::serve::{attach_all, exit_of_store};
 use door_group::{ServedFault, serve_door};
 use harp_store::Store;
 use harp_types::{Sink, Source, Trio};
 use node_link::{Clock, Link};
+use play_commands::Exit;
 use std::alloc::Global;
 
 /// How a command ends whose door to three servers ended so.

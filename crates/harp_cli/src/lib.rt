@@ -24,15 +24,11 @@
 
 mod auditing;
 mod check;
-mod door;
 mod door_servers;
 mod door_words;
-mod exit;
 mod generate;
 mod loop_words;
 mod number;
-mod observing;
-mod play;
 mod serve;
 mod sweeping;
 mod texts;
@@ -40,6 +36,6 @@ mod top;
 mod word_faults;
 mod words;
 
-pub use exit::Exit;
+pub use play_commands::Exit;
 pub use top::harp;
 pub use word_faults::{Wanted, WordFault, word_fault};

@@ -7,12 +7,12 @@ ghost use Rattle.node_loop.specs.Scene.{NoneFell, OneRose, all_places, around, e
 ghost use Rattle.harp_cli.specs.Exit.{exit_of_loop, exit_of_store};
 ghost use Rattle.harp_cli.specs.Serve.{ServeEnds, WriteEnds, served_line};
 
-use crate::exit::Exit;
 use crate::loop_words::Loop;
 use harp_store::{Store, StoreFault};
 use harp_types::{ServerId, Sink, SinkFault, Trio, write_all};
 use node_link::{Clock, Link};
 use node_loop::{LoopFault, Served, serve_one, serve_three};
+use play_commands::Exit;
 use std::alloc::{AllocError, Global};
 use text_writer::put_named;
 

@@ -4,8 +4,8 @@ ghost use Rattle.std.specs.Prelude.{◌≡◌, ◌+◌, ◌<◌, ◌^◌};
 ghost use Rattle.harp_types.specs.Streams.{Rose};
 ghost use Rattle.harp_cli.specs.Sweep.{SweepEnds};
 
-use crate::exit::Exit;
 use harp_types::{Sink, SinkFault};
+use play_commands::Exit;
 use std::alloc::Global;
 use std::thread::Threads;
 use sweep::{Player, sweep_many, write_summaries};

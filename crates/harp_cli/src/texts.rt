@@ -10,7 +10,7 @@ ghost use Rattle.trace_claims.specs.Right.{IsRight};
 ghost use Rattle.trace_claims.specs.Trace.{AtEachPlace, entries, steps};
 ghost use Rattle.trace_laws.specs.FirstParts.{FirstPartsAreRight};
 ghost use Rattle.trace_laws.specs.Laws.{StandsInGroup};
-ghost use Rattle.harp_cli.specs.Play.{sizes};
+ghost use Rattle.play_commands.specs.Play.{sizes};
 
 use schedule_play::every_text;
 use trace_claims::faithful_is_linearizable;

@@ -6,10 +6,10 @@ ghost use Rattle.harp_cli.specs.declared.words.Command.{Command as Asked};
 ghost use Rattle.harp_cli.specs.Words.{AsksFor, IsForm, Named, UsageEnds, texts, usage_text};
 
 use crate::door_words::{Doorway, door_of};
-use crate::exit::Exit;
 use crate::loop_words::{Loop, group_of, node_of};
 use crate::number::number_within;
 use harp_types::{ServerId, Sink, SinkFault, write_all};
+use play_commands::Exit;
 
 /// The greatest seed of a schedule.
 pub(crate) const LAST_SEED: u64 = 999_999_999_999_999_999;

@@ -1,5 +1,5 @@
 use Rattle.schedule_play.specs.Trace.{trace_of}
-use Rattle.harp_cli.specs.Play.{sizes}
+use Rattle.play_commands.specs.Play.{sizes}
 use Rattle.harp_cli.proofs.texts.linearizable_texts.Goals as goal
 
 pub returns : goal.returns

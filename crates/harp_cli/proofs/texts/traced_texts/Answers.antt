@@ -1,4 +1,4 @@
-use Rattle.harp_cli.specs.Play.{sizes}
+use Rattle.play_commands.specs.Play.{sizes}
 use Rattle.harp_cli.proofs.texts.traced_texts.Goals as goal
 
 pub returns-clause-taken : goal.returns-clause-taken

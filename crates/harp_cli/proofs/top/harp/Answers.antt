@@ -1,9 +1,9 @@
 use Rattle.std.proofs.Common.{ap, arith, rules, inl, inr, refl, subst, sym, ◌∙◌}
-use Rattle.harp_cli.specs.Play.{sizes}
+use Rattle.play_commands.specs.Play.{sizes}
 use Rattle.sweep_player.specs.Reading.{summary_of_steps}
 use Rattle.harp_cli.specs.declared.words.Command.TheVariants as command
 use Rattle.harp_cli.specs.Check.{StatusAgrees}
-use Rattle.harp_cli.specs.Exit.{status_of}
+use Rattle.play_commands.specs.Exit.{status_of}
 use Rattle.node_loop.specs.Scene.{all_places}
 use Rattle.harp_cli.specs.Gen.{GenEnds}
 use Rattle.harp_cli.specs.Words.{AsksFor}
@@ -11,7 +11,7 @@ use Rattle.harp_cli.proofs.Checks.{agrees}
 use Rattle.harp_cli.proofs.PlayLaws.{TellsWhole, wrote_right}
 use Rattle.harp_cli.proofs.ServeLaws.{node_ends, same_ends}
 use Rattle.harp_cli.proofs.SweepLaws.{same_sweep}
-use Rattle.harp_cli.proofs.DoorLaws.{same_door}
+use Rattle.play_commands.proofs.DoorLaws.{same_door}
 use Rattle.harp_cli.proofs.DoorServerLaws.{same_servers}
 use Rattle.harp_cli.proofs.DoorWordLaws.{one_door, one_door_play}
 use Rattle.harp_cli.proofs.WordLaws.{one_gen, one_group, one_node, one_sweep}

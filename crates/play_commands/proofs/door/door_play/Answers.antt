@@ -1,6 +1,6 @@
 use Rattle.std.proofs.Common.{subst, sym}
-use Rattle.harp_cli.specs.Door.{DoorPlayed}
-use Rattle.harp_cli.proofs.door.door_play.Goals as goal
+use Rattle.play_commands.specs.Door.{DoorPlayed}
+use Rattle.play_commands.proofs.door.door_play.Goals as goal
 
 pub returns-clause-ends : goal.returns-clause-ends
 returns-clause-ends g c = λ input left.

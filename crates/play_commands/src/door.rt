@@ -4,7 +4,7 @@ ghost use Rattle.std.specs.Prelude.{◌≡◌, ℕ, List, Some};
 ghost use Rattle.harp_types.specs.Streams.{Rose};
 ghost use Rattle.group_trace.specs.DiskRun.{first_disk_scene};
 ghost use Rattle.world.specs.World.{IsWorld};
-ghost use Rattle.harp_cli.specs.Door.{DoorPlayed, EndsDoorPlay, exit_of_door};
+ghost use Rattle.play_commands.specs.Door.{DoorPlayed, EndsDoorPlay, exit_of_door};
 
 use crate::exit::Exit;
 use door_play::PlayedGroup;

@@ -9,8 +9,8 @@ ghost use Rattle.observed_text.specs.Grammar.{ExplainsObserved};
 ghost use Rattle.observed_text.specs.Reading.{observed_meaning};
 ghost use Rattle.schedule_play.specs.Exit.{whole_exit};
 ghost use Rattle.world.specs.World.{IsWorld};
-ghost use Rattle.harp_cli.specs.Observe.{HasObserved};
-ghost use Rattle.harp_cli.specs.Play.{EndsPlay, exit_of_play, sizes};
+ghost use Rattle.play_commands.specs.Observe.{HasObserved};
+ghost use Rattle.play_commands.specs.Play.{EndsPlay, exit_of_play, sizes};
 
 use crate::exit::Exit;
 use harp_types::{Sink, Source};

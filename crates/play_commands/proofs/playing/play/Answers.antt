@@ -1,6 +1,6 @@
 use Rattle.std.proofs.Common.{ap, inl, inr, ◌∙◌}
-use Rattle.harp_cli.specs.Play.{exit_of_play}
-use Rattle.harp_cli.proofs.play.play.Goals as goal
+use Rattle.play_commands.specs.Play.{exit_of_play}
+use Rattle.play_commands.proofs.playing.play.Goals as goal
 
 pub returns-clause-complete : goal.returns-clause-complete
 returns-clause-complete g c = λ text told source sink.

@@ -5,8 +5,8 @@ use Rattle.observe_play.specs.Ends.{ObserveEnds}
 use Rattle.schedule_play.specs.declared.exit.Exit.{Exit as Played}
 use Rattle.world.specs.World.{IsWorld, WorldValue}
 use Rattle.world_rules.specs.Spellings.{spellings}
-use Rattle.harp_cli.specs.declared.exit.Exit.{Exit}
-use Rattle.harp_cli.specs.Play.{exit_of_play}
+use Rattle.play_commands.specs.declared.exit.Exit.{Exit}
+use Rattle.play_commands.specs.Play.{exit_of_play}
 
 -- the play of an observed text ended so, in this world
 pub record HasObserved (text : List ℕ) (source before after : Option (List ℕ)) (world : WorldValue)

@@ -1,6 +1,6 @@
 use Rattle.observed_text.proofs.ObservedLaws.{explained_observed}
-use Rattle.harp_cli.specs.Play.{sizes}
-use Rattle.harp_cli.proofs.observing.observed_texts.Goals as goal
+use Rattle.play_commands.specs.Play.{sizes}
+use Rattle.play_commands.proofs.observing.observed_texts.Goals as goal
 
 pub returns-clause-meaning : goal.returns-clause-meaning
 returns-clause-meaning c = explained_observed

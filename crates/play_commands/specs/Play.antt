@@ -1,6 +1,5 @@
 -- How a play of a schedule ends, on three servers with the disks and the packets of real ones.
 use Rattle.std.specs.Prelude.{◌≡◌, ℕ, List, Option, ⊤}
-use Rattle.std.specs.Io.KnownBytes.{Appends}
 use Rattle.group_trace.specs.DiskCalls.{measures_of}
 use Rattle.schedule_play.specs.Ends.{PlayEnds}
 use Rattle.schedule_play.specs.declared.exit.Exit.{Exit as Played}
@@ -8,9 +7,8 @@ use Rattle.schedule_play.specs.declared.exit.Exit.TheVariants as played
 use Rattle.group_trace.specs.Scene.{Measures}
 use Rattle.world.specs.World.{IsWorld, WorldValue}
 use Rattle.world_rules.specs.Spellings.{spellings}
-use Rattle.trace_verdict.specs.Verdicts.{IsRightText}
-use Rattle.harp_cli.specs.declared.exit.Exit.{Exit}
-use Rattle.harp_cli.specs.declared.exit.Exit.TheVariants as exit
+use Rattle.play_commands.specs.declared.exit.Exit.{Exit}
+use Rattle.play_commands.specs.declared.exit.Exit.TheVariants as exit
 
 -- the numbers of bytes of the records and messages of these servers
 abbrev pub sizes : Measures
@@ -30,12 +28,6 @@ pub record HasPlayed (text : List ℕ) (source before after : Option (List ℕ))
   pub ended : Played
   pub exit_is : e ≡ exit_of_play ended
   pub ends : PlayEnds spellings text source before after (λ w. IsWorld w world) ended
-
--- a text was written of which `check` says yes
-pub record WroteRightText (before after : Option (List ℕ)) : Type 0 where
-  pub text : List ℕ
-  pub wrote : Appends before after text
-  pub right : IsRightText text
 
 -- a play can end so
 abbrev pub EndsPlay : Exit → Type 0

@@ -1,7 +1,7 @@
 //! How a command ends.
 
 ghost use Rattle.std.specs.Prelude.{◌≡◌};
-ghost use Rattle.harp_cli.specs.Exit.{status_of};
+ghost use Rattle.play_commands.specs.Exit.{status_of};
 
 /// How a command ended.
 #[derive(Clone, Copy, PartialEq, Eq)]

@@ -4,9 +4,9 @@ use Rattle.door_play.specs.Told.{GivesUp, HasTold}
 use Rattle.rpc_door.specs.Serving.{side}
 use Rattle.world.specs.World.{IsWorld, clocks_in}
 use Rattle.world_rules.specs.Spellings.{spellings}
-use Rattle.harp_cli.specs.Door.{DoorPlayed}
-use Rattle.harp_cli.proofs.DoorLaws.{has_bytes, not_spent, played}
-use Rattle.harp_cli.proofs.door.serve_played.Goals as goal
+use Rattle.play_commands.specs.Door.{DoorPlayed}
+use Rattle.play_commands.proofs.DoorLaws.{has_bytes, not_spent, played}
+use Rattle.play_commands.proofs.door.serve_played.Goals as goal
 
 pub returns-in-Ok-clause-ends : goal.returns-in-Ok-clause-ends
 returns-in-Ok-clause-ends g c = λ input left.

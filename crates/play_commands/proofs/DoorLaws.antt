@@ -16,8 +16,8 @@ use Rattle.rpc_door.specs.declared.group.GroupFault.TheVariants as group
 use Rattle.rpc_door.proofs.TellLaws.{AreFew, Leaves, Says, door_ends}
 use Rattle.world.specs.World.{IsWorld, WorldValue}
 use Rattle.world_rules.specs.Spellings.{spellings}
-use Rattle.harp_cli.specs.declared.exit.Exit.{Exit}
-use Rattle.harp_cli.specs.Door.{Answered, AnsweredIn, DoorPlayed, GivenUpIn, exit_of_door}
+use Rattle.play_commands.specs.declared.exit.Exit.{Exit}
+use Rattle.play_commands.specs.Door.{Answered, AnsweredIn, DoorPlayed, GivenUpIn, exit_of_door}
 
 -- the number of a message's form is a byte
 pub has_bytes : HasBytes (measures_of spellings)

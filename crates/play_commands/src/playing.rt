@@ -6,7 +6,7 @@ ghost use Rattle.group_trace.specs.DiskRun.{first_disk_scene};
 ghost use Rattle.schedule_play.specs.Exit.{whole_exit};
 ghost use Rattle.schedule_play.specs.Reading.{reading};
 ghost use Rattle.world.specs.World.{IsWorld};
-ghost use Rattle.harp_cli.specs.Play.{EndsPlay, HasPlayed, exit_of_play, sizes};
+ghost use Rattle.play_commands.specs.Play.{EndsPlay, HasPlayed, exit_of_play, sizes};
 
 use crate::exit::Exit;
 use harp_types::{Sink, Source};
@@ -14,7 +14,7 @@ use std::alloc::Global;
 use world::World;
 
 impl From<schedule_play::Exit> for Exit {
-    ghost use Rattle.harp_cli.specs.Play.{exit_of_play};
+    ghost use Rattle.play_commands.specs.Play.{exit_of_play};
 
     ghost from_gives = { λ ended exit. exit ≡ exit_of_play ended };
 

@@ -1,0 +1,4 @@
+pub mod Exit
+pub mod Play
+pub mod Observe
+pub mod Door
