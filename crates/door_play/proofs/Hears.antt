@@ -18,7 +18,7 @@ use Rattle.schedule_play.specs.Reading.{Reading, then_read, unless_refused, with
 use Rattle.schedule_play.specs.Stage.{IsReached, IsRefused, IsTaken, fault_of}
 use Rattle.schedule_play.proofs.Runs.{disk_more, disk_scene, reached, run-append, run_lines-append}
 use Rattle.schedule_play.proofs.TakenLaws.{taken-more}
-use Rattle.door_laws.specs.Replies.{answers_in}
+use Rattle.door_play.specs.Replies.{answers_in}
 use Rattle.door_play.specs.OnTheWay.{HasHeard, HasStopped, as_list}
 
 -- ---- answers

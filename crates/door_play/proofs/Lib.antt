@@ -1,3 +1,13 @@
+pub mod Servers
+pub mod Scenes
+pub mod Answered
+pub mod Readings
+pub mod Ready
+pub mod ReadCalls
+pub mod Upkeep
+pub mod Opening
+pub mod Door
+pub mod Forms
 pub mod Hears
 pub mod Pumps
 pub mod Tells

@@ -16,7 +16,7 @@ use Rattle.schedule_play.proofs.Runs.{disk_scene, reached}
 use Rattle.group_rules.specs.Places.{Place, Trio, Zero, One, Two, get}
 use Rattle.schedule_play.specs.Stage.{AreReadings, clocks_after}
 use Rattle.door_play.specs.OnTheWay.{AreReadable, HasHeard, clocks_behind, taken_then}
-use Rattle.door_laws.specs.Steps.{opening}
+use Rattle.door_play.specs.Steps.{opening}
 use Rattle.door_play.proofs.Hears.{hears}
 
 -- ---- one step

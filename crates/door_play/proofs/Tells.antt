@@ -17,10 +17,10 @@ use Rattle.group_trace.specs.DiskRun.{DiskScene, disk_run, first_disk_scene}
 use Rattle.rpc_door.specs.declared.group.Exchange.{Exchange}
 use Rattle.rpc_door.specs.Results.{is_reply_to}
 use Rattle.schedule_play.specs.Reading.{Reading, all_read, then_read, unless_refused, with_steps}
-use Rattle.door_laws.specs.Played.{HasAnswered, HasGivenUp, calls_of, reading_of_calls}
-use Rattle.door_laws.specs.Replies.{answers_in, numbered_from, replies_from, replies_to, stamp}
-use Rattle.door_laws.specs.Steps.{cut, opening, steps_of_call, taken_from}
-use Rattle.door_laws.specs.Laws.{AnswersAreReplies, HasBytes, OneCallMore, OnlyFullNetRefuses, ReadStepsAreTaken, RepliesFit}
+use Rattle.door_play.specs.Played.{HasAnswered, HasGivenUp, calls_of, reading_of_calls}
+use Rattle.door_play.specs.Replies.{answers_in, numbered_from, replies_from, replies_to, stamp}
+use Rattle.door_play.specs.Steps.{cut, opening, steps_of_call, taken_from}
+use Rattle.door_play.specs.Laws.{AnswersAreReplies, HasBytes, OneCallMore, OnlyFullNetRefuses, ReadStepsAreTaken, RepliesFit}
 use Rattle.door_play.specs.OnTheWay.{HasHeard, HasStopped, taken_then}
 use Rattle.door_play.specs.Told.{AreOf, HasTold, HasToldOf}
 

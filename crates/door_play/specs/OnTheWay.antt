@@ -11,7 +11,7 @@ use Rattle.group_trace.specs.DiskCalls.{Spellings, measures_of}
 use Rattle.group_trace.specs.DiskRun.{DiskScene, disk_run, first_disk_scene}
 use Rattle.schedule_play.specs.Reading.{Reading, then_read, with_steps}
 use Rattle.schedule_play.specs.Stage.{AreReadings, clocks_after}
-use Rattle.door_laws.specs.Replies.{answers_in}
+use Rattle.door_play.specs.Replies.{answers_in}
 use Rattle.door_play.specs.declared.stepping.Stop.{Stop}
 use Rattle.door_play.specs.declared.stepping.Stop.TheVariants.{Refused, NoMemory}
 

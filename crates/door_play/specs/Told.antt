@@ -8,8 +8,8 @@ use Rattle.group_trace.specs.DiskRun.{DiskScene}
 use Rattle.rpc_door.specs.declared.group.Exchange.{Exchange}
 use Rattle.rpc_door.specs.declared.group.GroupFault.{GroupFault}
 use Rattle.rpc_door.specs.declared.group.GroupFault.TheVariants.{Failed}
-use Rattle.door_laws.specs.Laws.{HasBytes}
-use Rattle.door_laws.specs.Played.{HasAnswered, HasGivenUp, IsLeft, calls_of}
+use Rattle.door_play.specs.Laws.{HasBytes}
+use Rattle.door_play.specs.Played.{HasAnswered, HasGivenUp, IsLeft, calls_of}
 
 -- each of these calls was made by this user and group, and there are fewer than 2^62
 pub record AreOf (cred : Cred) (made : List Exchange) : Type 0 where

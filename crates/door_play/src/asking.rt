@@ -1,7 +1,7 @@
 //! The steps of a door.
 
 ghost use Rattle.std.specs.Prelude.{◌≡◌, ◌++◌, IfOk, OnOk};
-ghost use Rattle.door_laws.specs.Steps.{opening, steps_of_call, upkeep};
+ghost use Rattle.door_play.specs.Steps.{opening, steps_of_call, upkeep};
 
 use crate::cutting::cut;
 use harp_types::{Call, Cred, ServerId};

@@ -1,7 +1,7 @@
 //! Calls with their modes cut.
 
 ghost use Rattle.std.specs.Prelude.{◌≡◌};
-ghost use Rattle.door_laws.specs.Steps.{cut, cut_attr, cut_mode};
+ghost use Rattle.door_play.specs.Steps.{cut, cut_attr, cut_mode};
 
 use harp_types::{Call, SetAttr};
 

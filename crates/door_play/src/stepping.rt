@@ -10,7 +10,7 @@ ghost use Rattle.group_trace.specs.Scene.{Scene};
 ghost use Rattle.schedule_play.specs.OnTheWay.{with_pump};
 ghost use Rattle.schedule_play.specs.Reading.{Reading, with_step, with_steps};
 ghost use Rattle.schedule_play.specs.Stage.{AreReadings, clocks_after};
-ghost use Rattle.door_laws.specs.Replies.{answers_in};
+ghost use Rattle.door_play.specs.Replies.{answers_in};
 ghost use Rattle.door_play.specs.OnTheWay.{AreReadable, HasHeard, StopGives, as_list, clocks_behind, taken_then};
 
 use harp_types::{Reply, ServerId};

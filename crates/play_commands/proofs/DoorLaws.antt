@@ -3,8 +3,8 @@ use Rattle.std.proofs.Common.{◌≡◌, ℕ, List, [], ◌∷◌, ◌++◌, Opt
 use Rattle.std.specs.Prelude.{IfErr, MatchResult, ⊤}
 use Rattle.harp_types.specs.declared.cred.Cred.{Cred}
 use Rattle.group_trace.specs.DiskCalls.{measures_of}
-use Rattle.door_laws.specs.Laws.{HasBytes}
-use Rattle.door_laws.specs.Played.{HasGivenUp, calls_of}
+use Rattle.door_play.specs.Laws.{HasBytes}
+use Rattle.door_play.specs.Played.{HasGivenUp, calls_of}
 use Rattle.door_play.specs.Told.{AreOf, GivesUp, HasTold}
 use Rattle.rpc_door.specs.Group.{Tells}
 use Rattle.rpc_door.specs.Serving.{DoorEnds, IsCaused, RunsAfter, Side, closed, faults, most_records, of_group, side}

@@ -1,7 +1,7 @@
 -- How doors to servers in memory end.
 use Rattle.std.specs.Prelude.{◌≡◌, ◌⊎◌, ℕ, List, [], ◌∷◌, ◌++◌, Option, Some, Result, Ok, Err, ⊤}
 use Rattle.harp_types.specs.declared.cred.Cred.{Cred}
-use Rattle.door_laws.specs.Played.{HasAnswered, HasGivenUp, IsLeft, calls_of}
+use Rattle.door_play.specs.Played.{HasAnswered, HasGivenUp, IsLeft, calls_of}
 use Rattle.rpc_door.specs.Group.{Tells, Unanswered}
 use Rattle.rpc_door.specs.Serving.{DoorEnds, closed, side}
 use Rattle.rpc_door.specs.declared.fault.DoorFault.{DoorFault}

@@ -1,5 +1,5 @@
 use Rattle.std.proofs.Common.{◌∷◌, [], sym, ap, ◌∙◌}
-use Rattle.door_laws.specs.Replies.{answers_in}
+use Rattle.door_play.specs.Replies.{answers_in}
 use Rattle.door_play.proofs.Hears.{no-answer, this-answer}
 use Rattle.door_play.proofs.stepping.answer_in.Goals as goal
 

@@ -3,7 +3,7 @@ use Rattle.std.proofs.lemmas.Iterator.Adapters.{YieldsList-from_vec}
 use Rattle.std.proofs.lemmas.Iterator.Consumers.{YieldsList-end}
 use Rattle.std.proofs.lemmas.List.{map-id}
 use Rattle.trace_types.specs.declared.line.Line.{Line}
-use Rattle.door_laws.specs.Replies.{answers_in}
+use Rattle.door_play.specs.Replies.{answers_in}
 use Rattle.door_play.proofs.Hears.{answers-none, answers-one, answers-same}
 use Rattle.door_play.proofs.stepping.keep_answers.Goals as goal
 

@@ -1,5 +1,5 @@
 use Rattle.std.proofs.Common.{◌≡◌, ◌++◌}
-use Rattle.door_laws.specs.Replies.{answers_in}
+use Rattle.door_play.specs.Replies.{answers_in}
 use Rattle.door_play.proofs.stepping.keep_answers.Given as goal
 
 abbrev pub invariant-loop-line : goal.invariant-loop-line

@@ -1,5 +1,5 @@
 use Rattle.std.proofs.Common.{◌++◌, append_assoc, sym, ap, subst, ◌∙◌}
-use Rattle.door_laws.specs.Replies.{answers_in}
+use Rattle.door_play.specs.Replies.{answers_in}
 use Rattle.door_play.specs.OnTheWay.{HasHeard, HasStopped}
 use Rattle.door_play.proofs.Hears.{fault-not-memory, hears-on, stops}
 use Rattle.door_play.proofs.stepping.take.Goals as goal

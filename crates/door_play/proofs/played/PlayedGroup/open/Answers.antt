@@ -3,8 +3,8 @@ use Rattle.group_trace.specs.DiskCalls.{measures_of}
 use Rattle.group_trace.specs.DiskRun.{first_disk_scene}
 use Rattle.schedule_play.specs.Reading.{all_read}
 use Rattle.schedule_play.specs.Stage.{AreReadings}
-use Rattle.door_laws.specs.Played.{reading_of_calls}
-use Rattle.door_laws.specs.Steps.{opening}
+use Rattle.door_play.specs.Played.{reading_of_calls}
+use Rattle.door_play.specs.Steps.{opening}
 use Rattle.door_play.specs.OnTheWay.{AreReadable, StopGives}
 use Rattle.door_play.proofs.Pumps.{asks-steps, readable-first, readable-last}
 use Rattle.door_play.proofs.Tells.{DoorLaws, begins, given_up, opened}

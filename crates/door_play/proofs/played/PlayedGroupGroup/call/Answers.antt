@@ -3,9 +3,9 @@ use Rattle.harp_types.specs.declared.cred.Cred.{Cred}
 use Rattle.group_trace.specs.DiskCalls.{measures_of}
 use Rattle.rpc_door.specs.declared.group.Exchange.{Exchange}
 use Rattle.schedule_play.specs.Reading.{all_read}
-use Rattle.door_laws.specs.Played.{HasGivenUp, calls_of, reading_of_calls}
-use Rattle.door_laws.specs.Replies.{numbered_from}
-use Rattle.door_laws.specs.Steps.{steps_of_call}
+use Rattle.door_play.specs.Played.{HasGivenUp, calls_of, reading_of_calls}
+use Rattle.door_play.specs.Replies.{numbered_from}
+use Rattle.door_play.specs.Steps.{steps_of_call}
 use Rattle.door_play.specs.OnTheWay.{HasHeard, StopGives, taken_then}
 use Rattle.door_play.specs.Told.{HasToldOf}
 use Rattle.door_play.proofs.Tells.{DoorLaws, asks, given_up, last_fits, last_of, last_reply, of_before, one_heard, tells_more}

@@ -17,8 +17,8 @@ use Rattle.file_tree.specs.Outcome.{Outcome, add_entry, create, create_again, cr
 use Rattle.file_tree.specs.Rename.{check_target, is_above, moved_to, rename}
 use Rattle.file_tree.specs.Calls.{answered, settled}
 use Rattle.rpc_door.specs.Results.{is_reply_to}
-use Rattle.door_laws.specs.Steps.{cut, cut_attr}
-use Rattle.door_laws.specs.Laws.{RepliesFit}
+use Rattle.door_play.specs.Steps.{cut, cut_attr}
+use Rattle.door_play.specs.Laws.{RepliesFit}
 
 -- what a call gives is of a form that it can get
 record Fits (c : Call) (tree : Tree) (o : Outcome) : Type 0 where

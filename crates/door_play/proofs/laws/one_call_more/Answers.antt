@@ -1,5 +1,5 @@
-use Rattle.door_laws.proofs.Door.{answers_go_on, one_answer_more, one_call_more, refused_stays}
-use Rattle.door_laws.proofs.one_call_more.Goals as goal
+use Rattle.door_play.proofs.Door.{answers_go_on, one_answer_more, one_call_more, refused_stays}
+use Rattle.door_play.proofs.laws.one_call_more.Goals as goal
 
 pub returns : goal.returns
 returns c = record {

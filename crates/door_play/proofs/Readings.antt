@@ -18,10 +18,10 @@ use Rattle.group_trace.specs.Refusals.{before_it, net_limit, net_refusal, own_re
 use Rattle.group_trace.specs.Run.{AreTaken, is_elementary, next, run, run_lines, step_lines}
 use Rattle.group_trace.specs.Scene.{Measures, Scene}
 use Rattle.schedule_play.specs.Reading.{Reading, all_read, then_read, unless_refused, with_step, with_steps}
-use Rattle.door_laws.specs.Replies.{answers_in}
-use Rattle.door_laws.specs.Steps.{door_steps, opening, steps_of_call, steps_of_calls, taken_from}
-use Rattle.door_laws.proofs.Answered.{answers-append, said, step_said}
-use Rattle.door_laws.proofs.Scenes.{Turns}
+use Rattle.door_play.specs.Replies.{answers_in}
+use Rattle.door_play.specs.Steps.{door_steps, opening, steps_of_call, steps_of_calls, taken_from}
+use Rattle.door_play.proofs.Answered.{answers-append, said, step_said}
+use Rattle.door_play.proofs.Scenes.{Turns}
 
 -- ---- steps that are read are taken
 

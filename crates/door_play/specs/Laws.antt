@@ -13,9 +13,9 @@ use Rattle.group_rules.specs.State.{Message}
 use Rattle.group_trace.specs.Run.{AreTaken, run, run_lines}
 use Rattle.group_trace.specs.Scene.{Measures, first_scene}
 use Rattle.schedule_play.specs.Reading.{then_read}
-use Rattle.door_laws.specs.Played.{reading_of_calls}
-use Rattle.door_laws.specs.Replies.{answers_in, numbered_from, replies_to}
-use Rattle.door_laws.specs.Steps.{cut, steps_of_call, taken_from}
+use Rattle.door_play.specs.Played.{reading_of_calls}
+use Rattle.door_play.specs.Replies.{answers_in, numbered_from, replies_to}
+use Rattle.door_play.specs.Steps.{cut, steps_of_call, taken_from}
 use Rattle.rpc_door.specs.Results.{is_reply_to}
 
 -- each message has a byte, so that the network is full before a log's numbers end

@@ -18,8 +18,8 @@ use Rattle.group_trace.specs.Pump.{due, lowest_due}
 use Rattle.group_trace.specs.Refusals.{net_limit, net_refusal, own_refusal, passes_full_net}
 use Rattle.group_trace.specs.Run.{armed_after, bytes_of, bytes_where, delivered_after, delivery, disarmed, group_after, is_elementary, moved_in, moved_where, next, turn}
 use Rattle.group_trace.specs.Scene.{Measures, Scene}
-use Rattle.door_laws.specs.Laws.{HasBytes}
-use Rattle.door_laws.proofs.Servers.{lt_not}
+use Rattle.door_play.specs.Laws.{HasBytes}
+use Rattle.door_play.proofs.Servers.{lt_not}
 
 -- ---- deliveries
 

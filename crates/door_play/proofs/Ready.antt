@@ -27,10 +27,10 @@ use Rattle.group_rules.proofs.Tests.{if_is}
 use Rattle.std.specs.List.{list_any}
 use Rattle.group_trace.specs.Scene.{Measures, Scene}
 use Rattle.schedule_play.specs.Reading.{Reading, with_step}
-use Rattle.door_laws.specs.Laws.{HasBytes}
-use Rattle.door_laws.proofs.Readings.{Answers, left_after, pump_delivers, pump_ends, pumped, turn_step, unless_full}
-use Rattle.door_laws.proofs.Scenes.{Stands, Turns, asked_sends, comes_to_leader, comes_to_partner, delivered_more, leader_does, leads, newest_due, not_full, nothing_due, sent_grows}
-use Rattle.door_laws.proofs.Servers.{ack_comes, asks_update, event_comes, following, leading}
+use Rattle.door_play.specs.Laws.{HasBytes}
+use Rattle.door_play.proofs.Readings.{Answers, left_after, pump_delivers, pump_ends, pumped, turn_step, unless_full}
+use Rattle.door_play.proofs.Scenes.{Stands, Turns, asked_sends, comes_to_leader, comes_to_partner, delivered_more, leader_does, leads, newest_due, not_full, nothing_due, sent_grows}
+use Rattle.door_play.proofs.Servers.{ack_comes, asks_update, event_comes, following, leading}
 
 -- ---- the scene between two calls
 

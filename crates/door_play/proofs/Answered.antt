@@ -15,8 +15,8 @@ use Rattle.group_trace.specs.Lines.{answered_line, answered_lines, entered_lines
 use Rattle.group_trace.specs.Run.{lines_where, moved_in, step_lines}
 use Rattle.group_trace.specs.Scene.{Measures, Scene}
 use Rattle.group_trace.specs.Shown.{same_shown, shown_of}
-use Rattle.door_laws.specs.Replies.{answers_in}
-use Rattle.door_laws.proofs.Scenes.{Turns}
+use Rattle.door_play.specs.Replies.{answers_in}
+use Rattle.door_play.proofs.Scenes.{Turns}
 
 pub answers-append : (ls more : List Line)
     → answers_in (ls ++ more) ≡ answers_in ls ++ answers_in more

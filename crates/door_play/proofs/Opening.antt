@@ -14,12 +14,12 @@ use Rattle.group_trace.specs.Refusals.{own_refusal}
 use Rattle.group_trace.specs.Run.{next, step_lines}
 use Rattle.group_trace.specs.Scene.{Measures, Scene, first_scene}
 use Rattle.schedule_play.specs.Reading.{Reading, with_step}
-use Rattle.door_laws.specs.Replies.{answers_in}
-use Rattle.door_laws.specs.Steps.{opening, taken_from}
-use Rattle.door_laws.proofs.Readings.{Answers, left_after, one_step, pump_delivers, pump_ends, pumped, then_steps}
-use Rattle.door_laws.proofs.Ready.{Knows, Ready}
-use Rattle.door_laws.proofs.Scenes.{IsDelivered, Stands, delivered_more}
-use Rattle.door_laws.proofs.Servers.{following, leading, lt_not}
+use Rattle.door_play.specs.Replies.{answers_in}
+use Rattle.door_play.specs.Steps.{opening, taken_from}
+use Rattle.door_play.proofs.Readings.{Answers, left_after, one_step, pump_delivers, pump_ends, pumped, then_steps}
+use Rattle.door_play.proofs.Ready.{Knows, Ready}
+use Rattle.door_play.proofs.Scenes.{IsDelivered, Stands, delivered_more}
+use Rattle.door_play.proofs.Servers.{following, leading, lt_not}
 
 -- ---- the scenes of an opening
 

@@ -9,8 +9,8 @@ use Rattle.group_trace.specs.Run.{run_lines}
 use Rattle.group_trace.specs.Scene.{Measures, first_scene}
 use Rattle.rpc_door.specs.declared.group.Exchange.{Exchange}
 use Rattle.schedule_play.specs.Reading.{Reading}
-use Rattle.door_laws.specs.Replies.{answers_in, numbered_from, replies_to}
-use Rattle.door_laws.specs.Steps.{door_steps, taken_from}
+use Rattle.door_play.specs.Replies.{answers_in, numbered_from, replies_to}
+use Rattle.door_play.specs.Steps.{door_steps, taken_from}
 
 -- what is taken of the steps of these calls
 abbrev pub reading_of_calls : Measures → Cred → List Call → Reading

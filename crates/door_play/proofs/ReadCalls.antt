@@ -20,10 +20,10 @@ use Rattle.group_trace.specs.Pump.{most_deliveries}
 use Rattle.group_trace.specs.Run.{next}
 use Rattle.group_trace.specs.Scene.{Measures, Scene}
 use Rattle.schedule_play.specs.Reading.{Reading, with_step}
-use Rattle.door_laws.proofs.Readings.{Answers, left_after, pump_ends, pumped, turn_step}
-use Rattle.door_laws.proofs.Ready.{Knows, Ready, asked_step}
-use Rattle.door_laws.proofs.Scenes.{Stands, Turns, leader_does, leads, nothing_due, sent_grows}
-use Rattle.door_laws.proofs.Servers.{asks_read, following, leading}
+use Rattle.door_play.proofs.Readings.{Answers, left_after, pump_ends, pumped, turn_step}
+use Rattle.door_play.proofs.Ready.{Knows, Ready, asked_step}
+use Rattle.door_play.proofs.Scenes.{Stands, Turns, leader_does, leads, nothing_due, sent_grows}
+use Rattle.door_play.proofs.Servers.{asks_read, following, leading}
 
 -- a read's reply is one at any stamp
 timeless : (tree : Tree) (cred : Cred) (x : Call) (s t : ℕ) → is_update x ≡ false

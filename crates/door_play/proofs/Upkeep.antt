@@ -16,11 +16,11 @@ use Rattle.group_trace.specs.Pump.{most_deliveries}
 use Rattle.group_trace.specs.Run.{next}
 use Rattle.group_trace.specs.Scene.{Measures, Scene}
 use Rattle.schedule_play.specs.Reading.{Reading, with_step}
-use Rattle.door_laws.specs.Steps.{taken_from, upkeep}
-use Rattle.door_laws.proofs.Readings.{Answers, left_after, pump_delivers, pump_ends, pumped, then_steps, turn_step}
-use Rattle.door_laws.proofs.Ready.{Ready, heeds_leads, to_leader, to_partner}
-use Rattle.door_laws.proofs.Scenes.{Looks, Stands, Turns, comes_to_leader, comes_to_partner, delivered_more, leader_does, leads, newest_due, nothing_due, partner_does, sent_grows}
-use Rattle.door_laws.proofs.Servers.{ack_again, beat_comes, following, leader_applies, leader_flushes, leader_rests, leading, no_rebase, partner_applies, partner_flushes, partner_rests, ticks}
+use Rattle.door_play.specs.Steps.{taken_from, upkeep}
+use Rattle.door_play.proofs.Readings.{Answers, left_after, pump_delivers, pump_ends, pumped, then_steps, turn_step}
+use Rattle.door_play.proofs.Ready.{Ready, heeds_leads, to_leader, to_partner}
+use Rattle.door_play.proofs.Scenes.{Looks, Stands, Turns, comes_to_leader, comes_to_partner, delivered_more, leader_does, leads, newest_due, nothing_due, partner_does, sent_grows}
+use Rattle.door_play.proofs.Servers.{ack_again, beat_comes, following, leader_applies, leader_flushes, leader_rests, leading, no_rebase, partner_applies, partner_flushes, partner_rests, ticks}
 
 -- from each scene where the servers stand so the rest is answered, and at least so many bytes were
 -- sent

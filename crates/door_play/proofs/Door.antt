@@ -17,18 +17,18 @@ use Rattle.group_trace.specs.Run.{run, run_lines}
 use Rattle.group_trace.specs.Scene.{Measures, Scene, first_scene}
 use Rattle.group_trace.specs.Pump.{most_deliveries}
 use Rattle.schedule_play.specs.Reading.{Reading, with_step}
-use Rattle.door_laws.specs.Played.{reading_of_calls}
-use Rattle.door_laws.specs.Replies.{answers_in, numbered_from, replies_from, replies_to}
-use Rattle.door_laws.specs.Steps.{cut, door_steps, steps_of_call, steps_of_calls, taken_from, upkeep}
-use Rattle.door_laws.specs.Laws.{AnswersAreReplies, AnswersGoOn, HasBytes, OneAnswerMore, OneCallMore, OnlyFullNetRefuses, ReadStepsAreTaken, RefusedStays}
+use Rattle.door_play.specs.Played.{reading_of_calls}
+use Rattle.door_play.specs.Replies.{answers_in, numbered_from, replies_from, replies_to}
+use Rattle.door_play.specs.Steps.{cut, door_steps, steps_of_call, steps_of_calls, taken_from, upkeep}
+use Rattle.door_play.specs.Laws.{AnswersAreReplies, AnswersGoOn, HasBytes, OneAnswerMore, OneCallMore, OnlyFullNetRefuses, ReadStepsAreTaken, RefusedStays}
 use Rattle.rpc_door.specs.Results.{is_reply_to}
-use Rattle.door_laws.proofs.Answered.{answers-append}
-use Rattle.door_laws.proofs.Forms.{replies_fit}
-use Rattle.door_laws.proofs.Opening.{first_known, opens}
-use Rattle.door_laws.proofs.ReadCalls.{after_read, read_call}
-use Rattle.door_laws.proofs.Readings.{Answers, door_more, lines-append, nothing_read, pumped, read_are_taken, read_on, read_stays, then_steps}
-use Rattle.door_laws.proofs.Ready.{Knows, Ready, after_update, asked_step, reply_of_update, update_call}
-use Rattle.door_laws.proofs.Upkeep.{kept_up}
+use Rattle.door_play.proofs.Answered.{answers-append}
+use Rattle.door_play.proofs.Forms.{replies_fit}
+use Rattle.door_play.proofs.Opening.{first_known, opens}
+use Rattle.door_play.proofs.ReadCalls.{after_read, read_call}
+use Rattle.door_play.proofs.Readings.{Answers, door_more, lines-append, nothing_read, pumped, read_are_taken, read_on, read_stays, then_steps}
+use Rattle.door_play.proofs.Ready.{Knows, Ready, after_update, asked_step, reply_of_update, update_call}
+use Rattle.door_play.proofs.Upkeep.{kept_up}
 
 -- what is left of the steps of the call with this number
 abbrev left : ℕ → List Step

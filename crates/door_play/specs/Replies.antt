@@ -7,7 +7,7 @@ use Rattle.trace_types.specs.declared.line.Line.{Line}
 use Rattle.trace_types.specs.declared.line.Line.TheVariants as line
 use Rattle.file_tree.specs.Calls.{outcome}
 use Rattle.file_tree.specs.Tree.{Tree, first_tree}
-use Rattle.door_laws.specs.Steps.{cut}
+use Rattle.door_play.specs.Steps.{cut}
 
 -- the milliseconds at which each call is made
 abbrev pub stamp : ℕ

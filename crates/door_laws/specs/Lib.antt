@@ -1,4 +1,0 @@
-pub mod Steps
-pub mod Replies
-pub mod Played
-pub mod Laws
