@@ -56,15 +56,8 @@ impl World {
         match outs {
             None => Ok(None),
             Some(outs) => {
-                give(
-                    alloc,
-                    server,
-                    &outs,
-                    &mut self.book,
-                    &mut self.packets,
-                    lines,
-                )?;
-                Ok(outs.listing)
+                let (book, packets) = (&mut self.book, &mut self.packets);
+                give(alloc, server, outs, book, packets, lines)
             }
         }
     }

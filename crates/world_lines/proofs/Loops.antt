@@ -47,3 +47,44 @@ same_within (x ∷ xs) (suc i) d e h = same_within xs i d e (omega (arith, h))
 pub get_again : {X : Type 0} (xs : List X) (i : ℕ) (d : X) → i < length xs
     → get_or xs i d ≡ get_or xs i (get_or xs i d)
 get_again xs i d h = same_within xs i d (get_or xs i d) h
+
+-- ---- loops that take the elements
+
+-- the count behind some elements
+unfoldable pub reached : {X L : Type 0} (m : Makes X L) → ℕ → List X → ℕ
+reached m n [] = n
+reached m n (x ∷ xs) = reached m (m.next n x) xs
+
+pub reached_more : {X L : Type 0} (m : Makes X L) (n : ℕ) (xs : List X) (x : X)
+    → reached m n (xs ++ x ∷ []) ≡ m.next (reached m n xs) x
+unfolding reached
+reached_more m n [] x = refl
+reached_more m n (y ∷ xs) x = reached_more m (m.next n y) xs x
+
+-- one element more makes more behind what was made
+pub made_more : {X L : Type 0} (m : Makes X L) → IsMade m → (n : ℕ) (xs : List X) (x : X)
+    → m.all n (xs ++ x ∷ []) ≡ m.all n xs ++ m.one (reached m n xs) x
+unfolding reached
+made_more m h n [] x =
+    h.first n x [] ∙ ap (λ ys. m.one n x ++ ys) (h.none (m.next n x))
+    ∙ append-nil (m.one n x) ∙ sym (ap (λ ys. ys ++ m.one n x) (h.none n))
+made_more m h n (y ∷ xs) x =
+    h.first n y (xs ++ x ∷ [])
+    ∙ ap (λ ys. m.one n y ++ ys) (made_more m h (m.next n y) xs x)
+    ∙ sym (append_assoc (m.one n y) (m.all (m.next n y) xs) (m.one (reached m (m.next n y) xs) x))
+    ∙ sym (ap (λ ys. ys ++ m.one (reached m (m.next n y) xs) x) (h.first n y xs))
+
+-- what was made is what the elements so far make, and one more is taken
+pub grown : {X L : Type 0} (m : Makes X L) → IsMade m → (first made : List L) (n k : ℕ)
+    (xs : List X) (x : X) → made ≡ first ++ m.all n xs → k ≡ reached m n xs
+    → made ++ m.one k x ≡ first ++ m.all n (xs ++ x ∷ [])
+grown m h first made n k xs x e is =
+    ap (λ ys. ys ++ m.one k x) e
+    ∙ append_assoc first (m.all n xs) (m.one k x)
+    ∙ ap (λ j. first ++ (m.all n xs ++ m.one j x)) is
+    ∙ ap (λ ys. first ++ ys) (sym (made_more m h n xs x))
+
+-- nothing was made yet
+pub begun : {X L : Type 0} (m : Makes X L) → IsMade m → (first : List L) (n : ℕ)
+    → first ≡ first ++ m.all n []
+begun m h first n = sym (ap (λ ys. first ++ ys) (h.none n) ∙ append-nil first)

@@ -14,7 +14,7 @@ use Rattle.node_outputs.specs.declared.outputs.Sent.{Sent}
 use Rattle.world_lines.specs.Posted.{Posted}
 use Rattle.world_lines.specs.Book.{BookValue, new_updates, with_reads, with_updates}
 use Rattle.world_lines.specs.Given.{answered_line, answered_lines, packet_of, packets_of, read_in, reads_in, refused_line, refused_lines, sent_line, sent_lines}
-use Rattle.world_lines.proofs.Loops.{IsMade, Makes, split}
+use Rattle.world_lines.proofs.Loops.{IsMade, Makes, made_more, reached, split}
 
 -- ---- updates
 
@@ -82,16 +82,60 @@ lines_ended m h lines k n xs i whole past e = sym (append-nil lines)
 
 -- ---- the book
 
--- as many updates came as entries
-pub book_is : (b : BookValue) (es entries : List Entry) (updates : ℕ) → entries ≡ b.entries ++ es
-    → updates + length b.entries ≡ b.updates + length entries
-    → record { entries = entries; updates = updates } ≡ with_updates b es
-book_is b es entries updates e count =
-    let size : length entries ≡ length b.entries + length es = ap length e
-    ∙ length-append b.entries es in
-    let many : updates ≡ b.updates + length es = omega (arith, size, count) in
-    ap (λ xs. record { entries = xs; updates = updates }) e
-    ∙ ap (λ n. record { entries = b.entries ++ es; updates = n }) many
+-- behind updates the count is higher by those that are new
+pub updates_reached : (n : ℕ) (xs : List BookEntry)
+    → reached makes_updates n xs ≡ n + length (new_updates n (map entered xs))
+unfolding new_updates reached
+updates_reached n [] = omega arith
+updates_reached n (x ∷ xs) =
+    let one = one_update n x in
+    let rest = new_updates (n + length one) (map entered xs) in
+    omega (
+      arith,
+      updates_reached (n + length one) xs,
+      ap length (update_first n (entered x) (map entered xs)),
+      length-append one rest,
+    )
+
+-- where nothing is counted the count stays
+pub uncounted : {X L : Type 0} (m : Makes X L) → ((n : ℕ) (x : X) → m.next n x ≡ n) → (n : ℕ)
+    (xs : List X) → reached m n xs ≡ n
+unfolding reached
+uncounted m h n [] = refl
+uncounted m h n (x ∷ xs) = uncounted m h (m.next n x) xs ∙ h n x
+
+-- one element more makes so many more
+pub counted_more : {X : Type 0} (m : Makes X Entry) → IsMade m → (n k : ℕ) (xs : List X) (x : X)
+    → k ≡ reached m n xs
+    → length (m.all n (xs ++ x ∷ [])) ≡ length (m.all n xs) + length (m.one k x)
+counted_more m h n k xs x is =
+    ap length (made_more m h n xs x)
+    ∙ length-append (m.all n xs) (m.one (reached m n xs) x)
+    ∙ ap (λ j. length (m.all n xs) + length (m.one j x)) (sym is)
+
+-- and their lines are behind those before
+pub lines_more : {X : Type 0} (m : Makes X Entry) → IsMade m → (first lines : List Line)
+    (n k start place : ℕ) (xs : List X) (x : X) → k ≡ reached m n xs
+    → place ≡ start + length (m.all n xs)
+    → lines ≡ first ++ entered_lines start (m.all n xs)
+    → lines ++ entered_lines place (m.one k x)
+    ≡ first ++ entered_lines start (m.all n (xs ++ x ∷ []))
+lines_more m h first lines n k start place xs x is at e =
+    ap (λ ls. ls ++ entered_lines place (m.one k x)) e
+    ∙ ap (λ j. (first ++ entered_lines start (m.all n xs)) ++ entered_lines j (m.one k x)) at
+    ∙ lines_go_on first start (m.all n xs) (m.one k x)
+    ∙ ap (λ j. first ++ entered_lines start (m.all n xs ++ m.one j x)) is
+    ∙ ap (λ es. first ++ entered_lines start es) (sym (made_more m h n xs x))
+
+-- before the first update nothing came
+pub no_updates : (n k : ℕ) → k ≡ k + length (new_updates n [])
+unfolding new_updates
+no_updates n k = omega arith
+
+pub no_lines : (lines : List Line) (start n : ℕ)
+    → lines ≡ lines ++ entered_lines start (new_updates n [])
+unfolding entered_lines new_updates
+no_lines lines start n = sym (append-nil lines)
 
 -- ---- reads
 
@@ -144,6 +188,17 @@ pub send_lines_made : (s : ServerId) → IsMade (makes_send_lines s)
 unfolding sent_lines
 send_lines_made s = record { first = λ n x xs. refl; none = λ n. refl }
 
+-- behind messages there are so many packets more
+pub packets_reached : (s : ServerId) (n : ℕ) (xs : List Sent)
+    → reached (makes_send_lines s) n xs ≡ n + length (packets_of s xs)
+unfolding reached
+packets_reached s n [] = omega arith
+packets_reached s n (x ∷ xs) = omega (
+  arith,
+  packets_reached s (n + length (packet_of s x)) xs,
+  length-append (packet_of s x) (packets_of s xs),
+)
+
 -- ---- put together
 
 pub put_together : (ls l1 l2 l3 l4 l5 : List Line) (n m : ℕ) (us rs : List Entry)
@@ -188,20 +243,18 @@ stays_lines lines n u e h = sym (append-nil lines)
     ∙ sym (ap (λ es. lines ++ entered_lines n es) (none_new u e h))
 
 -- it comes to the book
-pub comes : (b mid new : BookValue) (x e : Entry) → nat_le e.index b.updates ≡ false → x ≡ e
-    → mid ≡ with_reads b (x ∷ []) → new ≡ record mid { updates = mid.updates + 1 }
+pub comes : (b mid new : BookValue) (e : Entry) → nat_le e.index b.updates ≡ false
+    → mid ≡ with_reads b (e ∷ []) → new ≡ record mid { updates = mid.updates + 1 }
     → new ≡ with_updates b (new_updates b.updates (e ∷ []))
-comes b mid new x e h is e1 e2 = e2
+comes b mid new e h e1 e2 = e2
     ∙ ap (λ (z : BookValue). record z { updates = z.updates + 1 }) e1
-    ∙ ap (λ y. record { entries = b.entries ++ y ∷ []; updates = b.updates + 1 }) is
     ∙ sym (ap (with_updates b) (one_new b.updates e h))
 
-pub comes_lines : (lines new : List Line) (n u : ℕ) (x e : Entry) → nat_le e.index u ≡ false
-    → x ≡ e → new ≡ lines ++ entered_line (n + 1) x ∷ []
+pub comes_lines : (lines new : List Line) (n u : ℕ) (e : Entry) → nat_le e.index u ≡ false
+    → new ≡ lines ++ entered_line (n + 1) e ∷ []
     → new ≡ lines ++ entered_lines n (new_updates u (e ∷ []))
 unfolding entered_lines
-comes_lines lines new n u x e h is e1 = e1
-    ∙ ap (λ y. lines ++ entered_line (n + 1) y ∷ []) is
+comes_lines lines new n u e h e1 = e1
     ∙ sym (ap (λ es. lines ++ entered_lines n es) (one_new u e h))
 
 -- there is room to count it

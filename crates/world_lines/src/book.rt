@@ -58,14 +58,14 @@ impl Book {
     pub(crate) fn enter_updates(
         &mut self,
         alloc: Global,
-        updates: &[BookEntry],
+        updates: Vec<BookEntry>,
         lines: &mut Vec<Line>,
     ) -> Result<(), AllocError>
         ensures book { OnOk result (self.new ≡ with_updates self.old
-            (new_updates self.old.updates (map entered updates.now))) }
+            (new_updates self.old.updates (map entered updates.items))) }
         ensures lines { OnOk result (lines.new.items ≡ lines.old.items
             ++ entered_lines (length self.old.entries)
-            (new_updates self.old.updates (map entered updates.now))) }
+            (new_updates self.old.updates (map entered updates.items))) }
     {
         let _ = &self.updates;
         for update in updates {
@@ -78,20 +78,19 @@ impl Book {
     fn enter_update(
         &mut self,
         alloc: Global,
-        update: &BookEntry,
+        update: BookEntry,
         lines: &mut Vec<Line>,
     ) -> Result<(), AllocError>
         ensures book { OnOk result (self.new ≡ with_updates self.old
-            (new_updates self.old.updates (entered update.now ∷ []))) }
+            (new_updates self.old.updates (entered update ∷ []))) }
         ensures lines { OnOk result (lines.new.items ≡ lines.old.items
             ++ entered_lines (length self.old.entries)
-            (new_updates self.old.updates (entered update.now ∷ []))) }
+            (new_updates self.old.updates (entered update ∷ []))) }
     {
         if self.has(update.index) {
             return Ok(());
         }
-        let entry = update.copy(alloc)?;
-        self.enter(alloc, entry, lines)?;
+        self.enter(alloc, update, lines)?;
         self.count();
         Ok(())
     }
@@ -162,7 +161,7 @@ impl Book {
         }
     }
 
-    /// Enters a call, with its line.
+    /// Enters a call, with its line, which has an equal one.
     fn enter(
         &mut self,
         alloc: Global,

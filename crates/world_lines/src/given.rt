@@ -1,6 +1,6 @@
 //! The lines that a server's step gives, and what it puts into the book and among the packets.
 
-ghost use Rattle.std.specs.Prelude.{◌≡◌, ◌++◌, ◌∷◌, [], length, OnOk};
+ghost use Rattle.std.specs.Prelude.{◌≡◌, ◌++◌, ◌∷◌, [], length, IfOk, OnOk};
 ghost use Rattle.world_lines.specs.Given.{answered_line, answered_lines, book_given, lines_given, packet_of, packets_of, refused_line, refused_lines, sent_line, sent_lines};
 
 use crate::book::Book;
@@ -10,38 +10,34 @@ use harp_types::ServerId;
 use node_outputs::{Answered, Outputs, Refused, Sent};
 use std::alloc::{AllocError, Global};
 use trace_types::Line;
+use tree_listing::Listing;
 
 /// The line of an answer.
-fn show_answer(
-    alloc: Global,
-    server: ServerId,
-    answer: &Answered,
-    lines: &mut Vec<Line>,
-) -> Result<(), AllocError>
+fn show_answer(server: ServerId, answer: Answered, lines: &mut Vec<Line>) -> Result<(), AllocError>
     ensures { OnOk result (lines.new.items ≡ lines.old.items
-        ++ answered_line server answer.now ∷ []) }
+        ++ answered_line server answer ∷ []) }
 {
     lines.push(Line::Answered {
         server,
         client: answer.client,
         number: answer.number,
         index: answer.index,
-        reply: answer.reply.copy(alloc)?,
+        reply: answer.reply,
     })?;
     Ok(())
 }
 
 /// The lines of the answers.
 fn show_answers(
-    alloc: Global,
     server: ServerId,
-    answers: &[Answered],
+    answers: Vec<Answered>,
     lines: &mut Vec<Line>,
 ) -> Result<(), AllocError>
-    ensures { OnOk result (lines.new.items ≡ lines.old.items ++ answered_lines server answers.now) }
+    ensures { OnOk result (lines.new.items ≡ lines.old.items
+        ++ answered_lines server answers.items) }
 {
     for answer in answers {
-        show_answer(alloc, server, answer, lines)?;
+        show_answer(server, answer, lines)?;
     }
     Ok(())
 }
@@ -75,15 +71,14 @@ fn show_refusals(
 
 /// A message between servers goes among the packets, with its line.
 fn post(
-    alloc: Global,
     from: ServerId,
-    send: &Sent,
+    send: Sent,
     packets: &mut Packets,
     lines: &mut Vec<Line>,
 ) -> Result<(), AllocError>
-    ensures packets { OnOk result (packets.new ≡ packets.old ++ packet_of from send.now) }
+    ensures packets { OnOk result (packets.new ≡ packets.old ++ packet_of from send) }
     ensures lines { OnOk result (lines.new.items ≡ lines.old.items
-        ++ sent_line from (length packets.old) send.now) }
+        ++ sent_line from (length packets.old) send) }
 {
     let Some(message) = shown(&send.message) else {
         return Ok(());
@@ -94,48 +89,48 @@ fn post(
         to: send.to,
         message,
     })?;
-    packets.send(alloc, from, send.to, &send.message)?;
+    packets.send(from, send.to, send.message)?;
     Ok(())
 }
 
 /// The messages go among the packets, with their lines.
 fn post_all(
-    alloc: Global,
     from: ServerId,
-    sends: &[Sent],
+    sends: Vec<Sent>,
     packets: &mut Packets,
     lines: &mut Vec<Line>,
 ) -> Result<(), AllocError>
-    ensures packets { OnOk result (packets.new ≡ packets.old ++ packets_of from sends.now) }
+    ensures packets { OnOk result (packets.new ≡ packets.old ++ packets_of from sends.items) }
     ensures lines { OnOk result (lines.new.items ≡ lines.old.items
-        ++ sent_lines from (length packets.old) sends.now) }
+        ++ sent_lines from (length packets.old) sends.items) }
 {
     for send in sends {
-        post(alloc, from, send, packets, lines)?;
+        post(from, send, packets, lines)?;
     }
     Ok(())
 }
 
 /// Puts a server's outputs into the book, among the packets and into lines, in the order of a
-/// trace.
+/// trace, and gives back the tree that it listed.
 pub fn give(
     alloc: Global,
     server: ServerId,
-    outs: &Outputs,
+    outs: Outputs,
     book: &mut Book,
     packets: &mut Packets,
     lines: &mut Vec<Line>,
-) -> Result<(), AllocError>
-    ensures book { OnOk result (book.new ≡ book_given book.old outs.now) }
+) -> Result<Option<Listing>, AllocError>
+    ensures book { OnOk result (book.new ≡ book_given book.old outs) }
     ensures packets { OnOk result (packets.new ≡ packets.old
-        ++ packets_of server outs.now.sends.items) }
+        ++ packets_of server outs.sends.items) }
     ensures lines { OnOk result (lines.new.items ≡ lines.old.items
-        ++ lines_given server book.old (length packets.old) outs.now) }
+        ++ lines_given server book.old (length packets.old) outs) }
+    ensures listed { IfOk result (λ listing. listing ≡ outs.listing) }
 {
-    book.enter_updates(alloc, outs.committed.as_slice(), lines)?;
+    book.enter_updates(alloc, outs.committed, lines)?;
     book.enter_reads(alloc, outs.answers.as_slice(), lines)?;
-    show_answers(alloc, server, outs.answers.as_slice(), lines)?;
+    show_answers(server, outs.answers, lines)?;
     show_refusals(server, outs.refusals.as_slice(), lines)?;
-    post_all(alloc, server, outs.sends.as_slice(), packets, lines)?;
-    Ok(())
+    post_all(server, outs.sends, packets, lines)?;
+    Ok(outs.listing)
 }

@@ -39,23 +39,17 @@ impl Model for Kept {
 
 impl Kept {
     /// A packet that was never delivered, with a message of so many bytes.
-    pub fn new(
-        alloc: Global,
-        from: ServerId,
-        to: ServerId,
-        message: &Message,
-        size: u64,
-    ) -> Result<Kept, AllocError>
-        requires { size ≡ length (message_bytes message.now) }
-        ensures { IfOk result (λ kept. kept ≡ posted from to message.now) }
+    pub fn new(from: ServerId, to: ServerId, message: Message, size: u64) -> Kept
+        requires { size ≡ length (message_bytes message) }
+        ensures { result ≡ posted from to message }
     {
-        Ok(Kept {
+        Kept {
             from,
             to,
-            message: message.copy(alloc)?,
+            message,
             size,
             delivered: false,
-        })
+        }
     }
 
     pub fn from(&self) -> ServerId

@@ -69,23 +69,17 @@ impl Packets {
     }
 
     /// Sends a message from one server to another. Where memory runs out, nothing is sent.
-    pub fn send(
-        &mut self,
-        alloc: Global,
-        from: ServerId,
-        to: ServerId,
-        message: &Message,
-    ) -> Result<(), AllocError>
-        ensures ok { OnOk result (self.new ≡ self.old ++ posted from to message.now ∷ []) }
+    pub fn send(&mut self, from: ServerId, to: ServerId, message: Message) -> Result<(), AllocError>
+        ensures ok { OnOk result (self.new ≡ self.old ++ posted from to message ∷ []) }
         ensures err { OnErr result (self.new ≡ self.old) }
         // A message among servers is sent in the machine too.
         ensures machine { OnOk result
             ((packets : List (Sent Entry)) (numbers : List ℕ) (body : Heard Entry)
-            → StandFor self.old packets numbers → heard message.now ≡ Some body
+            → StandFor self.old packets numbers → heard message ≡ Some body
             → StandFor self.new (sent from to body ∷ packets) numbers) }
     {
-        let size = message_size(message);
-        let kept = Kept::new(alloc, from, to, message, size)?;
+        let size = message_size(&message);
+        let kept = Kept::new(from, to, message, size);
         let n = self.kept.len() as u64;
         self.kept.push(kept)?;
         self.bytes = self.bytes.saturating_add(size);

@@ -1,14 +1,31 @@
-use Rattle.world_lines.proofs.Made.{answer_lines_made, makes_answer_lines}
-use Rattle.world_lines.proofs.Loops.{ended, moved}
+use Rattle.std.proofs.Common.{rules, ◌++◌, List, ap, refl, sym, ◌∙◌}
+use Rattle.std.proofs.lemmas.Iterator.Adapters.{YieldsList-from_vec}
+use Rattle.std.proofs.lemmas.Iterator.Consumers.{YieldsList-end}
+use Rattle.std.proofs.lemmas.List.{map-id}
+use Rattle.node_outputs.specs.declared.outputs.Answered.{Answered}
+use Rattle.world_lines.specs.Given.{answered_lines}
+use Rattle.world_lines.proofs.Loops.{begun, grown}
+use Rattle.world_lines.proofs.Made.{answer_lines_made, makes_answer_lines, uncounted}
 use Rattle.world_lines.proofs.given.show_answers.Goals as goal
 
+pub loop-answer-init : goal.loop-answer-init
+loop-answer-init c = begun (makes_answer_lines c.args.server) (answer_lines_made c.args.server)
+    c.args.lines.now.items 0
+
 pub loop-answer-preserved : goal.loop-answer-preserved
-loop-answer-preserved c = rw c.in_ok-show_answer.ensures
-    (moved (makes_answer_lines c.args.server) (answer_lines_made c.args.server)
-    c.loop-answer.lines.items 0 c.args.answers.now c.loop-answer.answer-index c.answer-item.result _
-    c.loop-answer-test.true c.answer-item.is c.loop-answer.invariant)
+loop-answer-preserved c =
+    let m = makes_answer_lines c.args.server in
+    c.in_ok-show_answer.ensures
+    ∙ grown m (answer_lines_made c.args.server) c.args.lines.now.items c.loop-answer.lines.items
+    0 0 c.loop-answer.yielded c.in-Some.answer c.loop-answer.invariant
+    (sym (uncounted m (λ n x. refl) 0 c.loop-answer.yielded))
 
 pub returns : goal.returns
-returns c = ended (makes_answer_lines c.args.server) (answer_lines_made c.args.server)
-    c.loop-answer.lines.items 0 c.args.answers.now c.loop-answer.answer-index _
-    c.loop-answer-test.false c.loop-answer.invariant
+returns c =
+    let l = c.loop-answer in
+    let all = YieldsList-end (YieldsList-from_vec {s = c.into_iter-answer-iterator.result}
+    c.args.answers.items (search rules) (search rules))
+    l.yielded l.answer-iterator l.yielded_by c.next.result
+    c.next.new.self c.in-None.is c.next.ensures.steps in
+    l.invariant ∙ ap (λ (xs : List Answered). c.args.lines.now.items
+    ++ answered_lines c.args.server xs) (sym (map-id l.yielded) ∙ all.0)
