@@ -1,6 +1,6 @@
 //! Serving the records of a source.
 
-ghost use Rattle.std.specs.Prelude.{◌≡◌, ◌≢◌, ◌<◌, ◌++◌, [], ℕ, List, length, Some, IfOk, IfErr, OnOk, MatchResult};
+ghost use Rattle.std.specs.Prelude.{◌≡◌, ◌≢◌, ◌≤◌, ◌<◌, ◌++◌, [], ℕ, List, drop, length, Some, IfOk, IfErr, OnOk, MatchResult};
 ghost use Rattle.rpc_door.specs.Group.{IsCounted, NoneFell};
 ghost use Rattle.rpc_door.specs.Records.{bytes_left};
 ghost use Rattle.rpc_door.specs.Meaning.{meaning_of};
@@ -13,6 +13,7 @@ use crate::group::{Group, GroupFault};
 use crate::meaning::{RpcIn, read_rpc};
 use crate::records::{Next, RecordReader};
 use crate::results::put_answer;
+use byteorder::{BigEndian, ByteOrder};
 use harp_base::fields::put_u32;
 use harp_types::{Call, Cred, Failed, Reply, Sink, Source, write_all};
 use std::alloc::{AllocError, Global};
@@ -23,11 +24,13 @@ const MOST_RECORDS: u64 = 1_048_575;
 /// The mark of a record of one fragment, but for its length.
 const LAST: u32 = 1 << 31;
 
+/// What stands where a mark is put as soon as the length of its record is known.
+const ROOM: [u8; 4] = [0; 4];
+
 /// Room for a record and its answer, which the next one uses anew.
 #[derive(Drop)]
 struct Room {
     record: Vec<u8>,
-    answer: Vec<u8>,
     sent: Vec<u8>,
 }
 
@@ -46,7 +49,6 @@ impl Desk {
             reader: RecordReader::new(alloc)?,
             room: Room {
                 record: Vec::new(alloc),
-                answer: Vec::new(alloc),
                 sent: Vec::new(alloc),
             },
         })
@@ -75,14 +77,30 @@ fn put_sent(out: &mut Vec<u8>, answer: &[u8]) -> Result<(), AllocError>
     out.extend_from_slice(answer)
 }
 
-/// The answer to a call by this reply, as it is sent.
-fn send_reply(xid: u32, call: &Call, reply: &Reply, room: &mut Room) -> Result<(), AllocError>
-    requires { room.old.sent.items ≡ [] }
-    ensures { OnOk result (room.new.sent.items ≡ sent (answer_bytes xid call.now reply.now)) }
+/// Makes an answer a record of one fragment: its mark is put over the room before it. One of 2^31
+/// bytes, which there is none of, would count as want of memory.
+#[tactic(auto, unfolding(crate::specs::Serving::sent, harp_base::specs::Fields::u32_bytes))]
+fn put_mark(out: &mut Vec<u8>) -> Result<(), AllocError>
+    requires { 4 ≤ length out.old.items }
+    ensures { OnOk result (out.new.items ≡ sent (drop 4 out.old.items)) }
 {
-    room.answer.clear();
-    put_answer(&mut room.answer, xid, call, reply)?;
-    put_sent(&mut room.sent, room.answer.as_slice())
+    let size = out.len() - ROOM.len();
+    if size >= LAST as usize {
+        return Err(AllocError);
+    }
+    BigEndian::write_u32(out.as_mut_slice(), LAST + size as u32);
+    Ok(())
+}
+
+/// The answer to a call by this reply, as it is sent. It is spelled where it is sent from, since it
+/// may be long.
+fn send_reply(xid: u32, call: &Call, reply: &Reply, out: &mut Vec<u8>) -> Result<(), AllocError>
+    requires { out.old.items ≡ [] }
+    ensures { OnOk result (out.new.items ≡ sent (answer_bytes xid call.now reply.now)) }
+{
+    out.extend_from_slice(&ROOM)?;
+    put_answer(out, xid, call, reply)?;
+    put_mark(out)
 }
 
 /// Makes a call, and gives its answer as it is sent.
@@ -110,7 +128,7 @@ fn answer_call<G: Group>(
         Ok(reply) => reply,
         Err(fault) => return Err(fault),
     };
-    match send_reply(xid, call, &reply, room) {
+    match send_reply(xid, call, &reply, &mut room.sent) {
         Ok(()) => Ok(()),
         Err(_) => Err(GroupFault::NoMemory),
     }
