@@ -7,9 +7,9 @@ use crate::words::{Answer, bytes_of, came, halves, number, tell, tell_bytes, tol
 use harp_types::{Bytes, Peer, ServerId};
 use node_link::{Datagram, LAST_PORT, Link, MemLink, UdpLink, Waiting};
 use std::alloc::{AllocError, Global};
-use std::io;
 use std::net::{Ipv4Addr, Net, SocketAddr, UdpSocket};
 use std::time::Duration;
+use std::{io, time};
 
 const OTHER: Peer = Peer::Other {
     address: 0x7f00_0001,
@@ -27,7 +27,7 @@ pub struct Links<R> {
     host: Option<UdpSocket>,
 }
 
-impl<R: Net + Copy> Links<R> {
+impl<R: Net + time::Clock + Copy> Links<R> {
     /// Links without a datagram or an open place.
     pub(crate) fn new(rt: R, alloc: Global) -> Result<Links<R>, AllocError> {
         Ok(Links {
@@ -215,7 +215,7 @@ fn open_places<L: Link, N: Net>(link: &mut L, rt: &N) -> Option<u16> {
     None
 }
 
-impl<R: Net> Links<R> {
+impl<R: Net + time::Clock> Links<R> {
     /// Opens the three places at ports that are free, and the other host.
     fn open<N: Net>(&mut self, rt: &N) -> Answer {
         let Some(base) = open_places(&mut self.udp, rt) else {
@@ -279,7 +279,7 @@ fn tell_counts(memory: &MemLink, text: &mut String) -> Answer {
 }
 
 /// What came of a line about links.
-pub(crate) fn links_answer<N: Net, R: Net>(
+pub(crate) fn links_answer<N: Net, R: Net + time::Clock>(
     rt: &N,
     alloc: Global,
     links: &mut Links<R>,

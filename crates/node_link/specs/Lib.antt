@@ -4,3 +4,4 @@ pub mod Readings
 pub mod Told
 pub mod Adapters
 pub mod Peers
+pub mod Lateness

@@ -4,25 +4,29 @@ ghost use Rattle.std.specs.Prelude.{◌≡◌, ◌≤◌, ◌<◌, ◌+◌, ℕ,
 ghost use Rattle.harp_types.specs.Streams.{Rose};
 ghost use Rattle.node_link.specs.Traffic.{last_port};
 
+use crate::late::{Late, is_invite};
 use crate::link::{Datagram, Link, LinkFault};
 use crate::peers::{address_of, peer_at, place_address};
+use crate::wall_clock::steady_now;
 use harp_types::{Bytes, Failed, Peer, ServerId, Trio};
 use std::alloc::Global;
 use std::io::ErrorKind;
 use std::net::{Ipv4Addr, Net, SocketAddr, SocketAddrV4, UdpSocket};
-use std::time::Duration;
+use std::time::{Clock, Duration};
 
 /// No datagram is longer than this.
 const LONGEST: usize = 65_535;
 
 /// Datagrams over UDP: place s of a group has the port that was given plus s, at 127.0.0.1. It
 /// tells no datagrams. A datagram that can't be sent to its peer is lost, as one to port 0; each
-/// other error of a socket is a fault, and so is a call at a place that isn't open.
+/// other error of a socket is a fault, and so is a call at a place that isn't open. An Invite is given
+/// to the witness a tenth of a second late, so that the Join of a data server comes before its own.
 #[derive(Drop)]
 pub struct UdpLink<R> {
     rt: R,
     port: u16,
     sockets: Trio<Option<UdpSocket>>,
+    late: Late,
     faults: u64,
     ghost ports: { port ≤ 65533 },
 }
@@ -42,6 +46,7 @@ impl<R> UdpLink<R> {
                 one: None,
                 two: None,
             },
+            late: Late::new(),
             faults: 0,
         }
     }
@@ -96,7 +101,35 @@ fn received(
     }
 }
 
-impl<R: Net> Link for UdpLink<R> {
+impl<R: Clock> UdpLink<R> {
+    ghost use Rattle.node_link.specs.Adapters.{link_faults};
+
+    // The Invite that is kept back, once its time has come. Where nobody knows the time, it has.
+    fn late_invite(&mut self) -> Option<Datagram>
+        ensures { link_faults self.new ≡ link_faults self.old }
+    {
+        let now = steady_now(&self.rt).unwrap_or(u64::MAX);
+        self.late.take(now)
+    }
+
+    // What the witness is given of what came: an Invite is kept back, where the time is known.
+    fn for_witness(&mut self, datagram: Datagram) -> Option<Datagram>
+        ensures { link_faults self.new ≡ link_faults self.old }
+    {
+        if !is_invite(&datagram) {
+            return Some(datagram);
+        }
+        match steady_now(&self.rt) {
+            Some(now) => {
+                self.late.keep(now, datagram);
+                None
+            }
+            None => Some(datagram),
+        }
+    }
+}
+
+impl<R: Net + Clock> Link for UdpLink<R> {
     ghost use Rattle.node_link.specs.Adapters.{link_faults};
 
     ghost told = { λ _. None };
@@ -127,14 +160,24 @@ impl<R: Net> Link for UdpLink<R> {
             → Rose (link_faults self.old) (link_faults self.new) }
         ensures count { link_faults self.old ≤ link_faults self.new }
     {
+        if place.is(ServerId::Two)
+            && let Some(invite) = self.late_invite()
+        {
+            return Ok(Some(invite));
+        }
         let received = match self.sockets.get(place) {
             Some(socket) => received(alloc, socket, self.port, wait_ms),
             None => Err(LinkFault::Failed),
         };
-        if let Err(LinkFault::Failed) = received {
-            self.fault();
+        match received {
+            Ok(Some(datagram)) if place.is(ServerId::Two) => Ok(self.for_witness(datagram)),
+            Ok(datagram) => Ok(datagram),
+            Err(LinkFault::Failed) => {
+                self.fault();
+                Err(LinkFault::Failed)
+            }
+            Err(LinkFault::NoMemory) => Err(LinkFault::NoMemory),
         }
-        received
     }
 
     fn send(

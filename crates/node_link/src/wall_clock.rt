@@ -64,7 +64,7 @@ fn millis_now<R: time::Clock>(rt: &R) -> Option<u64>
 }
 
 // The milliseconds of the monotonic clock.
-fn steady_now<R: time::Clock>(rt: &R) -> Option<u64> {
+pub(crate) fn steady_now<R: time::Clock>(rt: &R) -> Option<u64> {
     u64::try_from(rt.monotonic().ok()?.as_millis()).ok()
 }
 
