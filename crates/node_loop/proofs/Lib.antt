@@ -3,4 +3,6 @@ mod Chains
 mod Fronts
 mod Results
 mod Scenes
+mod Stays
+mod Tellings
 pub mod HeardLaws

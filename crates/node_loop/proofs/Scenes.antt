@@ -9,12 +9,14 @@ use Rattle.harp_store.specs.Disk.{Moments}
 use Rattle.node_link.specs.Traffic.{Traffic}
 use Rattle.node_link.specs.declared.clock.Reading.{Reading}
 use Rattle.node_loop.specs.declared.counts.Counts.{Counts}
+use Rattle.node_loop.specs.declared.habit.Habit.{Habit}
+use Rattle.node_loop.specs.declared.habit.Habit.TheVariants.{Plain}
 use Rattle.node_loop.specs.declared.heard.Heard.{Heard}
 use Rattle.node_loop.specs.declared.ledger.Ledger.{Ledger}
 use Rattle.node_loop.specs.declared.running.Running.{Running}
 use Rattle.node_loop.specs.Chain.{Chain, Stops}
 use Rattle.node_loop.specs.Cut.{BootsAtInPart, BootsInPart, GivesAtInPart, GivesInPart, IsTurnInPart, SpotLeft, TurnsAtInPart, spot_left, with_left}
-use Rattle.node_loop.specs.Run.{BootsAt, Gives, GivesAt, IsBooted, Turns, TurnsAt, rounds}
+use Rattle.node_loop.specs.Run.{BootsAt, BootsWith, Gives, GivesAt, IsBooted, Turns, TurnsAt, rounds}
 use Rattle.node_loop.specs.Scene.{AreUp, IsUp, NoneFell, Scene, Spot, all_places, alone, around, each, nobody, only, scene, spot, start, with_spot}
 use Rattle.node_loop.proofs.Chains.{stops-front}
 
@@ -104,20 +106,21 @@ alone_from Zero r old new link before after = refl
 alone_from One r old new link before after = refl
 alone_from Two r old new link before after = refl
 
-pub boots-alone : (delta : ℕ) (place : ServerId) (r : Running) (old new : Option Moments)
+pub boots-alone : (habit : Habit) (delta : ℕ) (place : ServerId) (r : Running) (old new : Option Moments)
     (link : Option Traffic) (before after : Option (List Reading)) (k : Ledger)
-    → k.counts ≡ none → k.heard.items ≡ [] → IsBooted place delta r old new before after
-    → Chain (BootsAt delta) (place ∷ []) (start (only place old) link before)
+    → k.counts ≡ none → k.heard.items ≡ [] → IsBooted habit place delta r old new before after
+    → Chain (BootsWith habit delta) (place ∷ []) (start (only place old) link before)
     (alone place (spot r new link after k))
-boots-alone delta place r old new link before after k counts heard h =
-    subst (λ s. Chain (BootsAt delta) (place ∷ []) (start (only place old) link before)
+boots-alone habit delta place r old new link before after k counts heard h =
+    subst (λ s. Chain (BootsWith habit delta) (place ∷ []) (start (only place old) link before)
     (alone place s)) (sym (spot_is_new r new link after k counts heard)) (
       alone place (new_spot r new link after),
       record {
         server = r;
         disk = new;
         clock = after;
-        boots = subst (λ d. IsBooted place delta r d new before after) (sym (disk_of place old)) h;
+        boots = subst (λ d. IsBooted habit place delta r d new before after) (sym (disk_of place old))
+            h;
         is = alone_from place r old new link before after;
       },
       refl,
@@ -131,12 +134,13 @@ around_from One old new link after = refl
 around_from Two old new link after = refl
 
 -- or it failed
-pub boots-in-part : (delta : ℕ) (place : ServerId) (old new : Option Moments)
+pub boots-in-part : (habit : Habit) (delta : ℕ) (place : ServerId) (old new : Option Moments)
     (link : Option Traffic) (before after : Option (List Reading))
     → BootsInPart place delta old new before after
-    → Stops (BootsAt delta) (BootsAtInPart delta) (place ∷ []) (start (only place old) link before)
+    → Stops (BootsWith habit delta) (BootsAtInPart delta) (place ∷ [])
+    (start (only place old) link before)
     (around (only place new) link after)
-boots-in-part delta place old new link before after h = inl (record {
+boots-in-part habit delta place old new link before after h = inl (record {
   disk = new;
   boots = subst (λ d. BootsInPart place delta d new before after) (sym (disk_of place old)) h;
   is = around_from place old new link after;
@@ -201,9 +205,9 @@ scene_is_new r disks link clock k counts heard =
 pub boots-three : (delta : ℕ) (r : Trio Running) (old new : Trio (Option Moments))
     (link : Option Traffic) (before first second after : Option (List Reading)) (k : Ledger)
     → k.counts ≡ none → k.heard.items ≡ []
-    → IsBooted Zero delta r.zero old.zero new.zero before first
-    → IsBooted One delta r.one old.one new.one first second
-    → IsBooted Two delta r.two old.two new.two second after
+    → IsBooted Plain Zero delta r.zero old.zero new.zero before first
+    → IsBooted Plain One delta r.one old.one new.one first second
+    → IsBooted Plain Two delta r.two old.two new.two second after
     → Chain (BootsAt delta) all_places (start old link before) (scene r new link after k)
 boots-three delta r old new link before first second after k counts heard h0 h1 h2 =
     let a = start old link before in
@@ -234,7 +238,7 @@ module _ (delta : ℕ) (old : Trio (Option Moments)) (link : Option Traffic)
   boot-first disk after h = inl (record { disk = disk; boots = h; is = refl })
 
   module _ (r0 : Running) (disk0 : Option Moments) (first : Option (List Reading))
-      (h0 : IsBooted Zero delta r0 old.zero disk0 before first) where
+      (h0 : IsBooted Plain Zero delta r0 old.zero disk0 before first) where
     abbrev booted_0 : Scene
     booted_0 = booted_in Zero r0 disk0 first (start old link before)
 
@@ -249,7 +253,7 @@ module _ (delta : ℕ) (old : Trio (Option Moments)) (link : Option Traffic)
         inr (booted_0, boots_0, inl (record { disk = disk; boots = h; is = refl }))
 
     pub boot-third : (r1 : Running) (disk1 : Option Moments) (second : Option (List Reading))
-        → IsBooted One delta r1 old.one disk1 first second
+        → IsBooted Plain One delta r1 old.one disk1 first second
         → (disk : Option Moments) (after : Option (List Reading))
         → BootsInPart Two delta old.two disk second after
         → Stops (BootsAt delta) (BootsAtInPart delta) all_places (start old link before)

@@ -10,10 +10,13 @@ use Rattle.node_link.specs.Traffic.{Traffic}
 use Rattle.node_link.specs.declared.clock.Reading.{Reading}
 use Rattle.node_link.specs.declared.link.SentDatagram.{SentDatagram}
 use Rattle.node_outputs.specs.declared.outputs.Outputs.{Outputs}
+use Rattle.node_loop.specs.declared.habit.Habit.{Habit}
+use Rattle.node_loop.specs.declared.habit.Habit.TheVariants.{Plain}
 use Rattle.node_loop.specs.declared.turned.Turned.{Turned}
 use Rattle.node_loop.specs.Chain.{Chain, Stops}
+use Rattle.node_loop.specs.Looks.{look_of}
 use Rattle.node_loop.specs.Outgoing.{datagrams}
-use Rattle.node_loop.specs.Run.{Asked, BootsAt, IsGiven, TurnsAt, ask_of, rounds}
+use Rattle.node_loop.specs.Run.{Asked, BootsWith, IsGiven, TurnsAt, ask_of, rounds}
 use Rattle.node_loop.specs.Scene.{Around, AtWork, Scene, Spot, around, around_in, at_work, with_all_sent, with_spot}
 use Rattle.node_loop.specs.Step.{FailsBoot, FailsStep, IsStep}
 use Rattle.node_loop.specs.Turn.{FailsTurn, IsTurn, LinkTurns, MayTellAll, readings_of}
@@ -81,7 +84,7 @@ pub record GivesAFront (place : ServerId) (a : Spot) (left : SpotLeft) : Type 0 
   pub turned : Turned
   pub before : Option Traffic
   pub pace : Pacing
-  pub turn : IsTurn place a.server.node.mark.role a.server.pace pace turned
+  pub turn : IsTurn place (look_of a.server.node) a.server.pace pace turned
   pub link : LinkTurns place a.server.pace turned a.link before
   pub clock : MayTellAll (readings_of place turned) a.clock left.clock
   pub given : Stops (IsGiven place turned.now) (IsGivenInPart place turned.now) turned.inputs.items
@@ -144,13 +147,20 @@ AsksAtInPart place q a left = GivesAtInPart place (ask_of q) a left
 
 -- SERVERS THAT WEREN'T STARTED: nothing was done, or the first ones were booted, and the next one
 -- in part
-abbrev pub IsUnstarted : ℕ → List ServerId → Scene → Around → Type 0
-IsUnstarted delta places a left =
-    (left ≡ around_in a) ⊎ Stops (BootsAt delta) (BootsAtInPart delta) places a left
+abbrev pub IsUnstartedWith : Habit → ℕ → List ServerId → Scene → Around → Type 0
+IsUnstartedWith habit delta places a left =
+    (left ≡ around_in a) ⊎ Stops (BootsWith habit delta) (BootsAtInPart delta) places a left
 
 -- A RUN THAT WAS CUT OFF: its servers weren't started, or they took a front of its turns, and the
 -- next one in part
-abbrev pub IsCutOff : ℕ → List ServerId → ℕ → Scene → Around → Type 0
-IsCutOff delta places turns a left = IsUnstarted delta places a left
-    ⊎ ((booted : Scene) × Chain (BootsAt delta) places a booted
+abbrev pub IsCutOffWith : Habit → ℕ → List ServerId → ℕ → Scene → Around → Type 0
+IsCutOffWith habit delta places turns a left = IsUnstartedWith habit delta places a left
+    ⊎ ((booted : Scene) × Chain (BootsWith habit delta) places a booted
     × Stops TurnsAt TurnsAtInPart (rounds turns places) booted left)
+
+-- servers of the papers
+abbrev pub IsUnstarted : ℕ → List ServerId → Scene → Around → Type 0
+IsUnstarted delta places a left = IsUnstartedWith Plain delta places a left
+
+abbrev pub IsCutOff : ℕ → List ServerId → ℕ → Scene → Around → Type 0
+IsCutOff delta places turns a left = IsCutOffWith Plain delta places turns a left

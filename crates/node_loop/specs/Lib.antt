@@ -1,4 +1,6 @@
 pub mod Arriving
+pub mod Looks
+pub mod Habits
 pub mod Turns
 pub mod Turn
 pub mod Outgoing
@@ -7,3 +9,5 @@ pub mod Step
 pub mod Scene
 pub mod Run
 pub mod Cut
+pub mod Orders
+pub mod Stay

@@ -14,10 +14,13 @@ use Rattle.node_link.specs.Traffic.{Traffic}
 use Rattle.node_link.specs.declared.clock.Reading.{Reading}
 use Rattle.node_outputs.specs.declared.outputs.Outputs.{Outputs}
 use Rattle.node_loop.specs.declared.counts.Served.{Served}
+use Rattle.node_loop.specs.declared.habit.Habit.{Habit}
+use Rattle.node_loop.specs.declared.habit.Habit.TheVariants.{Plain}
 use Rattle.node_loop.specs.declared.heard.Heard.{Heard}
 use Rattle.node_loop.specs.declared.running.Running.{Running}
 use Rattle.node_loop.specs.declared.turned.Turned.{Turned}
 use Rattle.node_loop.specs.Chain.{Chain}
+use Rattle.node_loop.specs.Looks.{look_of}
 use Rattle.node_loop.specs.Outgoing.{datagrams, heards}
 use Rattle.node_loop.specs.Scene.{AtWork, Scene, Spot, all_places, at_work, sent_after, taken_after, with_all_sent, with_heard, with_spot}
 use Rattle.node_loop.specs.Step.{IsBoot, IsStep}
@@ -26,12 +29,12 @@ use Rattle.node_loop.specs.Turns.{first_pace}
 
 -- ---- a boot
 
--- A BOOT of a server, at a reading of the clock: it ticks at once
-pub record IsBooted (place : ServerId) (delta : ℕ) (server : Running) (old new : Option Moments)
-    (before after : Option (List Reading)) : Type 0 where
+-- A BOOT of a server with this habit, at a reading of the clock: it ticks at once
+pub record IsBooted (habit : Habit) (place : ServerId) (delta : ℕ) (server : Running)
+    (old new : Option Moments) (before after : Option (List Reading)) : Type 0 where
   pub now : ℕ
   pub boot : IsBoot place delta now old new server.node
-  pub pace : server.pace ≡ first_pace now
+  pub pace : server.pace ≡ first_pace habit now
   pub clock : MayTell (record { place = place; millis = now }) before after
 
 -- ---- one input
@@ -47,12 +50,12 @@ pub record IsGiven (place : ServerId) (now : ℕ) (input : Input) (a b : AtWork)
 
 -- ---- one turn of a place
 
--- A TURN, of a server with the role that its mark has: it is given what the turn gives, one input
--- after the other, each at the turn's last reading
+-- A TURN, of a server that sees of itself what its node shows: it is given what the turn gives, one
+-- input after the other, each at the turn's last reading
 pub record Turns (place : ServerId) (a c : Spot) : Type 0 where
   pub turned : Turned
   pub before : Option Traffic
-  pub turn : IsTurn place a.server.node.mark.role a.server.pace c.server.pace turned
+  pub turn : IsTurn place (look_of a.server.node) a.server.pace c.server.pace turned
   pub link : LinkTurns place a.server.pace turned a.link before
   pub clock : MayTellAll (readings_of place turned) a.clock c.clock
   pub taken : c.counts.taken ≡ taken_after turned.taken a.counts.taken
@@ -71,17 +74,21 @@ pub record Gives (place : ServerId) (input : Input) (a c : Spot) : Type 0 where
 
 -- ---- in a scene
 
--- the server of a place is booted from its disk; nothing is taken, sent or heard
-pub record BootsAt (delta : ℕ) (place : ServerId) (a c : Scene) : Type 0 where
+-- the server of a place is booted from its disk, with this habit; nothing is taken, sent or heard
+pub record BootsWith (habit : Habit) (delta : ℕ) (place : ServerId) (a c : Scene) : Type 0 where
   pub server : Running
   pub disk : Option Moments
   pub clock : Option (List Reading)
-  pub boots : IsBooted place delta server (value_of a.disks place) disk a.clock clock
+  pub boots : IsBooted habit place delta server (value_of a.disks place) disk a.clock clock
   pub is : c ≡ record a {
     servers = with_value a.servers place (Some server);
     disks = with_value a.disks place disk;
     clock = clock;
   }
+
+-- as one of the papers
+abbrev pub BootsAt : ℕ → ServerId → Scene → Scene → Type 0
+BootsAt delta = BootsWith Plain delta
 
 -- the server of a place takes a turn
 pub record TurnsAt (place : ServerId) (a c : Scene) : Type 0 where

@@ -2,12 +2,12 @@
 -- that came.
 use Rattle.std.specs.Prelude.{◌≡◌, ◌⊎◌, ℕ, Bool, true, false, List, [], ◌∷◌, ◌++◌, nat_le, Option, Some, None}
 use Rattle.harp_types.specs.declared.server.ServerId.{ServerId}
-use Rattle.harp_types.specs.declared.state.Role.{Role}
 use Rattle.node_link.specs.Readings.{MayTell}
 use Rattle.node_link.specs.Traffic.{Traffic, TakesNext}
 use Rattle.node_link.specs.declared.link.Datagram.{Datagram}
 use Rattle.node_link.specs.declared.clock.Reading.{Reading}
 use Rattle.node.specs.declared.input.Input.{Input}
+use Rattle.node_loop.specs.declared.look.Look.{Look}
 use Rattle.node_loop.specs.declared.turned.Turned.{Turned}
 use Rattle.node_loop.specs.Arriving.{Arrives}
 use Rattle.node_loop.specs.Turns.{Pacing, after_input, after_tick, tick_inputs}
@@ -16,21 +16,21 @@ abbrev pub inputs_of : Option Input → List Input
 inputs_of None = []
 inputs_of (Some input) = input ∷ []
 
-abbrev pub after_arrival : Role → Option Input → Pacing → Pacing
-after_arrival role None p = p
-after_arrival role (Some input) p = after_input role input p
+abbrev pub after_arrival : Look → Option Input → Pacing → Pacing
+after_arrival look None p = p
+after_arrival look (Some input) p = after_input look input p
 
 -- a datagram gives these inputs, and the server hears who sent it
-abbrev pub Comes : Role → Datagram → List Input → Pacing → Pacing → Type 0
-Comes role d inputs p q = (input : Option Input) × Arrives d input × (inputs ≡ inputs_of input)
-    × (q ≡ after_arrival role input p)
+abbrev pub Comes : Look → Datagram → List Input → Pacing → Pacing → Type 0
+Comes look d inputs p q = (input : Option Input) × Arrives d input × (inputs ≡ inputs_of input)
+    × (q ≡ after_arrival look input p)
 
 -- the turn ticks
-pub record IsTick (me : ServerId) (role : Role) (p q : Pacing) (t : Turned) : Type 0 where
-  pub inputs : t.inputs.items ≡ tick_inputs me role p
+pub record IsTick (me : ServerId) (look : Look) (p q : Pacing) (t : Turned) : Type 0 where
+  pub inputs : t.inputs.items ≡ tick_inputs me look p
   pub taken : t.taken ≡ None
   pub now : t.now ≡ t.began
-  pub pace : q ≡ after_tick me role t.began p
+  pub pace : q ≡ after_tick me look t.began p
 
 -- nothing came
 pub record IsQuiet (p q : Pacing) (t : Turned) : Type 0 where
@@ -38,18 +38,18 @@ pub record IsQuiet (p q : Pacing) (t : Turned) : Type 0 where
   pub now : t.now ≡ t.began
   pub pace : q ≡ p
 
-abbrev pub IsReceive : Role → Pacing → Pacing → Turned → Option Datagram → Type 0
-IsReceive role p q t None = IsQuiet p q t
-IsReceive role p q t (Some d) = Comes role d t.inputs.items p q
+abbrev pub IsReceive : Look → Pacing → Pacing → Turned → Option Datagram → Type 0
+IsReceive look p q t None = IsQuiet p q t
+IsReceive look p q t (Some d) = Comes look d t.inputs.items p q
 
-abbrev pub IsTurnBy : Bool → ServerId → Role → Pacing → Pacing → Turned → Type 0
-IsTurnBy true me role p q t = IsTick me role p q t
-IsTurnBy false me role p q t = IsReceive role p q t t.taken
+abbrev pub IsTurnBy : Bool → ServerId → Look → Pacing → Pacing → Turned → Type 0
+IsTurnBy true me look p q t = IsTick me look p q t
+IsTurnBy false me look p q t = IsReceive look p q t t.taken
 
 -- THE TURN: it ticks where its reading has reached the time of the next tick, and otherwise gives
 -- what came
-abbrev pub IsTurn : ServerId → Role → Pacing → Pacing → Turned → Type 0
-IsTurn me role p q t = IsTurnBy (nat_le p.due t.began) me role p q t
+abbrev pub IsTurn : ServerId → Look → Pacing → Pacing → Turned → Type 0
+IsTurn me look p q t = IsTurnBy (nat_le p.due t.began) me look p q t
 
 -- ---- what the link and the clock tell
 

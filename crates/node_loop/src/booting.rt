@@ -7,6 +7,7 @@ ghost use Rattle.node_loop.specs.Run.{IsBooted};
 ghost use Rattle.node_loop.specs.Scene.{IsUp};
 
 use crate::fault::LoopFault;
+use crate::habit::Habit;
 use crate::pace::Pace;
 use crate::running::Running;
 use harp_store::Store;
@@ -17,15 +18,17 @@ use power_save::SeenRecords;
 use promise::Delta;
 use std::alloc::Global;
 
-/// Boots the server of a place from its disk, at a reading of the clock. It ticks at once.
+/// Boots the server of a place from its disk, with this habit, at a reading of the clock. It ticks
+/// at once.
 pub fn boot<D: Store, C: Clock>(
     alloc: Global,
+    habit: Habit,
     me: ServerId,
     delta: Delta,
     store: &mut D,
     clock: &mut C,
 ) -> Result<Running, LoopFault>
-    ensures boots { IfOk result (λ r. IsBooted me delta r (D.told store.old) (D.told store.new)
+    ensures boots { IfOk result (λ r. IsBooted habit me delta r (D.told store.old) (D.told store.new)
         (C.told clock.old) (C.told clock.new)) }
     ensures part { OnErr result (BootsInPart me delta (D.told store.old) (D.told store.new)
         (C.told clock.old) (C.told clock.new)) }
@@ -40,7 +43,7 @@ pub fn boot<D: Store, C: Clock>(
     match Node::boot(alloc, me, now, delta, store, &mut seen) {
         Ok(node) => Ok(Running {
             node,
-            pace: Pace::start(now),
+            pace: Pace::start(habit, now),
         }),
         Err(NodeFault::StoreFailed) => Err(LoopFault::StoreFailed),
         Err(NodeFault::Halted) => unreachable!(),

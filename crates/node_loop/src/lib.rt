@@ -1,6 +1,6 @@
 //! A running server: what it is given when its clock reads a time and when a datagram comes, what
-//! it sends, and its turns, alone or as one of three; and three that a program runs, asks and
-//! hears.
+//! it sends, and its turns, alone or as one of three; three that a program runs, asks and hears; and
+//! one that stays up until it is told to stop.
 //!
 //! # What is proved
 //!
@@ -23,6 +23,12 @@
 //! datagrams: `heard` gives them, in the order of the steps and of their outputs, each once
 //! (`next`). What was heard before makes no difference to a turn or an ask (`HeardLaws`).
 //! `serve_three` is made of these parts, and drops what is heard.
+//!
+//! A server has a habit, by which a tick gives more or less, and messages are heeded or not
+//! (`Habits`, `Turns`); `serve_one` and `Three` have the plain one. `serve_steady` runs one with the
+//! steady habit by the same boots and turns; it asks at each tick whether it is to stop, and once it
+//! is, it saves its log by the rule of a power failure (`run`). Cut off, it leaves a
+//! front of that, and amid the save the log whole or none (`cut`).
 #![tactic(auto)]
 
 mod arriving;
@@ -31,13 +37,18 @@ mod booting;
 mod counts;
 mod fault;
 mod giving;
+mod habit;
 mod heard;
 mod ledger;
+mod look;
+mod orders;
 mod outgoing;
 mod pace;
 mod rounds;
 mod running;
+mod saving;
 mod serving;
+mod staying;
 mod three;
 mod turn;
 mod turned;
@@ -45,10 +56,14 @@ mod turned;
 pub use arriving::arrived;
 pub use counts::{Counts, Served};
 pub use fault::LoopFault;
+pub use habit::{APPLIED_AT_ONCE, Doubled, Habit};
 pub use heard::Heard;
-pub use pace::{APPLIED_AT_ONCE, Pace, TICK};
+pub use look::Look;
+pub use orders::Orders;
+pub use pace::{Pace, TICK};
 pub use running::Running;
 pub use serving::{serve_one, serve_three};
+pub use staying::serve_steady;
 pub use three::Three;
 pub use turn::take_turn;
 pub use turned::Turned;

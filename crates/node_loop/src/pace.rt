@@ -1,31 +1,35 @@
 //! When a server ticks, and when it suspects.
 
-ghost use Rattle.std.specs.Prelude.{◌≡◌, ◌<◌, ◌^◌, ◌∷◌, ◌++◌, ◌&&◌, nat_le, IfOk, OnOk, OnErr};
-ghost use Rattle.node_loop.specs.Turns.{after_input, after_tick, first_pace, given_if, is_of_other, is_other, may_suspect, patience, tick_inputs};
+ghost use Rattle.std.specs.Prelude.{◌≡◌, ◌≤◌, ◌<◌, ◌^◌, ◌∷◌, ◌++◌, ◌&&◌, nat_le, IfOk, OnOk, OnErr};
+ghost use Rattle.node_loop.specs.Turns.{after_input, after_tick, doubled_at, first_pace, given_if};
+ghost use Rattle.node_loop.specs.Turns.{is_heeded, is_heeded_by, is_other, may_suspect, patience};
+ghost use Rattle.node_loop.specs.Turns.{suspects, tick_inputs};
 ghost use Rattle.node.specs.declared.input.Input.TheVariants.{Apply, Flush, Suspect, Tick};
 
+use crate::habit::{Doubled, Habit};
+use crate::look::Look;
 use harp_types::{Role, ServerId};
 use node::Input;
 use std::alloc::{AllocError, Global};
 use std::marker::Model;
+use wire::Message;
 
 /// Milliseconds from a tick to the next.
 pub const TICK: u64 = 200;
 
-/// The updates that are applied at a tick, at most.
-pub const APPLIED_AT_ONCE: u32 = 64;
-
 /// The disk is flushed at each tick of so many.
 const TICKS_TO_FLUSH: u64 = 5;
 
-/// What is kept of a server between its turns: when it ticks next, its ticks so far, and how many
-/// of them it was quiet, since it heard the other storer of its view or suspected last. Each is
-/// counted up to 2^64 - 1.
+/// What is kept of a server between its turns: its habit, when it ticks next, its ticks so far, how
+/// many of them it was quiet, since it heeded a message or suspected last, and how often its
+/// patience is doubled. Ticks are counted up to 2^64 - 1.
 #[derive(Clone, Copy, PartialEq, Eq)]
 pub struct Pace {
+    habit: Habit,
     due: u64,
     ticks: u64,
     quiet: u64,
+    doubled: Doubled,
 }
 
 impl Model for Pace {
@@ -33,14 +37,27 @@ impl Model for Pace {
 
     ghost Value = { Pacing };
 
-    ghost view = { λ p. record { due = p.due; ticks = p.ticks; quiet = p.quiet } };
+    ghost view = { λ p. record {
+      habit = p.habit;
+      due = p.due;
+      ticks = p.ticks;
+      quiet = p.quiet;
+      doubled = p.doubled;
+    } };
 
-    ghost inverse = { λ p. record { due = p.due; ticks = p.ticks; quiet = p.quiet } };
+    ghost inverse = { λ p. record {
+      habit = p.habit;
+      due = p.due;
+      ticks = p.ticks;
+      quiet = p.quiet;
+      doubled = p.doubled;
+    } };
 }
 
-// How many quiet ticks are too many for a server.
+// How many quiet ticks are too many for a server at first.
 fn patience(me: ServerId) -> u64
-    ensures { result ≡ patience me }
+    ensures value { result ≡ patience me }
+    ensures bound { result ≤ 20 }
 {
     match me {
         ServerId::Zero => 10,
@@ -62,23 +79,19 @@ fn may_suspect(me: ServerId, role: Role) -> bool
     }
 }
 
-// Whether so many quiet ticks make a server suspect.
-fn suspects(me: ServerId, role: Role, quiet: u64) -> bool
-    ensures { result ≡ (nat_le (patience me) quiet && may_suspect me role) }
-{
-    patience(me) <= quiet && may_suspect(me, role)
-}
-
 // What a server is given at a tick.
-fn inputs_of_tick(alloc: Global, flushes: bool, suspects: bool) -> Result<Vec<Input>, AllocError>
+fn inputs_of_tick(
+    alloc: Global,
+    most: u32,
+    flushes: bool,
+    suspects: bool,
+) -> Result<Vec<Input>, AllocError>
     ensures { IfOk result (λ inputs. inputs.items ≡ Tick
-        ∷ Apply 64 ∷ given_if flushes Flush ++ given_if suspects Suspect) }
+        ∷ Apply most ∷ given_if flushes Flush ++ given_if suspects Suspect) }
 {
     let mut inputs = Vec::with_capacity(alloc, 4)?;
     inputs.push(Input::Tick)?;
-    inputs.push(Input::Apply {
-        most: APPLIED_AT_ONCE,
-    })?;
+    inputs.push(Input::Apply { most })?;
     if flushes {
         inputs.push(Input::Flush)?;
     }
@@ -89,14 +102,17 @@ fn inputs_of_tick(alloc: Global, flushes: bool, suspects: bool) -> Result<Vec<In
 }
 
 impl Pace {
-    /// That of a server that was booted at this reading of its clock; it ticks at once.
-    pub fn start(now: u64) -> Pace
-        ensures { result ≡ first_pace now }
+    /// That of a server with this habit that was booted at this reading of its clock; it ticks at
+    /// once.
+    pub fn start(habit: Habit, now: u64) -> Pace
+        ensures { result ≡ first_pace habit now }
     {
         Pace {
+            habit,
             due: now,
             ticks: 0,
             quiet: 0,
+            doubled: Doubled::Never,
         }
     }
 
@@ -107,52 +123,95 @@ impl Pace {
         self.due <= now
     }
 
-    /// A tick at this reading of its clock, of a server with this role in the view that it
-    /// accepted: what it is given, in order. Where memory runs out, it doesn't tick.
+    /// How often it ticked, up to 2^64 - 1.
+    pub fn ticks(&self) -> u64
+        ensures { result ≡ self.now.ticks }
+    {
+        self.ticks
+    }
+
+    /// How often its patience is doubled, once a server sees this of itself.
+    fn doubled_at(&self, look: &Look) -> Doubled
+        ensures { result ≡ doubled_at look.now self.now }
+    {
+        if look.is_open {
+            Doubled::Never
+        } else {
+            self.doubled
+        }
+    }
+
+    /// Whether the server suspects at its next tick, where it sees this of itself.
+    fn suspects(&self, me: ServerId, look: &Look) -> bool
+        ensures { result ≡ suspects me look.now self.now }
+    {
+        let patience = self.habit.patience(patience(me), self.doubled_at(look));
+        patience <= self.quiet.saturating_add(1) && may_suspect(me, look.role)
+    }
+
+    /// A tick at this reading of its clock, of a server that sees this of itself: what it is given,
+    /// in order. Where memory runs out, it doesn't tick.
     pub fn tick(
         &mut self,
         alloc: Global,
         me: ServerId,
-        role: Role,
+        look: &Look,
         now: u64,
     ) -> Result<Vec<Input>, AllocError>
         requires { now < 2 ^ 62 }
-        ensures inputs { IfOk result (λ inputs. inputs.items ≡ tick_inputs me role self.old) }
-        ensures pace { OnOk result (self.new ≡ after_tick me role now self.old) }
+        ensures inputs { IfOk result (λ inputs. inputs.items ≡ tick_inputs me look.now self.old) }
+        ensures pace { OnOk result (self.new ≡ after_tick me look.now now self.old) }
         ensures kept { OnErr result (self.new ≡ self.old) }
     {
         let ticks = self.ticks.saturating_add(1);
-        let quiet = self.quiet.saturating_add(1);
-        let suspects = suspects(me, role, quiet);
-        let inputs = inputs_of_tick(alloc, ticks % TICKS_TO_FLUSH == 0, suspects)?;
+        let suspects = self.suspects(me, look);
+        let flushes = self.habit.flushes(look, ticks % TICKS_TO_FLUSH == 0);
+        let most = self.habit.applied_at_once();
+        let inputs = inputs_of_tick(alloc, most, flushes, suspects)?;
+        let doubled = self.doubled_at(look);
         self.due = now + TICK;
         self.ticks = ticks;
-        self.quiet = if suspects { 0 } else { quiet };
+        self.quiet = if suspects {
+            0
+        } else {
+            self.quiet.saturating_add(1)
+        };
+        self.doubled = self.habit.after(suspects, doubled);
         Ok(inputs)
     }
 
-    /// A server with this role in the view that it accepted is given an input that came to it.
-    pub fn heed(&mut self, role: Role, input: &Input)
-        ensures { self.new ≡ after_input role input.now self.old }
+    /// A server that sees this of itself is given an input that came to it.
+    pub fn heed(&mut self, look: &Look, input: &Input)
+        ensures { self.new ≡ after_input look.now input.now self.old }
     {
-        if is_of_other(role, input) {
+        if is_heeded(self.habit, look, input) {
             self.quiet = 0;
         }
     }
 }
 
-// Whether an input is a message of the other storer of the view.
-fn is_of_other(role: Role, input: &Input) -> bool
-    ensures { result ≡ is_of_other role input.now }
+// Whether an input is a message that a server with this habit heeds.
+fn is_heeded(habit: Habit, look: &Look, input: &Input) -> bool
+    ensures { result ≡ is_heeded habit look.now input.now }
 {
     match input {
-        Input::Message { from, .. } => is_other(role, *from),
+        Input::Message { from, message } => is_heeded_by(habit, look, *from, message),
         Input::Ask { .. } => false,
         Input::Tick => false,
         Input::Apply { .. } => false,
         Input::Flush => false,
         Input::Suspect => false,
         Input::List => false,
+    }
+}
+
+// Whether a server with this habit heeds a message of that server.
+fn is_heeded_by(habit: Habit, look: &Look, from: ServerId, message: &Message) -> bool
+    ensures { result ≡ is_heeded_by habit look.now from message.now }
+{
+    match habit {
+        Habit::Plain => is_other(look.role, from),
+        Habit::Steady => look.is_told(message),
     }
 }
 

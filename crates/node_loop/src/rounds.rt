@@ -10,6 +10,7 @@ ghost use Rattle.node_loop.specs.Scene.{IsUp, alone, around, only, spot};
 use crate::fault::LoopFault;
 use crate::giving::{give, give_all};
 use crate::ledger::Ledger;
+use crate::look::Look;
 use crate::running::Running;
 use crate::turn::take_turn;
 use crate::turned::Turned;
@@ -20,7 +21,7 @@ use node_link::{Clock, Link};
 use std::alloc::Global;
 
 /// How many milliseconds a server alone waits for a datagram, about.
-const WAIT_ALONE: u32 = 20;
+pub const WAIT_ALONE: u32 = 20;
 
 /// A turn of the server at a place.
 pub fn turn<L: Link, D: Store, C: Clock>(
@@ -48,8 +49,8 @@ pub fn turn<L: Link, D: Store, C: Clock>(
         → Rose (D.faults store.old) (D.faults store.new) }
     ensures disk_count { D.faults store.old ≤ D.faults store.new }
 {
-    let role = running.node.role();
-    let turned = take_turn(alloc, me, role, wait_ms, &mut running.pace, link, clock)?;
+    let look = Look::of(&running.node);
+    let turned = take_turn(alloc, me, &look, wait_ms, &mut running.pace, link, clock)?;
     ledger.counts.take(&turned.taken);
     let Turned { now, inputs, .. } = turned;
     give_all(

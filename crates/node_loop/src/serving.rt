@@ -11,6 +11,7 @@ use crate::binding::open;
 use crate::booting::boot;
 use crate::counts::Served;
 use crate::fault::LoopFault;
+use crate::habit::Habit;
 use crate::ledger::Ledger;
 use crate::rounds::turns_alone;
 use crate::three::Three;
@@ -47,7 +48,7 @@ pub fn serve_one<L: Link, D: Store, C: Clock>(
     ensures disk_count { D.faults store.old ≤ D.faults store.new }
 {
     open(me, port, link)?;
-    let mut running = boot(alloc, me, delta, store, clock)?;
+    let mut running = boot(alloc, Habit::Plain, me, delta, store, clock)?;
     let mut ledger = Ledger::new(alloc);
     turns_alone(
         alloc,

@@ -15,6 +15,7 @@ use crate::binding::open_all;
 use crate::booting::boot;
 use crate::counts::Served;
 use crate::fault::LoopFault;
+use crate::habit::Habit;
 use crate::heard::Heard;
 use crate::ledger::Ledger;
 use crate::rounds::{give_now, turn};
@@ -59,9 +60,30 @@ fn boot_all<D: Store, C: Clock>(
     ensures disk_count { NoneFell (each D.faults stores.old) (each D.faults stores.new) }
     ensures link { result ≡ Err LoopFault.LinkFailed → ⊥ }
 {
-    let zero = boot(alloc, ServerId::Zero, delta, &mut stores.zero, clock)?;
-    let one = boot(alloc, ServerId::One, delta, &mut stores.one, clock)?;
-    let two = boot(alloc, ServerId::Two, delta, &mut stores.two, clock)?;
+    let zero = boot(
+        alloc,
+        Habit::Plain,
+        ServerId::Zero,
+        delta,
+        &mut stores.zero,
+        clock,
+    )?;
+    let one = boot(
+        alloc,
+        Habit::Plain,
+        ServerId::One,
+        delta,
+        &mut stores.one,
+        clock,
+    )?;
+    let two = boot(
+        alloc,
+        Habit::Plain,
+        ServerId::Two,
+        delta,
+        &mut stores.two,
+        clock,
+    )?;
     let ledger = Ledger::new(alloc);
     Ok(Three {
         servers: Trio { zero, one, two },

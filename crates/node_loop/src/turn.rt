@@ -8,27 +8,28 @@ ghost use Rattle.node_loop.specs.Turn.{readings_of};
 
 use crate::arriving::arrived;
 use crate::fault::{LoopFault, of_link};
+use crate::look::Look;
 use crate::pace::Pace;
 use crate::turned::Turned;
-use harp_types::{Role, ServerId};
+use harp_types::ServerId;
 use node::Input;
 use node_link::{Clock, Datagram, Link};
 use std::alloc::{AllocError, Global};
 
-// What a datagram gives to a server with this role, which is at this pace.
+// What a datagram gives to a server that sees this of itself, which is at this pace.
 fn come(
     alloc: Global,
     pace: &mut Pace,
-    role: Role,
+    look: &Look,
     datagram: &Datagram,
 ) -> Result<Vec<Input>, AllocError>
-    ensures comes { IfOk result (λ inputs. Comes role datagram.now inputs.items pace.old pace.new) }
+    ensures comes { IfOk result (λ inputs. Comes look.now datagram.now inputs.items pace.old pace.new) }
     ensures kept { OnErr result (pace.new ≡ pace.old) }
 {
     let mut inputs = Vec::with_capacity(alloc, 1)?;
     match arrived(alloc, datagram)? {
         Some(input) => {
-            pace.heed(role, &input);
+            pace.heed(look, &input);
             inputs.push_reserved(input);
             Ok(inputs)
         }
@@ -36,20 +37,19 @@ fn come(
     }
 }
 
-/// A turn at a place, of a server with this role in the view that it accepted. Where the reading
-/// of the clock has reached the time of its next tick, it ticks. Otherwise it waits about so many
+/// A turn at a place, of a server that sees this of itself. Where the reading of the clock has reached the time of its next tick, it ticks. Otherwise it waits about so many
 /// milliseconds for a datagram, and reads the clock again where one comes. It sends nothing. After
 /// an error the datagram that came may be lost.
 pub fn take_turn<L: Link, C: Clock>(
     alloc: Global,
     place: ServerId,
-    role: Role,
+    look: &Look,
     wait_ms: u32,
     pace: &mut Pace,
     link: &mut L,
     clock: &mut C,
 ) -> Result<Turned, LoopFault>
-    ensures turn { IfOk result (λ t. IsTurn place role pace.old pace.new t
+    ensures turn { IfOk result (λ t. IsTurn place look.now pace.old pace.new t
         × LinkTurns place pace.old t (L.told link.old) (L.told link.new)
         × MayTellAll (readings_of place t) (C.told clock.old) (C.told clock.new)) }
     ensures times { IfOk result (λ t. (C.least clock.old place ≤ t.began) × (t.began ≤ t.now)
@@ -65,7 +65,7 @@ pub fn take_turn<L: Link, C: Clock>(
 {
     let began = clock.now(place);
     if pace.is_due(began) {
-        let inputs = pace.tick(alloc, place, role, began)?;
+        let inputs = pace.tick(alloc, place, look, began)?;
         return Ok(Turned {
             began,
             taken: None,
@@ -76,7 +76,7 @@ pub fn take_turn<L: Link, C: Clock>(
     match link.receive(alloc, place, wait_ms) {
         Ok(Some(datagram)) => {
             let now = clock.now(place);
-            let inputs = come(alloc, pace, role, &datagram)?;
+            let inputs = come(alloc, pace, look, &datagram)?;
             Ok(Turned {
                 began,
                 taken: Some(datagram),

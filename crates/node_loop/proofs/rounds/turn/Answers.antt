@@ -14,8 +14,8 @@ returns-clause-turns g c =
     on_ok-one c.give_all.result (λ given. record {
       turned = t;
       before = g.L.Link.told c.take_turn.new.link;
-      turn = subst (λ role. IsTurn c.args.me role c.args.running.now.pace c.take_turn.new.pace t)
-          c.role-role.ensures c.in_ok-turned.ensures.turn.0;
+      turn = subst (λ look. IsTurn c.args.me look c.args.running.now.pace c.take_turn.new.pace t)
+          c.of-look.ensures c.in_ok-turned.ensures.turn.0;
       link = c.in_ok-turned.ensures.turn.1;
       clock = c.in_ok-turned.ensures.turn.2;
       taken = c.give_all.ensures.taken ∙ ap (λ (n : Counts). n.taken) c.take.ensures;
@@ -44,8 +44,8 @@ returns-clause-part g c =
       turned = t;
       before = g.L.Link.told c.take_turn.new.link;
       pace = c.take_turn.new.pace;
-      turn = subst (λ role. IsTurn c.args.me role c.args.running.now.pace c.take_turn.new.pace t)
-          c.role-role.ensures c.in_ok-turned.ensures.turn.0;
+      turn = subst (λ look. IsTurn c.args.me look c.args.running.now.pace c.take_turn.new.pace t)
+          c.of-look.ensures c.in_ok-turned.ensures.turn.0;
       link = c.in_ok-turned.ensures.turn.1;
       clock = c.in_ok-turned.ensures.turn.2;
       given = subst (λ n. Stops (IsGiven c.args.me t.now) (IsGivenInPart c.args.me t.now)

@@ -2,6 +2,7 @@ use Rattle.std.proofs.Common.{◌∷◌, [], ap, inl, inr, refl, subst}
 use Rattle.node_loop.specs.Chain.{Chain, Stops}
 use Rattle.node_loop.specs.Cut.{BootsAtInPart}
 use Rattle.node_loop.specs.Run.{BootsAt}
+use Rattle.node_loop.specs.declared.habit.Habit.TheVariants.{Plain}
 use Rattle.node_loop.specs.Scene.{alone, around, only, spot, start}
 use Rattle.node_loop.proofs.Results.{on_err}
 use Rattle.node_loop.proofs.Scenes.{boots-alone, boots-in-part}
@@ -25,7 +26,7 @@ returns-in_err-running-clause-cut g c =
     on_err c.from_residual-in_err-running.result (inl (inr
     (subst (λ l. Stops (BootsAt delta) (BootsAtInPart delta) (me ∷ [])
     (start (only me old) l before) (around (only me new) link after)) c.open.ensures.kept
-    (boots-in-part delta me old new link before after c.in_err-running.ensures.part))))
+    (boots-in-part Plain delta me old new link before after c.in_err-running.ensures.part))))
 
 pub returns-in_err-turns_alone-clause-cut : goal.returns-in_err-turns_alone-clause-cut
 returns-in_err-turns_alone-clause-cut g c =
@@ -43,7 +44,7 @@ returns-in_err-turns_alone-clause-cut g c =
       booted,
       subst (λ l. Chain (BootsAt delta) (me ∷ []) (start (only me old) l before) booted)
           c.open.ensures.kept
-          (boots-alone delta me r old new link before after k c.new-ledger.ensures.counts
+          (boots-alone Plain delta me r old new link before after k c.new-ledger.ensures.counts
           c.new-ledger.ensures.heard c.in_ok-running.ensures.boots),
       c.in_err-turns_alone.ensures.part,
     ))
@@ -67,7 +68,7 @@ returns-clause-run g c =
           c.turns_alone.new.ledger);
       boots = subst (λ l. Chain (BootsAt delta) (me ∷ []) (start (only me old) l before) booted)
           c.open.ensures.kept
-          (boots-alone delta me r old new link before after k c.new-ledger.ensures.counts
+          (boots-alone Plain delta me r old new link before after k c.new-ledger.ensures.counts
           c.new-ledger.ensures.heard c.in_ok-running.ensures.boots);
       turned = c.in_ok-turns_alone.ensures.turns;
       disks_are = refl;
