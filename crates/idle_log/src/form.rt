@@ -14,7 +14,7 @@ use wire::Storers;
 /// The choice of a view: its storers, the server whose log it starts with, the indices up to which
 /// records may be dropped and are known to be committed, how many records it starts with, and
 /// until when older promises may run.
-#[derive(Clone, Copy, PartialEq, Eq)]
+#[derive(Clone, Copy)]
 pub struct Form {
     pub storers: Storers,
     pub source: ServerId,

@@ -316,3 +316,36 @@ not_followed me mark horizon served duty s n items clock from v cp base es of fi
     (subst (λ (x : NodeValue). all_of (is_in_view (server x items) v
     ∷ same x.me (partner x.plain.plan.storers) ∷ []) ≡ false) of
     (no_partner me mark horizon served duty s items v fits other))
+
+-- ---- what isn't heeded of a view's leader
+
+pub heeded : (a b r : Bool) → r ≡ all_of (a ∷ b ∷ []) → r ≡ true → (a ≡ true) × (b ≡ true)
+unfolding all_of
+heeded true true r is so = (refl, refl)
+heeded true false r is so = cc
+heeded false b r is so = cc
+
+pub not_both : (b : Bool) → b ≡ true → b ≡ false → ⊥
+not_both b is not = cc
+
+first_fails : (a : Bool) → all_of (a ∷ true ∷ []) ≡ false → a ≡ false
+unfolding all_of
+first_fails true h = cc
+first_fails false h = refl
+
+pub unheeded : (me : ServerId) (mark : MarkFields) (horizon : HorizonValue) (served : ℕ)
+    (duty : Task) (s : State) (n : NodeValue) (items : List Entry) (clock : ℕ) (from : Place)
+    (v a : View) (f r : Bool) (cp base : ℕ) (es : List Entry)
+    → value me mark horizon served duty s ≡ n → Fits (place_of me) mark s → a ≡ mark.accepted
+    → f ≡ is_followed s → r ≡ all_of ((number_of_view v == number_of_view a) ∷ f ∷ [])
+    → r ≡ false → on_event n.me clock (server n items) from (number_of_view v) cp base es ≡ []
+unheeded me mark horizon served duty s n items clock from v a true r cp base es of fits at is test
+    not =
+    not_in_view n.me clock (server n items) from (number_of_view v) cp base es
+    (other_view (server n items) (number_of_view v)
+    (accepted_test me mark horizon served duty s n v a (number_of_view v == number_of_view a) false
+    of at refl (first_fails (number_of_view v == number_of_view a) (sym test ∙ not))))
+unheeded me mark horizon served duty s n items clock from v a false r cp base es of fits at is test
+    not =
+    not_followed me mark horizon served duty s n items clock from (number_of_view v) cp base es of
+    fits (sym is)

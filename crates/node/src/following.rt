@@ -19,7 +19,7 @@ use event_record::Record;
 use harp_types::ViewNo;
 use node_outputs::Outputs;
 use std::alloc::AllocError;
-use view_form::is_view;
+use view_form::heeds_leader;
 
 impl Node {
     /// Deals with an Event of a view. Where the server is active there, the base is at most its LB,
@@ -57,12 +57,11 @@ impl Node {
         ensures mark { self.new.mark ≡ self.old.mark }
         ensures up { OnOk result (self.new.halted ≡ false) }
     {
-        if !is_view(view, self.mark.accepted()) {
+        if !heeds_leader(view, self.mark.accepted(), self.state.is_following()) {
             return Ok(());
         }
         let State::Follows(partner, _) = &mut self.state else {
-            // Only a partner promises.
-            return Ok(());
+            unreachable!();
         };
         match partner.event(cp, base, item, now, &mut self.horizon, outs) {
             Ok(()) => Ok(()),
@@ -101,11 +100,11 @@ impl Node {
         ensures mark { self.new.mark ≡ self.old.mark }
         ensures up { OnOk result (self.new.halted ≡ false) }
     {
-        if !is_view(view, self.mark.accepted()) {
+        if !heeds_leader(view, self.mark.accepted(), self.state.is_following()) {
             return Ok(());
         }
         let State::Follows(partner, _) = &mut self.state else {
-            return Ok(());
+            unreachable!();
         };
         partner.beat(cp, base, now, &mut self.horizon, outs)?;
         Ok(())

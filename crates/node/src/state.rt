@@ -31,7 +31,7 @@ pub(crate) enum Task {
 
 /// What a server that joined its promised view in this boot told, and the LB of the last Formed of
 /// each server.
-#[derive(Clone, Copy, PartialEq, Eq)]
+#[derive(Clone, Copy)]
 pub(crate) struct Joining {
     pub(crate) told: JoinInfo,
     pub(crate) formed: Trio<Option<u64>>,
@@ -111,6 +111,20 @@ impl State {
             }
             State::Leads(_, _) => unreachable!(),
             State::Follows(_, _) => unreachable!(),
+        }
+    }
+
+    /// Whether the server follows its leader, since it accepted its view in this boot.
+    pub(crate) fn is_following(&self) -> bool
+        ensures { result ≡ is_followed self.now }
+    {
+        match self {
+            State::Follows(_, _) => true,
+            State::Gone => false,
+            State::Rests(_) => false,
+            State::Joined(_, _) => false,
+            State::Pulls(_, _, _, _) => false,
+            State::Leads(_, _) => false,
         }
     }
 

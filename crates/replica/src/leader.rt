@@ -28,7 +28,7 @@ use tree_log::TreeLog;
 use volatile_log::{ActiveLog, FrozenLog};
 
 /// Who is the partner of a leader.
-#[derive(Clone, Copy, PartialEq, Eq)]
+#[derive(Clone, Copy)]
 pub(crate) enum Beside {
     /// Server 1, of server 0.
     DataServer,

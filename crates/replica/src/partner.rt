@@ -32,7 +32,7 @@ use volatile_log::{ActiveLog, FrozenLog};
 use wire::Message;
 
 /// Who leads a partner.
-#[derive(Clone, Copy, PartialEq, Eq)]
+#[derive(Clone, Copy)]
 pub(crate) enum Ahead {
     /// Server 0, of server 1 or 2.
     Zero,

@@ -6,7 +6,7 @@ use promise::Deadline;
 /// What a Join tells of its sender: what it has, the view that it accepted last, the numbers of
 /// its log, and until when it may have promised. A lost server tells its LB for each of the four
 /// numbers, and one without a log 0.
-#[derive(Clone, Copy, PartialEq, Eq)]
+#[derive(Clone, Copy)]
 pub struct JoinInfo {
     pub held: Held,
     pub accepted: ViewNo,

@@ -16,10 +16,13 @@
 //!   `only_none`).
 //! - `Collector::join` gives the plan exactly at the first join after which there is one (`plan`),
 //!   and takes no later join (`joins`).
+//! - `heeds_leader` says just where a server acknowledges what a view's leader sends it: in its
+//!   accepted view, where it follows since it accepted that, which a boot ends.
 #![tactic(auto)]
 
 mod choosing;
 mod collector;
+mod heeding;
 mod join;
 mod laws;
 mod plan;
@@ -27,6 +30,7 @@ mod same;
 
 pub use choosing::choose;
 pub use collector::Collector;
+pub use heeding::heeds_leader;
 pub use join::JoinInfo;
 pub use laws::choices_are_right;
 pub use plan::Plan;

@@ -9,7 +9,7 @@ use harp_types::{ServerId, ViewNo};
 use promise::Deadline;
 
 /// The choice of a view, as a Form tells it.
-#[derive(Clone, Copy, PartialEq, Eq)]
+#[derive(Clone, Copy)]
 pub struct Plan {
     pub leader: ServerId,
     pub partner: ServerId,
@@ -28,7 +28,7 @@ pub struct Plan {
 }
 
 /// The two storers of a view. The first named leads.
-#[derive(Clone, Copy, PartialEq, Eq)]
+#[derive(Clone, Copy)]
 pub(crate) enum Storers {
     ZeroOne,
     ZeroTwo,

@@ -3,8 +3,9 @@ use Rattle.std.proofs.lemmas.Bool.{eqb-true}
 use Rattle.group_rules.specs.Names.{number_of_view, place_of}
 use Rattle.group_rules.specs.Places.{Place, leader}
 use Rattle.group_rules.specs.Replicate.{on_event}
-use Rattle.node.proofs.Heeds.{accepted_test, base_within, in_view_followed, leader_followed, leaves, no_follower, not_followed, not_in_view, other_view, stays}
+use Rattle.node.proofs.Heeds.{accepted_test, base_within, heeded, in_view_followed, leader_followed, leaves, no_follower, not_both, unheeded}
 use Rattle.node.proofs.InView.{follows_beat, follows_made}
+use Rattle.node.specs.Active.{is_followed}
 use Rattle.node.specs.Node.{server, value}
 use Rattle.node.specs.State.{Fits, IsFollowing, outer}
 use Rattle.node.specs.declared.state.State.{State}
@@ -18,37 +19,30 @@ use Rattle.node.specs.Stock.{stock, stock_in}
 use Rattle.node.proofs.node.Node.heed_beat.Goals as goal
 use Rattle.node.proofs.node.Node.heed_beat.Goals.{After-beat}
 
-pub returns-then-not-is_view-clause-makes : goal.returns-then-not-is_view-clause-makes
-returns-then-not-is_view-clause-makes c items from led =
+pub returns-then-not-heeds_leader-clause-makes : goal.returns-then-not-heeds_leader-clause-makes
+returns-then-not-heeds_leader-clause-makes c items from led =
     let n = c.self.inside in
     let s = server c.args.self.now items in
     leaves c.args.self.now.me c.args.now _ s [] c.args.outs.now
-    (not_in_view c.args.self.now.me c.args.now s from (number_of_view c.args.view) c.args.cp
-    c.args.base s.items
-    (other_view s (number_of_view c.args.view)
-    (accepted_test n.me n.mark n.horizon n.served n.duty n.state c.args.self.now c.args.view
-    c.accepted.result c.is_view.result false c.self.view_is c.accepted.ensures c.is_view.ensures
-    c.if-not-is_view.true)))
+    (unheeded n.me n.mark n.horizon n.served n.duty n.state c.args.self.now items c.args.now from
+    c.args.view c.accepted.result c.is_following.result c.heeds_leader.result c.args.cp c.args.base
+    s.items c.self.view_is c.self.invariant.1
+    c.accepted.ensures c.is_following.ensures c.heeds_leader.ensures c.if-not-heeds_leader.true)
 
-pub returns-in_default-clause-makes : goal.returns-in_default-clause-makes
-returns-in_default-clause-makes c items from led =
-    let n = c.self.inside in
-    let now = c.args.self.now in
-    let s = server now items in
-    let other = no_follower n.state c.in_default.not-Follows in
-    stays n.me n.mark n.horizon n.served n.duty n.state n.state now items now.me
-    c.args.now _ [] c.args.outs.now c.self.view_is refl
-    (not_followed n.me n.mark n.horizon n.served n.duty n.state now items c.args.now from
-    (number_of_view c.args.view) c.args.cp c.args.base
-    s.items c.self.view_is c.self.invariant.1 other)
+pub unreachable-requires : goal.unreachable-requires
+unreachable-requires c = not_both (is_followed c.self.inside.state)
+    (sym c.is_following.ensures
+    ∙ (heeded _ _ _ c.heeds_leader.ensures c.if-not-heeds_leader.false).1)
+    (no_follower c.self.inside.state c.in_default.not-Follows)
 
 ours : (c : goal.After-beat-arg-2-1)
     → (number_of_view c.args.view == c.args.self.now.plain.accepted) ≡ true
 ours c =
     let n = c.self.inside in
     accepted_test n.me n.mark n.horizon n.served n.duty n.state c.args.self.now c.args.view
-    c.accepted.result c.is_view.result true c.self.view_is c.accepted.ensures c.is_view.ensures
-    c.if-not-is_view.false
+    c.accepted.result (number_of_view c.args.view == number_of_view c.accepted.result) true
+    c.self.view_is c.accepted.ensures refl
+    (heeded _ _ _ c.heeds_leader.ensures c.if-not-heeds_leader.false).0
 
 pub beat-requires-clause-base : goal.beat-requires-clause-base
 beat-requires-clause-base c =
@@ -70,8 +64,9 @@ low c =
     c.in-Follows.field-1 c.args.self.now (number_of_view c.args.view) c.args.base c.self.view_is
     c.in-Follows.is c.self.invariant.1
     (accepted_test n.me n.mark n.horizon n.served n.duty n.state c.args.self.now c.args.view
-    c.accepted.result c.is_view.result true c.self.view_is c.accepted.ensures c.is_view.ensures
-    c.if-not-is_view.false) c.requires.base
+    c.accepted.result (number_of_view c.args.view == number_of_view c.accepted.result) true
+    c.self.view_is c.accepted.ensures refl
+    (heeded _ _ _ c.heeds_leader.ensures c.if-not-heeds_leader.false).0) c.requires.base
 
 follows : (c : After-beat)
     → IsFollowing (place_of c.self.inside.me) c.self.inside.mark c.beat.new.self
@@ -80,9 +75,9 @@ follows c = follows_beat (place_of c.self.inside.me) c.self.inside.mark c.in-Fol
     c.beat.new.self c.args.cp c.args.base (plan_of c.in-Follows.field-1)
     c.beat.ensures.log (low c) (followed_at c)
 
-pub invariant_of-self-in_err-beat : goal.invariant_of-self-in_err-beat
-invariant_of-self-in_err-beat c =
-    (c.self.invariant.0, follows (goal.at.invariant_of-self-in_err-beat c).After-beat)
+pub invariant_of-self : goal.invariant_of-self
+invariant_of-self c =
+    (c.self.invariant.0, follows (goal.at.invariant_of-self c).After-beat)
 
 pub invariant_of-self-2 : goal.invariant_of-self-2
 invariant_of-self-2 c = (c.self.invariant.0, follows (goal.at.invariant_of-self-2 c).After-beat)
@@ -101,8 +96,9 @@ returns-clause-makes c items from led =
     (state.Follows c.beat.new.self c.in-Follows.field-1)) items in
     let es = s.items in
     let test = accepted_test n.me n.mark n.horizon n.served n.duty n.state now c.args.view
-    c.accepted.result c.is_view.result true c.self.view_is c.accepted.ensures c.is_view.ensures
-    c.if-not-is_view.false in
+    c.accepted.result (number_of_view c.args.view == number_of_view c.accepted.result) true
+    c.self.view_is c.accepted.ensures refl
+    (heeded _ _ _ c.heeds_leader.ensures c.if-not-heeds_leader.false).0 in
     let is_from = led (in_view_followed n.me n.mark n.horizon n.served n.duty n.state f
     c.in-Follows.field-1 now v c.self.view_is c.in-Follows.is test) in
     let made = subst (λ (p : Place). Makes q c.args.now (on_event q c.args.now (followed f o) p
@@ -123,27 +119,15 @@ returns-clause-makes c items from led =
     t.items) c.args.outs.now c.beat.new.outs
     c.in-Follows.is c.self.view_is (followed_at at) (follows at) made))
 
-pub returns-then-not-is_view-clause-stock : goal.returns-then-not-is_view-clause-stock
-returns-then-not-is_view-clause-stock c items from =
+pub returns-then-not-heeds_leader-clause-stock : goal.returns-then-not-heeds_leader-clause-stock
+returns-then-not-heeds_leader-clause-stock c items from =
     let n = c.self.inside in
     let now = c.args.self.now in
     stocks_so [] now.me (server now items) _ [] (stock now) (stock now)
-    (not_in_view now.me c.args.now (server now items) from (number_of_view c.args.view) c.args.cp
-    c.args.base (server now items).items (other_view (server now items) (number_of_view c.args.view)
-    (accepted_test n.me n.mark n.horizon n.served n.duty n.state now c.args.view
-    c.accepted.result c.is_view.result false c.self.view_is c.accepted.ensures c.is_view.ensures
-    c.if-not-is_view.true))) (λ clock list askers. refl)
-
-pub returns-in_default-clause-stock : goal.returns-in_default-clause-stock
-returns-in_default-clause-stock c items from =
-    let n = c.self.inside in
-    let now = c.args.self.now in
-    let other = no_follower n.state c.in_default.not-Follows in
-    stocks_so [] now.me (server now items) _ [] (stock now) (stock_in n.state)
-    (not_followed n.me n.mark n.horizon n.served n.duty n.state now items c.args.now from
-    (number_of_view c.args.view) c.args.cp c.args.base (server now items).items c.self.view_is
-    c.self.invariant.1 other)
-    (λ clock list askers. ap stock c.self.view_is)
+    (unheeded n.me n.mark n.horizon n.served n.duty n.state now items c.args.now from
+    c.args.view c.accepted.result c.is_following.result c.heeds_leader.result c.args.cp c.args.base
+    (server now items).items c.self.view_is c.self.invariant.1
+    c.accepted.ensures c.is_following.ensures c.heeds_leader.ensures c.if-not-heeds_leader.true) (λ clock list askers. refl)
 
 pub returns-clause-stock : goal.returns-clause-stock
 returns-clause-stock c items from =
@@ -157,5 +141,6 @@ returns-clause-stock c items from =
     c.in-Follows.field-1 c.args.self.now (number_of_view c.args.view) c.self.view_is
     c.in-Follows.is
     (accepted_test n.me n.mark n.horizon n.served n.duty n.state c.args.self.now c.args.view
-    c.accepted.result c.is_view.result true c.self.view_is c.accepted.ensures c.is_view.ensures
-    c.if-not-is_view.false))
+    c.accepted.result (number_of_view c.args.view == number_of_view c.accepted.result) true
+    c.self.view_is c.accepted.ensures refl
+    (heeded _ _ _ c.heeds_leader.ensures c.if-not-heeds_leader.false).0))
