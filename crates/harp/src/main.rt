@@ -22,7 +22,7 @@ use std::process::ExitCode;
 use std::rt::{Env, Files};
 use std::thread::Threads;
 use std::time::Clock as DayClock;
-use std::{env, io};
+use std::{env, io, mem};
 use store_folder::FolderStore;
 use world::World;
 
@@ -95,7 +95,7 @@ impl<S: Source, K: Sink, L: Link, D: Store, C: Clock> Outside<S, K, L, D, C> {
         let Ok(mut world) = World::new(alloc) else {
             return Exit::NoMemory.status();
         };
-        harp(
+        let status = harp(
             rt,
             alloc,
             words,
@@ -105,7 +105,10 @@ impl<S: Source, K: Sink, L: Link, D: Store, C: Clock> Outside<S, K, L, D, C> {
             &mut self.link,
             &mut self.disks,
             &mut self.clock,
-        )
+        );
+        // The program ends now, and the system takes its memory back whole.
+        mem::forget(world);
+        status
     }
 }
 
