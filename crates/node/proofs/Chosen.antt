@@ -9,7 +9,7 @@ use Rattle.group_rules.specs.State.{Collects, Plan, Report, Server}
 use Rattle.harp_types.specs.declared.server.ServerId.{ServerId}
 use Rattle.harp_store.specs.Disk.{Moments}
 use Rattle.harp_store.specs.Mark.{MarkFields}
-use Rattle.node.proofs.Collects.{Chooses, a_choice, no_choice}
+use Rattle.node.proofs.Collects.{no_choice}
 use Rattle.node.proofs.Saying.{makes_so, unsaid}
 use Rattle.node.specs.Collecting.{choosing}
 use Rattle.node.specs.Disk.{MayLeave, disk_after, marked_by}
@@ -31,7 +31,8 @@ pub record IsOf (at : NodeValue → Server Entry) : Type 0 where
   pub promised : (n : NodeValue) → (at n).promised ≡ n.plain.promised
   pub duty : (n : NodeValue) → (at n).duty ≡ n.plain.duty
 
-collecting : (me : ServerId) (mark : MarkFields) (horizon : HorizonValue) (served : ℕ) (d : Task)
+pub collecting : (me : ServerId) (mark : MarkFields) (horizon : HorizonValue) (served : ℕ) (d :
+    Task)
     (st : State) (n : NodeValue) (c : Collected) → d ≡ task.Collects c
     → value me mark horizon served d st ≡ n → n.plain.duty ≡ Collects (reports c.joins)
 collecting me mark horizon served d st n c at is =
@@ -67,17 +68,6 @@ node_collects me mark horizon served d st n new items clock ms o is moves =
       }) is;
       said = unsaid (said o);
     })
-
--- and of the first one that allows one
-pub some_moves : (me : ServerId) (mark : MarkFields) (horizon : HorizonValue) (served : ℕ)
-    (d : Task) (st : State) (n : NodeValue) (at : NodeValue → Server Entry) (c : Collected)
-    (from : ServerId) (v : ℕ) (t : JoinInfo) (p : Told) → IsOf at → d ≡ task.Collects c
-    → value me mark horizon served d st ≡ n → (v == n.plain.promised) ≡ true → CollectsStill d
-    → chosen_at c from t ≡ Some p → Chooses n.me (at n) (place_of from) v (report t) p
-some_moves me mark horizon served d st n at c from v t p of is now view still some =
-    a_choice n.me (at n) from v t c p (ap (λ (k : ℕ). v == k) (of.promised n) ∙ view)
-    (of.duty n ∙ collecting me mark horizon served d st n c is now) (subst CollectsStill is still)
-    some
 
 -- a coordinator makes a choice whatever its duty was
 pub chooses_from : (me : ServerId) (mark : MarkFields) (horizon : HorizonValue) (served : ℕ)

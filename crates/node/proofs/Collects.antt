@@ -1,8 +1,8 @@
 -- A coordinator's collector and its choice, and the machine's.
-use Rattle.std.proofs.Common.{◌≡◌, ℕ, zero, suc, ◌%◌, ◌<◌, ◌==◌, Bool, true, List, [], ◌∷◌, ◌++◌, Option, Some, None, option_map, refl, ap, sym, ◌∙◌, subst, arith, ◌||◌, inl, inr, if◌then◌else◌}
+use Rattle.std.proofs.Common.{◌≡◌, ℕ, zero, suc, ◌%◌, ◌<◌, ◌==◌, Bool, true, false, List, [], ◌∷◌, ◌++◌, Option, Some, None, option_map, refl, ap, sym, ◌∙◌, subst, arith, ◌||◌, inl, inr, if◌then◌else◌}
 use Rattle.std.specs.Prelude.{is_some}
 use Rattle.file_tree.specs.Book.{Entry}
-use Rattle.group_rules.proofs.Tests.{by_if, if_is}
+use Rattle.group_rules.proofs.Tests.{by_if, if_is, if_not}
 use Rattle.group_rules.specs.Choose.{choose, greatest}
 use Rattle.group_rules.specs.Form.{accept_moves, adopted, fits, form_moves, wanted}
 use Rattle.group_rules.specs.Limits.{is_joins}
@@ -10,7 +10,7 @@ use Rattle.group_rules.specs.Joining.{chosen_moves, on_join, to_each}
 use Rattle.group_rules.specs.Moves.{Choosing, Collecting, Move, Sending}
 use Rattle.group_rules.specs.Names.{id_of, number_of_view, place_of, view_of}
 use Rattle.group_rules.specs.Places.{Pair, Place, Trio, all_of, leader, other_storers, partner, place, same, with_at}
-use Rattle.group_rules.specs.State.{Chose, Collects, Form, Message, Plan, Report, Server}
+use Rattle.group_rules.specs.State.{Chose, Collects, Duty, Form, Message, NoDuty, Plan, Report, Server}
 use Rattle.harp_types.specs.Server.{number_of}
 use Rattle.harp_types.specs.Trio.{with_value}
 use Rattle.harp_types.specs.View.{View}
@@ -108,18 +108,18 @@ no_choice q s from v t c view duty none h =
     ∙ ap (λ (r : Trio (Option Report)). Collecting r ∷ []) (sym new)
 
 -- the plan that a first choice is of, and the moves that it makes
-pub record Chooses (q : Place) (s : Server Entry) (from : Place) (v : ℕ) (t : Report) (p : Told)
-    : Type 0 where
+pub record Chooses (q : Place) (from : Place) (v : ℕ) (t : Report) (joins : Trio (Option Report))
+    (p : Told) : Type 0 where
   pub reports : Trio (Option Report)
   pub chosen : Plan
   pub is : p ≡ plan (view_of (greatest reports)) chosen
-  pub moves : on_join q s from v t s.duty ≡ choosing q s reports chosen (greatest reports)
+  pub moves : (s : Server Entry) → (v == s.promised) ≡ true → s.duty ≡ Collects joins
+      → on_join q s from v t s.duty ≡ choosing q s reports chosen (greatest reports)
 
-pub a_choice : (q : Place) (s : Server Entry) (from : ServerId) (v : ℕ) (t : JoinInfo)
-    (c : Collected) (p : Told) → (v == s.promised) ≡ true → s.duty ≡ Collects (reports c.joins)
+pub a_choice : (q : Place) (from : ServerId) (v : ℕ) (t : JoinInfo) (c : Collected) (p : Told)
     → choice c.joins ≡ None → chosen_at c from t ≡ Some p
-    → Chooses q s (place_of from) v (report t) p
-a_choice q s from v t c p view duty none h =
+    → Chooses q (place_of from) v (report t) (reports c.joins) p
+a_choice q from v t c p none h =
     let joins = with_at (reports c.joins) (place_of from) (Some (report t)) in
     let next = with_value c.joins from (Some t) in
     let some_is : choice next ≡ Some p = first (choice c.joins) (choice next) (Some p) none h in
@@ -130,9 +130,18 @@ a_choice q s from v t c p view duty none h =
       reports = joins;
       chosen = is.0;
       is = sym is.2 ∙ ap (λ (r : Trio (Option Report)). plan (view_of (greatest r)) is.0) same;
-      moves = at_join q s (place_of from) v (report t) (reports c.joins) view duty
+      moves = λ s view duty. at_join q s (place_of from) v (report t) (reports c.joins) view duty
           ∙ ap (chosen_moves q s joins) (ap choose (sym same) ∙ is.1);
     }
+
+-- a join of another view
+pub other_join : (q : Place) (s : Server Entry) (from : Place) (v : ℕ) (t : Report) (duty : Duty)
+    → (v == s.promised) ≡ false → on_join q s from v t duty ≡ []
+other_join q s from v t NoDuty other = refl
+other_join q s from v t (Chose w plan) other = refl
+other_join q s from v t (Collects reports) other =
+    if_not (v == s.promised) (chosen_moves q s (with_at reports from (Some t))
+    (choose (with_at reports from (Some t)))) [] other
 
 -- ---- what the moves say
 

@@ -1,6 +1,6 @@
 -- A server after its demotion.
 use Rattle.std.proofs.Common.{◌≡◌, ◌≤◌, ℕ, ◌+◌, Bool, true, false, List, [], ◌∷◌, refl, sym, ap, ◌∙◌, subst, arith, nat_lt, if◌then◌else◌}
-use Rattle.std.specs.Prelude.{Option, None}
+use Rattle.std.specs.Prelude.{Option, None, ⊤}
 use Rattle.std.proofs.Common.{inl, inr}
 use Rattle.std.proofs.lemmas.List.{append-nil}
 use Rattle.file_tree.specs.Book.{Entry}
@@ -23,11 +23,14 @@ use Rattle.idle_log.specs.declared.form.Form.{Form}
 use Rattle.idle_log.specs.declared.kept.Kept.{Kept}
 use Rattle.node.specs.Demoting.{GoesOn}
 use Rattle.node.specs.Disk.{MayLeave, disk_after, marked, marked_by}
+use Rattle.node.proofs.Handled.{AreSame, acts_so}
 use Rattle.node.proofs.Heeds.{none_of_two}
 use Rattle.node.proofs.Views.{above_is}
+use Rattle.node.specs.Handles.{Acts}
 use Rattle.node.specs.Node.{NodeValue, server, value}
 use Rattle.node.specs.Active.{is_followed, is_led}
 use Rattle.node.specs.State.{Fits, IsKept, IsPulling}
+use Rattle.node.specs.Stock.{Stocks, stock}
 use Rattle.node.specs.declared.state.Joining.{Joining}
 use Rattle.node.specs.declared.state.State.{State}
 use Rattle.node.specs.declared.state.State.TheVariants as state
@@ -301,3 +304,27 @@ pulls_bare q old kept plan staged witness drops placed is = record {
   storer = is.storer;
   other = is.other;
 }
+
+-- what a demotion makes of a node
+pub demoted_acts : (clock v : ℕ) (old new : NodeValue) (mark : MarkFields) (outs : Outputs)
+    (disk left : Option Moments)
+    → AreSame old (λ q s. on_demote q s v) (λ q s. Demoting v ∷ [])
+    → ((items : List Entry) → server new items ≡ demoted (server old items) v)
+    → new.me ≡ old.me → new.halted ≡ false
+    → ((items : List Entry) → Stocks [] old.me (server old items) (Demoting v ∷ []) (stock old)
+    (stock new))
+    → new.cached ≡ [] → new.mark ≡ mark → mark ≡ marked old.mark (Demoting v)
+    → left ≡ after_step (with_mark mark) disk
+    → Acts ⊤ clock (λ q s. on_demote q s v) [] [] old new outs outs disk left
+demoted_acts clock v old new mark outs disk left heeds state me up stocks cached same at written =
+    acts_so ⊤ clock (λ q s. on_demote q s v) (λ q s. Demoting v ∷ []) [] [] old new outs outs disk
+    left heeds (record {
+      me = me;
+      up = up;
+      makes = λ r items. demotion_made old.me clock (server old items) (server new items) v outs
+          (state items);
+      stock = stocks;
+      cached = inr cached;
+      mark = same ∙ at;
+      written = written ∙ ap (λ (m : MarkFields). after_step (with_mark m) disk) (sym same);
+    })

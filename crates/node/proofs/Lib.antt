@@ -40,4 +40,6 @@ pub mod Sizing
 pub mod Servers
 pub mod Unmoved
 pub mod Faults
-pub mod Pulled
+pub mod Handled
+pub mod Joined
+pub mod Opening

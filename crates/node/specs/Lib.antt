@@ -17,3 +17,4 @@ pub mod Stored
 pub mod Asking
 pub mod Stock
 pub mod Wants
+pub mod Handles

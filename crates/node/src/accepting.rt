@@ -1,7 +1,7 @@
 //! How a storer accepts its view.
 
 ghost use Rattle.node.specs.Stock.{StartsWith, stock};
-ghost use Rattle.std.specs.Prelude.{◌≡◌, [], ◌<◌, ◌≤◌, ◌^◌, List, None, false, true, map, ℕ, Err, IfOk, OnErr, OnOk};
+ghost use Rattle.std.specs.Prelude.{◌≡◌, [], ◌<◌, ◌≤◌, ◌^◌, List, None, false, true, map, ℕ, Err, IfOk, OnErr, OnOk, ⊤, ◌∷◌};
 ghost use Rattle.event_record.specs.Record.{entry_of};
 ghost use Rattle.file_tree.specs.Book.{Entry};
 ghost use Rattle.group_rules.specs.Effects.{fitting};
@@ -13,11 +13,12 @@ ghost use Rattle.harp_types.specs.Streams.{Rose};
 ghost use Rattle.idle_log.specs.Kept.{AtBase, plan_of, log_in};
 ghost use Rattle.idle_log.specs.Pulls.{CanTake, IsFor, adopted_records};
 ghost use Rattle.node.specs.Disk.{MayLeave, disk_after, marked_by, part_of};
-ghost use Rattle.node.specs.Forming.{Accepted, accepted_mark, joined_with, kept_from, telling};
+ghost use Rattle.node.specs.Forming.{Accepted, accepted_mark, joined_with, kept_from, telling, CanAccept, joined_node};
 ghost use Rattle.node.specs.Node.{server};
 ghost use Rattle.node.specs.State.{HearsOthers, IsKept, cached_in, heard_of};
 ghost use Rattle.node_outputs.specs.Makes.{Makes};
 ghost use Rattle.volatile_log.specs.Log.{next, top};
+ghost use Rattle.node.specs.Handles.{Handles};
 
 use crate::fault::NodeFault;
 use crate::node::Node;
@@ -44,40 +45,20 @@ impl Node {
         store: &mut D,
         outs: &mut Outputs,
     ) -> Result<(), NodeFault>
-        requires kept { IsKept self.old.me self.old.mark pull.kept }
-        requires others { HearsOthers self.old.me pull.joining }
-        requires can { CanTake self.old.me pull.kept (plan_of pull.form) }
-        requires list { IsFor self.old.me pull.kept (plan_of pull.form) pull.staged }
-        requires storer { is_in (plan_of pull.form).storers self.old.me ≡ true }
-        requires full { pull.staged.start < next pull.staged }
-        ensures makes { OnOk result ((items : List Entry) (clock : ℕ)
-            → let s = joined_with (server self.old items) pull.kept pull.joining in
-            Makes self.old.me clock (accept_moves self.old.me s (plan_of pull.form)
-            (map entry_of pull.staged.records)) [] s (server self.new items) outs.old outs.new) }
-        ensures me { self.new.me ≡ self.old.me }
+        requires { CanAccept self.old.me self.old.mark pull }
+        ensures handles { (clock : ℕ) → Handles result ⊤ clock
+            (λ q s. accept_moves q s (plan_of pull.form)
+            (map entry_of pull.staged.records)) pull.staged.records [] (joined_node self.old
+            pull.kept pull.joining) self.new
+            outs.old outs.new (D.told store.old) (D.told store.new) (D.faults store.old)
+            (D.faults store.new) }
+        ensures count { D.faults store.old ≤ D.faults store.new }
         ensures stock { OnOk result (stock self.new ≡ record {
           log = adopted_records self.old.me (joined_with self.old.plain pull.kept pull.joining)
               (plan_of pull.form) (log_in pull.kept).records pull.staged.records;
           pulled = [];
           waits = [];
         }) }
-        ensures cached { OnOk result (self.new.cached ≡ []) }
-        ensures mark { OnOk result (self.new.mark ≡ marked_by self.old.mark
-            (accept_moves self.old.me (joined_with self.old.plain pull.kept pull.joining)
-            (plan_of pull.form) (map entry_of pull.staged.records))) }
-        ensures up { OnOk result (self.new.halted ≡ false) }
-        ensures written { OnOk result (D.told store.new ≡ disk_after
-            (accept_moves self.old.me (joined_with self.old.plain pull.kept pull.joining)
-            (plan_of pull.form) (map entry_of pull.staged.records))
-            self.new.mark (D.told store.old)) }
-        ensures part { OnErr result (let ms = accept_moves self.old.me
-            (joined_with self.old.plain pull.kept pull.joining) (plan_of pull.form)
-            (map entry_of pull.staged.records) in
-            MayLeave ms (marked_by self.old.mark ms) (D.told store.old) (D.told store.new)) }
-        ensures running { result ≡ Err NodeFault.Halted → ⊥ }
-        ensures rose { result ≡ Err NodeFault.StoreFailed → Rose (D.faults store.old)
-            (D.faults store.new) }
-        ensures count { D.faults store.old ≤ D.faults store.new }
     {
         let Pull {
             kept,

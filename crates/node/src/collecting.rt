@@ -1,7 +1,7 @@
 //! The joins of a coordinator's view, and its choice.
 
 ghost use Rattle.node.specs.Stock.{Stocks, stock};
-ghost use Rattle.std.specs.Prelude.{◌≡◌, ◌∷◌, [], ◌≤◌, List, Option, Some, false, ℕ, Err, OnErr, OnOk, if◌then◌else◌};
+ghost use Rattle.std.specs.Prelude.{◌≡◌, ◌∷◌, [], ◌≤◌, List, Option, Some, false, ℕ, Err, OnErr, OnOk, if◌then◌else◌, ⊤};
 ghost use Rattle.file_tree.specs.Book.{Entry};
 ghost use Rattle.group_rules.specs.Joining.{on_join, to_each};
 ghost use Rattle.group_rules.specs.Names.{number_of_view, place_of, view_of};
@@ -15,6 +15,7 @@ ghost use Rattle.node.specs.Collecting.{choosing};
 ghost use Rattle.node.specs.Node.{server};
 ghost use Rattle.node_outputs.specs.Makes.{Makes};
 ghost use Rattle.view_form.specs.Choice.{plan, report};
+ghost use Rattle.node.specs.Handles.{Handles};
 
 use crate::fault::NodeFault;
 use crate::node::Node;
@@ -41,29 +42,11 @@ impl Node {
         store: &mut D,
         outs: &mut Outputs,
     ) -> Result<(), NodeFault>
-        requires { self.old.halted ≡ false }
-        ensures makes { OnOk result ((items : List Entry) (clock : ℕ)
-            → let s = server self.old items in
-            Makes self.old.me clock (on_join self.old.me s (place_of from) (number_of_view view)
-            (report info) s.duty) [] s (server self.new items) outs.old outs.new) }
-        ensures me { self.new.me ≡ self.old.me }
-        ensures stock { OnOk result ((items : List Entry) → let s = server self.old items in
-            Stocks [] self.old.me s
-            (on_join self.old.me s (place_of from) (number_of_view view) (report info) s.duty)
-            (stock self.old) (stock self.new)) }
-        ensures cached { OnOk result (IsCachedAs self.old.cached self.new.cached) }
-        ensures mark { OnOk result (self.new.mark ≡ marked_by self.old.mark
-            (on_join self.old.me self.old.plain (place_of from) (number_of_view view)
-            (report info) self.old.plain.duty)) }
-        ensures up { OnOk result (self.new.halted ≡ false) }
-        ensures written { OnOk result (D.told store.new ≡ disk_after
-            (on_join self.old.me self.old.plain (place_of from) (number_of_view view)
-            (report info) self.old.plain.duty) self.new.mark (D.told store.old)) }
-        ensures part { OnErr result (let ms = on_join self.old.me self.old.plain (place_of from)
-            (number_of_view view) (report info) self.old.plain.duty in
-            MayLeave ms (marked_by self.old.mark ms) (D.told store.old) (D.told store.new)) }
-        ensures running { result ≡ Err NodeFault.Halted → ⊥ }
-        ensures rose { result ≡ Err NodeFault.StoreFailed → Rose (D.faults store.old)
+        requires up { self.old.halted ≡ false }
+        ensures handles { (clock : ℕ) → Handles result ⊤ clock
+            (λ q s. on_join q s (place_of from) (number_of_view view) (report info) s.duty) [] []
+            self.old self.new
+            outs.old outs.new (D.told store.old) (D.told store.new) (D.faults store.old)
             (D.faults store.new) }
         ensures count { D.faults store.old ≤ D.faults store.new }
     {
@@ -98,33 +81,12 @@ impl Node {
         store: &mut D,
         outs: &mut Outputs,
     ) -> Result<(), NodeFault>
-        requires { self.old.halted ≡ false }
-        ensures makes { OnOk result ((reports : Trio (Option Report)) (from : ℕ) (chosen : Chosen)
-            (items : List Entry) (clock : ℕ) → choice.now ≡ plan (view_of from) chosen
-            → let s = server self.old items in
-            Makes self.old.me clock (choosing self.old.me s reports chosen from) [] s
-            (server self.new items) outs.old outs.new) }
-        ensures me { self.new.me ≡ self.old.me }
-        ensures stock { OnOk result ((reports : Trio (Option Report)) (from : ℕ)
-            (chosen : Chosen) (items : List Entry) → choice.now ≡ plan (view_of from) chosen
-            → let s = server self.old items in Stocks [] self.old.me s
-            (choosing self.old.me s reports chosen from) (stock self.old) (stock self.new)) }
-        ensures cached { OnOk result (IsCachedAs self.old.cached self.new.cached) }
-        ensures mark { OnOk result ((reports : Trio (Option Report)) (from : ℕ) (chosen : Chosen)
-            → choice.now ≡ plan (view_of from) chosen → self.new.mark ≡ marked_by self.old.mark
-            (choosing self.old.me self.old.plain reports chosen from)) }
-        ensures up { OnOk result (self.new.halted ≡ false) }
-        ensures written { OnOk result ((reports : Trio (Option Report)) (from : ℕ)
+        requires up { self.old.halted ≡ false }
+        ensures handles { (clock : ℕ) (reports : Trio (Option Report)) (from : ℕ)
             (chosen : Chosen) → choice.now ≡ plan (view_of from) chosen
-            → D.told store.new ≡ disk_after
-            (choosing self.old.me self.old.plain reports chosen from) self.new.mark
-            (D.told store.old)) }
-        ensures part { OnErr result ((reports : Trio (Option Report)) (from : ℕ)
-            (chosen : Chosen) → choice.now ≡ plan (view_of from) chosen
-            → let ms = choosing self.old.me self.old.plain reports chosen from in
-            MayLeave ms (marked_by self.old.mark ms) (D.told store.old) (D.told store.new)) }
-        ensures running { result ≡ Err NodeFault.Halted → ⊥ }
-        ensures rose { result ≡ Err NodeFault.StoreFailed → Rose (D.faults store.old)
+            → Handles result ⊤ clock
+            (λ q s. choosing q s reports chosen from) [] [] self.old self.new
+            outs.old outs.new (D.told store.old) (D.told store.new) (D.faults store.old)
             (D.faults store.new) }
         ensures count { D.faults store.old ≤ D.faults store.new }
     {

@@ -1,7 +1,7 @@
 //! How the witness leaves its view.
 
 ghost use Rattle.node.specs.Stock.{Stocks, stock};
-ghost use Rattle.std.specs.Prelude.{◌≡◌, ◌≤◌, [], List, ℕ, Err, OnErr, OnOk, false, if◌then◌else◌, nat_lt, true, ◌∷◌};
+ghost use Rattle.std.specs.Prelude.{◌≡◌, ◌≤◌, [], List, ℕ, Err, OnErr, OnOk, false, if◌then◌else◌, nat_lt, true, ◌∷◌, ⊤};
 ghost use Rattle.file_tree.specs.Book.{Entry};
 ghost use Rattle.group_rules.specs.Disk.{on_demote};
 ghost use Rattle.group_rules.specs.Effects.{demoted};
@@ -14,6 +14,9 @@ ghost use Rattle.node.specs.Cached.{IsCachedAs};
 ghost use Rattle.node.specs.Disk.{MayLeave, disk_after, marked, marked_by};
 ghost use Rattle.node.specs.Node.{server};
 ghost use Rattle.node_outputs.specs.Makes.{Makes};
+ghost use Rattle.node.specs.Handles.{Handles};
+ghost use Rattle.node_outputs.specs.declared.outputs.Outputs.{Outputs};
+ghost use Rattle.node.specs.Demoting.{LeavesFor};
 
 use crate::fault::NodeFault;
 use crate::node::Node;
@@ -36,28 +39,10 @@ impl Node {
         view: ViewNo,
         store: &mut D,
     ) -> Result<(), NodeFault>
-        requires { self.old.halted ≡ false }
-        ensures makes { OnOk result ((items : List Entry) (clock : ℕ) (outs : Outputs)
-            → let s = server self.old items in
-            Makes self.old.me clock (on_demote self.old.me s (number_of_view view)) [] s
-            (server self.new items) outs outs) }
-        ensures me { self.new.me ≡ self.old.me }
-        ensures stock { OnOk result ((items : List Entry) → let s = server self.old items in
-            Stocks [] self.old.me s
-            (on_demote self.old.me s (number_of_view view))
-            (stock self.old) (stock self.new)) }
-        ensures cached { OnOk result (IsCachedAs self.old.cached self.new.cached) }
-        ensures mark { OnOk result (self.new.mark ≡ marked_by self.old.mark
-            (on_demote self.old.me self.old.plain (number_of_view view))) }
-        ensures up { OnOk result (self.new.halted ≡ false) }
-        ensures written { OnOk result (D.told store.new
-            ≡ disk_after (on_demote self.old.me self.old.plain (number_of_view view))
-            self.new.mark (D.told store.old)) }
-        ensures part { OnErr result (let ms = on_demote self.old.me self.old.plain
-            (number_of_view view) in MayLeave ms (marked_by self.old.mark ms)
-            (D.told store.old) (D.told store.new)) }
-        ensures running { result ≡ Err NodeFault.Halted → ⊥ }
-        ensures rose { result ≡ Err NodeFault.StoreFailed → Rose (D.faults store.old)
+        requires up { self.old.halted ≡ false }
+        ensures handles { (clock : ℕ) (outs : Outputs) → Handles result ⊤ clock
+            (λ q s. on_demote q s (number_of_view view)) [] [] self.old self.new
+            outs outs (D.told store.old) (D.told store.new) (D.faults store.old)
             (D.faults store.new) }
         ensures count { D.faults store.old ≤ D.faults store.new }
     {
@@ -87,14 +72,7 @@ impl Node {
         requires below { nat_lt (number_of_view view) (number_of_view self.old.mark.promised)
             ≡ true }
         requires mark { mark ≡ marked self.old.mark (Demoting (number_of_view view)) }
-        ensures state { (items : List Entry) → server self.new items
-            ≡ demoted (server self.old items) (number_of_view view) }
-        ensures me { self.new.me ≡ self.old.me }
-        ensures stock { (items : List Entry) → Stocks [] self.old.me (server self.old items)
-            (Demoting (number_of_view view) ∷ []) (stock self.old) (stock self.new) }
-        ensures cached { self.new.cached ≡ [] }
-        ensures mark { self.new.mark ≡ mark }
-        ensures up { self.new.halted ≡ false }
+        ensures { LeavesFor (number_of_view view) mark self.old self.new }
     {
         self.mark = mark;
         self.served = 0;
@@ -108,14 +86,7 @@ impl Node {
         requires below { nat_lt (number_of_view view) (number_of_view self.old.mark.promised)
             ≡ false }
         requires mark { mark ≡ marked self.old.mark (Demoting (number_of_view view)) }
-        ensures state { (items : List Entry) → server self.new items
-            ≡ demoted (server self.old items) (number_of_view view) }
-        ensures me { self.new.me ≡ self.old.me }
-        ensures stock { (items : List Entry) → Stocks [] self.old.me (server self.old items)
-            (Demoting (number_of_view view) ∷ []) (stock self.old) (stock self.new) }
-        ensures cached { self.new.cached ≡ [] }
-        ensures mark { self.new.mark ≡ mark }
-        ensures up { self.new.halted ≡ false }
+        ensures { LeavesFor (number_of_view view) mark self.old self.new }
     {
         self.mark = mark;
         self.served = 0;

@@ -1,7 +1,7 @@
 //! The part of a storer that a Form gives.
 
 ghost use Rattle.node.specs.Stock.{Stocks, stock, stock_kept};
-ghost use Rattle.std.specs.Prelude.{◌≡◌, ◌∷◌, [], ◌≤◌, List, false, ℕ, Err, OnErr, OnOk};
+ghost use Rattle.std.specs.Prelude.{◌≡◌, ◌∷◌, [], ◌≤◌, List, false, ℕ, Err, OnErr, OnOk, ⊤};
 ghost use Rattle.file_tree.specs.Book.{Entry};
 ghost use Rattle.group_rules.specs.Form.{form_moves, on_form};
 ghost use Rattle.group_rules.specs.Moves.{Sending};
@@ -12,11 +12,12 @@ ghost use Rattle.idle_log.specs.Kept.{plan_of};
 ghost use Rattle.idle_log.specs.declared.kept.Kept.{Kept};
 ghost use Rattle.node.specs.Cached.{IsCachedAs};
 ghost use Rattle.node.specs.Disk.{MayLeave, disk_after, marked_by};
-ghost use Rattle.node.specs.Forming.{joined_with, pulling_with};
+ghost use Rattle.node.specs.Forming.{joined_with, pulling_with, Fetches, joined_node};
 ghost use Rattle.node.specs.Node.{server};
 ghost use Rattle.node.specs.State.{HearsOthers, IsKept, IsPulling};
 ghost use Rattle.node_outputs.specs.Makes.{Makes};
 ghost use Rattle.volatile_log.specs.Log.{next};
+ghost use Rattle.node.specs.Handles.{Handles};
 
 use crate::fault::NodeFault;
 use crate::node::Node;
@@ -41,28 +42,10 @@ impl Node {
         store: &mut D,
         outs: &mut Outputs,
     ) -> Result<(), NodeFault>
-        requires { self.old.halted ≡ false }
-        ensures makes { OnOk result ((items : List Entry) (clock : ℕ)
-            → let s = server self.old items in
-            Makes self.old.me clock (on_form self.old.me s (number_of_view view) (plan_of form)) []
-            s (server self.new items) outs.old outs.new) }
-        ensures me { self.new.me ≡ self.old.me }
-        ensures stock { OnOk result ((items : List Entry) → let s = server self.old items in
-            Stocks [] self.old.me s
-            (on_form self.old.me s (number_of_view view) (plan_of form))
-            (stock self.old) (stock self.new)) }
-        ensures cached { OnOk result (IsCachedAs self.old.cached self.new.cached) }
-        ensures mark { OnOk result (self.new.mark ≡ marked_by self.old.mark
-            (on_form self.old.me self.old.plain (number_of_view view) (plan_of form))) }
-        ensures up { OnOk result (self.new.halted ≡ false) }
-        ensures written { OnOk result (D.told store.new ≡ disk_after
-            (on_form self.old.me self.old.plain (number_of_view view) (plan_of form))
-            self.new.mark (D.told store.old)) }
-        ensures part { OnErr result (let ms = on_form self.old.me self.old.plain
-            (number_of_view view) (plan_of form) in
-            MayLeave ms (marked_by self.old.mark ms) (D.told store.old) (D.told store.new)) }
-        ensures running { result ≡ Err NodeFault.Halted → ⊥ }
-        ensures rose { result ≡ Err NodeFault.StoreFailed → Rose (D.faults store.old)
+        requires up { self.old.halted ≡ false }
+        ensures handles { (clock : ℕ) → Handles result ⊤ clock
+            (λ q s. on_form q s (number_of_view view) (plan_of form)) [] [] self.old self.new
+            outs.old outs.new (D.told store.old) (D.told store.new) (D.faults store.old)
             (D.faults store.new) }
         ensures count { D.faults store.old ≤ D.faults store.new }
     {
@@ -82,28 +65,10 @@ impl Node {
         store: &mut D,
         outs: &mut Outputs,
     ) -> Result<(), NodeFault>
-        requires { self.old.halted ≡ false }
-        ensures makes { OnOk result ((items : List Entry) (clock : ℕ)
-            → let s = server self.old items in
-            Makes self.old.me clock (form_moves self.old.me s (plan_of form)) []
-            s (server self.new items) outs.old outs.new) }
-        ensures me { self.new.me ≡ self.old.me }
-        ensures stock { OnOk result ((items : List Entry) → let s = server self.old items in
-            Stocks [] self.old.me s
-            (form_moves self.old.me s (plan_of form))
-            (stock self.old) (stock self.new)) }
-        ensures cached { OnOk result (IsCachedAs self.old.cached self.new.cached) }
-        ensures mark { OnOk result (self.new.mark ≡ marked_by self.old.mark
-            (form_moves self.old.me self.old.plain (plan_of form))) }
-        ensures up { OnOk result (self.new.halted ≡ false) }
-        ensures written { OnOk result (D.told store.new ≡ disk_after
-            (form_moves self.old.me self.old.plain (plan_of form))
-            self.new.mark (D.told store.old)) }
-        ensures part { OnErr result (let ms = form_moves self.old.me self.old.plain
-            (plan_of form) in
-            MayLeave ms (marked_by self.old.mark ms) (D.told store.old) (D.told store.new)) }
-        ensures running { result ≡ Err NodeFault.Halted → ⊥ }
-        ensures rose { result ≡ Err NodeFault.StoreFailed → Rose (D.faults store.old)
+        requires up { self.old.halted ≡ false }
+        ensures handles { (clock : ℕ) → Handles result ⊤ clock
+            (λ q s. form_moves q s (plan_of form)) [] [] self.old self.new
+            outs.old outs.new (D.told store.old) (D.told store.new) (D.faults store.old)
             (D.faults store.new) }
         ensures count { D.faults store.old ≤ D.faults store.new }
     {
@@ -126,28 +91,10 @@ impl Node {
     ) -> Result<(), NodeFault>
         requires kept { IsKept self.old.me self.old.mark kept }
         requires others { HearsOthers self.old.me joining }
-        ensures makes { OnOk result ((items : List Entry) (clock : ℕ)
-            → let s = joined_with (server self.old items) kept joining in
-            Makes self.old.me clock (form_moves self.old.me s (plan_of form)) []
-            s (server self.new items) outs.old outs.new) }
-        ensures me { self.new.me ≡ self.old.me }
-        ensures stock { OnOk result ((items : List Entry)
-            → let s = joined_with (server self.old items) kept joining in
-            Stocks [] self.old.me s
-            (form_moves self.old.me s (plan_of form))
-            (stock_kept kept []) (stock self.new)) }
-        ensures cached { OnOk result (self.new.cached ≡ []) }
-        ensures mark { OnOk result (self.new.mark ≡ marked_by self.old.mark
-            (form_moves self.old.me (joined_with self.old.plain kept joining) (plan_of form))) }
-        ensures up { OnOk result (self.new.halted ≡ false) }
-        ensures written { OnOk result (D.told store.new ≡ disk_after
-            (form_moves self.old.me (joined_with self.old.plain kept joining) (plan_of form))
-            self.new.mark (D.told store.old)) }
-        ensures part { OnErr result (let ms = form_moves self.old.me
-            (joined_with self.old.plain kept joining) (plan_of form) in
-            MayLeave ms (marked_by self.old.mark ms) (D.told store.old) (D.told store.new)) }
-        ensures running { result ≡ Err NodeFault.Halted → ⊥ }
-        ensures rose { result ≡ Err NodeFault.StoreFailed → Rose (D.faults store.old)
+        ensures handles { (clock : ℕ) → Handles result ⊤ clock
+            (λ q s. form_moves q s (plan_of form)) [] [] (joined_node self.old kept joining)
+            self.new
+            outs.old outs.new (D.told store.old) (D.told store.new) (D.faults store.old)
             (D.faults store.new) }
         ensures count { D.faults store.old ≤ D.faults store.new }
     {
@@ -175,17 +122,8 @@ impl Node {
         requires kept { IsKept self.old.me self.old.mark pull.kept }
         requires others { HearsOthers self.old.me pull.joining }
         requires pulls { IsPulling self.old.me pull.kept (plan_of pull.form) pull.staged }
-        ensures sends { OnOk result ((s : Server Entry) (clock : ℕ) → Makes self.old.me clock
-            (Sending (plan_of pull.form).source
-            (Fetch self.old.plain.promised (next pull.staged)) ∷ []) [] s s outs.old outs.new) }
-        ensures state { OnOk result ((items : List Entry) → server self.new items
-            ≡ pulling_with (server self.old items) pull) }
+        ensures fetches { OnOk result (Fetches pull self.old self.new outs.old outs.new) }
         ensures me { self.new.me ≡ self.old.me }
-        ensures stock { OnOk result (stock self.new
-            ≡ stock_kept pull.kept pull.staged.records) }
-        ensures cached { OnOk result (self.new.cached ≡ []) }
-        ensures mark { self.new.mark ≡ self.old.mark }
-        ensures up { OnOk result (self.new.halted ≡ false) }
     {
         let Pull {
             kept,

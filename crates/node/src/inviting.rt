@@ -1,7 +1,7 @@
 //! Invitations to a view.
 
 ghost use Rattle.node.specs.Stock.{Stocks, stock};
-ghost use Rattle.std.specs.Prelude.{◌≡◌, [], ◌==◌, ◌≤◌, List, None, Some, false, nat_lt, option_map, ℕ, Err, OnErr, OnOk, if◌then◌else◌};
+ghost use Rattle.std.specs.Prelude.{◌≡◌, [], ◌==◌, ◌≤◌, List, None, Some, false, nat_lt, option_map, ℕ, Err, OnErr, OnOk, if◌then◌else◌, ⊤, ◌∷◌};
 ghost use Rattle.file_tree.specs.Book.{Entry};
 ghost use Rattle.group_rules.specs.Joining.{joined_tests, on_invite};
 ghost use Rattle.group_rules.specs.Names.{number_of_view, place_of};
@@ -14,6 +14,7 @@ ghost use Rattle.node.specs.Node.{server};
 ghost use Rattle.node_outputs.specs.Makes.{Makes};
 ghost use Rattle.node_outputs.specs.Messages.{heard};
 ghost use Rattle.view_form.specs.Choice.{report};
+ghost use Rattle.node.specs.Handles.{Handles};
 
 use crate::fault::NodeFault;
 use crate::node::Node;
@@ -37,28 +38,10 @@ impl Node {
         store: &mut D,
         outs: &mut Outputs,
     ) -> Result<(), NodeFault>
-        requires { self.old.halted ≡ false }
-        ensures makes { OnOk result ((items : List Entry) (clock : ℕ)
-            → let s = server self.old items in
-            Makes self.old.me clock (on_invite s (place_of from) (number_of_view view)) []
-            s (server self.new items) outs.old outs.new) }
-        ensures me { self.new.me ≡ self.old.me }
-        ensures stock { OnOk result ((items : List Entry) → let s = server self.old items in
-            Stocks [] self.old.me s
-            (on_invite s (place_of from) (number_of_view view))
-            (stock self.old) (stock self.new)) }
-        ensures cached { OnOk result (IsCachedAs self.old.cached self.new.cached) }
-        ensures mark { OnOk result (self.new.mark ≡ marked_by self.old.mark
-            (on_invite self.old.plain (place_of from) (number_of_view view))) }
-        ensures up { OnOk result (self.new.halted ≡ false) }
-        ensures written { OnOk result (D.told store.new
-            ≡ disk_after (on_invite self.old.plain (place_of from) (number_of_view view))
-            self.new.mark (D.told store.old)) }
-        ensures part { OnErr result (MayLeave (on_invite self.old.plain (place_of from)
-            (number_of_view view)) (marked_by self.old.mark (on_invite self.old.plain
-            (place_of from) (number_of_view view))) (D.told store.old) (D.told store.new)) }
-        ensures running { result ≡ Err NodeFault.Halted → ⊥ }
-        ensures rose { result ≡ Err NodeFault.StoreFailed → Rose (D.faults store.old)
+        requires up { self.old.halted ≡ false }
+        ensures handles { (clock : ℕ) → Handles result ⊤ clock
+            (λ q s. on_invite s (place_of from) (number_of_view view)) [] [] self.old self.new
+            outs.old outs.new (D.told store.old) (D.told store.new) (D.faults store.old)
             (D.faults store.new) }
         ensures count { D.faults store.old ≤ D.faults store.new }
     {

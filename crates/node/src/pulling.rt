@@ -1,7 +1,7 @@
 //! The records of a Give, at a storer that pulls.
 
 ghost use Rattle.node.specs.Stock.{Stocks, stock, stock_kept};
-ghost use Rattle.std.specs.Prelude.{◌≡◌, ◌+◌, ◌==◌, ◌∷◌, [], ◌≤◌, List, false, length, map, nat_le, true, ℕ, Err, OnErr, OnOk};
+ghost use Rattle.std.specs.Prelude.{◌≡◌, ◌+◌, ◌==◌, ◌∷◌, [], ◌≤◌, List, false, length, map, nat_le, true, ℕ, Err, OnErr, OnOk, ⊤};
 ghost use Rattle.event_record.specs.Record.{entry_of};
 ghost use Rattle.file_tree.specs.Book.{Entry};
 ghost use Rattle.group_rules.specs.Form.{on_give};
@@ -13,10 +13,12 @@ ghost use Rattle.harp_types.specs.Streams.{Rose};
 ghost use Rattle.idle_log.specs.Kept.{plan_of};
 ghost use Rattle.node.specs.Cached.{IsCachedAs};
 ghost use Rattle.node.specs.Disk.{MayLeave, disk_after, marked_by};
-ghost use Rattle.node.specs.Forming.{pulling_with};
+ghost use Rattle.node.specs.Forming.{pulling_with, pulling_node};
 ghost use Rattle.node.specs.Node.{server};
 ghost use Rattle.node.specs.State.{HearsOthers, IsKept, IsPulling};
 ghost use Rattle.node_outputs.specs.Makes.{Makes};
+ghost use Rattle.node.specs.Handles.{Handles};
+ghost use Rattle.node.specs.Misfits.{pulls_view};
 
 use crate::fault::NodeFault;
 use crate::node::Node;
@@ -47,32 +49,13 @@ impl Node {
     ) -> Result<(), NodeFault>
         requires up { self.old.halted ≡ false }
         requires follow { follow first (map entry_of records) ≡ true }
-        requires within { all_of ((number_of_view view == self.old.plain.promised)
-            ∷ is_pulls self.old.plain.mode ∷ []) ≡ true
+        requires within { pulls_view self.old.plain (number_of_view view) ≡ true
             → nat_le (first + length (map entry_of records)) (self.old.plain.plan.start + 1)
             ≡ true }
-        ensures makes { OnOk result ((items : List Entry) (clock : ℕ)
-            → let s = server self.old items in
-            Makes self.old.me clock (on_give self.old.me s (number_of_view view) first
-            (map entry_of records)) [] s (server self.new items) outs.old outs.new) }
-        ensures me { self.new.me ≡ self.old.me }
-        ensures stock { OnOk result ((items : List Entry) → let s = server self.old items in
-            Stocks records self.old.me s
-            (on_give self.old.me s (number_of_view view) first (map entry_of records))
-            (stock self.old) (stock self.new)) }
-        ensures cached { OnOk result (IsCachedAs self.old.cached self.new.cached) }
-        ensures mark { OnOk result (self.new.mark ≡ marked_by self.old.mark
-            (on_give self.old.me self.old.plain (number_of_view view) first
-            (map entry_of records))) }
-        ensures up { OnOk result (self.new.halted ≡ false) }
-        ensures written { OnOk result (D.told store.new ≡ disk_after
-            (on_give self.old.me self.old.plain (number_of_view view) first
-            (map entry_of records)) self.new.mark (D.told store.old)) }
-        ensures part { OnErr result (let ms = on_give self.old.me self.old.plain
-            (number_of_view view) first (map entry_of records) in
-            MayLeave ms (marked_by self.old.mark ms) (D.told store.old) (D.told store.new)) }
-        ensures running { result ≡ Err NodeFault.Halted → ⊥ }
-        ensures rose { result ≡ Err NodeFault.StoreFailed → Rose (D.faults store.old)
+        ensures handles { (clock : ℕ) → Handles result ⊤ clock
+            (λ q s. on_give q s (number_of_view view) first (map entry_of records)) records []
+            self.old self.new
+            outs.old outs.new (D.told store.old) (D.told store.new) (D.faults store.old)
             (D.faults store.new) }
         ensures count { D.faults store.old ≤ D.faults store.new }
     {
@@ -98,29 +81,10 @@ impl Node {
         requires pulls { IsPulling self.old.me pull.kept (plan_of pull.form) pull.staged }
         requires follow { follow first (map entry_of records) ≡ true }
         requires within { first + length records ≤ pull.form.start + 1 }
-        ensures makes { OnOk result ((items : List Entry) (clock : ℕ)
-            → let s = pulling_with (server self.old items) pull in
-            Makes self.old.me clock (on_give self.old.me s s.promised first
-            (map entry_of records)) [] s (server self.new items) outs.old outs.new) }
-        ensures me { self.new.me ≡ self.old.me }
-        ensures stock { OnOk result ((items : List Entry)
-            → let s = pulling_with (server self.old items) pull in
-            Stocks records self.old.me s
-            (on_give self.old.me s s.promised first (map entry_of records))
-            (stock_kept pull.kept pull.staged.records) (stock self.new)) }
-        ensures cached { OnOk result (self.new.cached ≡ []) }
-        ensures mark { OnOk result (let s = pulling_with self.old.plain pull in
-            self.new.mark ≡ marked_by self.old.mark
-            (on_give self.old.me s s.promised first (map entry_of records))) }
-        ensures up { OnOk result (self.new.halted ≡ false) }
-        ensures written { OnOk result (let s = pulling_with self.old.plain pull in
-            D.told store.new ≡ disk_after (on_give self.old.me s s.promised first
-            (map entry_of records)) self.new.mark (D.told store.old)) }
-        ensures part { OnErr result (let s = pulling_with self.old.plain pull in
-            let ms = on_give self.old.me s s.promised first (map entry_of records) in
-            MayLeave ms (marked_by self.old.mark ms) (D.told store.old) (D.told store.new)) }
-        ensures running { result ≡ Err NodeFault.Halted → ⊥ }
-        ensures rose { result ≡ Err NodeFault.StoreFailed → Rose (D.faults store.old)
+        ensures handles { (clock : ℕ) → Handles result ⊤ clock
+            (λ q s. on_give q s s.promised first (map entry_of records)) records [] (pulling_node
+            self.old pull) self.new
+            outs.old outs.new (D.told store.old) (D.told store.new) (D.faults store.old)
             (D.faults store.new) }
         ensures count { D.faults store.old ≤ D.faults store.new }
     {

@@ -2,7 +2,7 @@
 //! the server is halted.
 
 ghost use Rattle.node.specs.Stock.{stock, Stocks};
-ghost use Rattle.std.specs.Prelude.{◌≡◌, ◌≤◌, [], List, ℕ, Err, OnErr, OnOk, false, map};
+ghost use Rattle.std.specs.Prelude.{◌≡◌, ◌≤◌, [], List, ℕ, Err, OnErr, OnOk, false, map, ⊤};
 ghost use Rattle.event_record.specs.Record.{entry_of};
 ghost use Rattle.file_tree.specs.Book.{Entry};
 ghost use Rattle.group_rules.specs.Names.{number_of_view, place_of};
@@ -16,6 +16,7 @@ ghost use Rattle.node.specs.Node.{server};
 ghost use Rattle.node.specs.Taking.{coming};
 ghost use Rattle.node_outputs.specs.Makes.{Makes};
 ghost use Rattle.view_form.specs.Choice.{report};
+ghost use Rattle.node.specs.Handles.{Handles};
 
 use crate::fault::NodeFault;
 use crate::node::Node;
@@ -39,31 +40,11 @@ impl Node {
         store: &mut D,
         outs: &mut Outputs,
     ) -> Result<(), NodeFault>
-        requires { self.old.halted ≡ false }
-        ensures makes { OnOk result ((items : List Entry) (size : List Entry → Entry → ℕ)
-            (list : List Entry) → let s = server self.old items in Makes self.old.me now
-            (rule size self.old.me now list s (Comes (place_of from)
-            (Invite (number_of_view view))))
-            [] s (server self.new items) outs.old outs.new) }
-        ensures me { self.new.me ≡ self.old.me }
-        ensures stock { OnOk result ((items : List Entry) (size : List Entry → Entry → ℕ)
-            (list : List Entry) → let s = server self.old items in Stocks [] self.old.me s
-            (rule size self.old.me now list s (Comes (place_of from)
-            (Invite (number_of_view view)))) (stock self.old) (stock self.new)) }
-        ensures cached { OnOk result (IsCachedAs self.old.cached self.new.cached) }
-        ensures mark { OnOk result ((size : List Entry → Entry → ℕ) (list : List Entry)
-            → self.new.mark ≡ marked_by self.old.mark (coming size now list self.old
-            (place_of from) (Invite (number_of_view view)))) }
-        ensures up { OnOk result (self.new.halted ≡ false) }
-        ensures written { OnOk result ((size : List Entry → Entry → ℕ) (list : List Entry)
-            → D.told store.new ≡ disk_after (coming size now list self.old (place_of from)
-            (Invite (number_of_view view))) self.new.mark (D.told store.old)) }
-        ensures part { OnErr result ((size : List Entry → Entry → ℕ) (list : List Entry)
-            → let ms = coming size now list self.old (place_of from)
-            (Invite (number_of_view view)) in
-            MayLeave ms (marked_by self.old.mark ms) (D.told store.old) (D.told store.new)) }
-        ensures running { result ≡ Err NodeFault.Halted → ⊥ }
-        ensures rose { result ≡ Err NodeFault.StoreFailed → Rose (D.faults store.old)
+        requires up { self.old.halted ≡ false }
+        ensures handles { (size : List Entry → Entry → ℕ) (list : List Entry)
+            → Handles result ⊤ now (λ q s. rule size q now list s (Comes (place_of from)
+            (Invite (number_of_view view)))) [] [] self.old self.new
+            outs.old outs.new (D.told store.old) (D.told store.new) (D.faults store.old)
             (D.faults store.new) }
         ensures count { D.faults store.old ≤ D.faults store.new }
     {
@@ -87,31 +68,11 @@ impl Node {
         store: &mut D,
         outs: &mut Outputs,
     ) -> Result<(), NodeFault>
-        requires { self.old.halted ≡ false }
-        ensures makes { OnOk result ((items : List Entry) (size : List Entry → Entry → ℕ)
-            (list : List Entry) → let s = server self.old items in Makes self.old.me now
-            (rule size self.old.me now list s (Comes (place_of from)
-            (Join (number_of_view view) (report info))))
-            [] s (server self.new items) outs.old outs.new) }
-        ensures me { self.new.me ≡ self.old.me }
-        ensures stock { OnOk result ((items : List Entry) (size : List Entry → Entry → ℕ)
-            (list : List Entry) → let s = server self.old items in Stocks [] self.old.me s
-            (rule size self.old.me now list s (Comes (place_of from)
-            (Join (number_of_view view) (report info)))) (stock self.old) (stock self.new)) }
-        ensures cached { OnOk result (IsCachedAs self.old.cached self.new.cached) }
-        ensures mark { OnOk result ((size : List Entry → Entry → ℕ) (list : List Entry)
-            → self.new.mark ≡ marked_by self.old.mark (coming size now list self.old
-            (place_of from) (Join (number_of_view view) (report info)))) }
-        ensures up { OnOk result (self.new.halted ≡ false) }
-        ensures written { OnOk result ((size : List Entry → Entry → ℕ) (list : List Entry)
-            → D.told store.new ≡ disk_after (coming size now list self.old (place_of from)
-            (Join (number_of_view view) (report info))) self.new.mark (D.told store.old)) }
-        ensures part { OnErr result ((size : List Entry → Entry → ℕ) (list : List Entry)
-            → let ms = coming size now list self.old (place_of from)
-            (Join (number_of_view view) (report info)) in
-            MayLeave ms (marked_by self.old.mark ms) (D.told store.old) (D.told store.new)) }
-        ensures running { result ≡ Err NodeFault.Halted → ⊥ }
-        ensures rose { result ≡ Err NodeFault.StoreFailed → Rose (D.faults store.old)
+        requires up { self.old.halted ≡ false }
+        ensures handles { (size : List Entry → Entry → ℕ) (list : List Entry)
+            → Handles result ⊤ now (λ q s. rule size q now list s (Comes (place_of from)
+            (Join (number_of_view view) (report info)))) [] [] self.old self.new
+            outs.old outs.new (D.told store.old) (D.told store.new) (D.faults store.old)
             (D.faults store.new) }
         ensures count { D.faults store.old ≤ D.faults store.new }
     {
@@ -135,31 +96,11 @@ impl Node {
         store: &mut D,
         outs: &mut Outputs,
     ) -> Result<(), NodeFault>
-        requires { self.old.halted ≡ false }
-        ensures makes { OnOk result ((items : List Entry) (size : List Entry → Entry → ℕ)
-            (list : List Entry) → let s = server self.old items in Makes self.old.me now
-            (rule size self.old.me now list s (Comes (place_of from)
-            (SendsForm (number_of_view view) (plan_of form))))
-            [] s (server self.new items) outs.old outs.new) }
-        ensures me { self.new.me ≡ self.old.me }
-        ensures stock { OnOk result ((items : List Entry) (size : List Entry → Entry → ℕ)
-            (list : List Entry) → let s = server self.old items in Stocks [] self.old.me s
-            (rule size self.old.me now list s (Comes (place_of from)
-            (SendsForm (number_of_view view) (plan_of form)))) (stock self.old) (stock self.new)) }
-        ensures cached { OnOk result (IsCachedAs self.old.cached self.new.cached) }
-        ensures mark { OnOk result ((size : List Entry → Entry → ℕ) (list : List Entry)
-            → self.new.mark ≡ marked_by self.old.mark (coming size now list self.old
-            (place_of from) (SendsForm (number_of_view view) (plan_of form)))) }
-        ensures up { OnOk result (self.new.halted ≡ false) }
-        ensures written { OnOk result ((size : List Entry → Entry → ℕ) (list : List Entry)
-            → D.told store.new ≡ disk_after (coming size now list self.old (place_of from)
-            (SendsForm (number_of_view view) (plan_of form))) self.new.mark (D.told store.old)) }
-        ensures part { OnErr result ((size : List Entry → Entry → ℕ) (list : List Entry)
-            → let ms = coming size now list self.old (place_of from)
-            (SendsForm (number_of_view view) (plan_of form)) in
-            MayLeave ms (marked_by self.old.mark ms) (D.told store.old) (D.told store.new)) }
-        ensures running { result ≡ Err NodeFault.Halted → ⊥ }
-        ensures rose { result ≡ Err NodeFault.StoreFailed → Rose (D.faults store.old)
+        requires up { self.old.halted ≡ false }
+        ensures handles { (size : List Entry → Entry → ℕ) (list : List Entry)
+            → Handles result ⊤ now (λ q s. rule size q now list s (Comes (place_of from)
+            (SendsForm (number_of_view view) (plan_of form)))) [] [] self.old self.new
+            outs.old outs.new (D.told store.old) (D.told store.new) (D.faults store.old)
             (D.faults store.new) }
         ensures count { D.faults store.old ≤ D.faults store.new }
     {
@@ -184,33 +125,11 @@ impl Node {
         store: &mut D,
         outs: &mut Outputs,
     ) -> Result<(), NodeFault>
-        requires { self.old.halted ≡ false }
-        ensures makes { OnOk result ((items : List Entry) (size : List Entry → Entry → ℕ)
-            (list : List Entry) → let s = server self.old items in Makes self.old.me now
-            (rule size self.old.me now list s (Comes (place_of from)
-            (Give (number_of_view view) first (map entry_of records))))
-            [] s (server self.new items) outs.old outs.new) }
-        ensures me { self.new.me ≡ self.old.me }
-        ensures stock { OnOk result ((items : List Entry) (size : List Entry → Entry → ℕ)
-            (list : List Entry) → let s = server self.old items in Stocks records self.old.me s
-            (rule size self.old.me now list s (Comes (place_of from)
-            (Give (number_of_view view) first (map entry_of records))))
-            (stock self.old) (stock self.new)) }
-        ensures cached { OnOk result (IsCachedAs self.old.cached self.new.cached) }
-        ensures mark { OnOk result ((size : List Entry → Entry → ℕ) (list : List Entry)
-            → self.new.mark ≡ marked_by self.old.mark (coming size now list self.old
-            (place_of from) (Give (number_of_view view) first (map entry_of records)))) }
-        ensures up { OnOk result (self.new.halted ≡ false) }
-        ensures written { OnOk result ((size : List Entry → Entry → ℕ) (list : List Entry)
-            → D.told store.new ≡ disk_after (coming size now list self.old (place_of from)
-            (Give (number_of_view view) first (map entry_of records))) self.new.mark
-            (D.told store.old)) }
-        ensures part { OnErr result ((size : List Entry → Entry → ℕ) (list : List Entry)
-            → let ms = coming size now list self.old (place_of from)
-            (Give (number_of_view view) first (map entry_of records)) in
-            MayLeave ms (marked_by self.old.mark ms) (D.told store.old) (D.told store.new)) }
-        ensures running { result ≡ Err NodeFault.Halted → ⊥ }
-        ensures rose { result ≡ Err NodeFault.StoreFailed → Rose (D.faults store.old)
+        requires up { self.old.halted ≡ false }
+        ensures handles { (size : List Entry → Entry → ℕ) (list : List Entry)
+            → Handles result ⊤ now (λ q s. rule size q now list s (Comes (place_of from)
+            (Give (number_of_view view) first (map entry_of records)))) records [] self.old self.new
+            outs.old outs.new (D.told store.old) (D.told store.new) (D.faults store.old)
             (D.faults store.new) }
         ensures count { D.faults store.old ≤ D.faults store.new }
     {
@@ -233,31 +152,11 @@ impl Node {
         store: &mut D,
         outs: &mut Outputs,
     ) -> Result<(), NodeFault>
-        requires { self.old.halted ≡ false }
-        ensures makes { OnOk result ((items : List Entry) (size : List Entry → Entry → ℕ)
-            (list : List Entry) → let s = server self.old items in Makes self.old.me now
-            (rule size self.old.me now list s (Comes (place_of from)
-            (Demote (number_of_view view))))
-            [] s (server self.new items) outs.old outs.new) }
-        ensures me { self.new.me ≡ self.old.me }
-        ensures stock { OnOk result ((items : List Entry) (size : List Entry → Entry → ℕ)
-            (list : List Entry) → let s = server self.old items in Stocks [] self.old.me s
-            (rule size self.old.me now list s (Comes (place_of from)
-            (Demote (number_of_view view)))) (stock self.old) (stock self.new)) }
-        ensures cached { OnOk result (IsCachedAs self.old.cached self.new.cached) }
-        ensures mark { OnOk result ((size : List Entry → Entry → ℕ) (list : List Entry)
-            → self.new.mark ≡ marked_by self.old.mark (coming size now list self.old
-            (place_of from) (Demote (number_of_view view)))) }
-        ensures up { OnOk result (self.new.halted ≡ false) }
-        ensures written { OnOk result ((size : List Entry → Entry → ℕ) (list : List Entry)
-            → D.told store.new ≡ disk_after (coming size now list self.old (place_of from)
-            (Demote (number_of_view view))) self.new.mark (D.told store.old)) }
-        ensures part { OnErr result ((size : List Entry → Entry → ℕ) (list : List Entry)
-            → let ms = coming size now list self.old (place_of from)
-            (Demote (number_of_view view)) in
-            MayLeave ms (marked_by self.old.mark ms) (D.told store.old) (D.told store.new)) }
-        ensures running { result ≡ Err NodeFault.Halted → ⊥ }
-        ensures rose { result ≡ Err NodeFault.StoreFailed → Rose (D.faults store.old)
+        requires up { self.old.halted ≡ false }
+        ensures handles { (size : List Entry → Entry → ℕ) (list : List Entry)
+            → Handles result ⊤ now (λ q s. rule size q now list s (Comes (place_of from)
+            (Demote (number_of_view view)))) [] [] self.old self.new
+            outs.old outs.new (D.told store.old) (D.told store.new) (D.faults store.old)
             (D.faults store.new) }
         ensures count { D.faults store.old ≤ D.faults store.new }
     {

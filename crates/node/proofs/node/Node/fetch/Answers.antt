@@ -13,31 +13,12 @@ use Rattle.node.specs.declared.state.State.TheVariants as state
 use Rattle.volatile_log.specs.Log.{next}
 use Rattle.node.proofs.node.Node.fetch.Goals as goal
 
-pub returns-in_err-send-clause-sends : goal.returns-in_err-send-clause-sends
-returns-in_err-send-clause-sends c = IfOk-from_err c.from_residual.result _
-    c.from_residual.ensures.0
-
-pub returns-in_err-send-clause-state : goal.returns-in_err-send-clause-state
-returns-in_err-send-clause-state c = IfOk-from_err c.from_residual.result _
+pub returns-in_err-send-clause-fetches : goal.returns-in_err-send-clause-fetches
+returns-in_err-send-clause-fetches c = IfOk-from_err c.from_residual.result _
     c.from_residual.ensures.0
 
 pub returns-in_err-send-clause-me : goal.returns-in_err-send-clause-me
 returns-in_err-send-clause-me c = ap (λ (n : NodeValue). n.me) c.self.view_is
-
-pub returns-in_err-send-clause-stock : goal.returns-in_err-send-clause-stock
-returns-in_err-send-clause-stock c = IfOk-from_err c.from_residual.result _
-    c.from_residual.ensures.0
-
-pub returns-in_err-send-clause-cached : goal.returns-in_err-send-clause-cached
-returns-in_err-send-clause-cached c = IfOk-from_err c.from_residual.result _
-    c.from_residual.ensures.0
-
-pub returns-in_err-send-clause-mark : goal.returns-in_err-send-clause-mark
-returns-in_err-send-clause-mark c = ap (λ (n : NodeValue). n.mark) c.self.view_is
-
-pub returns-in_err-send-clause-up : goal.returns-in_err-send-clause-up
-returns-in_err-send-clause-up c = IfOk-from_err c.from_residual.result _
-    c.from_residual.ensures.0
 
 pub invariant_of-self : goal.invariant_of-self
 invariant_of-self c =
@@ -54,36 +35,28 @@ invariant_of-self c =
       ),
     )
 
-pub returns-clause-sends : goal.returns-clause-sends
-returns-clause-sends c s clock =
-    let to = place_of c.args.pull.form.source in
-    sent_as c.args.self.now.me clock _ c.self.inside.mark.promised to c.promised-view.result
-    c.next-first.result (next c.args.pull.staged) s c.args.outs.now c.send.new.self (tt, tt)
-    (ap (λ (n : NodeValue). Sending to (Fetch n.plain.promised (next c.args.pull.staged)) ∷ [])
-    (sym c.self.view_is)) c.promised-view.ensures.value c.next-first.ensures.value
-    c.in_ok-send.ensures.said
-
-pub returns-clause-state : goal.returns-clause-state
-returns-clause-state c items =
+pub returns-clause-fetches : goal.returns-clause-fetches
+returns-clause-fetches c =
     let n = c.self.inside in
-    let is : server (value n.me n.mark n.horizon n.served n.duty (state.Pulls c.args.pull.kept
-    c.args.pull.joining c.args.pull.form c.args.pull.staged)) items
-    ≡ pulling_with (server c.args.self.now items) c.args.pull =
-    pulled_so n.me n.mark n.horizon n.served n.duty n.state c.args.self.now c.args.pull
-    c.args.pull.staged items c.self.view_is c.requires.kept refl in
-    is
+    let to = place_of c.args.pull.form.source in
+    record {
+      up = refl;
+      state = λ items. let is : server (value n.me n.mark n.horizon n.served n.duty
+          (state.Pulls c.args.pull.kept c.args.pull.joining c.args.pull.form c.args.pull.staged))
+          items ≡ pulling_with (server c.args.self.now items) c.args.pull =
+          pulled_so n.me n.mark n.horizon n.served n.duty n.state c.args.self.now c.args.pull
+          c.args.pull.staged items c.self.view_is c.requires.kept refl in
+          is;
+      sends = λ s clock. sent_as c.args.self.now.me clock _ c.self.inside.mark.promised to
+          c.promised-view.result
+          c.next-first.result (next c.args.pull.staged) s c.args.outs.now c.send.new.self (tt, tt)
+          (ap (λ (n : NodeValue). Sending to (Fetch n.plain.promised (next c.args.pull.staged))
+          ∷ []) (sym c.self.view_is)) c.promised-view.ensures.value c.next-first.ensures.value
+          c.in_ok-send.ensures.said;
+      stock = refl;
+      cached = refl;
+      mark = ap (λ (n : NodeValue). n.mark) c.self.view_is;
+    }
 
 pub returns-clause-me : goal.returns-clause-me
 returns-clause-me c = ap (λ (n : NodeValue). n.me) c.self.view_is
-
-pub returns-clause-stock : goal.returns-clause-stock
-returns-clause-stock c = refl
-
-pub returns-clause-cached : goal.returns-clause-cached
-returns-clause-cached c = refl
-
-pub returns-clause-mark : goal.returns-clause-mark
-returns-clause-mark c = ap (λ (n : NodeValue). n.mark) c.self.view_is
-
-pub returns-clause-up : goal.returns-clause-up
-returns-clause-up c = refl

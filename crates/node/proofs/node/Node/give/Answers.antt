@@ -1,18 +1,36 @@
-use Rattle.std.proofs.Common.{ap, inr, refl, subst, sym, ◌∙◌}
-use Rattle.std.specs.Prelude.{map}
+use Rattle.std.proofs.Common.{[], ap, le_refl, refl, subst, sym, ◌∙◌, ℕ}
+use Rattle.std.specs.Prelude.{map, ⊤}
+use Rattle.std.proofs.lemmas.Bool.{eqb-true}
 use Rattle.event_record.specs.Record.{entry_of}
 use Rattle.group_rules.proofs.Tests.{each_of}
 use Rattle.group_rules.specs.Form.{on_give}
+use Rattle.group_rules.specs.Limits.{is_pulls}
 use Rattle.group_rules.specs.Names.{number_of_view, place_of}
-use Rattle.node.specs.Node.{NodeValue, server, value}
+use Rattle.node.specs.Handles.{Handles}
+use Rattle.node.specs.Node.{NodeValue}
 use Rattle.node.proofs.Given.{given_within}
-use Rattle.node.proofs.Faults.{not_failed}
-use Rattle.node.proofs.Unmoved.{none_makes, none_marks, none_stocks, none_written, unpulled_for}
-use Rattle.node.specs.State.{Fits}
+use Rattle.node.proofs.Handled.{acts_idle, handles_so, pulled_now, saving}
+use Rattle.node.proofs.Unmoved.{unpulled_for}
+use Rattle.node.specs.State.{Fits, mode_in}
 use Rattle.node.specs.declared.state.State.{State}
-use Rattle.node.proofs.Saying.{on_err, on_ok}
-use Rattle.node.proofs.Pulled.{pulled_makes, pulled_marks, pulled_part, pulled_stocks, pulled_written}
 use Rattle.node.proofs.node.Node.give.Goals as goal
+
+pub returns-then-not-pulls_for-clause-handles : goal.returns-then-not-pulls_for-clause-handles
+returns-then-not-pulls_for-clause-handles g c clock =
+    let now = c.args.self.now in
+    let given = map entry_of c.args.records in
+    acts_idle ⊤ clock (λ q s. on_give q s (number_of_view c.args.view) c.args.first given)
+    c.args.records now now c.args.outs.now (g.D.Store.told c.args.store.now) refl c.requires.up
+    (λ saved. unpulled_for now.me (saving now saved) (number_of_view c.args.view) c.args.first given
+    (sym c.pulls_for.ensures ∙ c.if-not-pulls_for.true))
+
+pub returns-then-not-pulls_for-clause-count : goal.returns-then-not-pulls_for-clause-count
+returns-then-not-pulls_for-clause-count g c = le_refl _
+
+pub into_pull-pull-requires : goal.into_pull-pull-requires
+into_pull-pull-requires g c = ap (λ (s : State). is_pulls (mode_in s)) c.replace.ensures.value
+    ∙ ap (λ (x : NodeValue). is_pulls x.plain.mode) c.self.view_is
+    ∙ (each_of _ (sym c.pulls_for.ensures ∙ c.if-not-pulls_for.false)).1.0
 
 pub take_given-requires-clause-within : goal.take_given-requires-clause-within
 take_given-requires-clause-within g c = given_within c.self.inside.me c.self.inside.mark
@@ -22,42 +40,6 @@ take_given-requires-clause-within g c = given_within c.self.inside.me c.self.ins
     c.args.first c.args.records (sym c.replace.ensures.value ∙ c.into_pull-pull.ensures)
     c.self.view_is
     ((each_of _ (sym c.pulls_for.ensures ∙ c.if-not-pulls_for.false)).0) c.requires.within
-
-pub returns-then-not-pulls_for-clause-makes : goal.returns-then-not-pulls_for-clause-makes
-returns-then-not-pulls_for-clause-makes g c items clock = none_makes clock c.args.self.now
-    c.args.self.now items _ c.args.outs.now refl
-    (unpulled_for c.args.self.now.me (server c.args.self.now items) (number_of_view c.args.view)
-    c.args.first (map entry_of c.args.records) (sym c.pulls_for.ensures ∙
-    c.if-not-pulls_for.true))
-
-pub returns-then-not-pulls_for-clause-stock : goal.returns-then-not-pulls_for-clause-stock
-returns-then-not-pulls_for-clause-stock g c items = none_stocks c.args.records c.args.self.now
-    c.args.self.now items
-    (on_give c.args.self.now.me (server c.args.self.now items) (number_of_view c.args.view)
-    c.args.first (map entry_of c.args.records)) refl
-    (unpulled_for c.args.self.now.me (server c.args.self.now items) (number_of_view c.args.view)
-    c.args.first (map entry_of c.args.records) (sym c.pulls_for.ensures ∙
-    c.if-not-pulls_for.true))
-
-pub returns-then-not-pulls_for-clause-mark : goal.returns-then-not-pulls_for-clause-mark
-returns-then-not-pulls_for-clause-mark g c = none_marks c.args.self.now c.args.self.now
-    (on_give c.args.self.now.me c.args.self.now.plain (number_of_view c.args.view) c.args.first (map
-    entry_of c.args.records)) refl
-    (unpulled_for c.args.self.now.me c.args.self.now.plain (number_of_view c.args.view) c.args.first
-    (map entry_of c.args.records) (sym c.pulls_for.ensures ∙ c.if-not-pulls_for.true))
-
-pub returns-then-not-pulls_for-clause-written : goal.returns-then-not-pulls_for-clause-written
-returns-then-not-pulls_for-clause-written g c = none_written
-    (on_give c.args.self.now.me c.args.self.now.plain (number_of_view c.args.view) c.args.first (map
-    entry_of c.args.records)) c.args.self.now.mark _
-    (unpulled_for c.args.self.now.me c.args.self.now.plain (number_of_view c.args.view) c.args.first
-    (map entry_of c.args.records) (sym c.pulls_for.ensures ∙ c.if-not-pulls_for.true))
-
-pub returns-then-not-pulls_for-clause-running : goal.returns-then-not-pulls_for-clause-running
-returns-then-not-pulls_for-clause-running g c = not_failed _ _ _
-
-pub returns-then-not-pulls_for-clause-rose : goal.returns-then-not-pulls_for-clause-rose
-returns-then-not-pulls_for-clause-rose g c = not_failed _ _ _
 
 pub take_given-requires-clause-kept : goal.take_given-requires-clause-kept
 take_given-requires-clause-kept g c =
@@ -80,93 +62,24 @@ take_given-requires-clause-pulls g c =
     let fits = subst (λ (s : State). Fits (place_of n.me) n.mark s) at c.self.invariant.1 in
     fits.3
 
-pub returns-clause-makes : goal.returns-clause-makes
-returns-clause-makes g c =
+pub returns-clause-handles : goal.returns-clause-handles
+returns-clause-handles g c clock =
     let n = c.self.inside in
     let now = c.args.self.now in
-    let p = c.into_pull-pull.result in
+    let given = map entry_of c.args.records in
     let at = sym c.replace.ensures.value ∙ c.into_pull-pull.ensures in
-    let of = ap (value n.me n.mark n.horizon n.served n.duty) (sym at) ∙ c.self.view_is in
     let fits = subst (λ (s : State). Fits (place_of n.me) n.mark s) at c.self.invariant.1 in
     let same = (each_of _ (sym c.pulls_for.ensures ∙ c.if-not-pulls_for.false)).0 in
-    on_ok c.take_given.result _ _ c.take_given.ensures.makes (λ made items clock.
-    pulled_makes n.me n.mark n.horizon n.served n.duty p now of fits.0
-    (number_of_view c.args.view) same c.args.first (map entry_of c.args.records) items clock
-    c.take_given.new.self c.args.outs.now c.take_given.new.outs (made items clock))
-
-pub returns-clause-me : goal.returns-clause-me
-returns-clause-me g c =
-    let n = c.self.inside in
-    let at = sym c.replace.ensures.value ∙ c.into_pull-pull.ensures in
-    let of = ap (value n.me n.mark n.horizon n.served n.duty) (sym at) ∙ c.self.view_is in
-    c.take_given.ensures.me ∙ ap (λ (x : NodeValue). x.me) of
-
-pub returns-clause-stock : goal.returns-clause-stock
-returns-clause-stock g c =
-    let n = c.self.inside in
-    let now = c.args.self.now in
-    let p = c.into_pull-pull.result in
-    let at = sym c.replace.ensures.value ∙ c.into_pull-pull.ensures in
-    let of = ap (value n.me n.mark n.horizon n.served n.duty) (sym at) ∙ c.self.view_is in
-    let fits = subst (λ (s : State). Fits (place_of n.me) n.mark s) at c.self.invariant.1 in
-    let same = (each_of _ (sym c.pulls_for.ensures ∙ c.if-not-pulls_for.false)).0 in
-    on_ok c.take_given.result _ _ c.take_given.ensures.stock (λ made items.
-    pulled_stocks n.me n.mark n.horizon n.served n.duty p now of fits.0
-    (number_of_view c.args.view) same c.args.first (map entry_of c.args.records)
-    c.args.records items c.take_given.new.self (made items))
-
-pub returns-clause-cached : goal.returns-clause-cached
-returns-clause-cached g c = on_ok c.take_given.result _ _ c.take_given.ensures.cached inr
-
-pub returns-clause-mark : goal.returns-clause-mark
-returns-clause-mark g c =
-    let n = c.self.inside in
-    let now = c.args.self.now in
-    let p = c.into_pull-pull.result in
-    let at = sym c.replace.ensures.value ∙ c.into_pull-pull.ensures in
-    let of = ap (value n.me n.mark n.horizon n.served n.duty) (sym at) ∙ c.self.view_is in
-    let fits = subst (λ (s : State). Fits (place_of n.me) n.mark s) at c.self.invariant.1 in
-    let same = (each_of _ (sym c.pulls_for.ensures ∙ c.if-not-pulls_for.false)).0 in
-    on_ok c.take_given.result _ _ c.take_given.ensures.mark (λ made.
-    pulled_marks n.me n.mark n.horizon n.served n.duty p now of fits.0
-    (number_of_view c.args.view) same c.args.first (map entry_of c.args.records)
-    c.take_given.new.self.mark made)
-
-pub returns-clause-up : goal.returns-clause-up
-returns-clause-up g c = c.take_given.ensures.up
-
-pub returns-clause-written : goal.returns-clause-written
-returns-clause-written g c =
-    let n = c.self.inside in
-    let now = c.args.self.now in
-    let p = c.into_pull-pull.result in
-    let at = sym c.replace.ensures.value ∙ c.into_pull-pull.ensures in
-    let of = ap (value n.me n.mark n.horizon n.served n.duty) (sym at) ∙ c.self.view_is in
-    let fits = subst (λ (s : State). Fits (place_of n.me) n.mark s) at c.self.invariant.1 in
-    let same = (each_of _ (sym c.pulls_for.ensures ∙ c.if-not-pulls_for.false)).0 in
-    on_ok c.take_given.result _ _ c.take_given.ensures.written (λ made.
-    pulled_written n.me n.mark n.horizon n.served n.duty p now of fits.0
-    (number_of_view c.args.view) same c.args.first (map entry_of c.args.records)
-    c.take_given.new.self.mark _ _ made)
-
-pub returns-clause-part : goal.returns-clause-part
-returns-clause-part g c =
-    let n = c.self.inside in
-    let now = c.args.self.now in
-    let p = c.into_pull-pull.result in
-    let at = sym c.replace.ensures.value ∙ c.into_pull-pull.ensures in
-    let of = ap (value n.me n.mark n.horizon n.served n.duty) (sym at) ∙ c.self.view_is in
-    let fits = subst (λ (s : State). Fits (place_of n.me) n.mark s) at c.self.invariant.1 in
-    let same = (each_of _ (sym c.pulls_for.ensures ∙ c.if-not-pulls_for.false)).0 in
-    on_err c.take_given.result _ _ c.take_given.ensures.part (λ made.
-    pulled_part n.me n.mark n.horizon n.served n.duty p now of fits.0
-    (number_of_view c.args.view) same c.args.first (map entry_of c.args.records) _ _ made)
-
-pub returns-clause-running : goal.returns-clause-running
-returns-clause-running g c = c.take_given.ensures.running
-
-pub returns-clause-rose : goal.returns-clause-rose
-returns-clause-rose g c = c.take_given.ensures.rose
+    handles_so _ _ _ _ (λ q s. on_give q s s.promised c.args.first given) _ _ _ _ _ _ _ _ _ _
+    (λ saved. ap (λ (w : ℕ). on_give now.me (saving now saved) w c.args.first given)
+    (eqb-true (number_of_view c.args.view) now.plain.promised same))
+    (subst (λ (x : NodeValue). Handles c.take_given.result ⊤ clock (λ q s. on_give q s s.promised
+    c.args.first given) c.args.records [] x
+    c.take_given.new.self c.args.outs.now c.take_given.new.outs (g.D.Store.told c.args.store.now)
+    (g.D.Store.told c.take_given.new.store) (g.D.Store.faults c.args.store.now)
+    (g.D.Store.faults c.take_given.new.store))
+    (pulled_now n.me n.mark n.horizon n.served n.duty n.state now c.into_pull-pull.result
+    c.self.view_is at fits.0) (c.take_given.ensures.handles clock))
 
 pub returns-clause-count : goal.returns-clause-count
 returns-clause-count g c = c.take_given.ensures.count

@@ -28,38 +28,31 @@ invariant_of-self c = (
       (sym c.replace.ensures.value) c.self.invariant.1),
 )
 
-pub returns-clause-state : goal.returns-clause-state
-returns-clause-state c items =
-    let n = c.self.inside in
-    ap (λ (m : MarkFields). server (value n.me m n.horizon 0 n.duty c.without_log.result) items)
-    (mark_at n.me n.mark n.horizon n.served n.duty n.state c.args.self.now c.args.mark c.args.view
-    c.self.view_is c.requires.mark)
-    ∙ c.without_log.ensures.drops n.me n.mark n.horizon n.served n.duty items c.args.view
-    (under_at n.me n.mark n.horizon n.served n.duty n.state c.args.self.now c.args.view true
-    c.self.view_is c.requires.below)
-    ∙ ap (λ (s : State). demoted (server (value n.me n.mark n.horizon n.served n.duty s) items)
-    (number_of_view c.args.view)) c.replace.ensures.value
-    ∙ ap (λ (x : NodeValue). demoted (server x items) (number_of_view c.args.view)) c.self.view_is
-
-pub returns-clause-stock : goal.returns-clause-stock
-returns-clause-stock c items =
-    let n = c.self.inside in
-    demoted_stock n.me n.mark n.horizon n.served n.duty n.state c.args.self.now
-    (number_of_view c.args.view) true items (stock_in c.without_log.result) c.self.view_is
-    (under_at n.me n.mark n.horizon n.served n.duty n.state c.args.self.now c.args.view true
-    c.self.view_is c.requires.below)
-    (c.without_log.ensures.stock
-    ∙ ap (λ (s : State). as_stock [] (pulled_in s) [])
-    c.replace.ensures.value)
-
-pub returns-clause-me : goal.returns-clause-me
-returns-clause-me c = ap (λ (n : NodeValue). n.me) c.self.view_is
-
-pub returns-clause-cached : goal.returns-clause-cached
-returns-clause-cached c = c.without_log.ensures.cached
-
-pub returns-clause-mark : goal.returns-clause-mark
-returns-clause-mark c = refl
-
-pub returns-clause-up : goal.returns-clause-up
-returns-clause-up c = c.without_log.ensures.up
+pub returns : goal.returns
+returns c = record {
+  me = ap (λ (n : NodeValue). n.me) c.self.view_is;
+  up = c.without_log.ensures.up;
+  state = λ items.
+      let n = c.self.inside in
+      ap (λ (m : MarkFields). server (value n.me m n.horizon 0 n.duty c.without_log.result) items)
+      (mark_at n.me n.mark n.horizon n.served n.duty n.state c.args.self.now c.args.mark c.args.view
+      c.self.view_is c.requires.mark)
+      ∙ c.without_log.ensures.drops n.me n.mark n.horizon n.served n.duty items c.args.view
+      (under_at n.me n.mark n.horizon n.served n.duty n.state c.args.self.now c.args.view true
+      c.self.view_is c.requires.below)
+      ∙ ap (λ (s : State). demoted (server (value n.me n.mark n.horizon n.served n.duty s) items)
+      (number_of_view c.args.view)) c.replace.ensures.value
+      ∙ ap (λ (x : NodeValue). demoted (server x items) (number_of_view c.args.view))
+      c.self.view_is;
+  stock = λ items.
+      let n = c.self.inside in
+      demoted_stock n.me n.mark n.horizon n.served n.duty n.state c.args.self.now
+      (number_of_view c.args.view) true items (stock_in c.without_log.result) c.self.view_is
+      (under_at n.me n.mark n.horizon n.served n.duty n.state c.args.self.now c.args.view true
+      c.self.view_is c.requires.below)
+      (c.without_log.ensures.stock
+      ∙ ap (λ (s : State). as_stock [] (pulled_in s) [])
+      c.replace.ensures.value);
+  cached = c.without_log.ensures.cached;
+  mark = refl;
+}

@@ -1,4 +1,4 @@
-use Rattle.std.proofs.Common.{◌≡◌, ◌≤◌, ◌==◌, [], true, false, ℕ, sym, subst, ap, refl}
+use Rattle.std.proofs.Common.{◌≡◌, ◌≤◌, ◌==◌, [], true, false, ℕ, sym, subst, ap, refl, ◌∙◌}
 use Rattle.std.proofs.lemmas.Bool.{eqb-true}
 use Rattle.group_rules.specs.Names.{number_of_view, place_of}
 use Rattle.group_rules.specs.Places.{Place, leader}

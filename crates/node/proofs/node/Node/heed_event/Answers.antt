@@ -1,4 +1,4 @@
-use Rattle.std.proofs.Common.{◌≡◌, ◌≤◌, ◌==◌, [], true, false, ℕ, sym, subst, ap, ◌∷◌, refl}
+use Rattle.std.proofs.Common.{◌≡◌, ◌≤◌, ◌==◌, [], true, false, ℕ, sym, subst, ap, ◌∷◌, refl, ◌∙◌}
 use Rattle.std.proofs.lemmas.Bool.{eqb-true}
 use Rattle.event_record.specs.Record.{entry_of}
 use Rattle.group_rules.specs.Effects.{taken}

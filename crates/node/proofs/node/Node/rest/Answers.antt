@@ -23,36 +23,29 @@ invariant_of-self c = (
       (ap (λ (n : NodeValue). is_p2 n.me) c.self.view_is ∙ c.requires.witness)),
 )
 
-pub returns-clause-state : goal.returns-clause-state
-returns-clause-state c items =
-    let n = c.self.inside in
-    rests_demoted n.me n.mark c.args.mark n.horizon n.served n.duty n.state c.forget.result items
-    c.args.view
-    (mark_at n.me n.mark n.horizon n.served n.duty n.state c.args.self.now c.args.mark c.args.view
-    c.self.view_is c.requires.mark)
-    (under_at n.me n.mark n.horizon n.served n.duty n.state c.args.self.now c.args.view false
-    c.self.view_is c.requires.below)
-    c.forget.ensures.drops
-    ∙ ap (λ (x : NodeValue). demoted (server x items) (number_of_view c.args.view)) c.self.view_is
-
-pub returns-clause-stock : goal.returns-clause-stock
-returns-clause-stock c items =
-    let n = c.self.inside in
-    demoted_stock n.me n.mark n.horizon n.served n.duty n.state c.args.self.now
-    (number_of_view c.args.view) false items (stock_kept c.forget.result []) c.self.view_is
-    (under_at n.me n.mark n.horizon n.served n.duty n.state c.args.self.now c.args.view false
-    c.self.view_is c.requires.below)
-    (ap (λ (xs : List RecordFields). as_stock xs [] [])
-    c.forget.ensures.records)
-
-pub returns-clause-me : goal.returns-clause-me
-returns-clause-me c = ap (λ (n : NodeValue). n.me) c.self.view_is
-
-pub returns-clause-cached : goal.returns-clause-cached
-returns-clause-cached c = refl
-
-pub returns-clause-mark : goal.returns-clause-mark
-returns-clause-mark c = refl
-
-pub returns-clause-up : goal.returns-clause-up
-returns-clause-up c = refl
+pub returns : goal.returns
+returns c = record {
+  me = ap (λ (n : NodeValue). n.me) c.self.view_is;
+  up = refl;
+  state = λ items.
+      let n = c.self.inside in
+      rests_demoted n.me n.mark c.args.mark n.horizon n.served n.duty n.state c.forget.result items
+      c.args.view
+      (mark_at n.me n.mark n.horizon n.served n.duty n.state c.args.self.now c.args.mark c.args.view
+      c.self.view_is c.requires.mark)
+      (under_at n.me n.mark n.horizon n.served n.duty n.state c.args.self.now c.args.view false
+      c.self.view_is c.requires.below)
+      c.forget.ensures.drops
+      ∙ ap (λ (x : NodeValue). demoted (server x items) (number_of_view c.args.view))
+      c.self.view_is;
+  stock = λ items.
+      let n = c.self.inside in
+      demoted_stock n.me n.mark n.horizon n.served n.duty n.state c.args.self.now
+      (number_of_view c.args.view) false items (stock_kept c.forget.result []) c.self.view_is
+      (under_at n.me n.mark n.horizon n.served n.duty n.state c.args.self.now c.args.view false
+      c.self.view_is c.requires.below)
+      (ap (λ (xs : List RecordFields). as_stock xs [] [])
+      c.forget.ensures.records);
+  cached = refl;
+  mark = refl;
+}

@@ -1,115 +1,75 @@
-use Rattle.std.proofs.Common.{[], refl, sym, ◌∙◌}
-use Rattle.group_rules.specs.Misfits.{misfits}
+use Rattle.std.proofs.Common.{[], le_refl, sym, ◌∙◌}
+use Rattle.file_tree.specs.Book.{Entry}
 use Rattle.group_rules.specs.Names.{number_of_view, place_of}
-use Rattle.group_rules.specs.Open.{and_then, try_open}
+use Rattle.group_rules.specs.State.{Message}
 use Rattle.group_rules.specs.State.{Join}
-use Rattle.group_rules.specs.Step.{on_message}
-use Rattle.node.proofs.Saying.{err_so}
-use Rattle.node.proofs.Marks.{disk_as, mark_as, misfit_alike, opened_part, taken_alike, taken_part}
-use Rattle.node.proofs.Takes.{ignored, taken_then}
-use Rattle.node.specs.Node.{server}
-use Rattle.node.proofs.Stocks.{stocks_misfit, stocks_on, stocks_taken}
-use Rattle.node.specs.Stock.{stock}
-use Rattle.node.proofs.node.Node.take_join.Goals as goal
 use Rattle.view_form.specs.Choice.{report}
+use Rattle.node.proofs.Handled.{fails_as, fails_memory}
+use Rattle.node.proofs.Opening.{misfit_acts, opened_acts, proper_acts, proper_fails, proper_part}
+use Rattle.node.proofs.node.Node.take_join.Goals as goal
 
-pub returns-then-misfits_join-clause-makes : goal.returns-then-misfits_join-clause-makes
-returns-then-misfits_join-clause-makes g c items size list =
+pub returns-then-misfits_join-clause-handles : goal.returns-then-misfits_join-clause-handles
+returns-then-misfits_join-clause-handles g c size list =
     let n = c.args.self.now in
     let from = place_of c.args.from in
-    let m = Join (number_of_view c.args.view) (report c.args.info) in
-    let s = server n items in
-    ignored n.me c.args.now (misfits n.me n.plain from m)
-    (and_then n.me c.args.now s (on_message size n.me c.args.now list s from m)
-    (try_open n.me c.args.now)) s [] c.args.outs.now
+    let m : Message Entry = Join (number_of_view c.args.view) (report c.args.info) in
+    misfit_acts size c.args.now list from m n [] c.args.outs.now
+    (g.D.Store.told c.args.store.now) c.requires.up
     (sym c.misfits_join.ensures ∙ c.if-misfits_join.true)
 
-pub returns-then-misfits_join-clause-mark : goal.returns-then-misfits_join-clause-mark
-returns-then-misfits_join-clause-mark g c size list =
-    let n = c.args.self.now in
-    let from = place_of c.args.from in
-    let m = Join (number_of_view c.args.view) (report c.args.info) in
-    mark_as _ _ n.mark n.mark (misfit_alike size c.args.now list n from m
-    (sym c.misfits_join.ensures ∙ c.if-misfits_join.true)) refl
+pub returns-then-misfits_join-clause-count : goal.returns-then-misfits_join-clause-count
+returns-then-misfits_join-clause-count g c = le_refl _
 
-pub returns-then-misfits_join-clause-written : goal.returns-then-misfits_join-clause-written
-returns-then-misfits_join-clause-written g c size list =
+pub returns-in_err-collect-clause-handles : goal.returns-in_err-collect-clause-handles
+returns-in_err-collect-clause-handles g c size list =
     let n = c.args.self.now in
     let from = place_of c.args.from in
-    let m = Join (number_of_view c.args.view) (report c.args.info) in
-    disk_as _ _ n.mark n.mark (g.D.Store.told c.args.store.now) (g.D.Store.told c.args.store.now)
-    (misfit_alike size c.args.now list n from m
-    (sym c.misfits_join.ensures ∙ c.if-misfits_join.true)) refl refl
-
-pub returns-in_err-collect-clause-part : goal.returns-in_err-collect-clause-part
-returns-in_err-collect-clause-part g c =
-    let n = c.args.self.now in
-    let from = place_of c.args.from in
-    let m = Join (number_of_view c.args.view) (report c.args.info) in
-    err_so _ _ (taken_part c.args.now n from m (g.D.Store.told c.args.store.now) (g.D.Store.told
-    c.collect.new.store)
+    let m : Message Entry = Join (number_of_view c.args.view) (report c.args.info) in
+    let why = c.in_err-collect.field-0.0 in
+    fails_as c.from_residual.result why _ _ _ _ _ _ _ _ _ _ _ _ _ c.from_residual.ensures.1
+    (proper_fails size c.args.now list from m n c.collect.new.self (g.D.Store.told c.args.store.now)
+    (g.D.Store.told c.collect.new.store) (g.D.Store.faults c.args.store.now)
+    (g.D.Store.faults c.collect.new.store) why
     (sym c.misfits_join.ensures ∙ c.if-misfits_join.false)
-    (λ size list. c.in_err-collect.ensures.part))
+    (c.in_err-collect.ensures.handles c.args.now))
 
-pub returns-in_err-try_open-clause-part : goal.returns-in_err-try_open-clause-part
-returns-in_err-try_open-clause-part g c =
+pub returns-in_err-collect-clause-count : goal.returns-in_err-collect-clause-count
+returns-in_err-collect-clause-count g c = c.collect.ensures.count
+
+pub returns-in_err-try_open-clause-handles : goal.returns-in_err-try_open-clause-handles
+returns-in_err-try_open-clause-handles g c size list =
     let n = c.args.self.now in
     let from = place_of c.args.from in
-    let m = Join (number_of_view c.args.view) (report c.args.info) in
-    err_so _ _ (opened_part c.args.now n from m c.collect.new.self.mark
+    let m : Message Entry = Join (number_of_view c.args.view) (report c.args.info) in
+    let first = (c.in_ok-collect.ensures.handles c.args.now) in
+    fails_memory c.from_residual-in_err-try_open.result _ _ _ _ _ _ _ _ _ _ _ _ _
+    c.from_residual-in_err-try_open.ensures.1
+    (c.try_open.ensures.me ∙ first.me)
+    (proper_part size c.args.now list from m n [] c.collect.new.self c.args.outs.now
+    c.collect.new.outs
     (g.D.Store.told c.args.store.now) (g.D.Store.told c.collect.new.store)
+    (sym c.misfits_join.ensures ∙ c.if-misfits_join.false) first)
+
+pub returns-in_err-try_open-clause-count : goal.returns-in_err-try_open-clause-count
+returns-in_err-try_open-clause-count g c = c.collect.ensures.count
+
+pub returns-clause-handles : goal.returns-clause-handles
+returns-clause-handles g c size list =
+    let n = c.args.self.now in
+    let from = place_of c.args.from in
+    let m : Message Entry = Join (number_of_view c.args.view) (report c.args.info) in
+    let left = g.D.Store.told c.collect.new.store in
+    proper_acts size c.args.now list from m n [] c.collect.new.self c.try_open.new.self
+    c.args.outs.now c.collect.new.outs c.try_open.new.outs (g.D.Store.told c.args.store.now) left
     (sym c.misfits_join.ensures ∙ c.if-misfits_join.false)
-    (λ size list. c.in_ok-collect.ensures.mark) (λ size list. c.in_ok-collect.ensures.written))
+    (c.in_ok-collect.ensures.handles c.args.now)
+    (opened_acts c.args.now [] c.collect.new.self c.try_open.new.self c.collect.new.outs
+    c.try_open.new.outs left c.in_ok-try_open.ensures.makes c.try_open.ensures.me
+    c.in_ok-try_open.ensures.up c.in_ok-try_open.ensures.stock c.in_ok-try_open.ensures.cached
+    c.try_open.ensures.mark)
 
-pub returns-clause-makes : goal.returns-clause-makes
-returns-clause-makes g c items size list =
-    let n = c.args.self.now in
-    let from = place_of c.args.from in
-    let m = Join (number_of_view c.args.view) (report c.args.info) in
-    taken_then n.me c.args.now (misfits n.me n.plain from m)
-    (on_message size n.me c.args.now list (server n items) from m) (server n items)
-    (server c.collect.new.self items) (server c.try_open.new.self items)
-    c.collect.new.self.me [] c.args.outs.now c.collect.new.outs c.try_open.new.outs
-    (sym c.misfits_join.ensures ∙ c.if-misfits_join.false) c.collect.ensures.me
-    (c.in_ok-collect.ensures.makes items c.args.now) (c.in_ok-try_open.ensures.makes items)
+pub returns-clause-count : goal.returns-clause-count
+returns-clause-count g c = c.collect.ensures.count
 
-pub returns-clause-mark : goal.returns-clause-mark
-returns-clause-mark g c size list =
-    let n = c.args.self.now in
-    let from = place_of c.args.from in
-    let m = Join (number_of_view c.args.view) (report c.args.info) in
-    mark_as _ _ n.mark c.try_open.new.self.mark (taken_alike size c.args.now list n from m
-    (sym c.misfits_join.ensures ∙ c.if-misfits_join.false)) (c.try_open.ensures.mark ∙
-    c.in_ok-collect.ensures.mark)
-
-pub returns-clause-written : goal.returns-clause-written
-returns-clause-written g c size list =
-    let n = c.args.self.now in
-    let from = place_of c.args.from in
-    let m = Join (number_of_view c.args.view) (report c.args.info) in
-    disk_as _ _ c.collect.new.self.mark c.try_open.new.self.mark (g.D.Store.told c.args.store.now)
-    (g.D.Store.told c.collect.new.store) (taken_alike size c.args.now list n from m
-    (sym c.misfits_join.ensures ∙ c.if-misfits_join.false)) c.try_open.ensures.mark
-    c.in_ok-collect.ensures.written
-
-pub returns-then-misfits_join-clause-stock : goal.returns-then-misfits_join-clause-stock
-returns-then-misfits_join-clause-stock g c items size list =
-    let n = c.args.self.now in
-    let from = place_of c.args.from in
-    let m = Join (number_of_view c.args.view) (report c.args.info) in
-    stocks_misfit size n.me c.args.now list (server n items) from m (misfits n.me n.plain from m)
-    [] (stock n)
-    (sym c.misfits_join.ensures ∙ c.if-misfits_join.true)
-
-pub returns-clause-stock : goal.returns-clause-stock
-returns-clause-stock g c items size list =
-    let n = c.args.self.now in
-    let from = place_of c.args.from in
-    let m = Join (number_of_view c.args.view) (report c.args.info) in
-    stocks_taken size n.me c.args.now list (server n items) from m
-    (misfits n.me n.plain from m) [] (stock n) (stock c.try_open.new.self)
-    (sym c.misfits_join.ensures ∙ c.if-misfits_join.false)
-    (stocks_on [] n.me (server n items)
-    (on_message size n.me c.args.now list (server n items) from m) (stock n)
-    (stock c.collect.new.self) (stock c.try_open.new.self) (c.in_ok-collect.ensures.stock items)
-    c.in_ok-try_open.ensures.stock)
+pub try_open-requires : goal.try_open-requires
+try_open-requires g c = (c.in_ok-collect.ensures.handles c.args.now).up

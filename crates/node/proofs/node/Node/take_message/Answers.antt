@@ -5,6 +5,7 @@ use Rattle.group_rules.specs.Names.{number_of_view, place_of}
 use Rattle.group_rules.specs.State.{Ack, Beat, Demote, Event, Fetch, Formed, Give, Invite, Message}
 use Rattle.file_tree.specs.Book.{Entry}
 use Rattle.node.proofs.Heard.{fills_fetch, forms, heard_ack, heard_alike, heard_keeps, heard_makes, heard_stocks, joins}
+use Rattle.node.proofs.Handled.{err_each, me_of, ok_each, ok_of, rose_of, runs_on}
 use Rattle.node.proofs.Marks.{disk_as, mark_as, part_as}
 use Rattle.node.specs.Node.{server}
 use Rattle.node_outputs.specs.Messages.{heard}
@@ -22,7 +23,7 @@ returns-in-Invite-clause-makes g c =
     (λ made items size list fills. heard_makes size n.me c.args.now list (server n items)
     (server c.take_invite.new.self items) c.args.from c.args.message m n.peers c.args.outs.now
     c.take_invite.new.outs (ap heard c.in-Invite.is) tt
-    (made items size list)) c.take_invite.ensures.makes
+    ((made size list).makes tt items)) (ok_each _ _ c.take_invite.result c.take_invite.ensures.handles)
 
 pub returns-in-Invite-clause-mark : goal.returns-in-Invite-clause-mark
 returns-in-Invite-clause-mark g c =
@@ -32,7 +33,7 @@ returns-in-Invite-clause-mark g c =
     (λ marks size list. mark_as _ _ n.mark c.take_invite.new.self.mark
     (heard_alike size n.me c.args.now list n.plain c.args.from c.args.message m
     (ap heard c.in-Invite.is))
-    (marks size list)) c.take_invite.ensures.mark
+    (marks size list).mark) (ok_each _ _ c.take_invite.result c.take_invite.ensures.handles)
 
 pub returns-in-Invite-clause-written : goal.returns-in-Invite-clause-written
 returns-in-Invite-clause-written g c =
@@ -44,7 +45,7 @@ returns-in-Invite-clause-written g c =
     (g.D.Store.told c.take_invite.new.store) (heard_alike size n.me c.args.now list n.plain
     c.args.from c.args.message m
     (ap heard c.in-Invite.is))
-    refl (writes size list)) c.take_invite.ensures.written
+    refl (writes size list).written) (ok_each _ _ c.take_invite.result c.take_invite.ensures.handles)
 
 pub returns-in-Invite-clause-part : goal.returns-in-Invite-clause-part
 returns-in-Invite-clause-part g c =
@@ -55,7 +56,8 @@ returns-in-Invite-clause-part g c =
     (g.D.Store.told c.take_invite.new.store) (heard_alike size n.me c.args.now list n.plain
     c.args.from c.args.message m
     (ap heard c.in-Invite.is))
-    (leaves size list)) c.take_invite.ensures.part
+    (leaves size list)) (err_each _ c.take_invite.result c.take_invite.ensures.handles (λ size list
+    why h. h.part))
 
 pub returns-in-Join-clause-makes : goal.returns-in-Join-clause-makes
 returns-in-Join-clause-makes g c =
@@ -66,7 +68,7 @@ returns-in-Join-clause-makes g c =
     (λ made items size list fills. heard_makes size n.me c.args.now list (server n items)
     (server c.take_join.new.self items) c.args.from c.args.message m n.peers c.args.outs.now
     c.take_join.new.outs (ap heard c.in-Join.is) tt
-    (made items size list)) c.take_join.ensures.makes
+    ((made size list).makes tt items)) (ok_each _ _ c.take_join.result c.take_join.ensures.handles)
 
 pub returns-in-Join-clause-mark : goal.returns-in-Join-clause-mark
 returns-in-Join-clause-mark g c =
@@ -77,7 +79,7 @@ returns-in-Join-clause-mark g c =
     (λ marks size list. mark_as _ _ n.mark c.take_join.new.self.mark
     (heard_alike size n.me c.args.now list n.plain c.args.from c.args.message m
     (ap heard c.in-Join.is))
-    (marks size list)) c.take_join.ensures.mark
+    (marks size list).mark) (ok_each _ _ c.take_join.result c.take_join.ensures.handles)
 
 pub returns-in-Join-clause-written : goal.returns-in-Join-clause-written
 returns-in-Join-clause-written g c =
@@ -90,7 +92,7 @@ returns-in-Join-clause-written g c =
     (g.D.Store.told c.take_join.new.store) (heard_alike size n.me c.args.now list n.plain
     c.args.from c.args.message m
     (ap heard c.in-Join.is))
-    refl (writes size list)) c.take_join.ensures.written
+    refl (writes size list).written) (ok_each _ _ c.take_join.result c.take_join.ensures.handles)
 
 pub returns-in-Join-clause-part : goal.returns-in-Join-clause-part
 returns-in-Join-clause-part g c =
@@ -102,7 +104,8 @@ returns-in-Join-clause-part g c =
     (g.D.Store.told c.take_join.new.store) (heard_alike size n.me c.args.now list n.plain
     c.args.from c.args.message m
     (ap heard c.in-Join.is))
-    (leaves size list)) c.take_join.ensures.part
+    (leaves size list)) (err_each _ c.take_join.result c.take_join.ensures.handles (λ size list why
+    h. h.part))
 
 pub returns-in-Form-clause-makes : goal.returns-in-Form-clause-makes
 returns-in-Form-clause-makes g c =
@@ -113,7 +116,7 @@ returns-in-Form-clause-makes g c =
     (λ made items size list fills. heard_makes size n.me c.args.now list (server n items)
     (server c.take_form.new.self items) c.args.from c.args.message m n.peers c.args.outs.now
     c.take_form.new.outs (ap heard c.in-Form.is) tt
-    (made items size list)) c.take_form.ensures.makes
+    ((made size list).makes tt items)) (ok_each _ _ c.take_form.result c.take_form.ensures.handles)
 
 pub returns-in-Form-clause-mark : goal.returns-in-Form-clause-mark
 returns-in-Form-clause-mark g c =
@@ -124,7 +127,7 @@ returns-in-Form-clause-mark g c =
     (λ marks size list. mark_as _ _ n.mark c.take_form.new.self.mark
     (heard_alike size n.me c.args.now list n.plain c.args.from c.args.message m
     (ap heard c.in-Form.is))
-    (marks size list)) c.take_form.ensures.mark
+    (marks size list).mark) (ok_each _ _ c.take_form.result c.take_form.ensures.handles)
 
 pub returns-in-Form-clause-written : goal.returns-in-Form-clause-written
 returns-in-Form-clause-written g c =
@@ -137,7 +140,7 @@ returns-in-Form-clause-written g c =
     (g.D.Store.told c.take_form.new.store) (heard_alike size n.me c.args.now list n.plain
     c.args.from c.args.message m
     (ap heard c.in-Form.is))
-    refl (writes size list)) c.take_form.ensures.written
+    refl (writes size list).written) (ok_each _ _ c.take_form.result c.take_form.ensures.handles)
 
 pub returns-in-Form-clause-part : goal.returns-in-Form-clause-part
 returns-in-Form-clause-part g c =
@@ -149,7 +152,8 @@ returns-in-Form-clause-part g c =
     (g.D.Store.told c.take_form.new.store) (heard_alike size n.me c.args.now list n.plain
     c.args.from c.args.message m
     (ap heard c.in-Form.is))
-    (leaves size list)) c.take_form.ensures.part
+    (leaves size list)) (err_each _ c.take_form.result c.take_form.ensures.handles (λ size list why
+    h. h.part))
 
 pub returns-in-Fetch-clause-makes : goal.returns-in-Fetch-clause-makes
 returns-in-Fetch-clause-makes g c items size list fills =
@@ -192,7 +196,7 @@ returns-in-Give-clause-makes g c =
     (λ made items size list fills. heard_makes size n.me c.args.now list (server n items)
     (server c.take_give.new.self items) c.args.from c.args.message m n.peers c.args.outs.now
     c.take_give.new.outs (ap heard c.in-Give.is) tt
-    (made items size list)) c.take_give.ensures.makes
+    ((made size list).makes tt items)) (ok_each _ _ c.take_give.result c.take_give.ensures.handles)
 
 pub returns-in-Give-clause-mark : goal.returns-in-Give-clause-mark
 returns-in-Give-clause-mark g c =
@@ -203,7 +207,7 @@ returns-in-Give-clause-mark g c =
     (λ marks size list. mark_as _ _ n.mark c.take_give.new.self.mark
     (heard_alike size n.me c.args.now list n.plain c.args.from c.args.message m
     (ap heard c.in-Give.is))
-    (marks size list)) c.take_give.ensures.mark
+    (marks size list).mark) (ok_each _ _ c.take_give.result c.take_give.ensures.handles)
 
 pub returns-in-Give-clause-written : goal.returns-in-Give-clause-written
 returns-in-Give-clause-written g c =
@@ -216,7 +220,7 @@ returns-in-Give-clause-written g c =
     (g.D.Store.told c.take_give.new.store) (heard_alike size n.me c.args.now list n.plain
     c.args.from c.args.message m
     (ap heard c.in-Give.is))
-    refl (writes size list)) c.take_give.ensures.written
+    refl (writes size list).written) (ok_each _ _ c.take_give.result c.take_give.ensures.handles)
 
 pub returns-in-Give-clause-part : goal.returns-in-Give-clause-part
 returns-in-Give-clause-part g c =
@@ -228,7 +232,8 @@ returns-in-Give-clause-part g c =
     (g.D.Store.told c.take_give.new.store) (heard_alike size n.me c.args.now list n.plain
     c.args.from c.args.message m
     (ap heard c.in-Give.is))
-    (leaves size list)) c.take_give.ensures.part
+    (leaves size list)) (err_each _ c.take_give.result c.take_give.ensures.handles (λ size list why
+    h. h.part))
 
 pub returns-in-Formed-clause-makes : goal.returns-in-Formed-clause-makes
 returns-in-Formed-clause-makes g c items size list fills =
@@ -337,7 +342,7 @@ returns-in-Demote-clause-makes g c =
     (λ made items size list fills. heard_makes size n.me c.args.now list (server n items)
     (server c.take_demote.new.self items) c.args.from c.args.message m n.peers c.args.outs.now
     c.take_demote.new.outs (ap heard c.in-Demote.is) tt
-    (made items size list)) c.take_demote.ensures.makes
+    ((made size list).makes tt items)) (ok_each _ _ c.take_demote.result c.take_demote.ensures.handles)
 
 pub returns-in-Demote-clause-mark : goal.returns-in-Demote-clause-mark
 returns-in-Demote-clause-mark g c =
@@ -347,7 +352,7 @@ returns-in-Demote-clause-mark g c =
     (λ marks size list. mark_as _ _ n.mark c.take_demote.new.self.mark
     (heard_alike size n.me c.args.now list n.plain c.args.from c.args.message m
     (ap heard c.in-Demote.is))
-    (marks size list)) c.take_demote.ensures.mark
+    (marks size list).mark) (ok_each _ _ c.take_demote.result c.take_demote.ensures.handles)
 
 pub returns-in-Demote-clause-written : goal.returns-in-Demote-clause-written
 returns-in-Demote-clause-written g c =
@@ -359,7 +364,7 @@ returns-in-Demote-clause-written g c =
     (g.D.Store.told c.take_demote.new.store) (heard_alike size n.me c.args.now list n.plain
     c.args.from c.args.message m
     (ap heard c.in-Demote.is))
-    refl (writes size list)) c.take_demote.ensures.written
+    refl (writes size list).written) (ok_each _ _ c.take_demote.result c.take_demote.ensures.handles)
 
 pub returns-in-Demote-clause-part : goal.returns-in-Demote-clause-part
 returns-in-Demote-clause-part g c =
@@ -370,7 +375,8 @@ returns-in-Demote-clause-part g c =
     (g.D.Store.told c.take_demote.new.store) (heard_alike size n.me c.args.now list n.plain
     c.args.from c.args.message m
     (ap heard c.in-Demote.is))
-    (leaves size list)) c.take_demote.ensures.part
+    (leaves size list)) (err_each _ c.take_demote.result c.take_demote.ensures.handles (λ size list
+    why h. h.part))
 
 pub returns-in-Invite-clause-stock : goal.returns-in-Invite-clause-stock
 returns-in-Invite-clause-stock g c =
@@ -381,7 +387,7 @@ returns-in-Invite-clause-stock g c =
     c.args.message m
     [] (stock n) (stock c.take_invite.new.self) (ap heard c.in-Invite.is)
     (ap carried c.in-Invite.is)
-    (h items size list)) c.take_invite.ensures.stock
+    ((h size list).stock items)) (ok_each _ _ c.take_invite.result c.take_invite.ensures.handles)
 
 pub returns-in-Join-clause-stock : goal.returns-in-Join-clause-stock
 returns-in-Join-clause-stock g c =
@@ -392,7 +398,7 @@ returns-in-Join-clause-stock g c =
     (λ h items size list. heard_stocks size n.me c.args.now list (server n items) c.args.from
     c.args.message m
     [] (stock n) (stock c.take_join.new.self) (ap heard c.in-Join.is) (ap carried c.in-Join.is)
-    (h items size list)) c.take_join.ensures.stock
+    ((h size list).stock items)) (ok_each _ _ c.take_join.result c.take_join.ensures.handles)
 
 pub returns-in-Form-clause-stock : goal.returns-in-Form-clause-stock
 returns-in-Form-clause-stock g c =
@@ -403,7 +409,7 @@ returns-in-Form-clause-stock g c =
     (λ h items size list. heard_stocks size n.me c.args.now list (server n items) c.args.from
     c.args.message m
     [] (stock n) (stock c.take_form.new.self) (ap heard c.in-Form.is) (ap carried c.in-Form.is)
-    (h items size list)) c.take_form.ensures.stock
+    ((h size list).stock items)) (ok_each _ _ c.take_form.result c.take_form.ensures.handles)
 
 pub returns-in-Give-clause-stock : goal.returns-in-Give-clause-stock
 returns-in-Give-clause-stock g c =
@@ -415,7 +421,7 @@ returns-in-Give-clause-stock g c =
     c.args.message m
     c.in-Give.records (stock n) (stock c.take_give.new.self) (ap heard c.in-Give.is)
     (ap carried c.in-Give.is)
-    (h items size list)) c.take_give.ensures.stock
+    ((h size list).stock items)) (ok_each _ _ c.take_give.result c.take_give.ensures.handles)
 
 pub returns-in-Demote-clause-stock : goal.returns-in-Demote-clause-stock
 returns-in-Demote-clause-stock g c =
@@ -426,7 +432,7 @@ returns-in-Demote-clause-stock g c =
     c.args.message m
     [] (stock n) (stock c.take_demote.new.self) (ap heard c.in-Demote.is)
     (ap carried c.in-Demote.is)
-    (h items size list)) c.take_demote.ensures.stock
+    ((h size list).stock items)) (ok_each _ _ c.take_demote.result c.take_demote.ensures.handles)
 
 pub returns-in-Event-clause-stock : goal.returns-in-Event-clause-stock
 returns-in-Event-clause-stock g c items size list =
@@ -487,3 +493,118 @@ returns-in-Formed-clause-stock g c items size list =
 
 pub returns-in-Fetch-clause-sent : goal.returns-in-Fetch-clause-sent
 returns-in-Fetch-clause-sent g c fetch = c.in_ok-take_fetch-in-Fetch.ensures.sent
+
+pub returns-in-Invite-clause-me : goal.returns-in-Invite-clause-me
+returns-in-Invite-clause-me g c = me_of c.take_invite.result _ _ _ _ _ _ _ _ _ _ _ _ _
+    (c.take_invite.ensures.handles (λ before e. 0) [])
+
+pub returns-in-Invite-clause-cached : goal.returns-in-Invite-clause-cached
+returns-in-Invite-clause-cached g c = ok_of _ c.take_invite.result
+    (c.take_invite.ensures.handles (λ before e. 0) []) (λ h. h.cached)
+
+pub returns-in-Invite-clause-up : goal.returns-in-Invite-clause-up
+returns-in-Invite-clause-up g c = ok_of _ c.take_invite.result
+    (c.take_invite.ensures.handles (λ before e. 0) []) (λ h. h.up)
+
+pub returns-in-Invite-clause-running : goal.returns-in-Invite-clause-running
+returns-in-Invite-clause-running g c = runs_on _ c.take_invite.result
+    (c.take_invite.ensures.handles (λ before e. 0) []) (λ why h. h.running)
+
+pub returns-in-Invite-clause-rose : goal.returns-in-Invite-clause-rose
+returns-in-Invite-clause-rose g c = rose_of _ c.take_invite.result
+    (c.take_invite.ensures.handles (λ before e. 0) []) (λ why h. h.rose)
+
+pub returns-in-Invite-clause-count : goal.returns-in-Invite-clause-count
+returns-in-Invite-clause-count g c = c.take_invite.ensures.count
+
+pub returns-in-Join-clause-me : goal.returns-in-Join-clause-me
+returns-in-Join-clause-me g c = me_of c.take_join.result _ _ _ _ _ _ _ _ _ _ _ _ _
+    (c.take_join.ensures.handles (λ before e. 0) [])
+
+pub returns-in-Join-clause-cached : goal.returns-in-Join-clause-cached
+returns-in-Join-clause-cached g c = ok_of _ c.take_join.result
+    (c.take_join.ensures.handles (λ before e. 0) []) (λ h. h.cached)
+
+pub returns-in-Join-clause-up : goal.returns-in-Join-clause-up
+returns-in-Join-clause-up g c = ok_of _ c.take_join.result
+    (c.take_join.ensures.handles (λ before e. 0) []) (λ h. h.up)
+
+pub returns-in-Join-clause-running : goal.returns-in-Join-clause-running
+returns-in-Join-clause-running g c = runs_on _ c.take_join.result
+    (c.take_join.ensures.handles (λ before e. 0) []) (λ why h. h.running)
+
+pub returns-in-Join-clause-rose : goal.returns-in-Join-clause-rose
+returns-in-Join-clause-rose g c = rose_of _ c.take_join.result
+    (c.take_join.ensures.handles (λ before e. 0) []) (λ why h. h.rose)
+
+pub returns-in-Join-clause-count : goal.returns-in-Join-clause-count
+returns-in-Join-clause-count g c = c.take_join.ensures.count
+
+pub returns-in-Form-clause-me : goal.returns-in-Form-clause-me
+returns-in-Form-clause-me g c = me_of c.take_form.result _ _ _ _ _ _ _ _ _ _ _ _ _
+    (c.take_form.ensures.handles (λ before e. 0) [])
+
+pub returns-in-Form-clause-cached : goal.returns-in-Form-clause-cached
+returns-in-Form-clause-cached g c = ok_of _ c.take_form.result
+    (c.take_form.ensures.handles (λ before e. 0) []) (λ h. h.cached)
+
+pub returns-in-Form-clause-up : goal.returns-in-Form-clause-up
+returns-in-Form-clause-up g c = ok_of _ c.take_form.result
+    (c.take_form.ensures.handles (λ before e. 0) []) (λ h. h.up)
+
+pub returns-in-Form-clause-running : goal.returns-in-Form-clause-running
+returns-in-Form-clause-running g c = runs_on _ c.take_form.result
+    (c.take_form.ensures.handles (λ before e. 0) []) (λ why h. h.running)
+
+pub returns-in-Form-clause-rose : goal.returns-in-Form-clause-rose
+returns-in-Form-clause-rose g c = rose_of _ c.take_form.result
+    (c.take_form.ensures.handles (λ before e. 0) []) (λ why h. h.rose)
+
+pub returns-in-Form-clause-count : goal.returns-in-Form-clause-count
+returns-in-Form-clause-count g c = c.take_form.ensures.count
+
+pub returns-in-Give-clause-me : goal.returns-in-Give-clause-me
+returns-in-Give-clause-me g c = me_of c.take_give.result _ _ _ _ _ _ _ _ _ _ _ _ _
+    (c.take_give.ensures.handles (λ before e. 0) [])
+
+pub returns-in-Give-clause-cached : goal.returns-in-Give-clause-cached
+returns-in-Give-clause-cached g c = ok_of _ c.take_give.result
+    (c.take_give.ensures.handles (λ before e. 0) []) (λ h. h.cached)
+
+pub returns-in-Give-clause-up : goal.returns-in-Give-clause-up
+returns-in-Give-clause-up g c = ok_of _ c.take_give.result
+    (c.take_give.ensures.handles (λ before e. 0) []) (λ h. h.up)
+
+pub returns-in-Give-clause-running : goal.returns-in-Give-clause-running
+returns-in-Give-clause-running g c = runs_on _ c.take_give.result
+    (c.take_give.ensures.handles (λ before e. 0) []) (λ why h. h.running)
+
+pub returns-in-Give-clause-rose : goal.returns-in-Give-clause-rose
+returns-in-Give-clause-rose g c = rose_of _ c.take_give.result
+    (c.take_give.ensures.handles (λ before e. 0) []) (λ why h. h.rose)
+
+pub returns-in-Give-clause-count : goal.returns-in-Give-clause-count
+returns-in-Give-clause-count g c = c.take_give.ensures.count
+
+pub returns-in-Demote-clause-me : goal.returns-in-Demote-clause-me
+returns-in-Demote-clause-me g c = me_of c.take_demote.result _ _ _ _ _ _ _ _ _ _ _ _ _
+    (c.take_demote.ensures.handles (λ before e. 0) [])
+
+pub returns-in-Demote-clause-cached : goal.returns-in-Demote-clause-cached
+returns-in-Demote-clause-cached g c = ok_of _ c.take_demote.result
+    (c.take_demote.ensures.handles (λ before e. 0) []) (λ h. h.cached)
+
+pub returns-in-Demote-clause-up : goal.returns-in-Demote-clause-up
+returns-in-Demote-clause-up g c = ok_of _ c.take_demote.result
+    (c.take_demote.ensures.handles (λ before e. 0) []) (λ h. h.up)
+
+pub returns-in-Demote-clause-running : goal.returns-in-Demote-clause-running
+returns-in-Demote-clause-running g c = runs_on _ c.take_demote.result
+    (c.take_demote.ensures.handles (λ before e. 0) []) (λ why h. h.running)
+
+pub returns-in-Demote-clause-rose : goal.returns-in-Demote-clause-rose
+returns-in-Demote-clause-rose g c = rose_of _ c.take_demote.result
+    (c.take_demote.ensures.handles (λ before e. 0) []) (λ why h. h.rose)
+
+pub returns-in-Demote-clause-count : goal.returns-in-Demote-clause-count
+returns-in-Demote-clause-count g c = c.take_demote.ensures.count
