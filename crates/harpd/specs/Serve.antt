@@ -1,0 +1,86 @@
+-- How a server ends that stays up.
+use Rattle.std.specs.Prelude.{◌≡◌, ◌⊎◌, ℕ, ◌^◌, Bool, List, Option}
+use Rattle.std.specs.Io.KnownBytes.{Appends}
+use Rattle.harp_types.specs.Streams.{GrewByPart}
+use Rattle.harp_types.specs.declared.server.ServerId.{ServerId}
+use Rattle.harp_store.specs.Disk.{Moments}
+use Rattle.node_link.specs.Traffic.{Traffic}
+use Rattle.node_link.specs.declared.clock.Reading.{Reading}
+use Rattle.node_loop.specs.Scene.{around, only, start}
+use Rattle.node_loop.specs.Stay.{IsStay, IsStayCut}
+use Rattle.node_loop.specs.declared.counts.Served.{Served}
+use Rattle.harpd.specs.Texts.{stopped_line}
+use Rattle.harpd.specs.Words.{delta_of}
+use Rattle.harpd.specs.declared.exit.Exit.{Exit}
+use Rattle.harpd.specs.declared.exit.Exit.TheVariants as exit
+use Rattle.harpd.specs.declared.words.Loop.{Loop}
+
+-- what a server runs on, as far as it is told: its disk, the link, the clock, what it was answered
+-- when it asked whether to stop, and what was written
+pub record Outer : Type 0 where
+  pub disk : Option Moments
+  pub link : Option Traffic
+  pub clock : Option (List Reading)
+  pub answers : Option (List Bool)
+  pub written : Option (List ℕ)
+
+abbrev pub outer : Option Moments → Option Traffic → Option (List Reading) → Option (List Bool)
+    → Option (List ℕ) → Outer
+outer disk link clock answers written = record {
+  disk = disk;
+  link = link;
+  clock = clock;
+  answers = answers;
+  written = written;
+}
+
+-- so many turns it takes at most, if nobody tells it to stop
+abbrev pub most_turns : ℕ
+most_turns = 2 ^ 62
+
+-- ---- what it did
+
+-- it stayed up until it was told to stop, saved its log, and did this
+abbrev pub HasStayed : ServerId → Loop → Outer → Outer → Served → Type 0
+HasStayed place runs old new served =
+    IsStay (delta_of runs.delta) place most_turns (start (only place old.disk) old.link old.clock)
+    old.answers served (only place new.disk) new.link new.clock new.answers
+
+-- it was cut off, or never started; and nothing was written
+pub record WasCut (place : ServerId) (runs : Loop) (old new : Outer) : Type 0 where
+  pub left : IsStayCut (delta_of runs.delta) place most_turns
+      (start (only place old.disk) old.link old.clock)
+      (around (only place new.disk) new.link new.clock)
+  pub silent : new.written ≡ old.written
+
+-- ---- the exits
+
+-- What it did was written whole, or a first part of it. Where its folder failed behind its end,
+-- nothing was written
+abbrev pub Tells : Served → Option (List ℕ) → Option (List ℕ) → Exit → Type 0
+Tells served before after exit.Done = Appends before after (stopped_line served)
+Tells served before after exit.SinkFailed = GrewByPart before after (stopped_line served)
+Tells served before after exit.NoMemory =
+    (after ≡ before) ⊎ GrewByPart before after (stopped_line served)
+Tells served before after exit.DiskFailed = after ≡ before
+Tells served before after exit.LinkFailed = ⊥
+Tells served before after exit.RefusedWords = ⊥
+
+-- it stayed up, and what it did was written, so far as this exit says
+pub record TellsStay (place : ServerId) (runs : Loop) (old new : Outer) (e : Exit) : Type 0 where
+  pub served : Served
+  pub stayed : HasStayed place runs old new served
+  pub tells : Tells served old.written new.written e
+
+-- How a server ends: with 0 it stayed up until it was told to stop, saved its log, and the line was
+-- written; where the link failed, it was cut off. Where the disk or its folder failed, and without
+-- memory, it is either, and so it is where the folder was refused
+abbrev pub ServerEnds : ServerId → Loop → Outer → Outer → Exit → Type 0
+ServerEnds place runs old new exit.Done = TellsStay place runs old new exit.Done
+ServerEnds place runs old new exit.SinkFailed = TellsStay place runs old new exit.SinkFailed
+ServerEnds place runs old new exit.LinkFailed = WasCut place runs old new
+ServerEnds place runs old new exit.DiskFailed =
+    WasCut place runs old new ⊎ TellsStay place runs old new exit.DiskFailed
+ServerEnds place runs old new exit.NoMemory =
+    WasCut place runs old new ⊎ TellsStay place runs old new exit.NoMemory
+ServerEnds place runs old new exit.RefusedWords = ⊥

@@ -1,0 +1,95 @@
+//! The program `harpd`: a server that stays up, over a folder and UDP, until a file tells it to
+//! stop; and what makes a folder for one.
+//!
+//! # What is proved
+//!
+//! `run` is the top call. It does what the words ask for, or says how the program is called
+//! (`ends`): the words are exactly `server` with the decimal spellings of a server's number and a
+//! port, a folder that isn't empty and perhaps the length of promises, `init` with such a folder,
+//! `help`, and `version`. `server` hands on what `node_loop` says of `serve_steady`: with status 0
+//! it was booted, took its turns until it was told to stop, and saved its log (`IsStay`), and its
+//! line was written; with 8 it was cut off or never started, and nothing was written (`IsStayCut`);
+//! with 7 and 6 it is either (`ServerEnds`). `init` ends with 0 only where a folder was made.
+//! All but `server` leave link, disk, clock and who gives orders (`apart`). A failure is told only
+//! where its count rose. Not pinned: to which folder a disk is attached, which one is made, and
+//! the text of `help`. `word_fault` tells what is wrong with words exactly where they are no form.
+//! `main` and the adapters over the system's files are proved safe.
+#![tactic(auto)]
+
+mod exit;
+mod folders;
+mod number;
+mod reason;
+mod serve;
+mod system_folders;
+mod texts;
+mod top;
+mod word_faults;
+mod words;
+
+use crate::exit::Exit;
+use crate::reason::Ended;
+use crate::system_folders::{StopFile, SystemFolders};
+use crate::top::{run, word_at};
+use harp_types::WriterSink;
+use node_link::{UdpLink, WallClock};
+use std::alloc::AllocError;
+use std::process::ExitCode;
+use std::rt::Env;
+use std::{env, io};
+use store_folder::FolderStore;
+
+/// The words behind the program's name.
+fn every_word<R: Env + AllocGlobal>(rt: &R) -> io::Result<Vec<String>> {
+    let mut words = Vec::new(rt.alloc());
+    for word in env::args(rt)?.skip(1) {
+        words.push(word)?;
+    }
+    Ok(words)
+}
+
+/// The words behind the program's name; none where one of them is no text, since such a word is
+/// no command's, and neither are no words.
+fn words_or_none<R: Env + AllocGlobal>(rt: &R) -> Result<Vec<String>, AllocError> {
+    match every_word(rt) {
+        Ok(words) => Ok(words),
+        Err(fault) if fault.kind() == io::ErrorKind::OutOfMemory => Err(AllocError),
+        Err(_) => Ok(Vec::new(rt.alloc())),
+    }
+}
+
+/// Does what the words say, over the system's files, sockets and clock.
+fn ended<'w>(rt: &HostRuntime, words: &'w [String]) -> Result<Ended<'w>, AllocError> {
+    let alloc = rt.alloc();
+    let stop = format!(in alloc; "{}/stop", word_at(words, 3))?;
+    let mut folders = SystemFolders::new(rt);
+    let exit = run(
+        alloc,
+        words,
+        &mut WriterSink::new(io::writer(rt)),
+        &mut folders,
+        &mut UdpLink::new(rt),
+        &mut FolderStore::new(rt),
+        &mut WallClock::new(rt),
+        &mut StopFile::new(rt, stop),
+    );
+    Ok(Ended {
+        words,
+        exit,
+        refusal: folders.refusal(),
+    })
+}
+
+fn main(rt: HostRuntime) -> ExitCode {
+    let Ok(words) = words_or_none(&rt) else {
+        return ExitCode::from(Exit::NoMemory.status());
+    };
+    let Ok(ended) = ended(&rt, words.as_slice()) else {
+        return ExitCode::from(Exit::NoMemory.status());
+    };
+    if ended.exit != Exit::Done {
+        // Whether anybody reads it changes nothing.
+        let _ = eprintln!(&rt; "harpd: {ended}");
+    }
+    ExitCode::from(ended.exit.status())
+}

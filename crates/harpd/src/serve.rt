@@ -1,0 +1,117 @@
+//! Running a server that stays up, and making a folder for one.
+
+ghost use Rattle.std.specs.Prelude.{◌≡◌, ◌≤◌, ◌⊎◌, ℕ, List, Option};
+ghost use Rattle.harp_types.specs.Streams.{Rose};
+ghost use Rattle.node_link.specs.Traffic.{last_port};
+ghost use Rattle.harpd.specs.Run.{InitEnds};
+ghost use Rattle.harpd.specs.Serve.{ServerEnds, Tells, outer};
+
+use crate::exit::{Exit, exit_of_loop, exit_of_store};
+use crate::folders::Folders;
+use crate::texts::line_of;
+use crate::words::Loop;
+use harp_store::Store;
+use harp_types::{ServerId, Sink, SinkFault, write_all};
+use node_link::{Clock, Link};
+use node_loop::{Orders, Served, serve_steady};
+use std::alloc::Global;
+
+/// So many turns a server takes at most, if nobody tells it to stop: more than it ever will.
+const MOST_TURNS: u64 = 1 << 62;
+
+/// Writes what a server did that stayed up.
+fn write_stopped<K: Sink>(alloc: Global, served: Served, sink: &mut K) -> Exit
+    ensures ends { Tells served (K.written sink.old) (K.written sink.new) result }
+    ensures sink_rose { result ≡ Exit.SinkFailed → Rose (K.faults sink.old) (K.faults sink.new) }
+    ensures disk { result ≡ Exit.DiskFailed → ⊥ }
+{
+    let Ok(line) = line_of(alloc, served) else {
+        return Exit::NoMemory;
+    };
+    match write_all(sink, line.as_slice()) {
+        Ok(()) => Exit::Done,
+        Err(SinkFault::Failed) => Exit::SinkFailed,
+        Err(SinkFault::NoMemory) => Exit::NoMemory,
+    }
+}
+
+/// Ends a server that stayed up: what told it to stop is taken away, and what it did is written.
+fn end<K: Sink, F: Folders>(
+    alloc: Global,
+    folder: &str,
+    served: Served,
+    sink: &mut K,
+    folders: &mut F,
+) -> Exit
+    ensures ends { Tells served (K.written sink.old) (K.written sink.new) result }
+    ensures sink_rose { result ≡ Exit.SinkFailed → Rose (K.faults sink.old) (K.faults sink.new) }
+    ensures disk_rose { result ≡ Exit.DiskFailed
+        → Rose (F.faults folders.old) (F.faults folders.new) }
+    ensures count { F.faults folders.old ≤ F.faults folders.new }
+{
+    if let Err(fault) = folders.leave(alloc, folder) {
+        return exit_of_store(fault);
+    }
+    write_stopped(alloc, served, sink)
+}
+
+/// Runs a server that stays up over its disk, which is attached to a folder that was made for it,
+/// until it is told to stop, and writes what it did.
+pub fn serve<K: Sink, F: Folders, L: Link, D: Store, C: Clock, O: Orders>(
+    alloc: Global,
+    place: ServerId,
+    runs: Loop,
+    folder: &str,
+    sink: &mut K,
+    folders: &mut F,
+    link: &mut L,
+    disk: &mut D,
+    clock: &mut C,
+    orders: &mut O,
+) -> Exit
+    requires { runs.port ≤ last_port }
+    ensures ends { ServerEnds place runs
+        (outer (D.told disk.old) (L.told link.old) (C.told clock.old) (O.told orders.old)
+        (K.written sink.old))
+        (outer (D.told disk.new) (L.told link.new) (C.told clock.new) (O.told orders.new)
+        (K.written sink.new)) result }
+    ensures sink_rose { result ≡ Exit.SinkFailed → Rose (K.faults sink.old) (K.faults sink.new) }
+    ensures disk_rose { result ≡ Exit.DiskFailed
+        → Rose (F.faults folders.old) (F.faults folders.new)
+        ⊎ Rose (D.faults disk.old) (D.faults disk.new) }
+    ensures link_rose { result ≡ Exit.LinkFailed → Rose (L.faults link.old) (L.faults link.new) }
+{
+    if let Err(fault) = folders.enter(alloc, folder) {
+        return exit_of_store(fault);
+    }
+    if let Err(fault) = disk.attach(alloc, folder) {
+        return exit_of_store(fault);
+    }
+    let Loop { port, .. } = runs;
+    match serve_steady(
+        alloc,
+        place,
+        runs.promises(),
+        port,
+        MOST_TURNS,
+        link,
+        disk,
+        clock,
+        orders,
+    ) {
+        Ok(served) => end(alloc, folder, served, sink, folders),
+        Err(fault) => exit_of_loop(fault),
+    }
+}
+
+/// Makes a folder for a server that never ran.
+pub fn init<F: Folders>(alloc: Global, folder: &str, folders: &mut F) -> Exit
+    ensures ends { (written : Option (List ℕ))
+        → InitEnds (F.made folders.old) (F.made folders.new) written written result }
+    ensures rose { result ≡ Exit.DiskFailed → Rose (F.faults folders.old) (F.faults folders.new) }
+{
+    match folders.make(alloc, folder) {
+        Ok(()) => Exit::Done,
+        Err(fault) => exit_of_store(fault),
+    }
+}

@@ -1,0 +1,195 @@
+//! The folders of the system, and the files in them by which people and servers speak.
+
+ghost use Rattle.std.specs.Prelude.{◌≡◌, ◌≤◌, None};
+ghost use Rattle.harp_types.specs.Streams.{Rose};
+
+use crate::folders::Folders;
+use harp_store::StoreFault;
+use node_loop::Orders;
+use std::alloc::Global;
+use std::fs::{File, OpenFile};
+use std::io::ErrorKind;
+use std::rt::Files;
+use std::{fs, io};
+
+/// Why a call failed.
+#[derive(Clone, Copy, PartialEq, Eq)]
+pub enum Refusal {
+    /// The folder has no mark, and wasn't made for a server.
+    NotMade,
+    /// A server has run in the folder that is to be made.
+    Used,
+    /// The folder can't be made.
+    Unmade,
+    /// What told a server to stop can't be taken away.
+    Left,
+}
+
+/// The folders of the system. One is made by a file `new`, and has a server's mark, the file `mark`,
+/// once one has run there. The file `stop` tells that server to stop.
+#[derive(Drop)]
+pub struct SystemFolders<R> {
+    rt: R,
+    made: u64,
+    faults: u64,
+    refusal: Option<Refusal>,
+}
+
+impl<R> SystemFolders<R> {
+    /// The folders that a runtime gives.
+    pub fn new(rt: R) -> SystemFolders<R> {
+        SystemFolders {
+            rt,
+            made: 0,
+            faults: 0,
+            refusal: None,
+        }
+    }
+
+    /// Why the last call that failed did, if one did.
+    pub fn refusal(&self) -> Option<Refusal> {
+        self.refusal
+    }
+
+    // Counts a call that failed.
+    fn refuse(&mut self, refusal: Refusal) -> StoreFault
+        ensures fault { result ≡ StoreFault.Failed }
+        ensures made { self.new.made ≡ self.old.made }
+        ensures rose { Rose self.old.faults self.new.faults }
+        ensures count { self.old.faults ≤ self.new.faults }
+    {
+        self.faults = self.faults.saturating_add(1);
+        self.refusal = Some(refusal);
+        StoreFault::Failed
+    }
+}
+
+// Whether something stands at a path.
+fn stands<R: Files>(rt: &R, path: &str) -> bool {
+    fs::metadata(rt, path).is_ok()
+}
+
+// What was written in a folder is on the disk.
+fn sync_folder<R: Files>(rt: &R, path: &str) -> io::Result<()> {
+    File::open(rt, path)?.sync_all()
+}
+
+// The folder above.
+fn above(folder: &str) -> &str {
+    match folder.rsplit_once('/') {
+        Some(("", _)) => "/",
+        Some((above, _)) => above,
+        None => ".",
+    }
+}
+
+// Whether a file of this name is one that a server's store keeps.
+fn is_kept(name: &str) -> bool {
+    name == "mark" || name == "meta" || name == "journal" || is_numbered(name)
+}
+
+// Whether a file of this name is one of a cell's, of which there are many.
+fn is_numbered(name: &str) -> bool {
+    name.starts_with("object-")
+        || name.starts_with("slot-")
+        || name.starts_with("block-")
+        || name.starts_with("client-")
+        || name.starts_with("saved-")
+}
+
+// Whether a server has run in a folder.
+fn is_used<R: Files + AllocGlobal + Clone + Drop>(rt: &R, folder: &str) -> io::Result<bool> {
+    for entry in fs::read_dir(rt, folder)? {
+        if is_kept(entry?.file_name()) {
+            return Ok(true);
+        }
+    }
+    Ok(false)
+}
+
+// Makes a folder where there is none, but none above it.
+fn make_folder<R: Files>(rt: &R, folder: &str) -> io::Result<()> {
+    match fs::create_dir(rt, folder) {
+        Ok(()) => sync_folder(rt, above(folder)),
+        Err(error) if error.kind() == ErrorKind::AlreadyExists => Ok(()),
+        Err(error) => Err(error),
+    }
+}
+
+// Makes an empty file in a folder, for sure.
+fn make_file<R: Files>(rt: &R, folder: &str, path: &str) -> io::Result<()> {
+    File::create(rt, path)?.sync_all()?;
+    sync_folder(rt, folder)
+}
+
+// Removes a file of a folder, where there is one, for sure.
+fn remove_file<R: Files>(rt: &R, folder: &str, path: &str) -> io::Result<()> {
+    match fs::remove_file(rt, path) {
+        Ok(()) => sync_folder(rt, folder),
+        Err(error) if error.kind() == ErrorKind::NotFound => Ok(()),
+        Err(error) => Err(error),
+    }
+}
+
+impl<R: Files<File = File> + AllocGlobal + Clone + Drop> Folders for SystemFolders<R> {
+    ghost made = { λ f. f.made };
+
+    ghost faults = { λ f. f.faults };
+
+    fn enter(&mut self, alloc: Global, folder: &str) -> Result<(), StoreFault> {
+        let mark = format!(in alloc; "{folder}/mark")?;
+        let new = format!(in alloc; "{folder}/new")?;
+        if stands(&self.rt, mark.as_str()) || stands(&self.rt, new.as_str()) {
+            Ok(())
+        } else {
+            Err(self.refuse(Refusal::NotMade))
+        }
+    }
+
+    fn make(&mut self, alloc: Global, folder: &str) -> Result<(), StoreFault> {
+        let new = format!(in alloc; "{folder}/new")?;
+        if make_folder(&self.rt, folder).is_err() {
+            return Err(self.refuse(Refusal::Unmade));
+        }
+        match is_used(&self.rt, folder) {
+            Ok(false) => {}
+            Ok(true) => return Err(self.refuse(Refusal::Used)),
+            Err(_) => return Err(self.refuse(Refusal::Unmade)),
+        }
+        if make_file(&self.rt, folder, new.as_str()).is_err() {
+            return Err(self.refuse(Refusal::Unmade));
+        }
+        self.made = self.made.saturating_add(1);
+        Ok(())
+    }
+
+    fn leave(&mut self, alloc: Global, folder: &str) -> Result<(), StoreFault> {
+        let stop = format!(in alloc; "{folder}/stop")?;
+        if remove_file(&self.rt, folder, stop.as_str()).is_err() {
+            return Err(self.refuse(Refusal::Left));
+        }
+        Ok(())
+    }
+}
+
+/// The file that tells a server to stop, where it stands.
+#[derive(Drop)]
+pub struct StopFile<R> {
+    rt: R,
+    path: String,
+}
+
+impl<R> StopFile<R> {
+    /// The file at a path.
+    pub fn new(rt: R, path: String) -> StopFile<R> {
+        StopFile { rt, path }
+    }
+}
+
+impl<R: Files> Orders for StopFile<R> {
+    ghost told = { λ _. None };
+
+    fn is_told(&mut self) -> bool {
+        stands(&self.rt, self.path.as_str())
+    }
+}
