@@ -6,10 +6,10 @@ ghost use Rattle.idle_log.specs.Kept.{plan_of};
 ghost use Rattle.idle_log.specs.Pulls.{CanTake, IsFor};
 ghost use Rattle.volatile_log.specs.Log.{next};
 
+use crate::log_words::{Answer, server};
 use crate::logs::{active, served};
 use crate::placed::{can_take, form_of, is_placed};
 use crate::pulls::pulled;
-use crate::words::{Answer, server};
 use harp_cells::ChangeLog;
 use harp_types::{Held, Role, ServerId, ViewNo};
 use idle_log::{Form, Kept, can_have};

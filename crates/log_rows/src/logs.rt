@@ -3,7 +3,7 @@
 ghost use Rattle.std.specs.Prelude.{◌≡◌, ◌+◌, ◌<◌, ◌^◌, IfSome};
 ghost use Rattle.volatile_log.specs.Log.{top};
 
-use crate::words::Answer;
+use crate::log_words::Answer;
 use event_record::{Changes, Index, Moment, Record, RecordFields};
 use harp_cells::ChangeLog;
 use harp_types::{Bounded, Call, Reply, SUPERUSER, ServerId, ViewNo};

@@ -1,87 +1,38 @@
-//! Plays each line of standard input: the name of a case, and its words, each with its numbers
-//! behind colons. The modules have the words. What it writes of a line is the name, and each word
-//! with what came of it.
+//! Plays each line of standard input: what it is about, the name of a case, and its words, each with its
+//! numbers behind colons. A line begins with
+//!
+//! - `disk`: a store that may crash, and a log over it;
+//! - `log`: promises, views and logs.
+//!
+//! What it writes of a line is the name, and what came of the words.
 #![tactic(auto)]
 
+mod cells;
+mod disk;
+mod disk_player;
+mod disk_words;
+mod indexed;
 mod kept;
+mod log_player;
+mod log_words;
 mod logs;
 mod placed;
 mod pulls;
+mod records;
+mod saved;
 mod views;
-mod words;
+mod walks;
 
-use kept::Logs;
-use std::alloc::Global;
 use std::io::{self, BufRead, BufReader};
-use views::{Choices, Promises};
-use words::{Answer, parsed};
-
-/// What the words of a line are about.
-#[derive(Drop)]
-struct Player {
-    promises: Promises,
-    choices: Choices,
-    logs: Logs,
-}
-
-impl Player {
-    /// Takes a word. None where nothing takes it.
-    fn step(&mut self, alloc: Global, text: &str) -> Option<Answer> {
-        let (name, numbers) = parsed(text);
-        if let Some(answer) = self.promises.step(name, numbers) {
-            return Some(answer);
-        }
-        if let Some(answer) = self.choices.step(name, numbers) {
-            return Some(answer);
-        }
-        self.logs.step(alloc, name, numbers)
-    }
-}
-
-/// Writes a word, and a text behind a mark.
-fn tell_text(rt: HostRuntime, word: &str, mark: &str, text: &str) -> io::Result<()> {
-    print!(rt; " {word}{mark}{text}")
-}
-
-/// Writes a word and a number.
-fn tell_number(rt: HostRuntime, word: &str, number: u64) -> io::Result<()> {
-    print!(rt; " {word}={number}")
-}
-
-/// Writes a word and numbers.
-fn tell_numbers(rt: HostRuntime, word: &str, numbers: &[u64]) -> io::Result<()> {
-    print!(rt; " {word}={numbers:?}")
-}
-
-/// Writes a word, and what came of it.
-fn tell(rt: HostRuntime, word: &str, answer: Option<Answer>) -> io::Result<()> {
-    match answer {
-        None => tell_text(rt, word, " ", "failed"),
-        Some(Answer::Nothing) => tell_text(rt, word, "", ""),
-        Some(Answer::Says(text)) => tell_text(rt, word, "=", text),
-        Some(Answer::One(number)) => tell_number(rt, word, number),
-        Some(Answer::Two(numbers)) => tell_numbers(rt, word, &numbers),
-        Some(Answer::Five(numbers)) => tell_numbers(rt, word, &numbers),
-        Some(Answer::Seven(numbers)) => tell_numbers(rt, word, &numbers),
-    }
-}
 
 /// Plays a line.
 fn play(rt: HostRuntime, line: &str) -> io::Result<()> {
-    let mut player = Player {
-        promises: Promises::new(),
-        choices: Choices::new(),
-        logs: Logs::new(),
-    };
-    let mut words = line.split(' ');
-    if let Some(name) = words.next() {
-        print!(rt; "{name}")?;
+    let (subject, row) = line.split_once(' ').unwrap_or((line, ""));
+    match subject {
+        "disk" => disk_player::play(rt, row),
+        "log" => log_player::play(rt, row),
+        _ => println!(rt; "no subject"),
     }
-    for word in words {
-        let answer = player.step(rt.alloc(), word);
-        tell(rt, word, answer)?;
-    }
-    println!(rt; "")
 }
 
 fn main(rt: HostRuntime) -> io::Result<()> {

@@ -5,7 +5,7 @@ ghost use Rattle.group_rules.specs.Names.{place_of};
 ghost use Rattle.idle_log.specs.Kept.{IsPlaced, plan_of};
 ghost use Rattle.idle_log.specs.Pulls.{CanTake};
 
-use crate::words::server;
+use crate::log_words::server;
 use harp_types::ServerId;
 use idle_log::{Form, Kept};
 use promise::Deadline;

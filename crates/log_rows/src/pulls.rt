@@ -6,8 +6,8 @@ ghost use Rattle.idle_log.specs.Kept.{plan_of};
 ghost use Rattle.idle_log.specs.Pulls.{CanTake, IsFor};
 ghost use Rattle.volatile_log.specs.Log.{next};
 
+use crate::log_words::Answer;
 use crate::logs::record;
-use crate::words::Answer;
 use event_record::{Index, Record};
 use harp_types::ServerId;
 use idle_log::{Form, Kept};

@@ -1,6 +1,6 @@
 //! The words of promises and of a view's choice. Moments are milliseconds of a clock.
 
-use crate::words::{Answer, number_of, server};
+use crate::log_words::{Answer, number_of, server};
 use harp_types::{Held, ServerId, Trio, ViewNo};
 use idle_log::Form;
 use promise::{Deadline, Delta, Grant, Horizon, may_open};

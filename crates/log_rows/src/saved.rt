@@ -2,8 +2,8 @@
 
 use crate::cells::value;
 use crate::disk::{Disk, read_mark, unsaved};
+use crate::disk_words::{Answer, passed, told};
 use crate::records::{four, spelled};
-use crate::words::{Answer, passed, told};
 use event_record::Record;
 use harp_cells::{Cell, NonEmpty, Value};
 use harp_store::{Mark, Saved, SharedValue, Store, StoreFault};

@@ -5,7 +5,7 @@ use Rattle.event_record.specs.declared.record.RecordFields.{RecordFields}
 use Rattle.fuzzy_cells.specs.History.{History}
 use Rattle.harp_cells.specs.declared.change.Change.{Change}
 use Rattle.overlay.specs.Index.{Entries, IsIndexOf}
-use Rattle.disk_rows.specs.Indexed.{IsOver}
+use Rattle.log_rows.specs.Indexed.{IsOver}
 use Rattle.volatile_log.specs.Log.{LogValue, dropped_to}
 
 pub over_fewer : (old new : Entries) (log fewer : LogValue) (n : ℕ) → fewer ≡ dropped_to log n

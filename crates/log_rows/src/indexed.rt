@@ -3,7 +3,7 @@
 ghost use Rattle.std.specs.Prelude.{◌≡◌, ◌≤◌, ◌<◌, ◌+◌, ◌^◌, IfSome, OnSome};
 ghost use Rattle.volatile_log.specs.Log.{top};
 ghost use Rattle.overlay.specs.Index.{Entries};
-ghost use Rattle.disk_rows.specs.Indexed.{IsOver};
+ghost use Rattle.log_rows.specs.Indexed.{IsOver};
 
 use crate::records::record;
 use event_record::{Index, Record};

@@ -1,7 +1,7 @@
 -- what was counted, and what is left
 use Rattle.std.proofs.Common.{◌≡◌, ◌≤◌, ◌+◌, drop}
-use Rattle.sweep_rows.specs.Players.{count_of}
-use Rattle.sweep_rows.proofs.players.Kind.count.Given as goal
+use Rattle.text_rows.specs.Players.{count_of}
+use Rattle.text_rows.proofs.players.Kind.count.Given as goal
 
 abbrev pub invariant-loop-step : goal.invariant-loop-step
 invariant-loop-step l =

@@ -1,5 +1,5 @@
-use Rattle.disk_rows.proofs.Over.{over_fewer}
-use Rattle.disk_rows.proofs.indexed.drop_both.Goals as goal
+use Rattle.log_rows.proofs.Over.{over_fewer}
+use Rattle.log_rows.proofs.indexed.drop_both.Goals as goal
 
 pub returns : goal.returns
 returns c = record {

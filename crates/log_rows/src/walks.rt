@@ -5,8 +5,8 @@ ghost use Rattle.volatile_log.specs.Log.{top};
 
 use crate::cells::{Numbers, PLACES, cell, folded, number, value};
 use crate::disk::Disk;
+use crate::disk_words::{Answer, passed, tell, told};
 use crate::indexed::Indexed;
-use crate::words::{Answer, passed, tell, told};
 use applier::{apply_some, flush};
 use cell_cache::{Cached, CellCache};
 use harp_cells::{CellRead, Change};

@@ -3,8 +3,8 @@ use Rattle.std.specs.Prelude.{ℕ, List, sum_by}
 use Rattle.trace_types.specs.declared.step.Step.{Step}
 use Rattle.trace_types.specs.declared.step.Step.TheVariants as step
 use Rattle.sweep.specs.declared.summary.Summary.{Summary}
-use Rattle.sweep_rows.specs.declared.players.Kind.{Kind}
-use Rattle.sweep_rows.specs.declared.players.Kind.TheVariants.{Ask, Pump, Boot, Failure}
+use Rattle.text_rows.specs.declared.players.Kind.{Kind}
+use Rattle.text_rows.specs.declared.players.Kind.TheVariants.{Ask, Pump, Boot, Failure}
 
 -- 1 for a step of this kind, and 0 for another one
 unfoldable pub one_if : Kind → Step → ℕ

@@ -1,7 +1,7 @@
 //! Players that count steps.
 
 ghost use Rattle.std.specs.Prelude.{◌≡◌, ◌≤◌};
-ghost use Rattle.sweep_rows.specs.Players.{one_if, count_of};
+ghost use Rattle.text_rows.specs.Players.{one_if, count_of};
 
 use std::alloc::{AllocError, Global};
 use sweep::{Player, Summary};
@@ -67,7 +67,7 @@ impl Kind {
 pub(crate) struct Kinds;
 
 impl Player for Kinds {
-    ghost use Rattle.sweep_rows.specs.Players.{kinds};
+    ghost use Rattle.text_rows.specs.Players.{kinds};
 
     ghost summary_of = { λ player steps. kinds steps };
 

@@ -1,20 +1,15 @@
-//! Writes what each line of standard input asks for:
+//! Rows of sweeps. A row is
 //!
 //! - `SEED LINES`: the schedule of a seed
 //! - `text SEED TIMES ENTERED ANSWERED REFUSED OPENED`: the text of so many runs with these counts
 //! - `THREADS COUNTED SEED RUNS LINES`: a sweep by `one` thread or `many`, of which all `steps` are
 //!   counted, or four `kinds` of them
 //!
-//! Before all but the schedules the line is repeated.
-#![tactic(auto)]
-
-mod players;
-mod sweeps;
+//! Before all but the schedules the row is repeated.
 
 use crate::sweeps::swept;
-use harp_types::{Sink, WriterSink, write_all};
+use harp_types::{Sink, write_all};
 use std::alloc::{AllocError, Global};
-use std::io::{self, BufRead, BufReader};
 use std::thread::Threads;
 use sweep::{Summary, write_schedule, write_summaries};
 
@@ -63,8 +58,8 @@ fn write_text<K: Sink>(alloc: Global, words: &str, sink: &mut K) -> Result<bool,
     Ok(write_summaries(alloc, *seed, all.as_slice(), sink).is_ok())
 }
 
-/// Writes what a line asks for, and says whether it did.
-fn write_row<R: Threads + Sync, K: Sink>(
+/// Writes what a row asks for, and says whether it did.
+pub fn write_row<R: Threads + Sync, K: Sink>(
     rt: &R,
     alloc: Global,
     line: &str,
@@ -84,16 +79,4 @@ fn write_row<R: Threads + Sync, K: Sink>(
         Some(text) => Ok(write_all(sink, text.as_bytes()).is_ok()),
         None => Ok(false),
     }
-}
-
-fn main(rt: HostRuntime) -> io::Result<()> {
-    let alloc = rt.alloc();
-    let mut sink = WriterSink::new(io::writer(&rt));
-    for line in BufReader::new(alloc, rt.reader())?.lines(alloc) {
-        let line = line?;
-        if !write_row(&rt, alloc, line.as_str(), &mut sink)? {
-            println!(rt; "refused")?;
-        }
-    }
-    Ok(())
 }

@@ -1,22 +1,13 @@
-//! Plays each line of standard input: the name of a case, and its words, each with its numbers
-//! behind colons. The modules have the words. What it writes of a line is the name, and the words of
-//! which something came, with that. Cells hold numbers, by their places, and a dash stands for none.
-#![tactic(auto)]
+//! Plays words on a store, and on a log over it. The modules have the words. What is written of a line
+//! is its name, and the words of which something came, with that. Cells hold numbers, by their
+//! places, and a dash stands for none.
 
-mod cells;
-mod disk;
-mod indexed;
-mod records;
-mod saved;
-mod walks;
-mod words;
-
-use cells::Numbers;
-use disk::Disk;
+use crate::cells::Numbers;
+use crate::disk::Disk;
+use crate::disk_words::{Answer, parsed, told};
+use crate::walks::Overlay;
 use std::alloc::Global;
-use std::io::{self, BufRead, BufReader};
-use walks::Overlay;
-use words::{Answer, parsed, told};
+use std::io;
 
 /// What the words of a line are about.
 #[derive(Drop)]
@@ -111,7 +102,7 @@ fn take(rt: HostRuntime, player: &mut Player, word: &str) -> io::Result<()> {
 }
 
 /// Plays a line.
-fn play(rt: HostRuntime, line: &str) -> io::Result<()> {
+pub fn play(rt: HostRuntime, line: &str) -> io::Result<()> {
     let mut words = line.split(' ');
     if let Some(name) = words.next() {
         print!(rt; "{name}")?;
@@ -123,11 +114,4 @@ fn play(rt: HostRuntime, line: &str) -> io::Result<()> {
         take(rt, &mut player, word)?;
     }
     println!(rt; "")
-}
-
-fn main(rt: HostRuntime) -> io::Result<()> {
-    for line in BufReader::new(rt.alloc(), rt.reader())?.lines(rt.alloc()) {
-        play(rt, line?.as_str())?;
-    }
-    Ok(())
 }

@@ -1,7 +1,7 @@
 //! The words of a store.
 
 use crate::cells::{Numbers, cell, folded, number, value};
-use crate::words::{Answer, passed, tell, tell_read, told};
+use crate::disk_words::{Answer, passed, tell, tell_read, told};
 use harp_store::{Bits, Mark, MemStore, Pick, Store, StoreFault};
 use harp_types::{Role, ServerId, ViewNo};
 use std::alloc::Global;
