@@ -9,13 +9,20 @@ use crate::link::{Datagram, Link, LinkFault};
 use crate::peers::{address_of, peer_at, place_address};
 use crate::wall_clock::steady_now;
 use harp_types::{Bytes, Failed, Peer, ServerId, Trio};
-use std::alloc::Global;
-use std::io::ErrorKind;
+use std::alloc::{AllocError, Global};
+use std::io::{self, ErrorKind};
 use std::net::{Ipv4Addr, Net, SocketAddr, SocketAddrV4, UdpSocket};
 use std::time::{Clock, Duration};
 
 /// No datagram is longer than this.
 const LONGEST: usize = 65_535;
+
+// An open place: its socket, and how long that waits for a datagram, once it was told.
+#[derive(Drop)]
+struct OpenPlace {
+    socket: UdpSocket,
+    wait_ms: Option<u32>,
+}
 
 /// Datagrams over UDP: place s of a group has the port that was given plus s, at 127.0.0.1. It
 /// tells no datagrams. A datagram that can't be sent to its peer is lost, as one to port 0; each
@@ -25,8 +32,10 @@ const LONGEST: usize = 65_535;
 pub struct UdpLink<R> {
     rt: R,
     port: u16,
-    sockets: Trio<Option<UdpSocket>>,
+    places: Trio<Option<OpenPlace>>,
     late: Late,
+    // Room for any datagram, from the first call on.
+    room: Option<Vec<u8>>,
     faults: u64,
     ghost ports: { port ≤ 65533 },
 }
@@ -41,12 +50,13 @@ impl<R> UdpLink<R> {
         UdpLink {
             rt,
             port: 0,
-            sockets: Trio {
+            places: Trio {
                 zero: None,
                 one: None,
                 two: None,
             },
             late: Late::new(),
+            room: None,
             faults: 0,
         }
     }
@@ -74,23 +84,47 @@ fn is_wait_over(kind: ErrorKind) -> bool {
     )
 }
 
-// The next datagram of a socket, where one comes in time. Its memory is there before it is taken.
+impl OpenPlace {
+    // Has the socket wait so long for a datagram, where it doesn't yet.
+    fn wait(&mut self, wait_ms: u32) -> io::Result<()> {
+        if self.wait_ms == Some(wait_ms) {
+            return Ok(());
+        }
+        let wait = Duration::from_millis(u64::from(wait_ms.max(1)));
+        self.socket.set_read_timeout(Some(wait))?;
+        self.wait_ms = Some(wait_ms);
+        Ok(())
+    }
+}
+
+// Room for any datagram, which is made once.
+fn room_for(alloc: Global, room: &mut Option<Vec<u8>>) -> Result<&mut Vec<u8>, AllocError> {
+    if room.is_none() {
+        *room = Some(vec![in alloc; 0; LONGEST]?);
+    }
+    match room {
+        Some(room) => Ok(room),
+        None => Err(AllocError),
+    }
+}
+
+// The next datagram of a place, where one comes in time.
 fn received(
     alloc: Global,
-    socket: &UdpSocket,
+    open: &mut OpenPlace,
+    room: &mut Option<Vec<u8>>,
     base: u16,
     wait_ms: u32,
 ) -> Result<Option<Datagram>, LinkFault>
     requires { base ≤ last_port }
 {
-    let mut bytes = vec![in alloc; 0; LONGEST]?;
-    let wait = Duration::from_millis(u64::from(wait_ms.max(1)));
-    if socket.set_read_timeout(Some(wait)).is_err() {
+    let room = room_for(alloc, room)?;
+    if open.wait(wait_ms).is_err() {
         return Err(LinkFault::Failed);
     }
-    match socket.recv_from(&mut bytes) {
+    match open.socket.recv_from(room.as_mut_slice()) {
         Ok((count, SocketAddr::V4(from))) => {
-            bytes.truncate(count);
+            let bytes = Vec::from_slice(alloc, &room[..count])?;
             Ok(Some(Datagram {
                 from: peer_at(base, from.ip().to_bits(), from.port()),
                 bytes: Bytes::from_vec(bytes),
@@ -146,7 +180,10 @@ impl<R: Net + Clock> Link for UdpLink<R> {
             return Err(self.fault());
         };
         self.port = port;
-        *self.sockets.get_mut(place) = Some(socket);
+        *self.places.get_mut(place) = Some(OpenPlace {
+            socket,
+            wait_ms: None,
+        });
         Ok(())
     }
 
@@ -165,8 +202,8 @@ impl<R: Net + Clock> Link for UdpLink<R> {
         {
             return Ok(Some(invite));
         }
-        let received = match self.sockets.get(place) {
-            Some(socket) => received(alloc, socket, self.port, wait_ms),
+        let received = match self.places.get_mut(place) {
+            Some(open) => received(alloc, open, &mut self.room, self.port, wait_ms),
             None => Err(LinkFault::Failed),
         };
         match received {
@@ -195,12 +232,12 @@ impl<R: Net + Clock> Link for UdpLink<R> {
         let Some((address, port)) = address_of(self.port, to) else {
             return Ok(());
         };
-        let Some(socket) = self.sockets.get(place) else {
+        let Some(open) = self.places.get(place) else {
             self.fault();
             return Err(LinkFault::Failed);
         };
         // Whoever sends datagrams doesn't learn whether they come.
-        let _ = socket.send_to(bytes, socket_address(address, port));
+        let _ = open.socket.send_to(bytes, socket_address(address, port));
         Ok(())
     }
 }
