@@ -1,14 +1,15 @@
 -- Ways up, blocks and pictures as the code makes them, step by step.
 use Rattle.std.proofs.Common.{◌≡◌, ℕ, zero, suc, ◌+◌, ◌-◌, ◌*◌, ◌<◌, ◌≤◌, ◌^◌, ◌==◌, ◌||◌, ◌++◌}
-use Rattle.std.proofs.Common.{Bool, true, false, List, [], ◌∷◌, length, map, get_or, take, min, max}
+use Rattle.std.proofs.Common.{Bool, true, false, List, [], ◌∷◌, length, map, get_or, set, take, min, max}
 use Rattle.std.proofs.Common.{Option, Some, None, refl, sym, ap, subst, ◌∙◌, arith, inl, inr}
 use Rattle.std.proofs.Common.{if◌then◌else◌}
 use Rattle.std.specs.List.{flat_map, list_any, range_with_len}
 use Rattle.std.specs.Prelude.{nat_lt}
 use Rattle.std.proofs.lemmas.Bool.{cases_eq, cases_lt, eq-eqb, eqb-true, ltb-false, ne_eqb}
-use Rattle.std.proofs.lemmas.Bool.{or_parts}
+use Rattle.std.proofs.lemmas.Bool.{both_ways, false_from_ne_true}
 use Rattle.std.proofs.lemmas.List.Folds.{flat_map-map, list_any_at, list_any_more}
-use Rattle.std.proofs.lemmas.List.{append-nil, flat_map_more, get_or-map}
+use Rattle.std.proofs.lemmas.List.{append-nil, flat_map_more, get_or-map, get_or-set_other}
+use Rattle.std.proofs.lemmas.List.{get_or-set_same, get_or_default, length-set}
 use Rattle.std.proofs.lemmas.List.{length-map, map-append, map-id, take_all, take_more}
 use Rattle.std.proofs.lemmas.List.Concat.{flat_map-append}
 use Rattle.std.proofs.lemmas.List.FromFn.{map-range_with_len_more}
@@ -20,7 +21,7 @@ use Rattle.harp_cells.specs.declared.value.Value.{Value}
 use Rattle.harp_cells.specs.Effect.{Cells, Reads}
 use Rattle.audit.specs.declared.picture.Picture.{Picture}
 use Rattle.audit.specs.declared.picture.Portrait.{Portrait}
-use Rattle.audit.specs.Entries.{AreByNumber, AreWays, IsPlace, entries_by, entry_at, ways_after}
+use Rattle.audit.specs.Entries.{AreByNumber, AreWays, IsPlace, IsWay, entries_by, entry_at}
 use Rattle.audit.specs.Flaws.{above, ancestor, blocks_by, blocks_in, entry_in}
 use Rattle.audit.specs.Flaws.{is_directory, parent_shown, portrait_at, slots_in}
 use Rattle.audit.specs.Pictures.{AreInOrder, IsShaped, picture_of, portraits_at, portraits_below}
@@ -44,16 +45,6 @@ pub flat_done : {X Y : Type 0} (f : X → List Y) (before es : List Y) (xs : Lis
     → length xs ≤ i → es ≡ before ++ flat_map f (take i xs) → es ≡ before ++ flat_map f xs
 flat_done {X = X} {Y = Y} f before es xs i le is =
     is ∙ ap (λ (l : List X). before ++ flat_map f l) (take_all i xs le)
-
-pub take_next : {X : Type 0} (whole old new : List X) (i : ℕ) (r d : X) → i < length whole
-    → r ≡ get_or whole i d → old ≡ take i whole → new ≡ old ++ r ∷ [] → new ≡ take (i + 1) whole
-take_next {X = X} whole old new i r d lt read is made =
-    made ∙ ap (λ (l : List X). l ++ r ∷ []) is
-    ∙ ap (λ (y : X). take i whole ++ y ∷ []) read ∙ sym (take_more whole i d lt)
-
-pub take_done : {X : Type 0} (whole new : List X) (i : ℕ) → length whole ≤ i
-    → new ≡ take i whole → new ≡ whole
-take_done whole new i le is = is ∙ take_all i whole le
 
 -- ---- entries
 
@@ -92,23 +83,26 @@ any_map p f (x ∷ xs) = ap (λ (b : Bool). p (f x) || b) (any_map p f xs)
 
 -- ---- ways
 
-pub ways_long : (steps : ℕ) (objects : List Portrait)
-    → length (ways_after steps objects) ≡ length objects
-ways_long steps objects = length-map objects (λ (y : Portrait). ancestor steps objects y.number)
-
-pub long_enough : (steps : ℕ) (objects : List Portrait) (ways : List ℕ) → length objects ≤ steps
-    → AreWays steps objects ways → AreWays (length objects) objects ways
-long_enough steps objects ways le w = record {
+way_kept : (steps less : ℕ) (objects : List Portrait) (n way : ℕ) → less ≤ steps
+    → IsWay steps objects n way → IsWay less objects n way
+way_kept steps less objects n way le w = record {
   made = w.made;
   some = w.some;
   enough = omega (arith, w.enough, le);
-  are = w.are;
+  is = w.is;
 }
 
-pub way_at : (steps : ℕ) (objects : List Portrait) (i : ℕ) (d : Portrait) → i < length objects
-    → get_or (ways_after steps objects) i 0 ≡ ancestor steps objects (get_or objects i d).number
-way_at steps objects i d lt =
-    get_or-map (λ (y : Portrait). ancestor steps objects y.number) objects i d 0 lt
+ways_kept : (steps less : ℕ) (objects : List Portrait) (ways : List ℕ) → less ≤ steps
+    → AreWays steps objects ways → AreWays less objects ways
+ways_kept steps less objects ways le w = record {
+  long = w.long;
+  each = λ i x lt read.
+      way_kept steps less objects x.number (get_or ways i 0) le (w.each i x lt read);
+}
+
+pub long_enough : (steps : ℕ) (objects : List Portrait) (ways : List ℕ) → length objects ≤ steps
+    → AreWays steps objects ways → AreWays (length objects) objects ways
+long_enough steps objects ways le w = ways_kept steps (length objects) objects ways le w
 
 same_truth : (a b : Bool) → (a ≡ true → b ≡ true) → (b ≡ true → a ≡ true) → a ≡ b
 same_truth true b f g = sym (f refl)
@@ -116,39 +110,34 @@ same_truth false true f g = g refl
 same_truth false false f g = refl
 
 -- whether a way of enough steps leads to the root
-pub way_told : (objects : List Portrait) (ways : List ℕ) (n way : ℕ)
-    → AreByNumber objects → (w : AreWays (length objects) objects ways)
-    → way ≡ ancestor w.made objects n
+pub way_told : (objects : List Portrait) (n way : ℕ) → AreByNumber objects
+    → (w : IsWay (length objects) objects n way)
     → (way == 1) ≡ (ancestor (length objects) objects n == 1)
-way_told objects ways n way order w is = same_truth (way == 1)
+way_told objects n way order w = same_truth (way == 1)
     (ancestor (length objects) objects n == 1)
     (λ h. eq-eqb (ancestor (length objects) objects n) 1 (enough w.made objects n
     (none_below 1 order.0 objects 0 order.1 (omega arith))
-    (sym is ∙ eqb-true way 1 h)))
-    (λ h. eq-eqb way 1 (is ∙ ap (λ (k : ℕ). ancestor k objects n) (far w)
+    (sym w.is ∙ eqb-true way 1 h)))
+    (λ h. eq-eqb way 1 (w.is ∙ ap (λ (k : ℕ). ancestor k objects n) (far w)
     ∙ reaches_far (length objects) (w.made - length objects) objects n
     (eqb-true (ancestor (length objects) objects n) 1 h)))
   where
-    far : (w : AreWays (length objects) objects ways)
+    far : (w : IsWay (length objects) objects n way)
         → w.made ≡ length objects + (w.made - length objects)
     far w = omega (arith, w.enough)
 
-pub doubled : (objects : List Portrait) (ways new : List ℕ) (steps next : ℕ)
-    → next ≡ min (steps * 2) 18446744073709551615
-    → ((made : ℕ) → 1 ≤ made → ways ≡ ways_after made objects
-    → new ≡ ways_after (made + made) objects)
-    → AreWays steps objects ways → AreWays next objects new
-doubled objects ways new steps next is twice w = record {
-  made = w.made + w.made;
-  some = omega (arith, w.some);
-  enough = omega (arith, w.enough, is);
-  are = twice w.made w.some w.are;
-}
+pub way_here : (steps : ℕ) (objects : List Portrait) (ways : List ℕ) (i way : ℕ) (x : Portrait)
+    → AreWays steps objects ways → i < length objects → way ≡ get_or ways i way
+    → x ≡ get_or objects i x → IsWay steps objects x.number way
+way_here steps objects ways i way x w lt had read =
+    subst (IsWay steps objects x.number)
+    (sym (had ∙ get_or_default ways i way 0 (omega (arith, lt, w.long)))) (w.each i x lt read)
 
-pub as_long : (steps : ℕ) (objects : List Portrait) (ways : List ℕ) → AreWays steps objects ways
-    → length ways ≡ length objects
-as_long steps objects ways w =
-    ap length w.are ∙ ways_long w.made objects
+pub doubled : (objects : List Portrait) (ways : List ℕ) (steps next : ℕ)
+    → next ≡ min (steps * 2) 18446744073709551615 → AreWays (steps + steps) objects ways
+    → AreWays next objects ways
+doubled objects ways steps next is w =
+    ways_kept (steps + steps) next objects ways (omega (arith, is)) w
 
 same_number : (objects : List Portrait) (next steps k : ℕ) → AreInOrder 1 next objects → k ≤ 1
     → ancestor steps objects k ≡ k
@@ -161,34 +150,30 @@ same_number objects next steps k h le = elim (cases_eq k 1) [
       (nothing_stays steps objects (none_below 1 next objects 0 h (omega arith)))
 ]
 
--- no step leads further from what is no object but the root's number
-none_further : (objects xs : List Portrait) (next steps more : ℕ) → AreInOrder 1 next objects
-    → list_any (nat_lt 1) (map (λ x. ancestor steps objects x.number) xs) ≡ false
-    → map (λ x. ancestor steps objects x.number) xs
-    ≡ map (λ x. ancestor (steps + more) objects x.number) xs
-none_further objects [] next steps more h none = refl
-none_further objects (x ∷ xs) next steps more h none =
-    let way = ancestor steps objects x.number in
-    let rest = map (λ (y : Portrait). ancestor (steps + more) objects y.number) xs in
-    let parts = or_parts (nat_lt 1 way)
-    (list_any (nat_lt 1) (map (λ y. ancestor steps objects y.number) xs)) none in
-    let stays : way ≡ ancestor (steps + more) objects x.number =
-    sym (further_up steps more objects x.number
-    ∙ same_number objects next more way h (ltb-false 1 way parts.0)) in
-    ap (λ (ws : List ℕ). way ∷ ws) (none_further objects xs next steps more h parts.1)
-    ∙ ap (λ (w : ℕ). w ∷ rest) stays
+none_at : (p : ℕ → Bool) (xs : List ℕ) (i : ℕ) → i < length xs → list_any p xs ≡ false
+    → p (get_or xs i 0) ≡ false
+none_at p xs i lt none =
+    false_from_ne_true (p (get_or xs i 0))
+    (λ t. both_ways (list_any p xs) none (list_any_at p xs i 0 lt t))
 
 -- ways that have all ended are as long as any
 pub ended : (objects : List Portrait) (ways : List ℕ) (steps : ℕ) → AreByNumber objects
     → AreWays steps objects ways → list_any (nat_lt 1) ways ≡ false
     → AreWays (length objects) objects ways
 ended objects ways steps order w none = record {
-  made = w.made + length objects;
-  some = omega (arith, w.some);
-  enough = omega arith;
-  are = w.are
-      ∙ none_further objects objects order.0 w.made (length objects) order.1
-      (ap (list_any (nat_lt 1)) (sym w.are) ∙ none);
+  long = w.long;
+  each = λ i x lt read.
+      let this = w.each i x lt read in
+      let low : nat_lt 1 (get_or ways i 0) ≡ false =
+      none_at (nat_lt 1) ways i (omega (arith, lt, w.long)) none in record {
+        made = this.made + length objects;
+        some = omega (arith, this.some);
+        enough = omega arith;
+        is = sym (further_up this.made (length objects) objects x.number
+            ∙ ap (ancestor (length objects) objects) (sym this.is)
+            ∙ same_number objects order.0 (length objects) (get_or ways i 0) order.1
+            (ltb-false 1 (get_or ways i 0) low));
+      };
 }
 
 -- some portrait, where a place of a list wants one
@@ -202,23 +187,29 @@ some_portrait = record {
 
 -- the root and nothing stay
 pub twice_low : (objects : List Portrait) (next steps n way : ℕ) → AreInOrder 1 next objects
-    → way ≡ ancestor steps objects n → way ≤ 1 → way ≡ ancestor (steps + steps) objects n
-twice_low objects next steps n way h is le =
-    sym (further_up steps steps objects n
-    ∙ ap (ancestor steps objects) (sym is) ∙ same_number objects next steps way h le)
+    → IsWay steps objects n way → way ≤ 1 → IsWay (steps + steps) objects n way
+twice_low objects next steps n way h w le = record {
+  made = w.made + w.made;
+  some = omega (arith, w.some);
+  enough = omega (arith, w.enough);
+  is = sym (further_up w.made w.made objects n ∙ ap (ancestor w.made objects) (sym w.is)
+      ∙ same_number objects next w.made way h le);
+}
 
 pub twice_found : (objects : List Portrait) (ways : List ℕ) (steps n way place : ℕ)
-    → ways ≡ ways_after steps objects → way ≡ ancestor steps objects n
-    → IsPlace objects way (Some place)
-    → get_or ways place 0 ≡ ancestor (steps + steps) objects n
-twice_found objects ways steps n way place are is there =
+    → AreWays steps objects ways → IsWay steps objects n way → IsPlace objects way (Some place)
+    → IsWay (steps + steps) objects n (get_or ways place 0)
+twice_found objects ways steps n way place are w there =
     let d = get_or objects place some_portrait in
-    let e : portrait_at objects way ≡ Some d = there.1 some_portrait in
-    let number : d.number ≡ way = found_number objects way d e in
-    ap (λ (w : List ℕ). get_or w place 0) are
-    ∙ get_or-map (λ (y : Portrait). ancestor steps objects y.number) objects place some_portrait 0
-    there.0
-    ∙ ap (ancestor steps objects) (number ∙ is) ∙ sym (further_up steps steps objects n)
+    let number : d.number ≡ way = found_number objects way d (there.1 some_portrait) in
+    let next : IsWay steps objects d.number (get_or ways place 0) =
+    are.each place d there.0 (get_or_default objects place some_portrait d there.0) in record {
+      made = w.made + next.made;
+      some = omega (arith, w.some);
+      enough = omega (arith, w.enough, next.enough);
+      is = next.is ∙ ap (ancestor next.made objects) (number ∙ w.is)
+          ∙ sym (further_up w.made next.made objects n);
+    }
 
 above_none : (objects : List Portrait) (n : ℕ) → (n ≡ 1 → ⊥) → portrait_at objects n ≡ None
     → above objects n ≡ 0
@@ -234,11 +225,72 @@ from_nowhere objects next (suc steps) n h le ne e =
     ∙ nothing_stays steps objects (none_below 1 next objects 0 h (omega arith))
 
 pub twice_none : (objects : List Portrait) (next steps n way : ℕ) → AreInOrder 1 next objects
-    → 1 ≤ steps → way ≡ ancestor steps objects n → 1 < way → IsPlace objects way None
-    → 0 ≡ ancestor (steps + steps) objects n
-twice_none objects next steps n way h some is high none =
-    sym (further_up steps steps objects n ∙ ap (ancestor steps objects) (sym is)
-    ∙ from_nowhere objects next steps way h some (λ one. omega (arith, one, high)) none)
+    → IsWay steps objects n way → 1 < way → IsPlace objects way None
+    → IsWay (steps + steps) objects n 0
+twice_none objects next steps n way h w high none = record {
+  made = w.made + w.made;
+  some = omega (arith, w.some);
+  enough = omega (arith, w.enough);
+  is = sym (further_up w.made w.made objects n ∙ ap (ancestor w.made objects) (sym w.is)
+      ∙ from_nowhere objects next w.made way h w.some (λ one. omega (arith, one, high)) none);
+}
+
+-- ways of which the first ones are doubled
+pub record AreDoubledTo (steps : ℕ) (objects : List Portrait) (at : ℕ) (ways : List ℕ)
+    : Type 0 where
+  pub all : AreWays steps objects ways
+  pub done : (i : ℕ) (x : Portrait) → i < at → i < length objects → x ≡ get_or objects i x
+      → IsWay (steps + steps) objects x.number (get_or ways i 0)
+
+pub double_first : (steps : ℕ) (objects : List Portrait) (ways : List ℕ)
+    → AreWays steps objects ways → AreDoubledTo steps objects 0 ways
+double_first steps objects ways w = record {
+  all = w;
+  done = λ i x below lt read. absurd (omega (arith, below));
+}
+
+pub double_next : (steps : ℕ) (objects : List Portrait) (at further : ℕ) (old new : List ℕ)
+    → at < length objects → AreDoubledTo steps objects at old
+    → ((n : ℕ) → IsWay steps objects n (get_or old at 0) → IsWay (steps + steps) objects n further)
+    → new ≡ set old at further → AreDoubledTo steps objects (at + 1) new
+double_next steps objects at further old new within was told are = record {
+  all = record {
+    long = ap length are ∙ length-set old at further ∙ was.all.long;
+    each = λ i x lt read. elim (cases_eq i at) [
+      | inl e ↦ way_kept (steps + steps) steps objects x.number (get_or new i 0) (omega arith)
+          (here i x e lt read)
+      | inr ne ↦ subst (IsWay steps objects x.number) (sym (there i ne)) (was.all.each i x lt read)
+    ];
+  };
+  done = λ i x below lt read. elim (cases_eq i at) [
+    | inl e ↦ here i x e lt read
+    | inr ne ↦ subst (IsWay (steps + steps) objects x.number) (sym (there i ne))
+        (was.done i x (omega (arith, below, ne)) lt read)
+  ];
+}
+  where
+    here : (i : ℕ) (x : Portrait) → i ≡ at → i < length objects → x ≡ get_or objects i x
+        → IsWay (steps + steps) objects x.number (get_or new i 0)
+    here i x e lt read =
+        let is : get_or new i 0 ≡ further =
+        ap (λ (l : List ℕ). get_or l i 0) are
+        ∙ ap (λ (k : ℕ). get_or (set old at further) k 0) e
+        ∙ get_or-set_same old at further 0 (omega (arith, within, was.all.long)) in
+        subst (IsWay (steps + steps) objects x.number) (sym is)
+        (told x.number (subst (λ (k : ℕ). IsWay steps objects x.number (get_or old k 0)) e
+        (was.all.each i x lt read)))
+
+    there : (i : ℕ) → (i ≡ at → ⊥) → get_or new i 0 ≡ get_or old i 0
+    there i ne =
+        ap (λ (l : List ℕ). get_or l i 0) are ∙ get_or-set_other old at i further 0 ne
+
+pub double_done : (steps : ℕ) (objects : List Portrait) (at : ℕ) (ways : List ℕ)
+    → length objects ≤ at → AreDoubledTo steps objects at ways
+    → AreWays (steps + steps) objects ways
+double_done steps objects at ways le was = record {
+  long = was.all.long;
+  each = λ i x lt read. was.done i x (omega (arith, lt, le)) lt read;
+}
 
 pub one_step : (objects : List Portrait) (n : ℕ) → ancestor 1 objects n ≡ above objects n
 unfolding ancestor
@@ -263,12 +315,18 @@ ways_more objects next i up ways new x order lt read told is made =
 
 pub first_are : (objects : List Portrait) (i : ℕ) (ways : List ℕ) → length objects ≤ i
     → ways ≡ map (λ y. ancestor 1 objects y.number) (take i objects) → AreWays 1 objects ways
-first_are objects i ways le is = record {
-  made = 1;
-  some = omega arith;
-  enough = omega arith;
-  are = is ∙ ap (map (λ (y : Portrait). ancestor 1 objects y.number)) (take_all i objects le);
-}
+first_are objects i ways le is =
+    let f = λ (y : Portrait). ancestor 1 objects y.number in
+    let all : ways ≡ map f objects = is ∙ ap (map f) (take_all i objects le) in record {
+      long = ap length all ∙ length-map objects f;
+      each = λ k x lt read. record {
+        made = 1;
+        some = omega arith;
+        enough = omega arith;
+        is = ap (λ (l : List ℕ). get_or l k 0) all ∙ get_or-map f objects k x 0 lt
+            ∙ ap f (sym read);
+      };
+    }
 
 -- ---- blocks
 

@@ -1,6 +1,6 @@
 -- The entries of all directories of a picture, and what they say of each object.
 use Rattle.std.specs.Prelude.{◌≡◌, ℕ, ◌+◌, ◌<◌, ◌≤◌, ◌==◌, ◌&&◌, not, Bool, min, List, [], ◌∷◌, ◌++◌}
-use Rattle.std.specs.Prelude.{length, map, slice_index_or, count_by, Option, Some, None}
+use Rattle.std.specs.Prelude.{length, slice_index_or, count_by, Option, Some, None}
 use Rattle.std.specs.Prelude.{if◌then◌else◌}
 use Rattle.std.specs.List.{flat_map, list_any}
 use Rattle.file_tree.specs.declared.object.Slot.{Slot}
@@ -79,13 +79,15 @@ IsPlace objects number (Some place) =
     (place < length objects)
     × ((d : Portrait) → portrait_at objects number ≡ Some (slice_index_or objects place d))
 
--- the number so many steps up from each object
-abbrev pub ways_after : ℕ → List Portrait → List ℕ
-ways_after steps objects = map (λ x. ancestor steps objects x.number) objects
-
--- so many steps or more
-pub record AreWays (steps : ℕ) (objects : List Portrait) (ways : List ℕ) : Type 0 where
+-- the number so many steps up from another, or more
+pub record IsWay (steps : ℕ) (objects : List Portrait) (n way : ℕ) : Type 0 where
   pub made : ℕ
   pub some : 1 ≤ made
   pub enough : steps ≤ made
-  pub are : ways ≡ ways_after made objects
+  pub is : way ≡ ancestor made objects n
+
+-- from each object
+pub record AreWays (steps : ℕ) (objects : List Portrait) (ways : List ℕ) : Type 0 where
+  pub long : length ways ≡ length objects
+  pub each : (i : ℕ) (x : Portrait) → i < length objects → x ≡ slice_index_or objects i x
+      → IsWay steps objects x.number (slice_index_or ways i 0)

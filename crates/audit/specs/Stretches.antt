@@ -2,6 +2,7 @@
 use Rattle.std.specs.Prelude.{◌≡◌, ℕ, ◌≤◌, List, [], ◌∷◌, ◌++◌, drop, take, length}
 use Rattle.std.specs.List.{flat_map}
 use Rattle.audit.specs.declared.auditing.Prepared.{Prepared}
+use Rattle.audit.specs.declared.entries.Names.{Names}
 use Rattle.audit.specs.declared.flaw.Finding.{Finding}
 use Rattle.audit.specs.declared.flaw.Flaw.TheVariants as flaw
 use Rattle.audit.specs.declared.picture.Picture.{Picture}
@@ -30,9 +31,13 @@ pub record ArePrepared (objects : List Portrait) (made : Prepared) : Type 0 wher
   pub named : AreNamedBy objects made.low.items made.high.items
   pub enough : AreWays (length objects) objects made.ways.items
 
--- what was found of the whole, ways up of enough steps, and stretches of all objects
-pub record AreOthers (p : Picture) (found : List Finding) (ways : List ℕ)
-    (stretches : List Stretch) : Type 0 where
+-- what the entries of two parts say of each object, and stretches of all objects
+pub record AreCounted (objects : List Portrait) (low high : List Names) (stretches : List Stretch)
+    : Type 0 where
+  pub named : AreNamedBy objects low high
+  pub all : AreStretches 0 (length objects) stretches
+
+-- what was found of the whole, and ways up of enough steps
+pub record AreOthers (p : Picture) (found : List Finding) (ways : List ℕ) : Type 0 where
   pub whole : found ≡ findings_of_whole p
   pub enough : AreWays (length p.objects) p.objects ways
-  pub all : AreStretches 0 (length p.objects) stretches

@@ -4,14 +4,14 @@ ghost use Rattle.std.specs.Prelude.{◌≡◌, ℕ, ◌+◌, ◌≤◌, ◌↔�
 ghost use Rattle.std.specs.Prelude.{slice_index_or, Option, None, IfOk, OnOk};
 ghost use Rattle.std.specs.List.{AllZip, flat_map, list_any};
 ghost use Rattle.file_tree.specs.Tree.{blocks_of};
-ghost use Rattle.audit.specs.Entries.{AreByNumber, AreNamed, AreNamedBy, AreWays, IsNamed};
-ghost use Rattle.audit.specs.Entries.{entries_in, ways_after};
+ghost use Rattle.audit.specs.Entries.{AreByNumber, AreNamed, AreWays, IsNamed};
+ghost use Rattle.audit.specs.Entries.{entries_in};
 ghost use Rattle.audit.specs.declared.flaw.Flaw.TheVariants as flaw;
 ghost use Rattle.audit.specs.Flaws.{blocks_in, finding_of, findings, first_flaw, has_no_root};
 ghost use Rattle.audit.specs.Flaws.{has_wrong_space};
 ghost use Rattle.audit.specs.Pictures.{IsShaped};
 ghost use Rattle.audit.specs.Sound.{IsSoundPicture};
-ghost use Rattle.audit.specs.Stretches.{AreOthers, ArePrepared, AreStretches, findings_in};
+ghost use Rattle.audit.specs.Stretches.{AreCounted, AreOthers, ArePrepared, findings_in};
 ghost use Rattle.audit.specs.Stretches.{findings_of_whole};
 
 use crate::attributes::{attributes_in, is_directory};
@@ -20,7 +20,7 @@ use crate::flaw::{Finding, Flaw};
 use crate::flaws::first_flaw;
 use crate::objects::{above, at, twice};
 use crate::picture::{Picture, Portrait};
-use crate::stretches::{Stretch, stretches_of};
+use crate::stretches::{Stretch, middle_of, stretches_of};
 use harp_types::{BLOCK_SIZE, TREE_BLOCKS};
 use rayon::current_num_threads;
 use rayon::prelude::*;
@@ -84,36 +84,26 @@ fn first_ways(alloc: Global, objects: &[Portrait]) -> Result<Vec<u32>, AllocErro
     requires { AreByNumber objects.now }
     ensures { IfOk result (λ ways. AreWays 1 objects.now ways.items) }
 {
-    let mut ways = Vec::new(alloc);
+    let mut ways = Vec::with_capacity(alloc, objects.len())?;
     for object in objects {
         ways.push(above(object))?;
     }
     Ok(ways)
 }
 
-/// Twice as many steps up from the object at a place.
-fn further_at(objects: &[Portrait], ways: &[u32], at: usize) -> u32
+/// Twice as many steps up from each object, or more: where a way was doubled before, those that
+/// lead over its object go on from there.
+fn double(objects: &[Portrait], ways: &mut Vec<u32>)
     requires order { AreByNumber objects.now }
-    requires length { length ways.now ≡ length objects.now }
-    requires place { at < length objects.now }
-    ensures { (steps : ℕ) → 1 ≤ steps → ways.now ≡ ways_after steps objects.now
-        → result ≡ slice_index_or (ways_after (steps + steps) objects.now) at 0 }
+    requires length { length ways.old.items ≡ length objects.now }
+    ensures length { length ways.new.items ≡ length ways.old.items }
+    ensures ways { (steps : ℕ) → AreWays steps objects.now ways.old.items
+        → AreWays (steps + steps) objects.now ways.new.items }
 {
-    twice(objects, ways, ways[at])
-}
-
-/// Twice as many steps up from each object.
-fn further_of(alloc: Global, objects: &[Portrait], ways: &[u32]) -> Result<Vec<u32>, AllocError>
-    requires order { AreByNumber objects.now }
-    requires length { length ways.now ≡ length objects.now }
-    ensures { IfOk result (λ v. (steps : ℕ) → 1 ≤ steps → ways.now ≡ ways_after steps objects.now
-        → v.items ≡ ways_after (steps + steps) objects.now) }
-{
-    let mut further = Vec::new(alloc);
     for at in 0..objects.len() {
-        further.push(further_at(objects, ways, at))?;
+        let further = twice(objects, ways.as_slice(), ways[at]);
+        ways[at] = further;
     }
-    Ok(further)
 }
 
 /// Whether a number is neither the root's nor none.
@@ -141,7 +131,7 @@ fn ways_of(alloc: Global, objects: &[Portrait]) -> Result<Vec<u32>, AllocError>
         if !go_on(ways.as_slice()) {
             return Ok(ways);
         }
-        ways = further_of(alloc, objects, ways.as_slice())?;
+        double(objects, &mut ways);
         steps = steps.saturating_mul(2);
     }
     Ok(ways)
@@ -286,16 +276,18 @@ pub fn audit_one(alloc: Global, picture: &Picture) -> Result<Vec<Finding>, Alloc
 // One thread alone audits fewer objects than these: others cost it more than they spare.
 const LEAST: usize = 4096;
 
-/// What the entries of two parts of the objects say of each, counted by two threads.
+/// What the entries of two parts of the objects say of each, counted by two threads, and the
+/// stretches of the objects: the parts are cut where a stretch begins, so that both take as long.
 fn names_many<R: Threads + Sync>(
     rt: &R,
     alloc: Global,
     objects: &[Portrait],
-) -> Result<(Vec<Names>, Vec<Names>), AllocError>
+) -> Result<(Vec<Names>, Vec<Names>, Vec<Stretch>), AllocError>
     requires { AreByNumber objects.now }
-    ensures { IfOk result (λ made. AreNamedBy objects.now made.0.items made.1.items) }
+    ensures { IfOk result (λ made. AreCounted objects.now made.0.items made.1.items made.2.items) }
 {
-    let (some, others) = objects.split_at(objects.len() / 2);
+    let stretches = stretches_of(alloc, objects, current_num_threads(rt))?;
+    let (some, others) = objects.split_at(middle_of(stretches.as_slice(), objects.len()));
     let (low, high) = join(
         rt,
         || -> Result<Vec<Names>, AllocError>
@@ -311,51 +303,34 @@ fn names_many<R: Threads + Sync>(
     );
     let low = low?;
     let high = high?;
-    Ok((low, high))
+    Ok((low, high, stretches))
 }
 
-/// What is found of the whole, and the stretches of the objects.
-fn whole_of<R: Threads>(
-    rt: &R,
-    alloc: Global,
-    picture: &Picture,
-) -> Result<(Vec<Finding>, Vec<Stretch>), AllocError>
-    requires { AreByNumber picture.now.objects }
-    ensures { IfOk result (λ made. (made.0.items ≡ findings_of_whole picture.now)
-        × AreStretches 0 (length picture.now.objects) made.1.items) }
-{
-    let found = found_of_whole(alloc, picture)?;
-    let stretches = stretches_of(alloc, picture.objects.as_slice(), current_num_threads(rt))?;
-    Ok((found, stretches))
-}
-
-/// What is found of the whole, the ways up, and the stretches of the objects, by two threads.
+/// What is found of the whole, and the ways up, by two threads.
 fn others_many<R: Threads + Sync>(
     rt: &R,
     alloc: Global,
     picture: &Picture,
-) -> Result<(Vec<Finding>, Vec<u32>, Vec<Stretch>), AllocError>
+) -> Result<(Vec<Finding>, Vec<u32>), AllocError>
     requires { AreByNumber picture.now.objects }
-    ensures { IfOk result (λ made. AreOthers picture.now made.0.items made.1.items made.2.items) }
+    ensures { IfOk result (λ made. AreOthers picture.now made.0.items made.1.items) }
 {
     let objects = picture.objects.as_slice();
-    let (ways, made) = join(
+    let (found, ways) = join(
         rt,
+        || -> Result<Vec<Finding>, AllocError>
+            requires { AreByNumber picture.now.objects }
+            ensures { IfOk result (λ v. v.items ≡ findings_of_whole picture.entry.now) }
+        { found_of_whole(alloc, picture) },
         || -> Result<Vec<u32>, AllocError>
             requires { AreByNumber objects.now }
             ensures { IfOk result
                 (λ v. AreWays (length objects.entry.now) objects.entry.now v.items) }
         { ways_of(alloc, objects) },
-        || -> Result<(Vec<Finding>, Vec<Stretch>), AllocError>
-            requires { AreByNumber picture.now.objects }
-            ensures { IfOk result
-                (λ made. (made.0.items ≡ findings_of_whole picture.entry.now)
-                × AreStretches 0 (length picture.entry.now.objects) made.1.items) }
-        { whole_of(rt, alloc, picture) },
     );
+    let found = found?;
     let ways = ways?;
-    let (found, stretches) = made?;
-    Ok((found, ways, stretches))
+    Ok((found, ways))
 }
 
 /// The findings of each stretch, looked for by several threads.
@@ -399,21 +374,21 @@ pub fn audit_many<R: Threads + Sync>(
     if objects.len() < LEAST {
         return audit_one(alloc, picture);
     }
-    let (names, made) = join(
+    let (made, names) = join(
         rt,
-        || -> Result<(Vec<Names>, Vec<Names>), AllocError>
-            requires { AreByNumber objects.now }
-            ensures { IfOk result
-                (λ made. AreNamedBy objects.entry.now made.0.items made.1.items) }
-        { names_many(rt, alloc, objects) },
-        || -> Result<(Vec<Finding>, Vec<u32>, Vec<Stretch>), AllocError>
+        || -> Result<(Vec<Finding>, Vec<u32>), AllocError>
             requires { AreByNumber picture.now.objects }
             ensures { IfOk result
-                (λ made. AreOthers picture.entry.now made.0.items made.1.items made.2.items) }
+                (λ made. AreOthers picture.entry.now made.0.items made.1.items) }
         { others_many(rt, alloc, picture) },
+        || -> Result<(Vec<Names>, Vec<Names>, Vec<Stretch>), AllocError>
+            requires { AreByNumber objects.now }
+            ensures { IfOk result
+                (λ made. AreCounted objects.entry.now made.0.items made.1.items made.2.items) }
+        { names_many(rt, alloc, objects) },
     );
-    let (low, high) = names?;
-    let (mut found, ways, stretches) = made?;
+    let (mut found, ways) = made?;
+    let (low, high, stretches) = names?;
     let prepared = Prepared { low, high, ways };
     let parts = findings_many(rt, alloc, objects, &prepared, stretches.as_slice())?;
     add_findings(&mut found, parts.as_slice())?;

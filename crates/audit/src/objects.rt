@@ -1,14 +1,12 @@
 //! The objects of a picture by their numbers, and the ways up from them.
 
-ghost use Rattle.std.specs.Prelude.{◌≡◌, ℕ, ◌+◌, ◌≤◌, ◌<◌, ◌==◌, ◌∷◌, List, length, map, Option};
-ghost use Rattle.std.specs.Prelude.{IfOk, IsTrue, Some};
+ghost use Rattle.std.specs.Prelude.{◌≡◌, ℕ, ◌+◌, List, length, IsTrue, Some};
 ghost use Rattle.std.specs.Option.{option_copied};
-ghost use Rattle.audit.specs.Entries.{AreByNumber, AreWays, IsPlace, ways_after};
-ghost use Rattle.audit.specs.Flaws.{above, ancestor, portrait_at};
+ghost use Rattle.audit.specs.Entries.{AreByNumber, AreWays, IsPlace, IsWay};
+ghost use Rattle.audit.specs.Flaws.{above, portrait_at};
 
 use crate::attributes::attributes_in;
 use crate::picture::Portrait;
-use std::alloc::{AllocError, Global};
 
 /// Whether the object of a number has a place.
 fn stands_at(objects: &[Portrait], place: usize, number: u32) -> bool
@@ -65,9 +63,8 @@ pub(crate) fn above(object: &Portrait) -> u32
 pub(crate) fn twice(objects: &[Portrait], ways: &[u32], way: u32) -> u32
     requires order { AreByNumber objects.now }
     requires length { length ways.now ≡ length objects.now }
-    ensures { (steps n : ℕ) → 1 ≤ steps → ways.now ≡ ways_after steps objects.now
-        → way ≡ ancestor steps objects.now n
-        → result ≡ ancestor (steps + steps) objects.now n }
+    ensures { (steps n : ℕ) → AreWays steps objects.now ways.now
+        → IsWay steps objects.now n way → IsWay (steps + steps) objects.now n result }
 {
     if way <= 1 {
         return way;

@@ -10,7 +10,11 @@ use std::alloc::{AllocError, Global};
 const MOST_STRETCHES: usize = 64;
 
 // How many objects without slots take as long as a slot does.
-const SLOT_LOAD: usize = 2;
+const SLOT_LOAD: usize = 16;
+
+// How many objects in a row count as if each were like the first: to look at them all takes longer
+// than it spares.
+const RUN: usize = 8;
 
 /// The objects from a place on, and before another.
 #[derive(Clone, Copy)]
@@ -19,27 +23,36 @@ pub(crate) struct Stretch {
     pub to: usize,
 }
 
-/// How long the objects up to each take together.
-fn loads_of(alloc: Global, objects: &[Portrait]) -> Result<Vec<usize>, AllocError>
-    ensures { IfOk result (λ v. length v.items ≤ length objects.now) }
-{
+/// How long the object at a place takes.
+fn load_of(objects: &[Portrait], place: usize) -> usize {
+    match objects.get(place) {
+        Some(object) => {
+            let slots = object.slots.as_slice().len();
+            slots.saturating_mul(SLOT_LOAD).saturating_add(1)
+        }
+        None => 0,
+    }
+}
+
+/// How long the objects up to each run's end take together.
+fn loads_of(alloc: Global, objects: &[Portrait]) -> Result<Vec<usize>, AllocError> {
     let mut loads = Vec::new(alloc);
-    let mut load: usize = 1;
-    for object in objects {
-        let slots = object.slots.as_slice().len();
-        load = load.saturating_add(slots.saturating_mul(SLOT_LOAD) + 1);
+    let mut load: usize = 0;
+    for run in 0..objects.len() / RUN {
+        load = load.saturating_add(load_of(objects, run.saturating_mul(RUN)));
         loads.push(load)?;
     }
     Ok(loads)
 }
 
-/// The place where the objects before it take so long together, from a place on.
-fn place_of_load(loads: &[usize], load: usize, from: usize) -> usize
-    requires { from ≤ length loads.now }
+/// The place where the objects before it take so long together, from a place on, among so many.
+fn place_of_load(loads: &[usize], load: usize, from: usize, count: usize) -> usize
+    requires { from ≤ count }
     ensures from { from ≤ result }
-    ensures end { result ≤ length loads.now }
+    ensures end { result ≤ count }
 {
-    loads.partition_point(|up_to| *up_to < load).max(from)
+    let runs = loads.partition_point(|up_to| *up_to < load);
+    runs.saturating_mul(RUN).min(count).max(from)
 }
 
 /// Stretches of objects that take about as long one as another.
@@ -57,7 +70,12 @@ pub(crate) fn stretches_of(
     let mut stretches = Vec::new(alloc);
     let mut from = 0;
     for before in 1..count {
-        let to = place_of_load(loads.as_slice(), share.saturating_mul(before), from);
+        let to = place_of_load(
+            loads.as_slice(),
+            share.saturating_mul(before),
+            from,
+            objects.len(),
+        );
         stretches.push(Stretch { from, to })?;
         from = to;
     }
@@ -66,4 +84,14 @@ pub(crate) fn stretches_of(
         to: objects.len(),
     })?;
     Ok(stretches)
+}
+
+/// The place where the second half of some stretches begins, among so many objects.
+pub(crate) fn middle_of(stretches: &[Stretch], count: usize) -> usize
+    ensures { result ≤ count }
+{
+    match stretches.get(stretches.len() / 2) {
+        Some(stretch) => stretch.from.min(count),
+        None => 0,
+    }
 }

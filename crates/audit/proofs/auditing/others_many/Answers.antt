@@ -8,12 +8,9 @@ pub returns : goal.returns
 returns g c =
     let ways = c.in_ok-ways.ways in
     let found = c.in_ok-found.found in
-    let stretches = c.in_ok-found.stretches in
-    let up = at_ok c.join-ways.result.0 _ ways c.in_ok-ways.was c.join-ways.ensures.first in
-    let others = at_ok c.join-ways.result.1 _ (found, stretches) c.in_ok-found.was
-    c.join-ways.ensures.second in record {
-      whole = others.0;
+    let both = c.join-found in
+    let up = at_ok both.result.1 _ ways c.in_ok-ways.was both.ensures.second in record {
+      whole = at_ok both.result.0 _ found c.in_ok-found.was both.ensures.first;
       enough = subst (λ (xs : List Portrait). AreWays (length xs) xs ways.items)
           c.as_slice-objects.ensures up;
-      all = others.1;
     }

@@ -1,4 +1,4 @@
-use Rattle.std.proofs.Common.{length, refl, sym, ap, subst, arith}
+use Rattle.std.proofs.Common.{length, refl, sym, subst}
 use Rattle.audit.specs.declared.stretches.Stretch.{Stretch}
 use Rattle.audit.specs.Stretches.{AreStretches}
 use Rattle.audit.proofs.Cuts.{stretch_more}
@@ -9,11 +9,7 @@ loop-before-preserved c =
     let from = c.loop-before.from in
     let to = c.place_of_load-to.result in
     let s : Stretch = record { from = from; to = to } in record {
-      within = omega (
-        arith,
-        c.place_of_load-to.ensures.end,
-        ap length c.as_slice-in-loop-before.ensures.value,
-      );
+      within = c.place_of_load-to.ensures.end;
       cut = subst (AreStretches 0 to) (sym c.in_ok-push.ensures.items)
           (stretch_more 0 from c.loop-before.stretches.items s c.loop-before.invariant.cut refl
           c.place_of_load-to.ensures.from);
@@ -26,4 +22,4 @@ returns c =
     let s : Stretch = record { from = from; to = to } in
     subst (AreStretches 0 to) (sym c.in_ok-push-2.ensures.items)
     (stretch_more 0 from c.loop-before.stretches.items s c.loop-before.invariant.cut refl
-    (omega (arith, c.loop-before.invariant.within, c.in_ok-loads.ensures)))
+    c.loop-before.invariant.within)
