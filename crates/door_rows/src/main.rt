@@ -4,6 +4,9 @@
 //! - `read HEX`: a record, of which is written what it means: `silent`, `fixed HEX` with the
 //!   answer, or `ask XID CALL`;
 //! - `write XID CALL REPLY`: a call and its reply, of which the answer is written;
+//! - `steps WHO HEX REPLY..`: a record of a client of a file system in use, at 1000 seconds and 5
+//!   microseconds, and the replies to its calls. WHO makes all calls, `UID:GID` or a dash for none.
+//!   Of each step is written `silent`, `answer HEX` or `call UID GID CALL`;
 //! - `input N HEX`: so many times, these are the next bytes of an input;
 //! - `reply REPLY`: the next reply of a group, which fails where it has none that the call can get;
 //! - `group N WHY`: its call with this number, from 1, is given up (`spent`), has no memory
@@ -20,11 +23,13 @@
 
 mod group;
 mod rows;
+mod steps;
 mod stream;
 mod streams;
 mod words;
 
 use crate::rows::{put_answer, put_meaning};
+use crate::steps::put_steps;
 use crate::stream::Stream;
 use crate::streams::{put_sink, put_source};
 use std::alloc::{AllocError, Global};
@@ -38,6 +43,7 @@ fn outcome(alloc: Global, stream: &mut Stream, row: &str) -> Result<String, Allo
         "read" => put_meaning(alloc, &mut out, rest)?,
         "write" => put_answer(alloc, &mut out, rest)?,
         "serve" => stream.serve(alloc, &mut out, rest)?,
+        "steps" => put_steps(alloc, &mut out, rest)?,
         "from" => put_source(alloc, &mut out, rest)?,
         "into" => put_sink(alloc, &mut out, rest)?,
         _ => stream.take(alloc, word, rest)?,

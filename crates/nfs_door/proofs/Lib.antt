@@ -1,0 +1,4 @@
+pub mod PathLaws
+pub mod GroupLaws
+pub mod CredentialLaws
+pub mod WalkLaws

@@ -1,0 +1,7 @@
+pub mod Credentials
+pub mod Paths
+pub mod Fronts
+pub mod Changes
+pub mod Mounts
+pub mod Steps
+pub mod Walks

@@ -1,0 +1,32 @@
+//! What is to be done for a record.
+
+use crate::path::Names;
+use harp_types::{Bytes, Call, Cred};
+
+/// What is to be done for a record.
+#[derive(Drop)]
+pub enum Step {
+    /// Nothing: it means nothing that can be answered.
+    Silent,
+    /// It is answered so: the bytes of the reply, without its record mark.
+    Answer(Bytes),
+    /// A call is to be made first.
+    Call(Errand),
+}
+
+/// A call that is made for a record, by whom, and what follows its reply.
+#[derive(Drop)]
+pub struct Errand {
+    pub cred: Cred,
+    pub call: Call,
+    pub then: Then,
+}
+
+/// What follows the reply to a call.
+#[derive(Drop)]
+pub enum Then {
+    /// The reply is the answer of the record with this number.
+    Replies { xid: u32 },
+    /// It is a step of a MOUNT: these names are still to be looked up behind this one.
+    Mounts { xid: u32, names: Names },
+}
