@@ -1,5 +1,6 @@
 pub mod Exit
 pub mod Words
+pub mod Folders
 pub mod Texts
 pub mod Serve
 pub mod Run

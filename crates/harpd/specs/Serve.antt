@@ -9,6 +9,7 @@ use Rattle.node_link.specs.declared.clock.Reading.{Reading}
 use Rattle.node_loop.specs.Scene.{around, only, start}
 use Rattle.node_loop.specs.Stay.{IsStay, IsStayCut}
 use Rattle.node_loop.specs.declared.counts.Served.{Served}
+use Rattle.harpd.specs.Folders.{Done, with_entered, with_left}
 use Rattle.harpd.specs.Texts.{stopped_line}
 use Rattle.harpd.specs.Words.{delta_of}
 use Rattle.harpd.specs.declared.exit.Exit.{Exit}
@@ -16,21 +17,23 @@ use Rattle.harpd.specs.declared.exit.Exit.TheVariants as exit
 use Rattle.harpd.specs.declared.words.Loop.{Loop}
 
 -- what a server runs on, as far as it is told: its disk, the link, the clock, what it was answered
--- when it asked whether to stop, and what was written
+-- when it asked whether to stop, what was done to folders, and what was written
 pub record Outer : Type 0 where
   pub disk : Option Moments
   pub link : Option Traffic
   pub clock : Option (List Reading)
   pub answers : Option (List Bool)
+  pub done : List Done
   pub written : Option (List ℕ)
 
 abbrev pub outer : Option Moments → Option Traffic → Option (List Reading) → Option (List Bool)
-    → Option (List ℕ) → Outer
-outer disk link clock answers written = record {
+    → List Done → Option (List ℕ) → Outer
+outer disk link clock answers done written = record {
   disk = disk;
   link = link;
   clock = clock;
   answers = answers;
+  done = done;
   written = written;
 }
 
@@ -46,12 +49,14 @@ HasStayed place runs old new served =
     IsStay (delta_of runs.delta) place most_turns (start (only place old.disk) old.link old.clock)
     old.answers served (only place new.disk) new.link new.clock new.answers
 
--- it was cut off, or never started; and nothing was written
-pub record WasCut (place : ServerId) (runs : Loop) (old new : Outer) : Type 0 where
+-- it was cut off in this folder, or never started; and nothing was written
+pub record WasCut (place : ServerId) (runs : Loop) (folder : List ℕ) (old new : Outer)
+    : Type 0 where
   pub left : IsStayCut (delta_of runs.delta) place most_turns
       (start (only place old.disk) old.link old.clock)
       (around (only place new.disk) new.link new.clock)
   pub silent : new.written ≡ old.written
+  pub entered : (new.done ≡ old.done) ⊎ (new.done ≡ with_entered folder old.done)
 
 -- ---- the exits
 
@@ -66,21 +71,33 @@ Tells served before after exit.DiskFailed = after ≡ before
 Tells served before after exit.LinkFailed = ⊥
 Tells served before after exit.RefusedWords = ⊥
 
--- it stayed up, and what it did was written, so far as this exit says
-pub record TellsStay (place : ServerId) (runs : Loop) (old new : Outer) (e : Exit) : Type 0 where
+-- Its folder was left behind its end. Where that failed, and maybe without memory, it wasn't
+abbrev pub Leaves : List ℕ → List Done → List Done → Exit → Type 0
+Leaves folder was is exit.Done = is ≡ with_left folder was
+Leaves folder was is exit.SinkFailed = is ≡ with_left folder was
+Leaves folder was is exit.NoMemory = (is ≡ was) ⊎ (is ≡ with_left folder was)
+Leaves folder was is exit.DiskFailed = is ≡ was
+Leaves folder was is exit.LinkFailed = ⊥
+Leaves folder was is exit.RefusedWords = ⊥
+
+-- it stayed up in this folder, and what it did was written, so far as this exit says
+pub record TellsStay (place : ServerId) (runs : Loop) (folder : List ℕ) (old new : Outer)
+    (e : Exit) : Type 0 where
   pub served : Served
   pub stayed : HasStayed place runs old new served
   pub tells : Tells served old.written new.written e
+  pub leaves : Leaves folder (with_entered folder old.done) new.done e
 
--- How a server ends: with 0 it stayed up until it was told to stop, saved its log, and the line was
--- written; where the link failed, it was cut off. Where the disk or its folder failed, and without
--- memory, it is either, and so it is where the folder was refused
-abbrev pub ServerEnds : ServerId → Loop → Outer → Outer → Exit → Type 0
-ServerEnds place runs old new exit.Done = TellsStay place runs old new exit.Done
-ServerEnds place runs old new exit.SinkFailed = TellsStay place runs old new exit.SinkFailed
-ServerEnds place runs old new exit.LinkFailed = WasCut place runs old new
-ServerEnds place runs old new exit.DiskFailed =
-    WasCut place runs old new ⊎ TellsStay place runs old new exit.DiskFailed
-ServerEnds place runs old new exit.NoMemory =
-    WasCut place runs old new ⊎ TellsStay place runs old new exit.NoMemory
-ServerEnds place runs old new exit.RefusedWords = ⊥
+-- How a server ends that is run in this folder: with 0 it stayed up until it was told to stop, saved
+-- its log, and the line was written; where the link failed, it was cut off. Where the disk or its
+-- folder failed, and without memory, it is either, and so it is where the folder was refused
+abbrev pub ServerEnds : ServerId → Loop → List ℕ → Outer → Outer → Exit → Type 0
+ServerEnds place runs folder old new exit.Done = TellsStay place runs folder old new exit.Done
+ServerEnds place runs folder old new exit.SinkFailed =
+    TellsStay place runs folder old new exit.SinkFailed
+ServerEnds place runs folder old new exit.LinkFailed = WasCut place runs folder old new
+ServerEnds place runs folder old new exit.DiskFailed =
+    WasCut place runs folder old new ⊎ TellsStay place runs folder old new exit.DiskFailed
+ServerEnds place runs folder old new exit.NoMemory =
+    WasCut place runs folder old new ⊎ TellsStay place runs folder old new exit.NoMemory
+ServerEnds place runs folder old new exit.RefusedWords = ⊥

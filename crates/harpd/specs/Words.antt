@@ -1,6 +1,6 @@
 -- What the words of the program are.
 use Rattle.std.specs.Prelude.{◌≡◌, ◌≢◌, ℕ, ◌≤◌, List, [], ◌∷◌, map}
-use Rattle.std.specs.Prelude.{codes, decimal, String, string_bytes, Option, Some, None}
+use Rattle.std.specs.Prelude.{codes, decimal, String, string_bytes, Option, Some, None, get_or}
 use Rattle.std.specs.Global.{Global}
 use Rattle.harp_types.specs.Limits.{first_promise}
 use Rattle.harp_types.specs.Server.{number_of}
@@ -14,6 +14,10 @@ use Rattle.harpd.specs.declared.words.Command.TheVariants as command
 -- the bytes of each word
 abbrev pub texts : List (String Global) → List (List ℕ)
 texts words = map (λ w. string_bytes w) words
+
+-- the one at a place, from 0; an empty one where there is none
+abbrev pub word_at : List (List ℕ) → ℕ → List ℕ
+word_at words place = get_or words place []
 
 -- ---- how a server is run
 

@@ -9,13 +9,16 @@
 //! `help`, and `version`. `server` hands on what `node_loop` says of `serve_steady`: with status 0
 //! it was booted, took its turns until it was told to stop, and saved its log (`IsStay`), and its
 //! line was written; with 8 it was cut off or never started, and nothing was written (`IsStayCut`);
-//! with 7 and 6 it is either (`ServerEnds`). `init` ends with 0 only where a folder was made.
-//! All but `server` leave link, disk, clock and who gives orders (`apart`). A failure is told only
-//! where its count rose. Not pinned: to which folder a disk is attached, which one is made, and
-//! the text of `help`. `word_fault` tells what is wrong with words exactly where they are no form.
-//! `main` and the adapters over the system's files are proved safe.
+//! with 7 and 6 it is either (`ServerEnds`). `init` ends with 0 only where its folder was made. The
+//! folder that is made, that is entered with the disk, and that is left behind the end is the one
+//! whose name stands among the words, and nothing else is done to folders (`CommandEnds`). All but
+//! `server` leave link, disk, clock and who gives orders (`apart`). A failure is told only where its
+//! count rose. Not pinned: the text of `help`, and what a disk makes of the name to which it is
+//! attached. `word_fault` tells what is wrong with words exactly where they are no form. `main` and
+//! the adapters over the system's files are proved safe, and keep what was done to folders.
 #![tactic(auto)]
 
+mod deeds;
 mod exit;
 mod folders;
 mod number;

@@ -1,10 +1,10 @@
 //! Running a server that stays up, and making a folder for one.
 
-ghost use Rattle.std.specs.Prelude.{◌≡◌, ◌≤◌, ◌⊎◌, ℕ, List, Option};
+ghost use Rattle.std.specs.Prelude.{◌≡◌, ◌≤◌, ◌⊎◌};
 ghost use Rattle.harp_types.specs.Streams.{Rose};
 ghost use Rattle.node_link.specs.Traffic.{last_port};
 ghost use Rattle.harpd.specs.Run.{InitEnds};
-ghost use Rattle.harpd.specs.Serve.{ServerEnds, Tells, outer};
+ghost use Rattle.harpd.specs.Serve.{Leaves, ServerEnds, Tells, outer};
 
 use crate::exit::{Exit, exit_of_loop, exit_of_store};
 use crate::folders::Folders;
@@ -44,19 +44,20 @@ fn end<K: Sink, F: Folders>(
     folders: &mut F,
 ) -> Exit
     ensures ends { Tells served (K.written sink.old) (K.written sink.new) result }
+    ensures leaves { Leaves folder.now (F.done folders.old) (F.done folders.new) result }
     ensures sink_rose { result ≡ Exit.SinkFailed → Rose (K.faults sink.old) (K.faults sink.new) }
     ensures disk_rose { result ≡ Exit.DiskFailed
         → Rose (F.faults folders.old) (F.faults folders.new) }
     ensures count { F.faults folders.old ≤ F.faults folders.new }
 {
-    if let Err(fault) = folders.leave(alloc, folder) {
-        return exit_of_store(fault);
+    match folders.leave(alloc, folder) {
+        Ok(()) => write_stopped(alloc, served, sink),
+        Err(fault) => exit_of_store(fault),
     }
-    write_stopped(alloc, served, sink)
 }
 
-/// Runs a server that stays up over its disk, which is attached to a folder that was made for it,
-/// until it is told to stop, and writes what it did.
+/// Runs a server that stays up over its disk, in a folder that was made for it, until it is told to
+/// stop, and writes what it did.
 pub fn serve<K: Sink, F: Folders, L: Link, D: Store, C: Clock, O: Orders>(
     alloc: Global,
     place: ServerId,
@@ -70,22 +71,20 @@ pub fn serve<K: Sink, F: Folders, L: Link, D: Store, C: Clock, O: Orders>(
     orders: &mut O,
 ) -> Exit
     requires { runs.port ≤ last_port }
-    ensures ends { ServerEnds place runs
+    ensures ends { ServerEnds place runs folder.now
         (outer (D.told disk.old) (L.told link.old) (C.told clock.old) (O.told orders.old)
-        (K.written sink.old))
+        (F.done folders.old) (K.written sink.old))
         (outer (D.told disk.new) (L.told link.new) (C.told clock.new) (O.told orders.new)
-        (K.written sink.new)) result }
+        (F.done folders.new) (K.written sink.new)) result }
     ensures sink_rose { result ≡ Exit.SinkFailed → Rose (K.faults sink.old) (K.faults sink.new) }
     ensures disk_rose { result ≡ Exit.DiskFailed
         → Rose (F.faults folders.old) (F.faults folders.new)
         ⊎ Rose (D.faults disk.old) (D.faults disk.new) }
     ensures link_rose { result ≡ Exit.LinkFailed → Rose (L.faults link.old) (L.faults link.new) }
 {
-    if let Err(fault) = folders.enter(alloc, folder) {
-        return exit_of_store(fault);
-    }
-    if let Err(fault) = disk.attach(alloc, folder) {
-        return exit_of_store(fault);
+    match folders.enter(alloc, folder, disk) {
+        Ok(()) => {}
+        Err(fault) => return exit_of_store(fault),
     }
     let Loop { port, .. } = runs;
     match serve_steady(
@@ -106,8 +105,7 @@ pub fn serve<K: Sink, F: Folders, L: Link, D: Store, C: Clock, O: Orders>(
 
 /// Makes a folder for a server that never ran.
 pub fn init<F: Folders>(alloc: Global, folder: &str, folders: &mut F) -> Exit
-    ensures ends { (written : Option (List ℕ))
-        → InitEnds (F.made folders.old) (F.made folders.new) written written result }
+    ensures ends { InitEnds folder.now (F.done folders.old) (F.done folders.new) result }
     ensures rose { result ≡ Exit.DiskFailed → Rose (F.faults folders.old) (F.faults folders.new) }
 {
     match folders.make(alloc, folder) {

@@ -1,12 +1,14 @@
 //! The folders of the system, and the files in them by which people and servers speak.
 
-ghost use Rattle.std.specs.Prelude.{◌≡◌, ◌≤◌, None};
+ghost use Rattle.std.specs.Prelude.{◌≡◌, ◌≤◌, ◌<◌, None, IfOk, OnOk, string_bytes, vec_len, vec_capacity};
+ghost use Rattle.harpd.specs.Folders.{done_by, with_deed};
 ghost use Rattle.harp_types.specs.Streams.{Rose};
 
+use crate::deeds::{Deed, FolderDeed};
 use crate::folders::Folders;
-use harp_store::StoreFault;
+use harp_store::{Store, StoreFault};
 use node_loop::Orders;
-use std::alloc::Global;
+use std::alloc::{AllocError, Global};
 use std::fs::{File, OpenFile};
 use std::io::ErrorKind;
 use std::rt::Files;
@@ -30,22 +32,25 @@ pub enum Refusal {
 #[derive(Drop)]
 pub struct SystemFolders<R> {
     rt: R,
-    made: u64,
+    done: Vec<FolderDeed>,
     faults: u64,
     refusal: Option<Refusal>,
 }
 
-impl<R> SystemFolders<R> {
+impl<R: AllocGlobal> SystemFolders<R> {
     /// The folders that a runtime gives.
     pub fn new(rt: R) -> SystemFolders<R> {
+        let done = Vec::new(rt.alloc());
         SystemFolders {
             rt,
-            made: 0,
+            done,
             faults: 0,
             refusal: None,
         }
     }
+}
 
+impl<R> SystemFolders<R> {
     /// Why the last call that failed did, if one did.
     pub fn refusal(&self) -> Option<Refusal> {
         self.refusal
@@ -54,13 +59,35 @@ impl<R> SystemFolders<R> {
     // Counts a call that failed.
     fn refuse(&mut self, refusal: Refusal) -> StoreFault
         ensures fault { result ≡ StoreFault.Failed }
-        ensures made { self.new.made ≡ self.old.made }
+        ensures done { self.new.done ≡ self.old.done }
         ensures rose { Rose self.old.faults self.new.faults }
         ensures count { self.old.faults ≤ self.new.faults }
     {
         self.faults = self.faults.saturating_add(1);
         self.refusal = Some(refusal);
         StoreFault::Failed
+    }
+
+    // What is to be done to a folder, to be kept once it is; there is room for it.
+    fn plan(&mut self, alloc: Global, deed: Deed, folder: &str) -> Result<FolderDeed, AllocError>
+        ensures plan { IfOk result (λ d. (d.deed ≡ deed) × (string_bytes d.folder ≡ folder.now)) }
+        ensures room { OnOk result (vec_len self.new.done < vec_capacity self.new.done) }
+        ensures done { self.new.done.items ≡ self.old.done.items }
+        ensures faults { self.new.faults ≡ self.old.faults }
+    {
+        let folder = String::from_str(alloc, folder)?;
+        self.done.reserve(1)?;
+        Ok(FolderDeed { deed, folder })
+    }
+
+    // Keeps what was done.
+    fn keep(&mut self, deed: FolderDeed)
+        requires { vec_len self.old.done < vec_capacity self.old.done }
+        ensures done { done_by self.new.done.items
+            ≡ with_deed deed.deed (string_bytes deed.folder) (done_by self.old.done.items) }
+        ensures faults { self.new.faults ≡ self.old.faults }
+    {
+        self.done.push_reserved(deed);
     }
 }
 
@@ -132,21 +159,33 @@ fn remove_file<R: Files>(rt: &R, folder: &str, path: &str) -> io::Result<()> {
 }
 
 impl<R: Files<File = File> + AllocGlobal + Clone + Drop> Folders for SystemFolders<R> {
-    ghost made = { λ f. f.made };
+    ghost done = { λ f. done_by f.done.items };
 
     ghost faults = { λ f. f.faults };
 
-    fn enter(&mut self, alloc: Global, folder: &str) -> Result<(), StoreFault> {
+    fn enter<D: Store>(
+        &mut self,
+        alloc: Global,
+        folder: &str,
+        disk: &mut D,
+    ) -> Result<(), StoreFault> {
+        let deed = self.plan(alloc, Deed::Entered, folder)?;
         let mark = format!(in alloc; "{folder}/mark")?;
         let new = format!(in alloc; "{folder}/new")?;
-        if stands(&self.rt, mark.as_str()) || stands(&self.rt, new.as_str()) {
-            Ok(())
-        } else {
-            Err(self.refuse(Refusal::NotMade))
+        if !stands(&self.rt, mark.as_str()) && !stands(&self.rt, new.as_str()) {
+            return Err(self.refuse(Refusal::NotMade));
+        }
+        match disk.attach(alloc, folder) {
+            Ok(()) => {
+                self.keep(deed);
+                Ok(())
+            }
+            Err(fault) => Err(fault),
         }
     }
 
     fn make(&mut self, alloc: Global, folder: &str) -> Result<(), StoreFault> {
+        let deed = self.plan(alloc, Deed::Made, folder)?;
         let new = format!(in alloc; "{folder}/new")?;
         if make_folder(&self.rt, folder).is_err() {
             return Err(self.refuse(Refusal::Unmade));
@@ -159,15 +198,17 @@ impl<R: Files<File = File> + AllocGlobal + Clone + Drop> Folders for SystemFolde
         if make_file(&self.rt, folder, new.as_str()).is_err() {
             return Err(self.refuse(Refusal::Unmade));
         }
-        self.made = self.made.saturating_add(1);
+        self.keep(deed);
         Ok(())
     }
 
     fn leave(&mut self, alloc: Global, folder: &str) -> Result<(), StoreFault> {
+        let deed = self.plan(alloc, Deed::Left, folder)?;
         let stop = format!(in alloc; "{folder}/stop")?;
         if remove_file(&self.rt, folder, stop.as_str()).is_err() {
             return Err(self.refuse(Refusal::Left));
         }
+        self.keep(deed);
         Ok(())
     }
 }

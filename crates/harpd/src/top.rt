@@ -4,7 +4,7 @@ ghost use Rattle.std.specs.Prelude.{◌≡◌, ◌⊎◌};
 ghost use Rattle.harp_types.specs.Streams.{Rose};
 ghost use Rattle.harpd.specs.Run.{Ends};
 ghost use Rattle.harpd.specs.Serve.{outer};
-ghost use Rattle.harpd.specs.Words.{AskForServer};
+ghost use Rattle.harpd.specs.Words.{AskForServer, texts, word_at};
 
 use crate::exit::Exit;
 use crate::folders::Folders;
@@ -17,8 +17,10 @@ use node_link::{Clock, Link};
 use node_loop::Orders;
 use std::alloc::Global;
 
-/// The word at a place, from 0.
-pub fn word_at(words: &[String], place: usize) -> &str {
+/// The word at a place, from 0; an empty one where there is none.
+pub fn word_at(words: &[String], place: usize) -> &str
+    ensures { result.now ≡ word_at (texts words.now) place }
+{
     match words.get(place) {
         Some(word) => word.as_str(),
         None => "",
@@ -27,8 +29,9 @@ pub fn word_at(words: &[String], place: usize) -> &str {
 
 /// Does what the words ask for. `server` runs a server that stays up until it is told to stop, and
 /// writes `stopped turns T taken N sent M`: its turns, and how many datagrams were taken and sent.
-/// `init` makes a folder for one. `help` and `version` write a text. On words of no form the usage
-/// text is written. All but `server` leave the link, the disk, the clock and who gives orders.
+/// `init` makes a folder for one. Both take the folder that the words name. `help` and `version`
+/// write a text. On words of no form the usage text is written. All but `server` leave the link, the
+/// disk, the clock and who gives orders.
 ///
 /// Nothing is said of what a sink, a disk, a link, a clock or who gives orders doesn't tell.
 pub fn run<K: Sink, F: Folders, L: Link, D: Store, C: Clock, O: Orders>(
@@ -43,9 +46,9 @@ pub fn run<K: Sink, F: Folders, L: Link, D: Store, C: Clock, O: Orders>(
 ) -> Exit
     ensures ends { Ends words.now
         (outer (D.told disk.old) (L.told link.old) (C.told clock.old) (O.told orders.old)
-        (K.written sink.old))
+        (F.done folders.old) (K.written sink.old))
         (outer (D.told disk.new) (L.told link.new) (C.told clock.new) (O.told orders.new)
-        (K.written sink.new)) (F.made folders.old) (F.made folders.new) result }
+        (F.done folders.new) (K.written sink.new)) result }
     ensures apart { (AskForServer words.now → ⊥) → (link.new ≡ link.old) × (disk.new ≡ disk.old)
         × (clock.new ≡ clock.old) × (orders.new ≡ orders.old) }
     ensures sink_rose { result ≡ Exit.SinkFailed → Rose (K.faults sink.old) (K.faults sink.new) }

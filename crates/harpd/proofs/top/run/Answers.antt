@@ -1,22 +1,42 @@
-use Rattle.std.proofs.Common.{subst, inl, None}
+use Rattle.std.proofs.Common.{subst, inl, refl}
 use Rattle.harpd.specs.Run.{InitEnds}
+use Rattle.harpd.specs.Serve.{ServerEnds, outer}
 use Rattle.harpd.specs.Words.{AsksFor}
 use Rattle.harpd.specs.declared.words.Command.TheVariants as command
 use Rattle.harpd.proofs.top.run.Goals as goal
+
+pub returns-in-Some-Server-clause-ends : goal.returns-in-Some-Server-clause-ends
+returns-in-Some-Server-clause-ends g c = inl (record {
+  command = command.Server c.in-Some-Server.place c.in-Some-Server.runs;
+  asked = subst (AsksFor c.args.words.now) c.in-Some-Server.field-0-is c.in-Some-Server.ensures;
+  ends = subst (λ w. ServerEnds c.in-Some-Server.place c.in-Some-Server.runs w
+      (outer (g.D.Store.told c.args.disk.now) (g.L.Link.told c.args.link.now)
+      (g.C.Clock.told c.args.clock.now) (g.O.Orders.told c.args.orders.now)
+      (g.F.Folders.done c.args.folders.now) (g.K.Sink.written c.args.sink.now))
+      (outer (g.D.Store.told c.serve.new.disk) (g.L.Link.told c.serve.new.link)
+      (g.C.Clock.told c.serve.new.clock) (g.O.Orders.told c.serve.new.orders)
+      (g.F.Folders.done c.serve.new.folders) (g.K.Sink.written c.serve.new.sink))
+      c.serve.result) c.word_at.ensures c.serve.ensures.ends;
+})
 
 pub returns-in-Some-Init-clause-ends : goal.returns-in-Some-Init-clause-ends
 returns-in-Some-Init-clause-ends g c = inl (record {
   command = command.Init;
   asked = subst (AsksFor c.args.words.now) c.in-Some-Init.field-0-is c.in-Some-Init.ensures;
-  ends = c.init.ensures.ends (g.K.Sink.written c.args.sink.now);
+  ends = (
+    subst (λ w. InitEnds w (g.F.Folders.done c.args.folders.now)
+        (g.F.Folders.done c.init.new.folders) c.init.result) c.word_at-in-Some-Init.ensures
+        c.init.ensures.ends,
+    refl,
+  );
 })
 
 pub returns-in-Some-Init-clause-sink_rose : goal.returns-in-Some-Init-clause-sink_rose
 returns-in-Some-Init-clause-sink_rose g c = λ is. absurd (subst
-    (InitEnds (g.F.Folders.made c.args.folders.now) (g.F.Folders.made c.init.new.folders) None
-    None) is (c.init.ensures.ends None))
+    (InitEnds c.word_at-in-Some-Init.result.now (g.F.Folders.done c.args.folders.now)
+    (g.F.Folders.done c.init.new.folders)) is c.init.ensures.ends)
 
 pub returns-in-Some-Init-clause-link_rose : goal.returns-in-Some-Init-clause-link_rose
 returns-in-Some-Init-clause-link_rose g c = λ is. absurd (subst
-    (InitEnds (g.F.Folders.made c.args.folders.now) (g.F.Folders.made c.init.new.folders) None
-    None) is (c.init.ensures.ends None))
+    (InitEnds c.word_at-in-Some-Init.result.now (g.F.Folders.done c.args.folders.now)
+    (g.F.Folders.done c.init.new.folders)) is c.init.ensures.ends)
