@@ -44,6 +44,12 @@ impl<'a> Ended<'a> {
             Some(Refusal::NotMade) => {
                 write!(f, "{folder} is not made: harpd init {folder} makes it")
             }
+            Some(Refusal::Unmarked) => {
+                write!(
+                    f,
+                    "{folder}/mark is lost: {folder} isn't that of a new server"
+                )
+            }
             Some(Refusal::Used) => write!(f, "{folder} has the files of a server that ran there"),
             Some(Refusal::Unmade) => write!(f, "{folder} can't be made"),
             Some(Refusal::Left) => write!(f, "{folder}/stop can't be taken away"),

@@ -19,6 +19,8 @@ use std::{fs, io};
 pub enum Refusal {
     /// The folder has no mark, and wasn't made for a server.
     NotMade,
+    /// The folder has no mark, but other files of a store.
+    Unmarked,
     /// A server has run in the folder that is to be made.
     Used,
     /// The folder can't be made.
@@ -28,7 +30,8 @@ pub enum Refusal {
 }
 
 /// The folders of the system. One is made by a file `new`, and has a server's mark, the file `mark`,
-/// once one has run there. The file `stop` tells that server to stop.
+/// once one has run there: a server writes it before any other file of its store, so a folder that
+/// has such files and no mark has lost it. The file `stop` tells that server to stop.
 #[derive(Drop)]
 pub struct SystemFolders<R> {
     rt: R,
@@ -134,6 +137,26 @@ fn is_used<R: Files + AllocGlobal + Clone + Drop>(rt: &R, folder: &str) -> io::R
     Ok(false)
 }
 
+// Why a server isn't started over a folder, if it isn't.
+fn refusal_of<R: Files + AllocGlobal + Clone + Drop>(
+    rt: &R,
+    alloc: Global,
+    folder: &str,
+) -> Result<Option<Refusal>, AllocError> {
+    let mark = format!(in alloc; "{folder}/mark")?;
+    let new = format!(in alloc; "{folder}/new")?;
+    if stands(rt, mark.as_str()) {
+        return Ok(None);
+    }
+    if !stands(rt, new.as_str()) {
+        return Ok(Some(Refusal::NotMade));
+    }
+    match is_used(rt, folder) {
+        Ok(false) => Ok(None),
+        Ok(true) | Err(_) => Ok(Some(Refusal::Unmarked)),
+    }
+}
+
 // Makes a folder where there is none, but none above it.
 fn make_folder<R: Files>(rt: &R, folder: &str) -> io::Result<()> {
     match fs::create_dir(rt, folder) {
@@ -170,10 +193,8 @@ impl<R: Files<File = File> + AllocGlobal + Clone + Drop> Folders for SystemFolde
         disk: &mut D,
     ) -> Result<(), StoreFault> {
         let deed = self.plan(alloc, Deed::Entered, folder)?;
-        let mark = format!(in alloc; "{folder}/mark")?;
-        let new = format!(in alloc; "{folder}/new")?;
-        if !stands(&self.rt, mark.as_str()) && !stands(&self.rt, new.as_str()) {
-            return Err(self.refuse(Refusal::NotMade));
+        if let Some(refusal) = refusal_of(&self.rt, alloc, folder)? {
+            return Err(self.refuse(refusal));
         }
         match disk.attach(alloc, folder) {
             Ok(()) => {

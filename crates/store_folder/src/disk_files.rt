@@ -36,8 +36,8 @@ pub trait DiskFiles {
             (option_map (λ bytes. bytes.items) found)) };
 
     /// A file with these bytes takes the place of the one at a path, in one step and for sure: it
-    /// is written at the path `new` first.
-    fn replace(&mut self, new: &str, path: &str, bytes: &[u8]) -> Result<(), StoreFault>
+    /// is written at the path `next` first.
+    fn replace(&mut self, next: &str, path: &str, bytes: &[u8]) -> Result<(), StoreFault>
         ensures replaced { OnOk result (told self.new
             ≡ after_steps (Replaced path.now bytes.now ∷ []) (told self.old)) }
         ensures kept { OnErr result (told self.new ≡ told self.old) };

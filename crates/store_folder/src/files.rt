@@ -106,11 +106,11 @@ fn read_file<R: Files>(
 
 // A file with these bytes takes the place of the one at a path, in one step and for sure: it is
 // written at another path, synced and renamed.
-fn replace_file<R: Files>(rt: &R, new: &str, path: &str, bytes: &[u8]) -> io::Result<()> {
-    let mut file = File::create(rt, new)?;
+fn replace_file<R: Files>(rt: &R, next: &str, path: &str, bytes: &[u8]) -> io::Result<()> {
+    let mut file = File::create(rt, next)?;
     file.write_all(bytes)?;
     file.sync_all()?;
-    fs::rename(rt, new, path)
+    fs::rename(rt, next, path)
 }
 
 // Puts bytes behind those of a file that is there, for sure.
@@ -195,8 +195,8 @@ impl<R: Files<File = File> + AllocGlobal + Clone + Drop> DiskFiles for SystemFil
         read_file(&self.rt, alloc, path, most)
     }
 
-    fn replace(&mut self, new: &str, path: &str, bytes: &[u8]) -> Result<(), StoreFault> {
-        of_disk(replace_file(&self.rt, new, path, bytes))
+    fn replace(&mut self, next: &str, path: &str, bytes: &[u8]) -> Result<(), StoreFault> {
+        of_disk(replace_file(&self.rt, next, path, bytes))
     }
 
     fn append(&mut self, path: &str, bytes: &[u8]) -> Result<(), StoreFault> {

@@ -12,7 +12,7 @@ ghost use Rattle.store_folder.specs.Unsynced.{HasBlocks};
 use crate::cell_file::{LONGEST_FILE, read_cell_file, write_cell_file};
 use crate::disk_files::DiskFiles;
 use crate::mark_file::{LONGEST_MARK, read_mark_file, write_mark_file};
-use crate::names::{block_named, cell_path, journal_path, mark_path, new_path};
+use crate::names::{block_named, cell_path, journal_path, mark_path, next_path};
 use crate::unsynced::Unsynced;
 use harp_cells::{Cell, Key, Value};
 use harp_store::{Mark, StoreFault};
@@ -110,8 +110,8 @@ pub fn write_cell<F: DiskFiles>(
     match value {
         Some(value) => {
             let bytes = write_cell_file(alloc, value)?;
-            let new = new_path(alloc, folder)?;
-            files.replace(&new, &path, bytes.as_slice())
+            let next = next_path(alloc, folder)?;
+            files.replace(&next, &path, bytes.as_slice())
         }
         None => files.remove(&path),
     }
@@ -144,7 +144,7 @@ pub fn write_mark<F: DiskFiles>(
 {
     let bytes = write_mark_file(alloc, mark)?;
     let path = mark_path(alloc, folder)?;
-    let new = new_path(alloc, folder)?;
-    files.replace(&new, &path, &bytes)?;
+    let next = next_path(alloc, folder)?;
+    files.replace(&next, &path, &bytes)?;
     files.sync_folder(folder)
 }

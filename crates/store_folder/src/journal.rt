@@ -10,7 +10,7 @@ ghost use Rattle.store_journal.specs.Waiting.{NothingWaits, changes_in};
 
 use crate::disk_files::DiskFiles;
 use crate::folder;
-use crate::names::{journal_path, new_path};
+use crate::names::{journal_path, next_path};
 use crate::unsynced::Unsynced;
 use harp_cells::{Cell, Change};
 use harp_store::StoreFault;
@@ -70,9 +70,9 @@ fn begin<F: DiskFiles>(
 {
     let bytes = write_entry(alloc, changes)?;
     let path = journal_path(alloc, folder)?;
-    let new = new_path(alloc, folder)?;
+    let next = next_path(alloc, folder)?;
     files.sync_folder(folder)?;
-    files.replace(&new, &path, &bytes)?;
+    files.replace(&next, &path, &bytes)?;
     files.sync_folder(folder)?;
     Ok(Some(bytes.len() as u64))
 }

@@ -36,11 +36,11 @@ pub fn journal_path(alloc: Global, folder: &str) -> Result<String, AllocError>
     format!(in alloc; "{folder}/journal")
 }
 
-/// The path at which a new file is written, before it takes the place of the old one.
-pub fn new_path(alloc: Global, folder: &str) -> Result<String, AllocError>
-    ensures { IfOk result (λ path. string_bytes path ≡ in_folder folder.now (codes "new")) }
+/// The path at which a file is written that is to take the place of another.
+pub fn next_path(alloc: Global, folder: &str) -> Result<String, AllocError>
+    ensures { IfOk result (λ path. string_bytes path ≡ in_folder folder.now (codes "next")) }
 {
-    format!(in alloc; "{folder}/new")
+    format!(in alloc; "{folder}/next")
 }
 
 /// The object and the number of a block, by its file's name.

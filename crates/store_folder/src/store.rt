@@ -22,7 +22,7 @@ use std::alloc::{AllocError, Global};
 /// The folder has a file for each cell that isn't absent: `meta`, `object-N`, `block-N-I`,
 /// `slot-N-I`, `client-C`, `saved-P`, with the cell's numbers in decimal; each holds the spelling
 /// of the cell's value. The file `mark` holds the mark. A file is replaced in one step: it is
-/// written as `new`, synced and renamed. Other files are left alone.
+/// written as `next`, synced and renamed. Other files are left alone.
 ///
 /// Before the cells' files stands the `journal`. Puts and erasures stay in memory until `sync`
 /// writes all of them as one entry of it, which costs one sync of a file; a sync that fails keeps
