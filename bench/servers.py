@@ -1,22 +1,31 @@
 #!/usr/bin/env python3
 """What three running servers give under load and faults, in numbers.
 
-    python3 bench/servers.py PROGRAM [WORD..] [-- JOB ..]
+    python3 bench/servers.py server|node PROGRAM [WORD..] [-- JOB[=N] ..]
 
-starts three servers, each by `PROGRAM WORD.. node S PORT DIR TURNS`, over fresh folders below the
-one that TMPDIR names, for each of the jobs, or for all of them:
+starts three servers for each of the jobs, or for all of them, over fresh folders below the one that
+TMPDIR names, each by `PROGRAM WORD.. server S PORT DIR` over what `PROGRAM WORD.. init DIR` made,
+or by `PROGRAM WORD.. node S PORT DIR TURNS`. N takes the place of the number in the job's row:
 
-    mkdirs     one client makes directories for 30 s
-    updates    32 clients make directories for 30 s, 64 in each directory
-    writes     8 clients write blocks of 8 kB for 30 s
+    client     no server: how many calls this client asks in 5 seconds of one that only answers
+    mkdirs     one client makes directories for 60 s
+    updates    32 clients make directories for 120 s, 64 in each directory
+    lines      32 clients write 64 bytes at a time for 60 s
+    writes     8 clients write blocks of 8 kB for 60 s
     reads      32 clients ask for attributes for 10 s
-    starts     20 starts over fresh folders: until the first answer
-    kills      each server in turn is killed, 12 times in all, and started again 2 s later
-    halts      the leader is stopped for 0.5 to 8 s, 8 times (SIGSTOP), and goes on
+    starts     50 starts over fresh folders: until the first answer
+    kills      each server in turn is killed, 30 times in all, and started again 2 s later
+    halts      the leader is halted for 0.5 to 10 s, 12 times (SIGSTOP), and goes on
+    stops      all three are told to stop and started again, 20 times (`server` alone); before each
+               stop a server is killed at a random moment and started again
+    syncs      a data server is killed amid a sync, 200 times, and started again at once
 
 A line tells of each how many calls were answered and how many a second, how many were refused for
-want of room, and the longest time between two answers. No answer is compared: examples/nodes.py
-does that. It needs nothing but Python, which bounds what it can ask for.
+want of room, the longest time between two answers, and the longest time of one call; how many more
+views were tried; and what else the job is for. In `stops` and `syncs` each directory that was
+acknowledged must be there, with its number, and no other one. Elsewhere no answer is compared.
+
+It needs nothing but Python, which bounds what it can ask for: `client` tells by how much.
 """
 
 import os
@@ -24,248 +33,334 @@ import random
 import select
 import signal
 import socket
-import struct
 import sys
 import time
 
-sys.path.insert(0, os.path.join(os.path.dirname(os.path.abspath(__file__)), "..", "examples"))
-import nodes  # noqa: E402
+from load import BLOCK, LINE, Group, Load, create, getattr_of, lasts, mkdir_in, nodes, write
 
-LOG_FULL = 4
-GETATTR, WRITE, CREATE = 1, 8, 9
-LEFT = nodes.LEFT
-BLOCK = bytes(range(256)) * 32
-
-
-def mkdir_in(parent, name):
-    settings = struct.pack(">8I", 0o755, *[LEFT] * 7)
-    return struct.pack(">BIH", nodes.MKDIR, parent, len(name)) + name + settings
+CLIENTS = 32
+# How long a killed server is down, and a whole group is left alone, in seconds.
+DOWN, REST = 2.0, 1.0
+# In `syncs` directories are compared after so many kills.
+KILLS_TO_COMPARE = 20
 
 
-def create(name):
-    settings = struct.pack(">8I", 0o644, *[LEFT] * 7)
-    return struct.pack(">BIH", CREATE, nodes.ROOT, len(name)) + name + settings
-
-
-def write(file, offset):
-    return struct.pack(">BIIH", WRITE, file, offset, len(BLOCK)) + BLOCK
-
-
-def getattr_of(file):
-    return struct.pack(">BI", GETATTR, file)
-
-
-class Load:
-    """Clients that ask the next call as soon as one is answered, for some time."""
-
-    def __init__(self, port, count):
-        self.socket = socket.socket(socket.AF_INET, socket.SOCK_DGRAM)
-        self.socket.setsockopt(socket.SOL_SOCKET, socket.SO_RCVBUF, 1 << 22)
-        self.socket.bind(("127.0.0.1", 0))
-        self.port = port
-        self.clients = [nodes.Client(name, port, self.socket) for name in range(count)]
-        self.answered, self.full, self.gaps = 0, 0, []
-        self.last = time.monotonic()
-
-    def ask_for(self, seconds, next_call, take=lambda client, reply: None, meanwhile=lambda: None):
-        """Asks what `next_call` gives for a client; `take` is given each reply."""
-        end, self.last = time.monotonic() + seconds, time.monotonic()
-        for client in self.clients:
-            client.begin(next_call(client))
-        looked = 0.0
-        while (now := time.monotonic()) < end:
-            if now - looked > 0.02:
-                looked = now
-                meanwhile()
-                for client in self.clients:
-                    client.go_on()
-            if select.select([self.socket], [], [], 0.005)[0]:
-                self.receive(next_call, take)
-        for client in self.clients:
-            client.call = None
-
-    def receive(self, next_call, take):
-        datagram, (_, port) = self.socket.recvfrom(65_535)
-        name, number = struct.unpack_from(">IQ", datagram, 1)
-        client = self.clients[name]
-        if client.call is None or client.number != number:
-            return
-        if datagram[0] == nodes.CANNOT_SERVE:
-            self.full += datagram[13] == LOG_FULL
-            client.refused(port - self.port, datagram[13], datagram[14])
-            return
-        now = time.monotonic()
-        self.gaps.append(now - self.last)
-        self.last, self.answered, client.leader = now, self.answered + 1, port - self.port
-        take(client, datagram[21:])
-        client.begin(next_call(client))
-
-    def call(self, call):
-        """The reply to one call of the first client."""
-        replies = []
-        client = self.clients[0]
-        client.begin(call)
-        limit = time.monotonic() + nodes.CALL
-        while not replies:
-            if time.monotonic() > limit:
-                raise nodes.Wrong("a call had no answer")
-            client.go_on()
-            if select.select([self.socket], [], [], 0.005)[0]:
-                self.receive(lambda _: call, lambda _, reply: replies.append(reply))
-                if replies:
-                    client.call = None
-        return replies[0]
-
-    def told(self, seconds):
-        longest = max(self.gaps, default=seconds)
-        return (
-            f"{self.answered} answers, {self.answered / seconds:.0f} a second, {self.full} times"
-            f" no room, longest pause {longest:.2f} s"
-        )
-
-
-class Started:
-    """Three servers that answer."""
-
-    def __init__(self, program, clients):
-        self.servers = nodes.Servers(program)
-        self.servers.end = time.monotonic() + 3600
-        self.program, self.clients = program, clients
-
-    def __enter__(self):
-        for place in range(nodes.SERVERS):
-            self.servers.start(place)
-        self.load = Load(self.servers.port, self.clients)
-        begun = time.monotonic()
-        self.load.call(getattr_of(nodes.ROOT))
-        self.first = time.monotonic() - begun
-        self.load.answered, self.load.full, self.load.gaps = 0, 0, []
-        return self
-
-    def __exit__(self, *_):
-        self.servers.clear()
-
-
-def fresh_names():
+def numbered(prefix=b""):
+    """Names of which each is new."""
     number = 0
     while True:
         number += 1
-        yield b"%d" % number
+        yield prefix + b"%d" % number
 
 
-def mkdirs(program):
-    with Started(program, 1) as group:
-        names = fresh_names()
-        group.load.ask_for(30, lambda _: nodes.mkdir(next(names)))
-        return group.load.told(30)
+def views_told(group, before):
+    return f"{group.views() - before} more views were tried"
 
 
-def updates(program):
-    with Started(program, 32) as group:
-        parents, made = {}, {}
-
-        def next_call(client):
-            count = made[client.name] = made.get(client.name, -1) + 1
-            if count % 65 == 0:
-                parents.pop(client.name, None)
-            parent = parents.get(client.name, nodes.ROOT)
-            return mkdir_in(parent, b"%d-%d" % (client.name, count))
-
-        def take(client, reply):
-            if client.name not in parents and reply[0] == nodes.NODE:
-                parents[client.name] = nodes.node_in(reply)
-
-        group.load.ask_for(30, next_call, take)
-        return group.load.told(30)
+def loaded(group, seconds, next_call, take=lambda client, reply: None):
+    before = group.views()
+    group.load.ask_for(seconds, next_call, take)
+    return f"{group.load.told(seconds)}; {views_told(group, before)}"
 
 
-def writes(program):
-    with Started(program, 8) as group:
-        files = [nodes.node_in(group.load.call(create(b"%d" % n))) for n in range(8)]
-        counts = [0] * 8
-        group.load.answered, group.load.gaps = 0, []
+# ---- loads
+
+
+def mkdirs(form, program, seconds):
+    with Group(form, program, 1) as group:
+        names = numbered()
+        return loaded(group, seconds, lambda _: nodes.mkdir(next(names)))
+
+
+class Spread:
+    """Directories that clients make, 64 in each one."""
+
+    def __init__(self):
+        self.parents, self.made = {}, {}
+
+    def next_call(self, client):
+        count = self.made[client.name] = self.made.get(client.name, -1) + 1
+        if count % 65 == 0:
+            self.parents.pop(client.name, None)
+        parent = self.parents.get(client.name, nodes.ROOT)
+        return mkdir_in(parent, b"%d-%d" % (client.name, count))
+
+    def take(self, client, reply):
+        if client.name not in self.parents and reply[0] == nodes.NODE:
+            self.parents[client.name] = nodes.node_in(reply)
+
+
+def updates(form, program, seconds):
+    spread = Spread()
+    with Group(form, program, CLIENTS) as group:
+        return loaded(group, seconds, spread.next_call, spread.take)
+
+
+def written(form, program, seconds, count, data):
+    """So many clients write data behind data, each in 2 MB of a file of its own."""
+    with Group(form, program, count) as group:
+        files = [nodes.node_in(group.load.call(create(b"%d" % n))) for n in range(count)]
+        group.load.forget()
+        counts, places = [0] * count, (1 << 21) // len(data)
 
         def next_call(client):
             counts[client.name] += 1
-            return write(files[client.name], len(BLOCK) * (counts[client.name] % 256))
+            offset = len(data) * (counts[client.name] % places)
+            return write(files[client.name], offset, data)
 
-        group.load.ask_for(30, next_call)
-        return group.load.told(30)
-
-
-def reads(program):
-    with Started(program, 32) as group:
-        group.load.ask_for(10, lambda _: getattr_of(nodes.ROOT))
-        return group.load.told(10)
+        return loaded(group, seconds, next_call)
 
 
-def starts(program):
-    waits = []
-    for _ in range(20):
-        with Started(program, 1) as group:
+def lines(form, program, seconds):
+    return written(form, program, seconds, CLIENTS, LINE)
+
+
+def writes(form, program, seconds):
+    return written(form, program, seconds, 8, BLOCK)
+
+
+def reads(form, program, seconds):
+    with Group(form, program, CLIENTS) as group:
+        return loaded(group, seconds, lambda _: getattr_of(nodes.ROOT))
+
+
+def answer_all(sock):
+    """Answers each call with an object, without end."""
+    attributes = bytes(80)
+    while True:
+        if select.select([sock], [], [], 1.0)[0]:
+            ask, peer = sock.recvfrom(65_535)
+            sock.sendto(bytes([nodes.ANSWER]) + ask[1:13] + bytes(8) + attributes, peer)
+
+
+def client(form, program, seconds):
+    with socket.socket(socket.AF_INET, socket.SOCK_DGRAM) as sock:
+        sock.bind(("127.0.0.1", 0))
+        child = os.fork()
+        if child == 0:
+            answer_all(sock)
+        try:
+            load, names = Load(sock.getsockname()[1], CLIENTS), numbered()
+            load.ask_for(seconds, lambda _: nodes.mkdir(next(names)))
+            return load.told(seconds)
+        finally:
+            os.kill(child, signal.SIGKILL)
+            os.waitpid(child, 0)
+
+
+# ---- starts and faults
+
+
+def starts(form, program, count):
+    waits, tried = [], []
+    for _ in range(count):
+        with Group(form, program, 1) as group:
             waits.append(group.first)
-    return f"first answer after {min(waits):.1f} to {max(waits):.1f} s"
+            time.sleep(REST)
+            tried.append(group.views())
+    first = f"first answer after {min(waits):.2f} to {max(waits):.2f} s"
+    ones = sum(views == 1 for views in tried)
+    return f"{first}; {ones} of {count} in one view, {max(tried)} at most"
 
 
-def with_faults(program, seconds, fault):
-    with Started(program, 8) as group:
-        names = fresh_names()
-        group.load.ask_for(
-            seconds, lambda _: nodes.mkdir(next(names)), meanwhile=lambda: fault(group)
-        )
-        return group.load.told(seconds)
+def with_faults(form, program, script):
+    """Eight clients make directories, each at most 50 a second, while a script goes on that tells
+    how long calls had no answer behind each of its faults."""
+    with Group(form, program, 8) as group:
+        spread, aways, before = Spread(), [], group.views()
+        begun = time.monotonic()
+        group.load.drive(script(group, aways), spread.next_call, spread.take, is_spaced=True)
+        seconds = time.monotonic() - begun
+        shown = " ".join(f"{away:.1f}" for away in aways)
+        told = f"{group.load.told(seconds)}; {views_told(group, before)}"
+        return f"{told}; away {max(aways):.2f} s at most: {shown}"
 
 
-def kills(program):
-    turn = {"at": time.monotonic() + 8, "place": 0, "down": None}
+def kills(form, program, count):
+    def script(group, aways):
+        yield from lasts(2 * REST)
+        for turn in range(count):
+            moment = time.monotonic()
+            group.servers.kill(turn % nodes.SERVERS)
+            yield from lasts(DOWN)
+            group.servers.start(turn % nodes.SERVERS)
+            yield from lasts(REST)
+            yield from group.mends()
+            yield from lasts(2 * REST)
+            aways.append(group.load.away_behind(moment, time.monotonic()))
 
-    def fault(group):
-        now = time.monotonic()
-        if turn["down"] is None and now >= turn["at"]:
-            group.servers.kill(turn["place"])
-            turn.update(down=turn["place"], place=(turn["place"] + 1) % nodes.SERVERS, at=now + 2)
-        elif turn["down"] is not None and now >= turn["at"]:
-            group.servers.start(turn["down"])
-            turn.update(down=None, at=now + 8)
-
-    return with_faults(program, 12 * 10 + 8, fault)
-
-
-def halts(program):
-    turn = {"at": time.monotonic() + 8, "halted": None, "count": 0}
-
-    def fault(group):
-        now = time.monotonic()
-        if turn["halted"] is None and now >= turn["at"] and turn["count"] < 8:
-            leader = group.load.clients[0].leader
-            server = group.servers.running[leader]
-            server.send_signal(signal.SIGSTOP)
-            length = 0.5 + 7.5 * turn["count"] / 7
-            turn.update(halted=server, count=turn["count"] + 1, at=now + length)
-        elif turn["halted"] is not None and now >= turn["at"]:
-            turn["halted"].send_signal(signal.SIGCONT)
-            turn.update(halted=None, at=now + 8)
-
-    return with_faults(program, 8 * 14, fault)
+    return with_faults(form, program, script)
 
 
-JOBS = {job.__name__: job for job in (mkdirs, updates, writes, reads, starts, kills, halts)}
+def halts(form, program, count):
+    def script(group, aways):
+        yield from lasts(2 * REST)
+        for turn in range(count):
+            place = group.load.clients[0].leader
+            group.halt(place)
+            yield from lasts(0.5 + 9.5 * turn / max(1, count - 1))
+            group.go_on(place)
+            moment = time.monotonic()
+            yield from lasts(2 * REST)
+            yield from group.mends()
+            yield from lasts(2 * REST)
+            aways.append(group.load.away_behind(moment, time.monotonic()))
+
+    return with_faults(form, program, script)
+
+
+# ---- what was acknowledged is there
+
+
+class Book:
+    """The directories that were acknowledged, each with its number."""
+
+    def __init__(self):
+        self.names, self.asked, self.made = numbered(), {}, {}
+
+    def next_call(self, client):
+        self.asked[client.name] = next(self.names)
+        return nodes.mkdir(self.asked[client.name])
+
+    def take(self, client, reply):
+        self.made[self.asked[client.name]] = nodes.node_in(reply)
+
+    def drive(self, group, script):
+        """Makes directories while a script goes on, and compares them all."""
+        group.load.drive(script, self.next_call, self.take, is_spaced=True)
+        nodes.compare(self.made, group.load.listed(), "listing")
+        group.load.forget()
+
+
+def stops(form, program, count):
+    if form != "server":
+        return "a server of this form isn't told to stop"
+    longest, waits = [], []
+
+    def script(group, is_mended):
+        yield from lasts(random.uniform(0.5, 2))
+        place = random.randrange(nodes.SERVERS)
+        group.servers.kill(place)
+        yield from lasts(random.uniform(0, 2))
+        group.servers.start(place)
+        if is_mended:
+            yield from lasts(REST)
+            yield from group.mends()
+        yield from lasts(random.uniform(0, 2))
+        longest.append(group.servers.stop_all())
+        group.servers.start_all()
+        begun = time.monotonic()
+        while group.load.last < begun:
+            yield
+        waits.append(time.monotonic() - begun)
+        yield from group.mends()
+        yield from lasts(REST)
+
+    with Group(form, program, 2) as group:
+        book = Book()
+        for turn in range(count):
+            book.drive(group, script(group, turn % 2 == 0))
+        told = f"{len(book.made)} directories made and found, {count} times stopped"
+        told += f"; a stop took {max(longest):.2f} s at most"
+        return f"{told}, and the first answer behind it {max(waits):.2f} s"
+
+
+def journal_length(folder):
+    try:
+        return os.stat(os.path.join(folder, "journal")).st_size
+    except OSError:
+        return 0
+
+
+def is_amid_sync(folder, length):
+    return os.path.exists(os.path.join(folder, "new")) or journal_length(folder) != length
+
+
+def kill_amid_sync(folder, server):
+    """Kills a server once a sync begins in its folder, or 3 seconds are over."""
+    length, end = journal_length(folder), time.monotonic() + 3
+    while time.monotonic() < end and not is_amid_sync(folder, length):
+        time.sleep(0.0002)
+    time.sleep(random.uniform(0, 0.03))
+    os.kill(server, signal.SIGKILL)
+
+
+def killer(folder, server):
+    """A process of its own that does so. It is there until it is waited for."""
+    child = os.fork()
+    if child == 0:
+        kill_amid_sync(folder, server)
+        os._exit(0)
+    return child
+
+
+def syncs(form, program, count):
+    amid = []
+
+    def script(group, first, behind):
+        for turn in range(first, behind):
+            yield from lasts(random.uniform(0, 0.5))
+            place = turn % nodes.WITNESS
+            folder = group.servers.place(place)
+            child = killer(folder, group.servers.running[place].pid)
+            while os.waitpid(child, os.WNOHANG) == (0, 0):
+                yield
+            group.servers.kill(place)
+            amid.append(os.path.exists(os.path.join(folder, "new")))
+            group.servers.start(place)
+            yield from lasts(REST)
+            yield from group.mends()
+
+    with Group(form, program, 2) as group:
+        book, before = Book(), group.views()
+        for first in range(0, count, KILLS_TO_COMPARE):
+            behind = min(count, first + KILLS_TO_COMPARE)
+            book.drive(group, script(group, first, behind))
+        told = f"{len(book.made)} directories made and found, {count} kills"
+        return f"{told}, {sum(amid)} of them amid a file of a cell; {views_told(group, before)}"
+
+
+JOBS = {
+    client: 5,
+    mkdirs: 60,
+    updates: 120,
+    lines: 60,
+    writes: 60,
+    reads: 10,
+    starts: 50,
+    kills: 30,
+    halts: 12,
+    stops: 20,
+    syncs: 200,
+}
+NAMED = {job.__name__: job for job in JOBS}
+
+
+def jobs_of(words):
+    """Each job with its number. None where a word is no job."""
+    jobs = []
+    for word in words or NAMED:
+        name, _, number = word.partition("=")
+        if name not in NAMED or not number.isdecimal() and number != "":
+            return None
+        jobs.append((NAMED[name], int(number or JOBS[NAMED[name]])))
+    return jobs
 
 
 def main():
     words = sys.argv[1:]
-    program = words[: words.index("--")] if "--" in words else words
-    wanted = words[len(program) + 1 :] or list(JOBS)
-    if not program or any(job not in JOBS for job in wanted):
+    behind = words.index("--") if "--" in words else len(words)
+    jobs = jobs_of(words[behind + 1 :])
+    if behind < 2 or words[0] not in nodes.FORMS or jobs is None:
         print(__doc__)
         return 2
-    random.seed()
     signal.signal(signal.SIGTERM, lambda *_: sys.exit(1))
-    for job in wanted:
+    for job, number in jobs:
         try:
-            print(f"{job}: {JOBS[job](program)}", flush=True)
+            told = job(words[0], words[1:behind], number)
         except (nodes.Wrong, OSError) as fault:
-            print(f"{job}: failed: {fault}", flush=True)
+            told = f"failed: {fault}"
+        print(f"{job.__name__}: {told}", flush=True)
     return 0
 
 

@@ -1,13 +1,20 @@
 #!/usr/bin/env python3
-"""Three servers that are killed in turn, and clients that lose nothing.
+"""Three servers that are killed in turn and stopped, and clients that lose nothing.
 
-    python3 examples/nodes.py PROGRAM [WORD..]
+    python3 examples/nodes.py node PROGRAM [WORD..]
+    python3 examples/nodes.py server PROGRAM [WORD..]
 
-starts three servers, each by `PROGRAM WORD.. node S PORT DIR TURNS`, on free ports of this machine
-and over fresh folders. Eight clients make 2,000 directories through whichever server leads.
-Meanwhile each server is killed in turn (SIGKILL), and started again a second later. In the end each
-directory that was acknowledged must be there, with the number that it was acknowledged with, and no
-other one. A line tells how it went; the exit status is 0 where all is well, else 1.
+starts three servers on free ports of this machine and over fresh folders, each by `PROGRAM WORD..
+node S PORT DIR TURNS`, or by `PROGRAM WORD.. server S PORT DIR` over what `PROGRAM WORD.. init DIR`
+made. Eight clients make 2,000 directories through whichever server leads. Meanwhile each server is
+killed in turn (SIGKILL), and started again a second later. In the end each directory that was
+acknowledged must be there, with the number that it was acknowledged with, and no other one.
+
+Servers of `server` then go on: all three are told to stop by a file `stop` in each folder, and each
+must end with status 0, say what it did, and take the file away. They are started again, one is
+killed while more directories are made, and all three are stopped and started once more. Each time
+each directory must be there. A line tells how it went; the exit status is 0 where all is well, else
+1.
 
 It needs nothing but Python. How messages are spelled: docs/FORMATS.md.
 """
@@ -25,16 +32,22 @@ import tempfile
 import time
 
 SERVERS = 3
+WITNESS = 2
 CLIENTS = 8
-DIRECTORIES = 2000
 TURNS = 10**9
+
+# How many directories are made at first, and how many more once all servers were stopped.
+DIRECTORIES, MORE = 2000, 600
 
 # In seconds: when a call is asked again after a refusal, and after silence, which doubles each time
 # up to a bound; how long a killed server is down, and how long it then has to be taken in again;
-# how long a call may take in all, and the whole run.
+# how long a stop may take, a call in all, and the whole run.
 PAUSE, SILENCE, LONG_SILENCE = 0.02, 0.25, 2.0
 DOWN, REPAIR = 1.0, 6.0
-CALL, RUN = 40.0, 105.0
+STOP, CALL, RUN = 10.0, 40.0, 105.0
+
+# The status of a server whose folder is refused.
+FOLDER_REFUSED = 7
 
 # ---- messages
 
@@ -112,7 +125,7 @@ def free_port():
 
 
 class Servers:
-    """Three processes, each over its own folder."""
+    """Three processes of `node`, each over its own folder."""
 
     def __init__(self, program):
         self.program = program
@@ -121,10 +134,24 @@ class Servers:
         self.folder = tempfile.mkdtemp(prefix="harp-nodes-")
         self.running = {}
 
+    def place(self, place):
+        return os.path.join(self.folder, str(place))
+
+    def said(self, place):
+        """The file of what a server says on its standard output, of its last life."""
+        return os.path.join(self.folder, f"said-{place}")
+
+    def words(self, place):
+        return ["node", str(place), str(self.port), self.place(place), str(TURNS)]
+
     def start(self, place):
-        folder = os.path.join(self.folder, str(place))
-        words = ["node", str(place), str(self.port), folder, str(TURNS)]
-        self.running[place] = subprocess.Popen([*self.program, *words])
+        with open(self.said(place), "wb") as said:
+            words = [*self.program, *self.words(place)]
+            self.running[place] = subprocess.Popen(words, stdout=said)
+
+    def start_all(self):
+        for place in range(SERVERS):
+            self.start(place)
 
     def kill(self, place):
         server = self.running.pop(place)
@@ -145,6 +172,56 @@ class Servers:
         shutil.rmtree(self.folder, ignore_errors=True)
 
 
+class Stayers(Servers):
+    """Three processes of `server`, which stay up until they are told to stop."""
+
+    def __init__(self, program):
+        super().__init__(program)
+        for place in range(SERVERS):
+            subprocess.run([*program, "init", self.place(place)], check=True)
+
+    def words(self, place):
+        return ["server", str(place), str(self.port), self.place(place)]
+
+    def stop_all(self):
+        """Tells all of them to stop, and looks how they end. Gives how long it took."""
+        began = time.monotonic()
+        for place in range(SERVERS):
+            with open(os.path.join(self.place(place), "stop"), "wb"):
+                pass
+        for place in range(SERVERS):
+            self.ended(place, self.running.pop(place))
+        return time.monotonic() - began
+
+    def ended(self, place, server):
+        try:
+            status = server.wait(timeout=STOP)
+        except subprocess.TimeoutExpired:
+            server.kill()
+            server.wait()
+            raise Wrong(f"server {place} didn't stop within {STOP:.0f} seconds") from None
+        if status != 0:
+            raise Wrong(f"server {place}, told to stop, ended with {status}")
+        with open(self.said(place), "rb") as said:
+            last = said.read().splitlines()[-1:]
+        if not last or not last[0].startswith(b"stopped turns "):
+            raise Wrong(f"server {place} said {last} when it was told to stop")
+        if os.path.exists(os.path.join(self.place(place), "stop")):
+            raise Wrong(f"server {place} left its file `stop`")
+
+    def refuse(self):
+        """A server over a folder that was never made is refused, and so is making a used one."""
+        nowhere = os.path.join(self.folder, "nowhere")
+        if self.status("server", "0", str(self.port), nowhere) != FOLDER_REFUSED:
+            raise Wrong("a server runs over a folder that was never made")
+        if self.status("init", self.place(0)) != FOLDER_REFUSED:
+            raise Wrong("a folder in which a server ran is made for one")
+
+    def status(self, *words):
+        ended = subprocess.run([*self.program, *words], stderr=subprocess.DEVNULL, check=False)
+        return ended.returncode
+
+
 class Failure:
     """A server that is killed once so many calls were answered, and then started again."""
 
@@ -163,8 +240,9 @@ class Failure:
             self.started = now
 
     def wait(self):
-        """Until the server had the time to be taken in again."""
-        while not self.started or time.monotonic() < self.started + REPAIR:
+        """Until the server had the time to be taken in again, which the witness doesn't need."""
+        repair = 0.0 if self.place == WITNESS else REPAIR
+        while not self.started or time.monotonic() < self.started + repair:
             self.go_on(self.after)
             time.sleep(0.05)
 
@@ -253,20 +331,14 @@ class Clients:
 # ---- the run
 
 
-def make(servers, clients):
-    """Makes the directories, while each server fails in turn. Gives each one's number by name."""
-    names = [b"%d" % n for n in range(DIRECTORIES)]
-    part = DIRECTORIES // (SERVERS + 1)
-    made = {}
-    for place in range(SERVERS + 1):
-        some = names[place * part : (place + 1) * part]
-        failure = Failure(servers, place, part // 2) if place < SERVERS else None
-        go_on = failure.go_on if failure else lambda answered: servers.watch()
-        replies = clients.replies([mkdir(name) for name in some], go_on)
-        made.update(zip(some, map(node_in, replies)))
-        if failure:
-            failure.wait()
-    return made
+def make(servers, clients, names, fails):
+    """Makes directories, while a server fails, if any. Gives each one's number by name."""
+    failure = None if fails is None else Failure(servers, fails, len(names) // 2)
+    go_on = failure.go_on if failure else lambda answered: servers.watch()
+    replies = clients.replies([mkdir(name) for name in names], go_on)
+    if failure:
+        failure.wait()
+    return dict(zip(names, map(node_in, replies)))
 
 
 def listed(clients):
@@ -287,35 +359,68 @@ def compare(made, found, how):
         raise Wrong(f"{how}: {wrong} directories are lost or others, {more} were never made")
 
 
-def run(program):
-    servers = Servers(program)
+def look(servers, clients, made):
+    """Looks for each directory by its name, and lists them all."""
+    replies = clients.replies(list(map(lookup, made)), lambda answered: servers.watch())
+    compare(made, dict(zip(made, map(node_in, replies))), "lookups")
+    compare(made, listed(clients), "listing")
+
+
+def kill_in_turn(servers, clients):
+    """Makes directories while each server fails in turn, and then some more."""
+    part, made = DIRECTORIES // (SERVERS + 1), {}
+    for turn, fails in enumerate([*range(SERVERS), None]):
+        names = [b"%d" % n for n in range(turn * part, (turn + 1) * part)]
+        made.update(make(servers, clients, names, fails))
+    return made
+
+
+def stop_and_start(servers, clients, made):
+    """Stops all of them and starts them again, twice. Gives how long a stop took at most."""
+    longest = servers.stop_all()
+    servers.refuse()
+    servers.start_all()
+    compare(made, listed(clients), "listing after the first stop")
+    made.update(make(servers, clients, [b"more%d" % n for n in range(MORE)], 0))
+    longest = max(longest, servers.stop_all())
+    servers.start_all()
+    look(servers, clients, made)
+    return max(longest, servers.stop_all())
+
+
+def run(form, program):
+    """Gives what was done, in words."""
+    servers = FORMS[form](program)
     try:
-        for place in range(SERVERS):
-            servers.start(place)
+        servers.start_all()
         clients = Clients(servers.port)
-        made = make(servers, clients)
-        replies = clients.replies(list(map(lookup, made)), lambda answered: servers.watch())
-        compare(made, dict(zip(made, map(node_in, replies))), "lookups")
-        compare(made, listed(clients), "listing")
-        return len(made)
+        made = kill_in_turn(servers, clients)
+        look(servers, clients, made)
+        stops = ""
+        if form == "server":
+            longest = stop_and_start(servers, clients, made)
+            stops = f", three times all stopped, in {longest:.1f} s at most"
+        return f"{len(made)} directories made and found, {SERVERS} servers killed{stops}"
     finally:
         servers.clear()
 
 
+FORMS = {"node": Servers, "server": Stayers}
+
+
 def main():
-    if len(sys.argv) < 2:
-        print("usage: nodes.py PROGRAM [WORD..]")
+    if len(sys.argv) < 3 or sys.argv[1] not in FORMS:
+        print("usage: nodes.py node|server PROGRAM [WORD..]")
         return 1
-    began = time.monotonic()
+    form, began = sys.argv[1], time.monotonic()
     # Whoever ends this ends the servers too.
     signal.signal(signal.SIGTERM, lambda *_: sys.exit(1))
     try:
-        made = run(sys.argv[1:])
-    except (Wrong, OSError) as fault:
-        print(f"nodes: failed: {fault}")
+        done = run(form, sys.argv[2:])
+    except (Wrong, OSError, subprocess.CalledProcessError) as fault:
+        print(f"nodes: {form}: failed: {fault}")
         return 1
-    seconds = time.monotonic() - began
-    print(f"nodes: {made} directories made and found, {SERVERS} servers killed, {seconds:.0f} s")
+    print(f"nodes: {form}: {done}, {time.monotonic() - began:.0f} s")
     return 0
 
 
