@@ -8,8 +8,9 @@ TMPDIR names, each by `PROGRAM WORD.. server S PORT DIR` over what `PROGRAM WORD
 or by `PROGRAM WORD.. node S PORT DIR TURNS`. N takes the place of the number in the job's row:
 
     client     no server: how many calls this client asks in 5 seconds of one that only answers
-    mkdirs     one client makes directories for 60 s
-    updates    32 clients make directories for 120 s, 64 in each directory
+    mkdirs     one client makes directories for 60 s, 64 in each directory
+    updates    32 clients do so for 120 s
+    crowd      one client makes directories for 30 s, all in the root
     lines      32 clients write 64 bytes at a time for 60 s
     writes     8 clients write blocks of 8 kB for 60 s
     reads      32 clients ask for attributes for 10 s
@@ -66,34 +67,40 @@ def loaded(group, seconds, next_call, take=lambda client, reply: None):
 # ---- loads
 
 
-def mkdirs(form, program, seconds):
+def crowd(form, program, seconds):
     with Group(form, program, 1) as group:
         names = numbered()
         return loaded(group, seconds, lambda _: nodes.mkdir(next(names)))
 
 
 class Spread:
-    """Directories that clients make, 64 in each one."""
+    """Directories that clients make: each client 64 in one, the last of which has the next ones."""
 
     def __init__(self):
         self.parents, self.made = {}, {}
 
     def next_call(self, client):
         count = self.made[client.name] = self.made.get(client.name, -1) + 1
-        if count % 65 == 0:
-            self.parents.pop(client.name, None)
         parent = self.parents.get(client.name, nodes.ROOT)
         return mkdir_in(parent, b"%d-%d" % (client.name, count))
 
     def take(self, client, reply):
-        if client.name not in self.parents and reply[0] == nodes.NODE:
+        if self.made[client.name] % 64 == 0:
             self.parents[client.name] = nodes.node_in(reply)
 
 
-def updates(form, program, seconds):
+def spread_over(form, program, seconds, count):
     spread = Spread()
-    with Group(form, program, CLIENTS) as group:
+    with Group(form, program, count) as group:
         return loaded(group, seconds, spread.next_call, spread.take)
+
+
+def mkdirs(form, program, seconds):
+    return spread_over(form, program, seconds, 1)
+
+
+def updates(form, program, seconds):
+    return spread_over(form, program, seconds, CLIENTS)
 
 
 def written(form, program, seconds, count, data):
@@ -265,20 +272,26 @@ def stops(form, program, count):
         return f"{told}, and the first answer behind it {max(waits):.2f} s"
 
 
-def journal_length(folder):
+def length_of(folder, name):
+    """The length of a file, 0 where there is none."""
     try:
-        return os.stat(os.path.join(folder, "journal")).st_size
+        return os.stat(os.path.join(folder, name)).st_size
     except OSError:
         return 0
 
 
+def is_amid_file(folder):
+    """Whether a file is there that is about to take the place of another one."""
+    return any(length_of(folder, name) > 0 for name in ("new", "next"))
+
+
 def is_amid_sync(folder, length):
-    return os.path.exists(os.path.join(folder, "new")) or journal_length(folder) != length
+    return is_amid_file(folder) or length_of(folder, "journal") != length
 
 
 def kill_amid_sync(folder, server):
     """Kills a server once a sync begins in its folder, or 3 seconds are over."""
-    length, end = journal_length(folder), time.monotonic() + 3
+    length, end = length_of(folder, "journal"), time.monotonic() + 3
     while time.monotonic() < end and not is_amid_sync(folder, length):
         time.sleep(0.0002)
     time.sleep(random.uniform(0, 0.03))
@@ -306,7 +319,7 @@ def syncs(form, program, count):
             while os.waitpid(child, os.WNOHANG) == (0, 0):
                 yield
             group.servers.kill(place)
-            amid.append(os.path.exists(os.path.join(folder, "new")))
+            amid.append(is_amid_file(folder))
             group.servers.start(place)
             yield from lasts(REST)
             yield from group.mends()
@@ -317,13 +330,14 @@ def syncs(form, program, count):
             behind = min(count, first + KILLS_TO_COMPARE)
             book.drive(group, script(group, first, behind))
         told = f"{len(book.made)} directories made and found, {count} kills"
-        return f"{told}, {sum(amid)} of them amid a file of a cell; {views_told(group, before)}"
+        return f"{told}, {sum(amid)} of them amid a file; {views_told(group, before)}"
 
 
 JOBS = {
     client: 5,
     mkdirs: 60,
     updates: 120,
+    crowd: 30,
     lines: 60,
     writes: 60,
     reads: 10,
