@@ -232,9 +232,17 @@ class Group:
         (promised, accepted, _), roles = marks[0], [role for _, _, role in marks]
         return marks[1][:2] == (promised, accepted) and promised == accepted and all(roles)
 
-    def mends(self):
-        """A script that goes on until the group is whole."""
-        yield from until(self.is_whole, 40.0)
+    def fail(self, place):
+        """Kills a server. Gives how many views were tried before the group may be whole again: one
+        more where a data server lost its log."""
+        before = self.views() if place < nodes.WITNESS else 0
+        self.servers.kill(place)
+        return before
+
+    def mends(self, before=0):
+        """A script that goes on until the group is whole, once more views were tried than so
+        many."""
+        yield from until(lambda: self.views() > before and self.is_whole(), 40.0)
 
     def signal(self, place, number):
         self.servers.running[place].send_signal(number)

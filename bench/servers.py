@@ -9,9 +9,9 @@ or by `PROGRAM WORD.. node S PORT DIR TURNS`. N takes the place of the number in
 
     client     no server: how many calls this client asks in 5 seconds of one that only answers
     mkdirs     one client makes directories for 60 s, 64 in each directory
-    updates    32 clients do so for 120 s
+    makes      32 clients do so for 30 s; a tree is full of some 840,000
     crowd      one client makes directories for 30 s, all in the root
-    lines      32 clients write 64 bytes at a time for 60 s
+    updates    32 clients write 64 bytes at a time for 120 s
     writes     8 clients write blocks of 8 kB for 60 s
     reads      32 clients ask for attributes for 10 s
     starts     50 starts over fresh folders: until the first answer
@@ -99,7 +99,7 @@ def mkdirs(form, program, seconds):
     return spread_over(form, program, seconds, 1)
 
 
-def updates(form, program, seconds):
+def makes(form, program, seconds):
     return spread_over(form, program, seconds, CLIENTS)
 
 
@@ -118,7 +118,7 @@ def written(form, program, seconds, count, data):
         return loaded(group, seconds, next_call)
 
 
-def lines(form, program, seconds):
+def updates(form, program, seconds):
     return written(form, program, seconds, CLIENTS, LINE)
 
 
@@ -188,11 +188,11 @@ def kills(form, program, count):
         yield from lasts(2 * REST)
         for turn in range(count):
             moment = time.monotonic()
-            group.servers.kill(turn % nodes.SERVERS)
+            before = group.fail(turn % nodes.SERVERS)
             yield from lasts(DOWN)
             group.servers.start(turn % nodes.SERVERS)
             yield from lasts(REST)
-            yield from group.mends()
+            yield from group.mends(before)
             yield from lasts(2 * REST)
             aways.append(group.load.away_behind(moment, time.monotonic()))
 
@@ -247,12 +247,12 @@ def stops(form, program, count):
     def script(group, is_mended):
         yield from lasts(random.uniform(0.5, 2))
         place = random.randrange(nodes.SERVERS)
-        group.servers.kill(place)
+        before = group.fail(place)
         yield from lasts(random.uniform(0, 2))
         group.servers.start(place)
         if is_mended:
             yield from lasts(REST)
-            yield from group.mends()
+            yield from group.mends(before)
         yield from lasts(random.uniform(0, 2))
         longest.append(group.servers.stop_all())
         group.servers.start_all()
@@ -318,11 +318,11 @@ def syncs(form, program, count):
             child = killer(folder, group.servers.running[place].pid)
             while os.waitpid(child, os.WNOHANG) == (0, 0):
                 yield
-            group.servers.kill(place)
+            before = group.fail(place)
             amid.append(is_amid_file(folder))
             group.servers.start(place)
-            yield from lasts(REST)
-            yield from group.mends()
+            yield from group.mends(before)
+            yield from lasts(0.2 * REST)
 
     with Group(form, program, 2) as group:
         book, before = Book(), group.views()
@@ -336,9 +336,9 @@ def syncs(form, program, count):
 JOBS = {
     client: 5,
     mkdirs: 60,
-    updates: 120,
+    makes: 30,
     crowd: 30,
-    lines: 60,
+    updates: 120,
     writes: 60,
     reads: 10,
     starts: 50,
