@@ -131,6 +131,23 @@ def one_line_too_many(tries):
     tries.expect_run("a line too many", ["play"], REFUSED_LINE, trace, schedule)
 
 
+def refused_places(tries):
+    """Standard error says where a line is no step any more, if it is out of the grammar."""
+    told = "harp: a line is refused, which the last line of the output names"
+    comment = b"# " + b"x" * 9_000 + b"\n"
+    for name, word, text, place in (
+        ("no server", "play", b"tick 0\ntick 9\n", 6),
+        ("no form", "play", b"ticket\n", 5),
+        ("cut off", "play", b"tick", 5),
+        ("behind much", "play", comment * 30 + b"tick 9\n" + comment, 6),
+        ("observed", "observe", b"look 0\n", 2),
+        ("no packet", "play", b"deliver 7\ntick 9\n", None),
+    ):
+        end = "" if place is None else f"; it is no step from byte {place} on"
+        tries.run([word], text)
+        tries.expect(f"the place, {name}", f"{told}{end}\n", tries.reason)
+
+
 def full_log(tries):
     """Updates that no partner acknowledges fill the log, and one more is refused."""
     with open(os.path.join(TOP, "examples", "one_update.stdout"), "rb") as file:
@@ -266,6 +283,7 @@ def main():
             files,
             same_sweep_again,
             one_line_too_many,
+            refused_places,
             full_log,
             played_line_by_line,
             a_group,

@@ -7,8 +7,10 @@
 #![tactic(auto)]
 
 mod reason;
+mod refused_line;
 
 use crate::reason::Ended;
+use crate::refused_line::Latest;
 use harp_cli::{Exit, harp};
 use harp_store::Store;
 use harp_types::{ReaderSource, ServerId, Sink, Source, Trio, WriterSink};
@@ -42,10 +44,14 @@ fn words<R: Env + AllocGlobal>(rt: &R) -> io::Result<Vec<String>> {
 #[derive(Drop)]
 struct SharedOutput<'a, W> {
     output: &'a RefCell<W>,
+    latest: &'a RefCell<Latest>,
 }
 
 impl<'a, W: Write> Write for SharedOutput<'a, W> {
     fn write(&mut self, piece: &[u8]) -> io::Result<usize> {
+        if let Ok(mut latest) = self.latest.try_borrow_mut() {
+            latest.give(piece);
+        }
         match self.output.try_borrow_mut() {
             Ok(mut output) => output.write(piece),
             Err(_) => Err(io::Error::from(ErrorKind::Other)),
@@ -66,6 +72,8 @@ impl<'a, W: Write> Write for SharedOutput<'a, W> {
 struct AnsweredInput<'a, R, W> {
     input: R,
     output: &'a RefCell<W>,
+    latest: &'a RefCell<Latest>,
+    alloc: Global,
 }
 
 impl<'a, R: Read, W: Write> Read for AnsweredInput<'a, R, W> {
@@ -74,7 +82,13 @@ impl<'a, R: Read, W: Write> Read for AnsweredInput<'a, R, W> {
         if let Ok(mut output) = self.output.try_borrow_mut() {
             let _ = output.flush();
         }
-        self.input.read(piece)
+        let count = self.input.read(piece)?;
+        if let Ok(mut latest) = self.latest.try_borrow_mut()
+            && let Some(read) = piece.get(..count)
+        {
+            latest.take(self.alloc, read);
+        }
+        Ok(count)
     }
 }
 
@@ -125,18 +139,35 @@ fn failed<F>(disks: &Trio<FolderStore<F>>) -> Option<ServerId> {
     }
 }
 
+/// The byte, from 0, at which the line that a play refused is no step's any more.
+fn place(latest: &RefCell<Latest>, alloc: Global, words: &[String]) -> Option<usize> {
+    let name = words.first()?.as_str();
+    match latest.try_borrow() {
+        Ok(latest) if name == "play" => latest.place(alloc, false),
+        Ok(latest) if name == "observe" => latest.place(alloc, true),
+        _ => None,
+    }
+}
+
 /// Does what the words say, writes to the output, and returns how that ended.
 fn run<'w, R, W: Write>(rt: &R, output: &RefCell<W>, words: &'w [String]) -> Ended<'w>
 where
     R: Input + Files<File = File> + Net + Threads + DayClock + AllocGlobal + Sync,
     R::Reader: Drop,
 {
+    let alloc = rt.alloc();
+    let latest = RefCell::new(Latest::new(alloc));
     let mut outside = Outside {
         source: ReaderSource::new(AnsweredInput {
             input: rt.reader(),
             output,
+            latest: &latest,
+            alloc,
         }),
-        sink: WriterSink::new(SharedOutput { output }),
+        sink: WriterSink::new(SharedOutput {
+            output,
+            latest: &latest,
+        }),
         link: UdpLink::new(rt),
         disks: Trio {
             zero: FolderStore::new(rt),
@@ -145,11 +176,12 @@ where
         },
         clock: WallClock::new(rt),
     };
-    let status = outside.status_of(rt, rt.alloc(), words);
+    let status = outside.status_of(rt, alloc, words);
     Ended {
         words,
         status,
         failed: failed(&outside.disks),
+        place: place(&latest, alloc, words),
     }
 }
 

@@ -4,12 +4,14 @@ use harp_cli::{Exit, word_fault};
 use harp_types::ServerId;
 use std::fmt;
 
-/// How a run of these words ended: its status, and the disk that failed, if one did.
+/// How a run of these words ended: its status, the disk that failed, if one did, and the byte, from
+/// 0, at which a line was out of the grammar, if one was.
 #[derive(Clone, Copy)]
 pub(crate) struct Ended<'a> {
     pub(crate) words: &'a [String],
     pub(crate) status: u8,
     pub(crate) failed: Option<ServerId>,
+    pub(crate) place: Option<usize>,
 }
 
 impl<'a> Ended<'a> {
@@ -81,7 +83,15 @@ impl<'a> Ended<'a> {
             write!(
                 f,
                 "a line is refused, which the last line of the output names"
-            )
+            )?;
+            match self.place {
+                Some(place) => write!(
+                    f,
+                    "; it is no step from byte {} on",
+                    place.saturating_add(1)
+                ),
+                None => Ok(()),
+            }
         }
     }
 
