@@ -157,32 +157,38 @@ where
 {
     let alloc = rt.alloc();
     let latest = RefCell::new(Latest::new(alloc));
-    let mut outside = Outside {
-        source: ReaderSource::new(AnsweredInput {
-            input: rt.reader(),
-            output,
-            latest: &latest,
-            alloc,
-        }),
-        sink: WriterSink::new(SharedOutput {
-            output,
-            latest: &latest,
-        }),
-        link: UdpLink::new(rt),
-        disks: Trio {
-            zero: FolderStore::new(rt),
-            one: FolderStore::new(rt),
-            two: FolderStore::new(rt),
-        },
-        clock: WallClock::new(rt),
+    let (status, failed) = {
+        let mut outside = Outside {
+            source: ReaderSource::new(AnsweredInput {
+                input: rt.reader(),
+                output,
+                latest: &latest,
+                alloc,
+            }),
+            sink: WriterSink::new(SharedOutput {
+                output,
+                latest: &latest,
+            }),
+            link: UdpLink::new(rt),
+            disks: Trio {
+                zero: FolderStore::new(rt),
+                one: FolderStore::new(rt),
+                two: FolderStore::new(rt),
+            },
+            clock: WallClock::new(rt),
+        };
+        let status = outside.status_of(rt, alloc, words);
+        (status, failed(&outside.disks))
     };
-    let status = outside.status_of(rt, alloc, words);
-    Ended {
+    let mut ended = Ended {
         words,
         status,
-        failed: failed(&outside.disks),
+        failed,
         place: place(&latest, alloc, words),
-    }
+        trouble: None,
+    };
+    ended.look(rt, alloc);
+    ended
 }
 
 /// The words behind the program's name; none where one of them is no text, since such a word is

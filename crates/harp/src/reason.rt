@@ -2,7 +2,11 @@
 
 use harp_cli::{Exit, word_fault};
 use harp_types::ServerId;
+use std::alloc::{AllocError, Global};
 use std::fmt;
+use std::fs::File;
+use std::rt::Files;
+use store_folder::{Trouble, trouble_of};
 
 /// How a run of these words ended: its status, the disk that failed, if one did, and the byte, from
 /// 0, at which a line was out of the grammar, if one was.
@@ -12,9 +16,34 @@ pub(crate) struct Ended<'a> {
     pub(crate) status: u8,
     pub(crate) failed: Option<ServerId>,
     pub(crate) place: Option<usize>,
+    /// What shows of that disk.
+    pub(crate) trouble: Option<Trouble>,
 }
 
 impl<'a> Ended<'a> {
+    /// Looks what shows of the disk that failed, which was let go since.
+    pub(crate) fn look<R>(&mut self, rt: R, alloc: Global)
+    where
+        R: Files<File = File> + AllocGlobal + Clone + Drop,
+    {
+        if !self.is(Exit::DiskFailed) {
+            return;
+        }
+        if let Ok(folder) = self.failed_folder(alloc) {
+            self.trouble = Some(trouble_of(rt, folder.as_str()));
+        }
+    }
+
+    // The folder of the disk that failed.
+    fn failed_folder(&self, alloc: Global) -> Result<String, AllocError> {
+        match self.failed {
+            Some(server) if self.runs_all() => {
+                format!(in alloc; "{}/{}", self.folder(), server.number())
+            }
+            _ => String::from_str(alloc, self.folder()),
+        }
+    }
+
     /// Whether there is something to tell: what was wanted wasn't done.
     pub(crate) fn is_told(&self) -> bool {
         self.status > Exit::SaysNo.status()
@@ -96,12 +125,12 @@ impl<'a> Ended<'a> {
     }
 
     fn failed_disk<W: fmt::Write>(&self, f: &mut fmt::Formatter<W>) -> fmt::Result {
+        write!(f, "{}", self.folder())?;
         match self.failed {
-            Some(server) if self.runs_all() => {
-                write!(f, "{}/{} can't be used", self.folder(), server.number())
-            }
-            _ => write!(f, "{} can't be used", self.folder()),
+            Some(server) if self.runs_all() => write!(f, "/{}", server.number())?,
+            _ => {}
         }
+        write!(f, "{}", self.trouble.unwrap_or(Trouble::Other).text())
     }
 
     fn failed_link<W: fmt::Write>(&self, f: &mut fmt::Formatter<W>) -> fmt::Result {

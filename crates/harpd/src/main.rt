@@ -40,7 +40,7 @@ use std::alloc::AllocError;
 use std::process::ExitCode;
 use std::rt::Env;
 use std::{env, io};
-use store_folder::FolderStore;
+use store_folder::{FolderStore, trouble_of};
 
 /// The words behind the program's name.
 fn every_word<R: Env + AllocGlobal>(rt: &R) -> io::Result<Vec<String>> {
@@ -80,6 +80,10 @@ fn ended<'w>(rt: &HostRuntime, words: &'w [String]) -> Result<Ended<'w>, AllocEr
         words,
         exit,
         refusal: folders.refusal(),
+        trouble: match exit {
+            Exit::DiskFailed => Some(trouble_of(rt, word_at(words, 3))),
+            _ => None,
+        },
     })
 }
 

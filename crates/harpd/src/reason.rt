@@ -5,13 +5,16 @@ use crate::system_folders::Refusal;
 use crate::top::word_at;
 use crate::word_faults::word_fault;
 use std::fmt;
+use store_folder::Trouble;
 
-/// How a run of these words ended: its exit, and why a folder was refused, if one was.
+/// How a run of these words ended: its exit, why a folder was refused, if one was, and else what
+/// shows of it, where its disk failed.
 #[derive(Clone, Copy)]
 pub struct Ended<'a> {
     pub words: &'a [String],
     pub exit: Exit,
     pub refusal: Option<Refusal>,
+    pub trouble: Option<Trouble>,
 }
 
 impl<'a> Ended<'a> {
@@ -53,7 +56,10 @@ impl<'a> Ended<'a> {
             Some(Refusal::Used) => write!(f, "{folder} has the files of a server that ran there"),
             Some(Refusal::Unmade) => write!(f, "{folder} can't be made"),
             Some(Refusal::Left) => write!(f, "{folder}/stop can't be taken away"),
-            None => write!(f, "{folder} can't be used"),
+            None => {
+                let trouble = self.trouble.unwrap_or(Trouble::Other);
+                write!(f, "{folder}{}", trouble.text())
+            }
         }
     }
 

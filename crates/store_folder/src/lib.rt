@@ -42,6 +42,7 @@ mod mark_file;
 mod names;
 mod store;
 mod syncing;
+mod trouble;
 mod unsynced;
 
 pub use cell_file::{LONGEST_FILE, read_cell_file, write_cell_file};
@@ -49,3 +50,4 @@ pub use disk_files::DiskFiles;
 pub use files::SystemFiles;
 pub use mark_file::{LONGEST_MARK, read_mark_file, write_mark_file};
 pub use store::FolderStore;
+pub use trouble::{Trouble, trouble_of};
