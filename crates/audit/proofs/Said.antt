@@ -232,3 +232,68 @@ named_at objects low high i x first second both order named lt read one two coun
       held = all.held
           ∙ listed x.number (attributes x.object).parent 1 order.0 objects order.1;
     }
+
+-- ---- what other entries say too
+
+-- what they say is added to the first ones
+pub record AreAddedTo (objects : List Portrait) (some more : List (ℕ × ℕ)) (at : ℕ)
+    (names : List Names) : Type 0 where
+  pub long : length names ≡ length objects
+  pub done : (i : ℕ) (x : Portrait) (d : Names) → i < at → i < length objects
+      → x ≡ get_or objects i x → AreSaid (some ++ more) x (get_or names i d)
+  pub rest : (i : ℕ) (x : Portrait) (d : Names) → at ≤ i → i < length objects
+      → x ≡ get_or objects i x → AreSaid some x (get_or names i d)
+
+pub add_first : (objects : List Portrait) (some more : List (ℕ × ℕ)) (names : List Names)
+    → AreNamed objects some names → AreAddedTo objects some more 0 names
+add_first objects some more names named = record {
+  long = named.long;
+  done = λ i x d below lt read. absurd (omega (arith, below));
+  rest = λ i x d past lt read. named.each i x d lt read;
+}
+
+pub add_next : (objects : List Portrait) (some more : List (ℕ × ℕ)) (at : ℕ)
+    (old new others : List Names) (one two both : Names) → at < length old
+    → AreNamed objects more others → AreAddedTo objects some more at old
+    → one ≡ get_or old at one → two ≡ get_or others at two
+    → both.count ≡ min (one.count + two.count) most_names → both.held ≡ (one.held || two.held)
+    → new ≡ set old at both → AreAddedTo objects some more (at + 1) new
+add_next objects some more at old new others one two both within named was first second count held are =
+    record {
+      long = ap length are ∙ length-set old at both ∙ was.long;
+      done = λ i x d below lt read. elim (cases_eq i at) [
+        | inl e ↦ here i x d e lt read
+        | inr ne ↦ subst (AreSaid (some ++ more) x) (sym (there i d ne))
+            (was.done i x d (omega (arith, below, ne)) lt read)
+      ];
+      rest = λ i x d past lt read.
+          let ne : i ≡ at → ⊥ = λ e. omega (arith, e, past) in
+          subst (AreSaid some x) (sym (there i d ne))
+          (was.rest i x d (omega (arith, past)) lt read);
+    }
+  where
+    there : (i : ℕ) (d : Names) → (i ≡ at → ⊥) → get_or new i d ≡ get_or old i d
+    there i d ne =
+        ap (λ (l : List Names). get_or l i d) are ∙ get_or-set_other old at i both d ne
+
+    here : (i : ℕ) (x : Portrait) (d : Names) → i ≡ at → i < length objects
+        → x ≡ get_or objects i x → AreSaid (some ++ more) x (get_or new i d)
+    here i x d e lt read =
+        let is : get_or new i d ≡ both =
+        ap (λ (l : List Names). get_or l i d) are
+        ∙ ap (λ (k : ℕ). get_or (set old at both) k d) e
+        ∙ get_or-set_same old at both d within in
+        subst (AreSaid (some ++ more) x) (sym is)
+        (said_together some more x one two both
+        (subst (AreSaid some x) (ap (λ (k : ℕ). get_or old k one) e ∙ sym first)
+        (was.rest i x one (omega (arith, e)) lt read))
+        (subst (AreSaid more x) (ap (λ (k : ℕ). get_or others k two) e ∙ sym second)
+        (named.each i x two lt read)) count held)
+
+pub add_done : (objects : List Portrait) (some more : List (ℕ × ℕ)) (at : ℕ) (names : List Names)
+    → length objects ≤ at → AreAddedTo objects some more at names
+    → AreNamed objects (some ++ more) names
+add_done objects some more at names past was = record {
+  long = was.long;
+  each = λ i x d lt read. was.done i x d (omega (arith, lt, past)) lt read;
+}
