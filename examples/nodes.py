@@ -21,6 +21,7 @@ It needs nothing but Python. How messages are spelled: docs/FORMATS.md.
 
 import os
 import random
+import re
 import select
 import shutil
 import signal
@@ -202,15 +203,33 @@ class Stayers(Servers):
             raise Wrong(f"server {place} didn't stop within {STOP:.0f} seconds") from None
         if status != 0:
             raise Wrong(f"server {place}, told to stop, ended with {status}")
-        with open(self.said(place), "rb") as said:
-            last = said.read().splitlines()[-1:]
-        if not last or not last[0].startswith(b"stopped turns "):
-            raise Wrong(f"server {place} said {last} when it was told to stop")
+        self.look_at_said(place)
         if os.path.exists(os.path.join(self.place(place), "stop")):
             raise Wrong(f"server {place} left its file `stop`")
 
+    def look_at_said(self, place):
+        """Its last line says what it did, and those since its start how its state changed."""
+        with open(self.said(place), "rb") as said:
+            *states, last = said.read().splitlines() or [b""]
+        if not last.startswith(b"stopped turns "):
+            raise Wrong(f"server {place} said {last!r} when it was told to stop")
+        if not states:
+            raise Wrong(f"server {place} said nothing of its state")
+        for line in states:
+            is_state = re.match(rb"\d+ state %d [a-z]+ " % place, line)
+            if not is_state and not line.startswith(b"stopped turns "):
+                raise Wrong(f"server {place} said {line!r} of its state")
+
     def refuse(self):
-        """A server over a folder that was never made is refused, and so is making a used one."""
+        """A server over a folder that was never made, or whose mark is lost, is refused, and so is
+        making a used one."""
+        lost = os.path.join(self.folder, "lost")
+        os.mkdir(lost)
+        for name in ("new", "meta"):
+            with open(os.path.join(lost, name), "wb"):
+                pass
+        if self.status("server", "0", str(self.port), lost) != FOLDER_REFUSED:
+            raise Wrong("a server runs over a folder whose mark is lost")
         nowhere = os.path.join(self.folder, "nowhere")
         if self.status("server", "0", str(self.port), nowhere) != FOLDER_REFUSED:
             raise Wrong("a server runs over a folder that was never made")

@@ -1,14 +1,10 @@
 -- How a server ends that stays up.
-use Rattle.std.specs.Prelude.{◌≡◌, ◌⊎◌, ℕ, ◌^◌, Bool, List, Option}
+use Rattle.std.specs.Prelude.{◌≡◌, ◌⊎◌, ℕ, ◌^◌, List, Option}
 use Rattle.std.specs.Io.KnownBytes.{Appends}
 use Rattle.harp_types.specs.Streams.{GrewByPart}
 use Rattle.harp_types.specs.declared.server.ServerId.{ServerId}
-use Rattle.harp_store.specs.Disk.{Moments}
-use Rattle.node_link.specs.Traffic.{Traffic}
-use Rattle.node_link.specs.declared.clock.Reading.{Reading}
-use Rattle.node_loop.specs.Scene.{around, only, start}
-use Rattle.node_loop.specs.Stay.{IsStay, IsStayCut}
-use Rattle.node_loop.specs.declared.counts.Served.{Served}
+use Rattle.node_loop.specs.Stay.{IsStay, IsStayCut, Outer as Around}
+use Rattle.node_loop.specs.declared.counts.Stayed.{Stayed}
 use Rattle.harpd.specs.Folders.{Done, with_entered, with_left}
 use Rattle.harpd.specs.Texts.{stopped_line}
 use Rattle.harpd.specs.Words.{delta_of}
@@ -16,26 +12,14 @@ use Rattle.harpd.specs.declared.exit.Exit.{Exit}
 use Rattle.harpd.specs.declared.exit.Exit.TheVariants as exit
 use Rattle.harpd.specs.declared.words.Loop.{Loop}
 
--- what a server runs on, as far as it is told: its disk, the link, the clock, what it was answered
--- when it asked whether to stop, what was done to folders, and what was written
+-- what a server runs on, as far as it is told, what was done to folders, and what was written
 pub record Outer : Type 0 where
-  pub disk : Option Moments
-  pub link : Option Traffic
-  pub clock : Option (List Reading)
-  pub answers : Option (List Bool)
+  pub around : Around
   pub done : List Done
   pub written : Option (List ℕ)
 
-abbrev pub outer : Option Moments → Option Traffic → Option (List Reading) → Option (List Bool)
-    → List Done → Option (List ℕ) → Outer
-outer disk link clock answers done written = record {
-  disk = disk;
-  link = link;
-  clock = clock;
-  answers = answers;
-  done = done;
-  written = written;
-}
+abbrev pub outer : Around → List Done → Option (List ℕ) → Outer
+outer around done written = record { around = around; done = done; written = written }
 
 -- so many turns it takes at most, if nobody tells it to stop
 abbrev pub most_turns : ℕ
@@ -44,17 +28,14 @@ most_turns = 2 ^ 62
 -- ---- what it did
 
 -- it stayed up until it was told to stop, saved its log, and did this
-abbrev pub HasStayed : ServerId → Loop → Outer → Outer → Served → Type 0
+abbrev pub HasStayed : ServerId → Loop → Outer → Outer → Stayed → Type 0
 HasStayed place runs old new served =
-    IsStay (delta_of runs.delta) place most_turns (start (only place old.disk) old.link old.clock)
-    old.answers served (only place new.disk) new.link new.clock new.answers
+    IsStay (delta_of runs.delta) place most_turns old.around served new.around
 
 -- it was cut off in this folder, or never started; and nothing was written
 pub record WasCut (place : ServerId) (runs : Loop) (folder : List ℕ) (old new : Outer)
     : Type 0 where
-  pub left : IsStayCut (delta_of runs.delta) place most_turns
-      (start (only place old.disk) old.link old.clock)
-      (around (only place new.disk) new.link new.clock)
+  pub left : IsStayCut (delta_of runs.delta) place most_turns old.around new.around
   pub silent : new.written ≡ old.written
   pub entered : (new.done ≡ old.done) ⊎ (new.done ≡ with_entered folder old.done)
 
@@ -62,7 +43,7 @@ pub record WasCut (place : ServerId) (runs : Loop) (folder : List ℕ) (old new 
 
 -- What it did was written whole, or a first part of it. Where its folder failed behind its end,
 -- nothing was written
-abbrev pub Tells : Served → Option (List ℕ) → Option (List ℕ) → Exit → Type 0
+abbrev pub Tells : Stayed → Option (List ℕ) → Option (List ℕ) → Exit → Type 0
 Tells served before after exit.Done = Appends before after (stopped_line served)
 Tells served before after exit.SinkFailed = GrewByPart before after (stopped_line served)
 Tells served before after exit.NoMemory =
@@ -83,7 +64,7 @@ Leaves folder was is exit.RefusedWords = ⊥
 -- it stayed up in this folder, and what it did was written, so far as this exit says
 pub record TellsStay (place : ServerId) (runs : Loop) (folder : List ℕ) (old new : Outer)
     (e : Exit) : Type 0 where
-  pub served : Served
+  pub served : Stayed
   pub stayed : HasStayed place runs old new served
   pub tells : Tells served old.written new.written e
   pub leaves : Leaves folder (with_entered folder old.done) new.done e

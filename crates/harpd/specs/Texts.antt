@@ -1,8 +1,11 @@
 -- What the program writes, and how that ends.
 use Rattle.std.specs.Prelude.{ℕ, List, [], ◌∷◌, ◌++◌, codes, decimal, Option}
 use Rattle.std.specs.Io.KnownBytes.{Appends}
+use Rattle.harp_types.specs.Server.{number_of}
 use Rattle.harp_types.specs.Streams.{GrewByPart}
-use Rattle.node_loop.specs.declared.counts.Served.{Served}
+use Rattle.node_loop.specs.declared.counts.Stayed.{Stayed}
+use Rattle.node_loop.specs.declared.watcher.Sight.{Sight}
+use Rattle.text_spelling.specs.Lines.{state_text}
 use Rattle.text_spelling.specs.Text.{spaced}
 use Rattle.harpd.specs.declared.exit.Exit.{Exit}
 use Rattle.harpd.specs.declared.exit.Exit.TheVariants as exit
@@ -17,10 +20,18 @@ unfoldable pub version_text : List ℕ
 version_text = codes "harpd 0.1\n"
 
 -- what a server did that stayed up, with the line feed
-unfoldable pub stopped_line : Served → List ℕ
+unfoldable pub stopped_line : Stayed → List ℕ
 stopped_line s =
     codes "stopped turns" ++ spaced (decimal s.turns) ++ codes " taken" ++ spaced (decimal s.taken)
-    ++ codes " sent" ++ spaced (decimal s.sent) ++ 10 ∷ []
+    ++ codes " sent" ++ spaced (decimal s.sent) ++ codes " dropped" ++ spaced (decimal s.dropped)
+    ++ codes " unsent" ++ spaced (decimal s.unsent) ++ 10 ∷ []
+
+-- what a server shows at a reading of its clock, with the line feed: that reading, and its state as
+-- in a trace
+unfoldable pub sight_line : Sight → List ℕ
+sight_line s =
+    decimal s.millis ++ codes " state" ++ spaced (decimal (number_of s.place))
+    ++ spaced (state_text s.state) ++ 10 ∷ []
 
 -- a text is written whole, or a first part of it
 abbrev pub Writes : List ℕ → Option (List ℕ) → Option (List ℕ) → Exit → Type 0

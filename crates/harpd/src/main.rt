@@ -8,7 +8,7 @@
 //! port, a folder that isn't empty and perhaps the length of promises, `init` with such a folder,
 //! `help`, and `version`. `server` hands on what `node_loop` says of `serve_steady`: with status 0
 //! it was booted, took its turns until it was told to stop, and saved its log (`IsStay`), and its
-//! line was written; with 8 it was cut off or never started, and nothing was written (`IsStayCut`);
+//! line was written; with 8 it was cut off or never started, and its line wasn't (`IsStayCut`);
 //! with 7 and 6 it is either (`ServerEnds`). `init` ends with 0 only where its folder was made. The
 //! folder that is made, that is entered with the disk, and that is left behind the end is the one
 //! whose name stands among the words, and nothing else is done to folders (`CommandEnds`). All but
@@ -24,6 +24,7 @@ mod folders;
 mod number;
 mod reason;
 mod serve;
+mod state_lines;
 mod system_folders;
 mod texts;
 mod top;
@@ -32,10 +33,12 @@ mod words;
 
 use crate::exit::Exit;
 use crate::reason::Ended;
+use crate::state_lines::StateLines;
 use crate::system_folders::{StopFile, SystemFolders};
 use crate::top::{run, word_at};
 use harp_types::WriterSink;
 use node_link::{UdpLink, WallClock};
+use node_loop::Outside;
 use std::alloc::AllocError;
 use std::process::ExitCode;
 use std::rt::Env;
@@ -66,16 +69,18 @@ fn ended<'w>(rt: &HostRuntime, words: &'w [String]) -> Result<Ended<'w>, AllocEr
     let alloc = rt.alloc();
     let stop = format!(in alloc; "{}/stop", word_at(words, 3))?;
     let mut folders = SystemFolders::new(rt);
-    let exit = run(
-        alloc,
-        words,
-        &mut WriterSink::new(io::writer(rt)),
-        &mut folders,
-        &mut UdpLink::new(rt),
-        &mut FolderStore::new(rt),
-        &mut WallClock::new(rt),
-        &mut StopFile::new(rt, stop),
-    );
+    let mut outside = Outside {
+        link: UdpLink::new(rt),
+        disk: FolderStore::new(rt),
+        clock: WallClock::new(rt),
+        orders: StopFile::new(rt, stop),
+        watcher: StateLines::new(alloc, WriterSink::new(io::writer(rt))),
+    };
+    let mut sink = WriterSink::new(io::writer(rt));
+    let exit = run(alloc, words, &mut sink, &mut folders, &mut outside);
+    let lost = outside.watcher.lost();
+    // The store lets its folder go, so that somebody can look at it.
+    drop(outside);
     Ok(Ended {
         words,
         exit,
@@ -84,6 +89,7 @@ fn ended<'w>(rt: &HostRuntime, words: &'w [String]) -> Result<Ended<'w>, AllocEr
             Exit::DiskFailed => Some(trouble_of(rt, word_at(words, 3))),
             _ => None,
         },
+        lost,
     })
 }
 
@@ -97,6 +103,9 @@ fn main(rt: HostRuntime) -> ExitCode {
     if ended.exit != Exit::Done {
         // Whether anybody reads it changes nothing.
         let _ = eprintln!(&rt; "harpd: {ended}");
+    }
+    if ended.lost > 0 {
+        let _ = eprintln!(&rt; "harpd: {} lines of its state can't be written", ended.lost);
     }
     ExitCode::from(ended.exit.status())
 }

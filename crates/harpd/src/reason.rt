@@ -7,14 +7,15 @@ use crate::word_faults::word_fault;
 use std::fmt;
 use store_folder::Trouble;
 
-/// How a run of these words ended: its exit, why a folder was refused, if one was, and else what
-/// shows of it, where its disk failed.
+/// How a run of these words ended: its exit, why a folder was refused, if one was, what shows of it
+/// where its disk failed, and how many lines of a server's state couldn't be written.
 #[derive(Clone, Copy)]
 pub struct Ended<'a> {
     pub words: &'a [String],
     pub exit: Exit,
     pub refusal: Option<Refusal>,
     pub trouble: Option<Trouble>,
+    pub lost: u64,
 }
 
 impl<'a> Ended<'a> {

@@ -3,6 +3,7 @@
 ghost use Rattle.std.specs.Prelude.{◌≡◌, ◌≤◌, ◌⊎◌};
 ghost use Rattle.harp_types.specs.Streams.{Rose};
 ghost use Rattle.node_link.specs.Traffic.{last_port};
+ghost use Rattle.node_loop.specs.Stay.{outer_of};
 ghost use Rattle.harpd.specs.Run.{InitEnds};
 ghost use Rattle.harpd.specs.Serve.{Leaves, ServerEnds, Tells, outer};
 
@@ -13,14 +14,14 @@ use crate::words::Loop;
 use harp_store::Store;
 use harp_types::{ServerId, Sink, SinkFault, write_all};
 use node_link::{Clock, Link};
-use node_loop::{Orders, Served, serve_steady};
+use node_loop::{Orders, Outside, Stayed, Watcher, serve_steady};
 use std::alloc::Global;
 
 /// So many turns a server takes at most, if nobody tells it to stop: more than it ever will.
 const MOST_TURNS: u64 = 1 << 62;
 
 /// Writes what a server did that stayed up.
-fn write_stopped<K: Sink>(alloc: Global, served: Served, sink: &mut K) -> Exit
+fn write_stopped<K: Sink>(alloc: Global, served: Stayed, sink: &mut K) -> Exit
     ensures ends { Tells served (K.written sink.old) (K.written sink.new) result }
     ensures sink_rose { result ≡ Exit.SinkFailed → Rose (K.faults sink.old) (K.faults sink.new) }
     ensures disk { result ≡ Exit.DiskFailed → ⊥ }
@@ -39,7 +40,7 @@ fn write_stopped<K: Sink>(alloc: Global, served: Served, sink: &mut K) -> Exit
 fn end<K: Sink, F: Folders>(
     alloc: Global,
     folder: &str,
-    served: Served,
+    served: Stayed,
     sink: &mut K,
     folders: &mut F,
 ) -> Exit
@@ -58,46 +59,34 @@ fn end<K: Sink, F: Folders>(
 
 /// Runs a server that stays up over its disk, in a folder that was made for it, until it is told to
 /// stop, and writes what it did.
-pub fn serve<K: Sink, F: Folders, L: Link, D: Store, C: Clock, O: Orders>(
+pub fn serve<K: Sink, F: Folders, L: Link, D: Store, C: Clock, O: Orders, W: Watcher>(
     alloc: Global,
     place: ServerId,
     runs: Loop,
     folder: &str,
     sink: &mut K,
     folders: &mut F,
-    link: &mut L,
-    disk: &mut D,
-    clock: &mut C,
-    orders: &mut O,
+    outside: &mut Outside<L, D, C, O, W>,
 ) -> Exit
     requires { runs.port ≤ last_port }
     ensures ends { ServerEnds place runs folder.now
-        (outer (D.told disk.old) (L.told link.old) (C.told clock.old) (O.told orders.old)
-        (F.done folders.old) (K.written sink.old))
-        (outer (D.told disk.new) (L.told link.new) (C.told clock.new) (O.told orders.new)
-        (F.done folders.new) (K.written sink.new)) result }
+        (outer (outer_of L.told L.unsent D.told C.told O.told W.told outside.old) (F.done folders.old)
+        (K.written sink.old))
+        (outer (outer_of L.told L.unsent D.told C.told O.told W.told outside.new) (F.done folders.new)
+        (K.written sink.new)) result }
     ensures sink_rose { result ≡ Exit.SinkFailed → Rose (K.faults sink.old) (K.faults sink.new) }
     ensures disk_rose { result ≡ Exit.DiskFailed
         → Rose (F.faults folders.old) (F.faults folders.new)
-        ⊎ Rose (D.faults disk.old) (D.faults disk.new) }
-    ensures link_rose { result ≡ Exit.LinkFailed → Rose (L.faults link.old) (L.faults link.new) }
+        ⊎ Rose (D.faults outside.old.disk) (D.faults outside.new.disk) }
+    ensures link_rose { result ≡ Exit.LinkFailed
+        → Rose (L.faults outside.old.link) (L.faults outside.new.link) }
 {
-    match folders.enter(alloc, folder, disk) {
+    match folders.enter(alloc, folder, &mut outside.disk) {
         Ok(()) => {}
         Err(fault) => return exit_of_store(fault),
     }
     let Loop { port, .. } = runs;
-    match serve_steady(
-        alloc,
-        place,
-        runs.promises(),
-        port,
-        MOST_TURNS,
-        link,
-        disk,
-        clock,
-        orders,
-    ) {
+    match serve_steady(alloc, place, runs.promises(), port, MOST_TURNS, outside) {
         Ok(served) => end(alloc, folder, served, sink, folders),
         Err(fault) => exit_of_loop(fault),
     }

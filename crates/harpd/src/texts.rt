@@ -2,13 +2,13 @@
 
 ghost use Rattle.std.specs.Prelude.{◌≡◌, ◌++◌, ◌∷◌, [], codes, IfOk};
 ghost use Rattle.harp_types.specs.Streams.{Rose};
-ghost use Rattle.harpd.specs.Texts.{UsageEnds, Writes, WritesSome, stopped_line, usage_text, version_text};
+ghost use Rattle.harpd.specs.Texts.{UsageEnds, Writes, WritesSome, sight_line, stopped_line, usage_text, version_text};
 
 use crate::exit::Exit;
 use harp_types::{Sink, SinkFault, write_all};
-use node_loop::Served;
+use node_loop::{Sight, Stayed};
 use std::alloc::{AllocError, Global};
-use text_writer::put_named;
+use text_writer::{put_at, put_decimal, put_named, put_state};
 
 /// How the program is called, a line for each form.
 #[tactic(auto, unfolding(crate::specs::Texts::usage_text))]
@@ -39,7 +39,11 @@ harpd server S PORT DIR
 harpd server S PORT DIR DELTA
     runs server S over the folder DIR, at 127.0.0.1, UDP port PORT + S, until the
     file DIR/stop stands. Then it saves its log in DIR, takes the file away, writes
-    `stopped turns T taken N sent M`, and ends with 0.
+    `stopped turns T taken N sent M dropped D unsent U`, and ends with 0: its turns,
+    and the datagrams that it took, sent, took for nothing, and couldn't send. It
+    writes a line `MILLIS state S ..` behind its start and each change of its state:
+    its clock, which server it is, its mode, the views it promised and accepted, its
+    role, what it holds, and five numbers, of which a change alone writes nothing.
       S      which server it is, 0 to 2
       PORT   the port of server 0, 1024 to 65533, the same for all three
       DIR    a folder that `harpd init DIR` made, for this server alone
@@ -100,13 +104,28 @@ pub fn write_usage<K: Sink>(sink: &mut K) -> Exit
 
 /// The line that tells what a server did that stayed up.
 #[tactic(auto, unfolding(crate::specs::Texts::stopped_line))]
-pub fn line_of(alloc: Global, served: Served) -> Result<Vec<u8>, AllocError>
+pub fn line_of(alloc: Global, served: Stayed) -> Result<Vec<u8>, AllocError>
     ensures { IfOk result (λ line. line.items ≡ stopped_line served) }
 {
     let mut line = Vec::new(alloc);
     put_named(&mut line, b"stopped turns", served.turns)?;
     put_named(&mut line, b" taken", served.taken)?;
     put_named(&mut line, b" sent", served.sent)?;
+    put_named(&mut line, b" dropped", served.dropped)?;
+    put_named(&mut line, b" unsent", served.unsent)?;
+    line.push(b'\n')?;
+    Ok(line)
+}
+
+/// The line that tells what a server shows.
+#[tactic(auto, unfolding(crate::specs::Texts::sight_line))]
+pub fn line_of_sight(alloc: Global, sight: &Sight) -> Result<Vec<u8>, AllocError>
+    ensures { IfOk result (λ line. line.items ≡ sight_line sight.now) }
+{
+    let mut line = Vec::new(alloc);
+    put_decimal(&mut line, sight.millis)?;
+    put_at(&mut line, b" state", sight.place)?;
+    put_state(&mut line, &sight.state)?;
     line.push(b'\n')?;
     Ok(line)
 }

@@ -2,6 +2,7 @@
 
 ghost use Rattle.std.specs.Prelude.{◌≡◌, ◌⊎◌};
 ghost use Rattle.harp_types.specs.Streams.{Rose};
+ghost use Rattle.node_loop.specs.Stay.{outer_of};
 ghost use Rattle.harpd.specs.Run.{Ends};
 ghost use Rattle.harpd.specs.Serve.{outer};
 ghost use Rattle.harpd.specs.Words.{AskForServer, texts, word_at};
@@ -14,7 +15,7 @@ use crate::words::{Command, command_of};
 use harp_store::Store;
 use harp_types::Sink;
 use node_link::{Clock, Link};
-use node_loop::Orders;
+use node_loop::{Orders, Outside, Watcher};
 use std::alloc::Global;
 
 /// The word at a place, from 0; an empty one where there is none.
@@ -28,48 +29,39 @@ pub fn word_at(words: &[String], place: usize) -> &str
 }
 
 /// Does what the words ask for. `server` runs a server that stays up until it is told to stop, and
-/// writes `stopped turns T taken N sent M`: its turns, and how many datagrams were taken and sent.
+/// writes `stopped turns T taken N sent M dropped D unsent U`: its turns, and how many datagrams were
+/// taken, sent, taken for nothing, and not sent by the link.
+/// Meanwhile it shows itself to who watches it, behind its boot and each change of its state.
 /// `init` makes a folder for one. Both take the folder that the words name. `help` and `version`
-/// write a text. On words of no form the usage text is written. All but `server` leave the link, the
-/// disk, the clock and who gives orders.
+/// write a text. On words of no form the usage text is written. All but `server` leave what is
+/// outside: the link, the disk, the clock, who gives orders, and who watches.
 ///
-/// Nothing is said of what a sink, a disk, a link, a clock or who gives orders doesn't tell.
-pub fn run<K: Sink, F: Folders, L: Link, D: Store, C: Clock, O: Orders>(
+/// Nothing is said of what these and a sink don't tell.
+pub fn run<K: Sink, F: Folders, L: Link, D: Store, C: Clock, O: Orders, W: Watcher>(
     alloc: Global,
     words: &[String],
     sink: &mut K,
     folders: &mut F,
-    link: &mut L,
-    disk: &mut D,
-    clock: &mut C,
-    orders: &mut O,
+    outside: &mut Outside<L, D, C, O, W>,
 ) -> Exit
     ensures ends { Ends words.now
-        (outer (D.told disk.old) (L.told link.old) (C.told clock.old) (O.told orders.old)
-        (F.done folders.old) (K.written sink.old))
-        (outer (D.told disk.new) (L.told link.new) (C.told clock.new) (O.told orders.new)
-        (F.done folders.new) (K.written sink.new)) result }
-    ensures apart { (AskForServer words.now → ⊥) → (link.new ≡ link.old) × (disk.new ≡ disk.old)
-        × (clock.new ≡ clock.old) × (orders.new ≡ orders.old) }
+        (outer (outer_of L.told L.unsent D.told C.told O.told W.told outside.old) (F.done folders.old)
+        (K.written sink.old))
+        (outer (outer_of L.told L.unsent D.told C.told O.told W.told outside.new) (F.done folders.new)
+        (K.written sink.new)) result }
+    ensures apart { (AskForServer words.now → ⊥) → outside.new ≡ outside.old }
     ensures sink_rose { result ≡ Exit.SinkFailed → Rose (K.faults sink.old) (K.faults sink.new) }
     ensures disk_rose { result ≡ Exit.DiskFailed
         → Rose (F.faults folders.old) (F.faults folders.new)
-        ⊎ Rose (D.faults disk.old) (D.faults disk.new) }
-    ensures link_rose { result ≡ Exit.LinkFailed → Rose (L.faults link.old) (L.faults link.new) }
+        ⊎ Rose (D.faults outside.old.disk) (D.faults outside.new.disk) }
+    ensures link_rose { result ≡ Exit.LinkFailed
+        → Rose (L.faults outside.old.link) (L.faults outside.new.link) }
 {
     match command_of(words) {
-        Some(Command::Server { place, runs }) => serve(
-            alloc,
-            place,
-            runs,
-            word_at(words, 3),
-            sink,
-            folders,
-            link,
-            disk,
-            clock,
-            orders,
-        ),
+        Some(Command::Server { place, runs }) => {
+            let folder = word_at(words, 3);
+            serve(alloc, place, runs, folder, sink, folders, outside)
+        }
         Some(Command::Init) => init(alloc, word_at(words, 1), folders),
         Some(Command::Help) => write_help(sink),
         Some(Command::Version) => write_version(sink),

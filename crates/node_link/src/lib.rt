@@ -8,8 +8,8 @@
 //! error nothing is taken or sent. A clock's readings never fall and are below 2^62. `MemLink` and
 //! `ListClock` are exact, with faults exactly where their lists say so. A `ListClock` tells each
 //! reading of its list (`ticks`), and shows those that it told. `UdpLink` and `WallClock` tell
-//! nothing and count each fault; that they send, receive and read at all no clause says. What is kept
-//! back of the witness' Invites is exact (`Late`).
+//! nothing and count each fault, and `UdpLink` what it couldn't send; that they send, receive and
+//! read at all no clause says. What is kept back of the witness' Invites is exact (`Late`).
 #![tactic(auto)]
 
 mod clock;

@@ -77,6 +77,13 @@ pub trait Link {
     // How many calls failed, which never falls.
     ghost faults: { Self → ℕ };
 
+    // How many datagrams couldn't be sent, as far as the link knows.
+    ghost unsent: { Self → ℕ };
+
+    /// How many datagrams couldn't be sent so far.
+    fn unsent(&self) -> u64
+        ensures { result ≡ unsent self.now };
+
     /// Opens a place, whose port is this one plus the place's number.
     fn bind(&mut self, place: ServerId, port: u16) -> Result<(), Failed>
         requires { port ≤ last_port }

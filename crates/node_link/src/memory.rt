@@ -113,6 +113,12 @@ impl Link for MemLink {
 
     ghost faults = { λ m. m.failing.faults };
 
+    ghost unsent = { λ _. 0 };
+
+    fn unsent(&self) -> u64 {
+        0
+    }
+
     fn bind(&mut self, place: ServerId, port: u16) -> Result<(), Failed>
         ensures kept { Some self.new.traffic ≡ Some self.old.traffic }
         ensures rose { OnErr result (Rose self.old.failing.faults self.new.failing.faults) }

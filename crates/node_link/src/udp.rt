@@ -25,9 +25,10 @@ struct OpenPlace {
 }
 
 /// Datagrams over UDP: place s of a group has the port that was given plus s, at 127.0.0.1. It
-/// tells no datagrams. A datagram that can't be sent to its peer is lost, as one to port 0; each
-/// other error of a socket is a fault, and so is a call at a place that isn't open. An Invite is given
-/// to the witness a tenth of a second late, so that the Join of a data server comes before its own.
+/// tells no datagrams. A datagram that can't be sent to its peer is lost, as one to port 0, and
+/// counted up to 2^64 - 1; each other error of a socket is a fault, and so is a call at a place that
+/// isn't open. An Invite is given to the witness a tenth of a second late, so that the Join of a data
+/// server comes before its own.
 #[derive(Drop)]
 pub struct UdpLink<R> {
     rt: R,
@@ -37,6 +38,7 @@ pub struct UdpLink<R> {
     // Room for any datagram, from the first call on.
     room: Option<Vec<u8>>,
     faults: u64,
+    unsent: u64,
     ghost ports: { port ≤ 65533 },
 }
 
@@ -58,6 +60,7 @@ impl<R> UdpLink<R> {
             late: Late::new(),
             room: None,
             faults: 0,
+            unsent: 0,
         }
     }
 
@@ -164,11 +167,19 @@ impl<R: Clock> UdpLink<R> {
 }
 
 impl<R: Net + Clock> Link for UdpLink<R> {
-    ghost use Rattle.node_link.specs.Adapters.{link_faults};
+    ghost use Rattle.node_link.specs.Adapters.{link_faults, link_unsent};
 
     ghost told = { λ _. None };
 
     ghost faults = { link_faults };
+
+    ghost unsent = { link_unsent };
+
+    fn unsent(&self) -> u64
+        ensures { result ≡ link_unsent self.now }
+    {
+        self.unsent
+    }
 
     fn bind(&mut self, place: ServerId, port: u16) -> Result<(), Failed>
         requires { port ≤ last_port }
@@ -237,7 +248,13 @@ impl<R: Net + Clock> Link for UdpLink<R> {
             return Err(LinkFault::Failed);
         };
         // Whoever sends datagrams doesn't learn whether they come.
-        let _ = open.socket.send_to(bytes, socket_address(address, port));
+        if open
+            .socket
+            .send_to(bytes, socket_address(address, port))
+            .is_err()
+        {
+            self.unsent = self.unsent.saturating_add(1);
+        }
         Ok(())
     }
 }

@@ -5,4 +5,5 @@ mod Results
 mod Scenes
 mod Stays
 mod Tellings
+mod Watchings
 pub mod HeardLaws

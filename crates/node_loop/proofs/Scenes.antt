@@ -21,7 +21,7 @@ use Rattle.node_loop.specs.Scene.{AreUp, IsUp, NoneFell, Scene, Spot, all_places
 use Rattle.node_loop.proofs.Chains.{stops-front}
 
 -- the last one counts
-spot-again : (place : ServerId) (s t : Spot) (a : Scene)
+pub spot-again : (place : ServerId) (s t : Spot) (a : Scene)
     → with_spot place t (with_spot place s a) ≡ with_spot place t a
 spot-again Zero s t a = refl
 spot-again One s t a = refl
@@ -154,18 +154,18 @@ rounds-more n places =
     ap (λ k. rounds k places) next
 
 -- they stopped already in fewer rounds
-pub stops-sooner : {T : Type 0} (P : ServerId → Scene → T → Type 0) (places : List ServerId)
-    (a : Scene) (left : T) (more n m : ℕ) → m ≡ more + n
-    → Stops TurnsAt P (rounds n places) a left → Stops TurnsAt P (rounds m places) a left
-stops-sooner P places a left zero n m is h =
+pub stops-sooner : {S T : Type 0} (R : ServerId → S → S → Type 0)
+    (P : ServerId → S → T → Type 0) (places : List ServerId) (a : S) (left : T) (more n m : ℕ)
+    → m ≡ more + n → Stops R P (rounds n places) a left → Stops R P (rounds m places) a left
+stops-sooner R P places a left zero n m is h =
     let same : n ≡ m = omega (arith, is) in
-    subst (λ k. Stops TurnsAt P (rounds k places) a left) same h
-stops-sooner P places a left (suc more) n m is h =
+    subst (λ k. Stops R P (rounds k places) a left) same h
+stops-sooner R P places a left (suc more) n m is h =
     let next : suc (more + n) ≡ m = omega (arith, is) in
     let before : more + n ≡ more + n = refl in
-    subst (λ k. Stops TurnsAt P (rounds k places) a left) next
-    (stops-front TurnsAt P (rounds (more + n) places) places a left
-    (stops-sooner P places a left more n (more + n) before h))
+    subst (λ k. Stops R P (rounds k places) a left) next
+    (stops-front R P (rounds (more + n) places) places a left
+    (stops-sooner R P places a left more n (more + n) before h))
 
 -- ---- three servers
 

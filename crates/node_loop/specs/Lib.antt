@@ -10,4 +10,5 @@ pub mod Scene
 pub mod Run
 pub mod Cut
 pub mod Orders
+pub mod Watch
 pub mod Stay

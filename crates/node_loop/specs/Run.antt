@@ -18,13 +18,14 @@ use Rattle.node_loop.specs.declared.habit.Habit.{Habit}
 use Rattle.node_loop.specs.declared.habit.Habit.TheVariants.{Plain}
 use Rattle.node_loop.specs.declared.heard.Heard.{Heard}
 use Rattle.node_loop.specs.declared.running.Running.{Running}
+use Rattle.node_loop.specs.declared.turned.TurnEnd.{TurnEnd}
 use Rattle.node_loop.specs.declared.turned.Turned.{Turned}
 use Rattle.node_loop.specs.Chain.{Chain}
 use Rattle.node_loop.specs.Looks.{look_of}
 use Rattle.node_loop.specs.Outgoing.{datagrams, heards}
 use Rattle.node_loop.specs.Scene.{AtWork, Scene, Spot, all_places, at_work, sent_after, taken_after, with_all_sent, with_heard, with_spot}
 use Rattle.node_loop.specs.Step.{IsBoot, IsStep}
-use Rattle.node_loop.specs.Turn.{IsTurn, LinkTurns, MayTellAll, readings_of}
+use Rattle.node_loop.specs.Turn.{IsTurn, LinkTurns, MayTellAll, is_dropped, readings_of}
 use Rattle.node_loop.specs.Turns.{first_pace}
 
 -- ---- a boot
@@ -61,6 +62,12 @@ pub record Turns (place : ServerId) (a c : Spot) : Type 0 where
   pub taken : c.counts.taken ≡ taken_after turned.taken a.counts.taken
   pub given : Chain (IsGiven place turned.now) turned.inputs.items
       (at_work (record a { link = before })) (at_work c)
+
+-- a turn that ended so
+pub record TurnsTo (place : ServerId) (end : TurnEnd) (a c : Spot) : Type 0 where
+  pub turns : Turns place a c
+  pub to : end.now ≡ turns.turned.now
+  pub dropped : end.dropped ≡ is_dropped turns.turned.taken turns.turned.inputs.items
 
 -- ---- between turns
 

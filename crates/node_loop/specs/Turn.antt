@@ -1,6 +1,6 @@
 -- One turn at a place: what it gives to the server, of the readings of the clock and the datagram
 -- that came.
-use Rattle.std.specs.Prelude.{◌≡◌, ◌⊎◌, ℕ, Bool, true, false, List, [], ◌∷◌, ◌++◌, nat_le, Option, Some, None}
+use Rattle.std.specs.Prelude.{◌≡◌, ◌⊎◌, ℕ, Bool, true, false, List, [], ◌∷◌, ◌++◌, ◌==◌, length, nat_le, Option, Some, None}
 use Rattle.harp_types.specs.declared.server.ServerId.{ServerId}
 use Rattle.node_link.specs.Readings.{MayTell}
 use Rattle.node_link.specs.Traffic.{Traffic, TakesNext}
@@ -50,6 +50,11 @@ IsTurnBy false me look p q t = IsReceive look p q t t.taken
 -- what came
 abbrev pub IsTurn : ServerId → Look → Pacing → Pacing → Turned → Type 0
 IsTurn me look p q t = IsTurnBy (nat_le p.due t.began) me look p q t
+
+-- a datagram was taken, and gave nothing
+abbrev pub is_dropped : Option Datagram → List Input → Bool
+is_dropped None inputs = false
+is_dropped (Some d) inputs = length inputs == 0
 
 -- ---- what the link and the clock tell
 

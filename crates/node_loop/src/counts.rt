@@ -23,6 +23,18 @@ pub struct Served {
     pub sent: u64,
 }
 
+/// What a server that stayed up did: its turns, the datagrams that it took, those that it sent, the
+/// ones among those taken that gave it nothing, and the ones among those sent that the link couldn't
+/// send, each counted up to 2^64 - 1.
+#[derive(Clone, Copy, PartialEq, Eq)]
+pub struct Stayed {
+    pub turns: u64,
+    pub taken: u64,
+    pub sent: u64,
+    pub dropped: u64,
+    pub unsent: u64,
+}
+
 impl Counts {
     /// What a turn took.
     pub fn take(&mut self, taken: &Option<Datagram>)

@@ -27,8 +27,10 @@
 //! A server has a habit, by which a tick gives more or less, and messages are heeded or not
 //! (`Habits`, `Turns`); `serve_one` and `Three` have the plain one. `serve_steady` runs one with the
 //! steady habit by the same boots and turns; it asks at each tick whether it is to stop, and once it
-//! is, it saves its log by the rule of a power failure (`run`). Cut off, it leaves a
-//! front of that, and amid the save the log whole or none (`cut`).
+//! is, it saves its log by the rule of a power failure (`run`). It shows itself behind its boot, and
+//! behind exactly the turns that made its state another one but for its numbers, and counts the
+//! datagrams that gave it nothing (`TurnsWatched`). Cut off, it leaves a front of that, and amid the
+//! save the log whole or none (`cut`).
 #![tactic(auto)]
 
 mod arriving;
@@ -43,27 +45,32 @@ mod ledger;
 mod look;
 mod orders;
 mod outgoing;
+mod outside;
 mod pace;
 mod rounds;
 mod running;
 mod saving;
 mod serving;
+mod showing;
 mod staying;
 mod three;
 mod turn;
 mod turned;
+mod watcher;
 
 pub use arriving::arrived;
-pub use counts::{Counts, Served};
+pub use counts::{Counts, Served, Stayed};
 pub use fault::LoopFault;
 pub use habit::{APPLIED_AT_ONCE, Doubled, Habit};
 pub use heard::Heard;
 pub use look::Look;
 pub use orders::Orders;
+pub use outside::Outside;
 pub use pace::{Pace, TICK};
 pub use running::Running;
 pub use serving::{serve_one, serve_three};
 pub use staying::serve_steady;
 pub use three::Three;
 pub use turn::take_turn;
-pub use turned::Turned;
+pub use turned::{TurnEnd, Turned};
+pub use watcher::{Sight, Watcher};

@@ -123,6 +123,13 @@ impl Pace {
         self.due <= now
     }
 
+    /// At which reading of its clock it ticks next.
+    pub fn due(&self) -> u64
+        ensures { result ≡ self.now.due }
+    {
+        self.due
+    }
+
     /// How often it ticked, up to 2^64 - 1.
     pub fn ticks(&self) -> u64
         ensures { result ≡ self.now.ticks }

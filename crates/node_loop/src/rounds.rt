@@ -1,10 +1,10 @@
 //! The turns of a server at its place, and what it is given between them.
 
-ghost use Rattle.std.specs.Prelude.{◌≡◌, ◌≤◌, ◌∷◌, [], OnErr, OnOk, Err};
+ghost use Rattle.std.specs.Prelude.{◌≡◌, ◌≤◌, ◌∷◌, [], IfOk, OnErr, OnOk, Err};
 ghost use Rattle.harp_types.specs.Streams.{Rose};
 ghost use Rattle.node_loop.specs.Chain.{Chain, Stops};
 ghost use Rattle.node_loop.specs.Cut.{GivesInPart, IsTurnInPart, TurnsAtInPart, spot_left};
-ghost use Rattle.node_loop.specs.Run.{Gives, Turns, TurnsAt, rounds};
+ghost use Rattle.node_loop.specs.Run.{Gives, Turns, TurnsAt, TurnsTo, rounds};
 ghost use Rattle.node_loop.specs.Scene.{IsUp, alone, around, only, spot};
 
 use crate::fault::LoopFault;
@@ -13,7 +13,7 @@ use crate::ledger::Ledger;
 use crate::look::Look;
 use crate::running::Running;
 use crate::turn::take_turn;
-use crate::turned::Turned;
+use crate::turned::{TurnEnd, Turned, is_dropped};
 use harp_store::Store;
 use harp_types::ServerId;
 use node::Input;
@@ -22,6 +22,52 @@ use std::alloc::Global;
 
 /// How many milliseconds a server alone waits for a datagram, about.
 pub const WAIT_ALONE: u32 = 20;
+
+/// A turn of the server at a place. It gives how the turn ended.
+pub fn turn_to<L: Link, D: Store, C: Clock>(
+    alloc: Global,
+    me: ServerId,
+    wait_ms: u32,
+    running: &mut Running,
+    link: &mut L,
+    store: &mut D,
+    clock: &mut C,
+    ledger: &mut Ledger,
+) -> Result<TurnEnd, LoopFault>
+    requires { IsUp running.old.node (D.told store.old) }
+    ensures turns { IfOk result (λ end. TurnsTo me end
+        (spot running.old (D.told store.old) (L.told link.old) (C.told clock.old) ledger.old)
+        (spot running.new (D.told store.new) (L.told link.new) (C.told clock.new) ledger.new)) }
+    ensures part { OnErr result (IsTurnInPart me
+        (spot running.old (D.told store.old) (L.told link.old) (C.told clock.old) ledger.old)
+        (spot_left (D.told store.new) (L.told link.new) (C.told clock.new))) }
+    ensures up { OnOk result (IsUp running.new.node (D.told store.new)) }
+    ensures link_rose { result ≡ Err LoopFault.LinkFailed
+        → Rose (L.faults link.old) (L.faults link.new) }
+    ensures link_count { L.faults link.old ≤ L.faults link.new }
+    ensures disk_rose { result ≡ Err LoopFault.StoreFailed
+        → Rose (D.faults store.old) (D.faults store.new) }
+    ensures disk_count { D.faults store.old ≤ D.faults store.new }
+{
+    let look = Look::of(&running.node);
+    let turned = take_turn(alloc, me, &look, wait_ms, &mut running.pace, link, clock)?;
+    ledger.counts.take(&turned.taken);
+    let dropped = is_dropped(&turned.taken, turned.inputs.as_slice());
+    let Turned { now, inputs, .. } = turned;
+    match give_all(
+        alloc,
+        me,
+        now,
+        inputs,
+        &mut running.node,
+        link,
+        store,
+        ledger,
+    ) {
+        Ok(()) => Ok(TurnEnd { now, dropped }),
+        Err(fault) => Err(fault),
+    }
+}
 
 /// A turn of the server at a place.
 pub fn turn<L: Link, D: Store, C: Clock>(
@@ -49,20 +95,10 @@ pub fn turn<L: Link, D: Store, C: Clock>(
         → Rose (D.faults store.old) (D.faults store.new) }
     ensures disk_count { D.faults store.old ≤ D.faults store.new }
 {
-    let look = Look::of(&running.node);
-    let turned = take_turn(alloc, me, &look, wait_ms, &mut running.pace, link, clock)?;
-    ledger.counts.take(&turned.taken);
-    let Turned { now, inputs, .. } = turned;
-    give_all(
-        alloc,
-        me,
-        now,
-        inputs,
-        &mut running.node,
-        link,
-        store,
-        ledger,
-    )
+    match turn_to(alloc, me, wait_ms, running, link, store, clock, ledger) {
+        Ok(_end) => Ok(()),
+        Err(fault) => Err(fault),
+    }
 }
 
 /// Gives an input to a server between its turns, at a reading of its clock.

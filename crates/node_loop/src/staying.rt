@@ -3,23 +3,25 @@
 ghost use Rattle.std.specs.Prelude.{◌≡◌, ◌≢◌, ◌≤◌, ◌∷◌, [], false, IfOk, OnErr, OnOk, Err};
 ghost use Rattle.harp_types.specs.Streams.{Rose};
 ghost use Rattle.node_link.specs.Traffic.{last_port};
-ghost use Rattle.node_loop.specs.Chain.{Chain, Stops};
-ghost use Rattle.node_loop.specs.Cut.{TurnsAtInPart};
 ghost use Rattle.node_loop.specs.Orders.{Answered, IsTold};
-ghost use Rattle.node_loop.specs.Run.{TurnsAt, rounds};
-ghost use Rattle.node_loop.specs.Scene.{IsUp, alone, around, only, spot, start};
-ghost use Rattle.node_loop.specs.Stay.{IsStay, IsStayCut};
+ghost use Rattle.node_loop.specs.Scene.{IsUp};
+ghost use Rattle.node_loop.specs.Stay.{IsStay, IsStayCut, ShowsRuns, ShowsStops, around_on, outer_of, scene_on};
+ghost use Rattle.node_loop.specs.Watch.{dropped_after};
 
 use crate::binding::open;
 use crate::booting::boot;
-use crate::counts::Served;
+use crate::counts::Stayed;
 use crate::fault::LoopFault;
 use crate::habit::Habit;
 use crate::ledger::Ledger;
 use crate::orders::Orders;
-use crate::rounds::{WAIT_ALONE, turn};
+use crate::outside::Outside;
+use crate::rounds::{WAIT_ALONE, turn_to};
 use crate::running::Running;
 use crate::saving::save_log;
+use crate::showing::{show_first, show_new, state_shown};
+use crate::turned::TurnEnd;
+use crate::watcher::Watcher;
 use harp_store::Store;
 use harp_types::ServerId;
 use node_link::{Clock, Link};
@@ -40,103 +42,135 @@ fn is_over<O: Orders>(ticks: u64, running: &Running, orders: &mut O) -> bool
     orders.is_told()
 }
 
-/// Turns of the server at a place, until it is told to stop, but no more than so many. It gives how
-/// many they were.
-fn turns_until<L: Link, D: Store, C: Clock, O: Orders>(
+/// So many datagrams were dropped behind a turn that ended so.
+fn with_end(dropped: u64, end: TurnEnd) -> u64
+    ensures { result ≡ dropped_after end.dropped dropped }
+{
+    if end.dropped {
+        dropped.saturating_add(1)
+    } else {
+        dropped
+    }
+}
+
+/// How many turns were taken, and how many datagrams were dropped in them.
+#[derive(Clone, Copy, PartialEq, Eq)]
+struct Took {
+    turns: u64,
+    dropped: u64,
+}
+
+/// Turns of the server at a place, until it is told to stop, but no more than so many. It shows what
+/// is new behind each, and counts the datagrams that gave nothing.
+fn turns_until<L: Link, D: Store, C: Clock, O: Orders, W: Watcher>(
     alloc: Global,
     me: ServerId,
     most: u64,
     running: &mut Running,
-    link: &mut L,
-    store: &mut D,
-    clock: &mut C,
     ledger: &mut Ledger,
-    orders: &mut O,
-) -> Result<u64, LoopFault>
-    requires up { IsUp running.old.node (D.told store.old) }
+    outside: &mut Outside<L, D, C, O, W>,
+) -> Result<Took, LoopFault>
+    requires up { IsUp running.old.node (D.told outside.old.disk) }
     requires new { running.old.pace.ticks ≡ 0 }
-    ensures turns { IfOk result (λ n. (n ≤ most)
-        × IsTold running.new.pace.ticks n most (O.told orders.old) (O.told orders.new)
-        × Chain TurnsAt (rounds n (me ∷ []))
-        (alone me (spot running.old (D.told store.old) (L.told link.old) (C.told clock.old)
-        ledger.old))
-        (alone me (spot running.new (D.told store.new) (L.told link.new) (C.told clock.new)
-        ledger.new))) }
-    ensures part { OnErr result (Stops TurnsAt TurnsAtInPart (rounds most (me ∷ []))
-        (alone me (spot running.old (D.told store.old) (L.told link.old) (C.told clock.old)
-        ledger.old))
-        (around (only me (D.told store.new)) (L.told link.new) (C.told clock.new))) }
-    ensures up { OnOk result (IsUp running.new.node (D.told store.new)) }
+    ensures turns { IfOk result (λ t. (t.turns ≤ most)
+        × IsTold running.new.pace.ticks t.turns most (O.told outside.old.orders)
+        (O.told outside.new.orders)
+        × ShowsRuns me t.turns
+        (scene_on me running.old ledger.old
+        (outer_of L.told L.unsent D.told C.told O.told W.told outside.old))
+        (scene_on me running.new ledger.new
+        (outer_of L.told L.unsent D.told C.told O.told W.told outside.new)) t.dropped
+        (W.told outside.old.watcher) (W.told outside.new.watcher)) }
+    ensures part { OnErr result (ShowsStops me most
+        (scene_on me running.old ledger.old
+        (outer_of L.told L.unsent D.told C.told O.told W.told outside.old))
+        (around_on me (outer_of L.told L.unsent D.told C.told O.told W.told outside.new))
+        (W.told outside.old.watcher) (W.told outside.new.watcher)) }
+    ensures up { OnOk result (IsUp running.new.node (D.told outside.new.disk)) }
     ensures link_rose { result ≡ Err LoopFault.LinkFailed
-        → Rose (L.faults link.old) (L.faults link.new) }
-    ensures link_count { L.faults link.old ≤ L.faults link.new }
+        → Rose (L.faults outside.old.link) (L.faults outside.new.link) }
+    ensures link_count { L.faults outside.old.link ≤ L.faults outside.new.link }
     ensures disk_rose { result ≡ Err LoopFault.StoreFailed
-        → Rose (D.faults store.old) (D.faults store.new) }
-    ensures disk_count { D.faults store.old ≤ D.faults store.new }
+        → Rose (D.faults outside.old.disk) (D.faults outside.new.disk) }
+    ensures disk_count { D.faults outside.old.disk ≤ D.faults outside.new.disk }
 {
+    let mut shown = state_shown(&running.node);
+    let mut dropped = 0;
     for taken in 0..most {
         let ticks = running.pace.ticks();
-        match turn(alloc, me, WAIT_ALONE, running, link, store, clock, ledger) {
-            Ok(()) => {
-                if is_over(ticks, running, orders) {
-                    return Ok(taken + 1);
+        match turn_to(
+            alloc,
+            me,
+            WAIT_ALONE,
+            running,
+            &mut outside.link,
+            &mut outside.disk,
+            &mut outside.clock,
+            ledger,
+        ) {
+            Ok(end) => {
+                dropped = with_end(dropped, end);
+                shown = show_new(me, end.now, &shown, &running.node, &mut outside.watcher);
+                if is_over(ticks, running, &mut outside.orders) {
+                    let turns = taken + 1;
+                    return Ok(Took { turns, dropped });
                 }
             }
             Err(fault) => return Err(fault),
         }
     }
-    Ok(most)
+    Ok(Took {
+        turns: most,
+        dropped,
+    })
 }
 
 /// Runs one server that stays up. Its place is opened, it is booted from its disk, and it takes its
 /// turns until it is told to stop, but no more than so many. Then its log is saved, as where its
-/// power fails.
-pub fn serve_steady<L: Link, D: Store, C: Clock, O: Orders>(
+/// power fails. It shows itself behind its boot, and behind each turn that made its state another
+/// one but for its numbers.
+pub fn serve_steady<L: Link, D: Store, C: Clock, O: Orders, W: Watcher>(
     alloc: Global,
     me: ServerId,
     delta: Delta,
     port: u16,
     most: u64,
-    link: &mut L,
-    store: &mut D,
-    clock: &mut C,
-    orders: &mut O,
-) -> Result<Served, LoopFault>
+    outside: &mut Outside<L, D, C, O, W>,
+) -> Result<Stayed, LoopFault>
     requires { port ≤ last_port }
-    ensures run { IfOk result (λ served. IsStay delta me most
-        (start (only me (D.told store.old)) (L.told link.old) (C.told clock.old))
-        (O.told orders.old) served (only me (D.told store.new)) (L.told link.new)
-        (C.told clock.new) (O.told orders.new)) }
+    ensures run { IfOk result (λ stayed. IsStay delta me most
+        (outer_of L.told L.unsent D.told C.told O.told W.told outside.old) stayed
+        (outer_of L.told L.unsent D.told C.told O.told W.told outside.new)) }
     ensures cut { OnErr result (IsStayCut delta me most
-        (start (only me (D.told store.old)) (L.told link.old) (C.told clock.old))
-        (around (only me (D.told store.new)) (L.told link.new) (C.told clock.new))) }
+        (outer_of L.told L.unsent D.told C.told O.told W.told outside.old)
+        (outer_of L.told L.unsent D.told C.told O.told W.told outside.new)) }
     ensures link_rose { result ≡ Err LoopFault.LinkFailed
-        → Rose (L.faults link.old) (L.faults link.new) }
-    ensures link_count { L.faults link.old ≤ L.faults link.new }
+        → Rose (L.faults outside.old.link) (L.faults outside.new.link) }
+    ensures link_count { L.faults outside.old.link ≤ L.faults outside.new.link }
     ensures disk_rose { result ≡ Err LoopFault.StoreFailed
-        → Rose (D.faults store.old) (D.faults store.new) }
-    ensures disk_count { D.faults store.old ≤ D.faults store.new }
+        → Rose (D.faults outside.old.disk) (D.faults outside.new.disk) }
+    ensures disk_count { D.faults outside.old.disk ≤ D.faults outside.new.disk }
 {
-    open(me, port, link)?;
-    let mut running = boot(alloc, Habit::Steady, me, delta, store, clock)?;
-    let mut ledger = Ledger::new(alloc);
-    let turns = turns_until(
+    open(me, port, &mut outside.link)?;
+    let mut running = boot(
         alloc,
+        Habit::Steady,
         me,
-        most,
-        &mut running,
-        link,
-        store,
-        clock,
-        &mut ledger,
-        orders,
+        delta,
+        &mut outside.disk,
+        &mut outside.clock,
     )?;
+    show_first(me, &running, &mut outside.watcher);
+    let mut ledger = Ledger::new(alloc);
+    let took = turns_until(alloc, me, most, &mut running, &mut ledger, outside)?;
     let counts = ledger.counts;
     let Running { node, .. } = running;
-    save_log(alloc, node, store)?;
-    Ok(Served {
-        turns,
+    save_log(alloc, node, &mut outside.disk)?;
+    Ok(Stayed {
+        turns: took.turns,
         taken: counts.taken,
         sent: counts.sent,
+        dropped: took.dropped,
+        unsent: outside.link.unsent(),
     })
 }

@@ -1,5 +1,8 @@
 //! What a turn was.
 
+ghost use Rattle.std.specs.Prelude.{◌≡◌};
+ghost use Rattle.node_loop.specs.Turn.{is_dropped};
+
 use node::Input;
 use node_link::Datagram;
 
@@ -11,4 +14,23 @@ pub struct Turned {
     pub taken: Option<Datagram>,
     pub now: u64,
     pub inputs: Vec<Input>,
+}
+
+/// Whether a datagram that was taken gave nothing: its bytes are no message, or one that only
+/// another peer may send.
+pub(crate) fn is_dropped(taken: &Option<Datagram>, inputs: &[Input]) -> bool
+    ensures { result ≡ is_dropped taken.now inputs.now }
+{
+    match taken {
+        Some(_) => inputs.is_empty(),
+        None => false,
+    }
+}
+
+/// How a turn ended: its last reading of the clock, and whether the datagram that it took was
+/// dropped.
+#[derive(Clone, Copy, PartialEq, Eq)]
+pub struct TurnEnd {
+    pub now: u64,
+    pub dropped: bool,
 }

@@ -38,7 +38,7 @@ returns-in-Err-clause-part g c =
     (g.C.Clock.told c.turn.new.clock) in
     let left = around (only me at.disk) at.link at.clock in
     let n = c.loop.counter in
-    stops-sooner TurnsAtInPart (me ∷ []) (alone me before) left (c.args.turns - (n + 1)) (n + 1)
+    stops-sooner TurnsAt TurnsAtInPart (me ∷ []) (alone me before) left (c.args.turns - (n + 1)) (n + 1)
     c.args.turns (omega arith)
     (subst (λ xs. Stops TurnsAt TurnsAtInPart xs (alone me before) left)
     (sym (rounds-more n (me ∷ [])))

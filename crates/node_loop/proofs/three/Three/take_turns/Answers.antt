@@ -56,7 +56,7 @@ returns-in-Err-clause-part g c =
     (g.C.Clock.told c.turn.new.clock) in
     let n = c.loop.counter in
     let so_far = c.loop.invariant.turned in
-    stops-sooner TurnsAtInPart all_places before left (c.args.turns - (n + 1)) (n + 1)
+    stops-sooner TurnsAt TurnsAtInPart all_places before left (c.args.turns - (n + 1)) (n + 1)
     c.args.turns (omega arith)
     (subst (λ xs. Stops TurnsAt TurnsAtInPart xs before left) (sym (rounds-more n all_places))
     (stops-behind TurnsAt TurnsAtInPart (rounds n all_places) all_places before
