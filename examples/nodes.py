@@ -208,7 +208,7 @@ class Stayers(Servers):
             raise Wrong(f"server {place} left its file `stop`")
 
     def look_at_said(self, place):
-        """Its last line says what it did, and those since its start how its state changed."""
+        """Its last line says what it did, and those before how its state changed."""
         with open(self.said(place), "rb") as said:
             *states, last = said.read().splitlines() or [b""]
         if not last.startswith(b"stopped turns "):
@@ -216,8 +216,7 @@ class Stayers(Servers):
         if not states:
             raise Wrong(f"server {place} said nothing of its state")
         for line in states:
-            is_state = re.match(rb"\d+ state %d [a-z]+ " % place, line)
-            if not is_state and not line.startswith(b"stopped turns "):
+            if not re.match(rb"\d+ state %d [a-z]+ " % place, line):
                 raise Wrong(f"server {place} said {line!r} of its state")
 
     def refuse(self):
