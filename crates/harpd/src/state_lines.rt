@@ -1,6 +1,6 @@
 //! The lines of a running server's states.
 
-ghost use Rattle.std.specs.Prelude.{None};
+ghost use Rattle.std.specs.Prelude.{◌≡◌, None};
 
 use crate::texts::line_of_sight;
 use harp_types::{Sink, write_all};
@@ -18,7 +18,10 @@ pub struct StateLines<K> {
 
 impl<K> StateLines<K> {
     /// Nothing was written yet.
-    pub fn new(alloc: Global, sink: K) -> StateLines<K> {
+    pub fn new(alloc: Global, sink: K) -> StateLines<K>
+        ensures sink { result.sink ≡ sink }
+        ensures lost { result.lost ≡ 0 }
+    {
         StateLines {
             alloc,
             sink,
@@ -27,7 +30,9 @@ impl<K> StateLines<K> {
     }
 
     /// How many lines were lost.
-    pub fn lost(&self) -> u64 {
+    pub fn lost(&self) -> u64
+        ensures { result ≡ self.now.lost }
+    {
         self.lost
     }
 }

@@ -1,6 +1,6 @@
 //! The folders of the system, and the files in them by which people and servers speak.
 
-ghost use Rattle.std.specs.Prelude.{◌≡◌, ◌≤◌, ◌<◌, None, IfOk, OnOk, string_bytes, vec_len, vec_capacity};
+ghost use Rattle.std.specs.Prelude.{◌≡◌, ◌≤◌, ◌<◌, [], None, Some, IfOk, OnOk, string_bytes, vec_len, vec_capacity};
 ghost use Rattle.harpd.specs.Folders.{done_by, with_deed};
 ghost use Rattle.harp_types.specs.Streams.{Rose};
 
@@ -42,7 +42,11 @@ pub struct SystemFolders<R> {
 
 impl<R: AllocGlobal> SystemFolders<R> {
     /// The folders that a runtime gives.
-    pub fn new(rt: R) -> SystemFolders<R> {
+    pub fn new(rt: R) -> SystemFolders<R>
+        ensures done { result.done.items ≡ [] }
+        ensures faults { result.faults ≡ 0 }
+        ensures refusal { result.refusal ≡ None }
+    {
         let done = Vec::new(rt.alloc());
         SystemFolders {
             rt,
@@ -55,13 +59,16 @@ impl<R: AllocGlobal> SystemFolders<R> {
 
 impl<R> SystemFolders<R> {
     /// Why the last call that failed did, if one did.
-    pub fn refusal(&self) -> Option<Refusal> {
+    pub fn refusal(&self) -> Option<Refusal>
+        ensures { result ≡ self.now.refusal }
+    {
         self.refusal
     }
 
     // Counts a call that failed.
     fn refuse(&mut self, refusal: Refusal) -> StoreFault
         ensures fault { result ≡ StoreFault.Failed }
+        ensures told { self.new.refusal ≡ Some refusal }
         ensures done { self.new.done ≡ self.old.done }
         ensures rose { Rose self.old.faults self.new.faults }
         ensures count { self.old.faults ≤ self.new.faults }
@@ -243,7 +250,9 @@ pub struct StopFile<R> {
 
 impl<R> StopFile<R> {
     /// The file at a path.
-    pub fn new(rt: R, path: String) -> StopFile<R> {
+    pub fn new(rt: R, path: String) -> StopFile<R>
+        ensures { result.path ≡ path }
+    {
         StopFile { rt, path }
     }
 }
