@@ -102,7 +102,7 @@ fn take(rt: HostRuntime, player: &mut Player, word: &str) -> io::Result<()> {
 }
 
 /// Plays a line.
-pub fn play(rt: HostRuntime, line: &str) -> io::Result<()> {
+pub(crate) fn play(rt: HostRuntime, line: &str) -> io::Result<()> {
     let mut words = line.split(' ');
     if let Some(name) = words.next() {
         print!(rt; "{name}")?;

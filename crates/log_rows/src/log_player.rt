@@ -58,7 +58,7 @@ fn tell(rt: HostRuntime, word: &str, answer: Option<Answer>) -> io::Result<()> {
 }
 
 /// Plays a line.
-pub fn play(rt: HostRuntime, line: &str) -> io::Result<()> {
+pub(crate) fn play(rt: HostRuntime, line: &str) -> io::Result<()> {
     let mut player = Player {
         promises: Promises::new(),
         choices: Choices::new(),
