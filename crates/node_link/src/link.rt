@@ -91,8 +91,8 @@ pub trait Link {
         ensures rose { OnErr result (Rose (faults self.old) (faults self.new)) }
         ensures count { faults self.old ≤ faults self.new };
 
-    /// Takes the next datagram of a place. It waits for one about so many milliseconds; None where
-    /// none came.
+    /// Takes the next datagram of a place. It waits for one about so many milliseconds, and not at
+    /// all where they are 0; None where none came.
     fn receive(
         &mut self,
         alloc: Global,

@@ -17,18 +17,21 @@ use std::time::{Clock, Duration};
 /// No datagram is longer than this.
 const LONGEST: usize = 65_535;
 
-// An open place: its socket, and how long that waits for a datagram, once it was told.
+// An open place: its socket, whether that waits for a datagram, and how long it does then, once it
+// was told.
 #[derive(Drop)]
 struct OpenPlace {
     socket: UdpSocket,
+    waits: bool,
     wait_ms: Option<u32>,
 }
 
 /// Datagrams over UDP: place s of a group has the port that was given plus s, at 127.0.0.1. It
 /// tells no datagrams. A datagram that can't be sent to its peer is lost, as one to port 0, and
 /// counted up to 2^64 - 1; each other error of a socket is a fault, and so is a call at a place that
-/// isn't open. An Invite is given to the witness a tenth of a second late, so that the Join of a data
-/// server comes before its own.
+/// isn't open. Where it is to wait 0 milliseconds, it takes what is there and doesn't wait at all. An
+/// Invite is given to the witness a tenth of a second late, so that the Join of a data server comes
+/// before its own.
 #[derive(Drop)]
 pub struct UdpLink<R> {
     rt: R,
@@ -88,14 +91,19 @@ fn is_wait_over(kind: ErrorKind) -> bool {
 }
 
 impl OpenPlace {
-    // Has the socket wait so long for a datagram, where it doesn't yet.
+    // Has the socket wait so long for a datagram, and not at all where that is 0. It is told only
+    // what is new to it.
     fn wait(&mut self, wait_ms: u32) -> io::Result<()> {
-        if self.wait_ms == Some(wait_ms) {
-            return Ok(());
+        let waits = 0 < wait_ms;
+        if self.waits != waits {
+            self.socket.set_nonblocking(!waits)?;
+            self.waits = waits;
         }
-        let wait = Duration::from_millis(u64::from(wait_ms.max(1)));
-        self.socket.set_read_timeout(Some(wait))?;
-        self.wait_ms = Some(wait_ms);
+        if waits && self.wait_ms != Some(wait_ms) {
+            let wait = Duration::from_millis(u64::from(wait_ms));
+            self.socket.set_read_timeout(Some(wait))?;
+            self.wait_ms = Some(wait_ms);
+        }
         Ok(())
     }
 }
@@ -193,6 +201,7 @@ impl<R: Net + Clock> Link for UdpLink<R> {
         self.port = port;
         *self.places.get_mut(place) = Some(OpenPlace {
             socket,
+            waits: true,
             wait_ms: None,
         });
         Ok(())
