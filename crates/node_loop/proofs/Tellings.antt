@@ -1,6 +1,6 @@
 -- What a server is told while it takes its turns.
 use Rattle.std.proofs.Common.{◌≡◌, ◌≢◌, ◌≤◌, ◌<◌, ◌^◌, ◌∙◌, ◌⊎◌, ℕ, ◌+◌, ◌-◌, arith, Bool, true, false, List, [], ◌∷◌, ◌++◌, Option, None, Some, ap, inl, inr, refl, subst, sym}
-use Rattle.std.specs.Prelude.{nat_le}
+use Rattle.std.specs.Prelude.{if◌then◌else◌, nat_le}
 use Rattle.std.proofs.lemmas.List.{append-nil, append_assoc, replicate_more}
 use Rattle.harp_types.specs.Memory.{raised}
 use Rattle.harp_types.specs.declared.server.ServerId.{ServerId}
@@ -8,11 +8,12 @@ use Rattle.node.specs.declared.input.Input.{Input}
 use Rattle.node_link.specs.declared.link.Datagram.{Datagram}
 use Rattle.node_loop.specs.declared.look.Look.{Look}
 use Rattle.node_loop.specs.declared.turned.Turned.{Turned}
+use Rattle.node_loop.specs.Looks.{look_of}
 use Rattle.node_loop.specs.Orders.{Answered, IsTold, noes}
 use Rattle.node_loop.specs.Run.{Turns}
 use Rattle.node_loop.specs.Scene.{Spot}
 use Rattle.node_loop.specs.Turn.{IsReceive, IsTurnBy, after_arrival}
-use Rattle.node_loop.specs.Turns.{Pacing}
+use Rattle.node_loop.specs.Turns.{Pacing, after_nudge, after_tick, is_due}
 
 -- ---- answers
 
@@ -38,20 +39,28 @@ no-more n a b c before then_ =
 
 -- ---- ticks
 
-arrives : (look : Look) (input : Option Input) (p : Pacing)
-    → (after_arrival look input p).ticks ≡ p.ticks
-arrives look None p = refl
-arrives look (Some input) p = refl
+arrives : (look : Look) (now : ℕ) (input : Option Input) (p : Pacing)
+    → (after_arrival look now input p).ticks ≡ p.ticks
+arrives look now None p = refl
+arrives look now (Some input) p = refl
 
 receives : (look : Look) (p q : Pacing) (t : Turned) (d : Option Datagram)
     → IsReceive look p q t d → q.ticks ≡ p.ticks
 receives look p q t None h = ap (λ (x : Pacing). x.ticks) h.pace
 receives look p q t (Some d) h =
-    ap (λ (x : Pacing). x.ticks) h.3 ∙ arrives look h.0 p
+    ap (λ (x : Pacing). x.ticks) h.3 ∙ arrives look t.now h.0 p
+
+due_ticks : (b : Bool) (me : ServerId) (look : Look) (now : ℕ) (p : Pacing)
+    → ((if b then after_tick me look now p else after_nudge now p).ticks ≡ p.ticks)
+    ⊎ ((if b then after_tick me look now p else after_nudge now p).ticks ≡ raised p.ticks)
+due_ticks true me look now p = inr refl
+due_ticks false me look now p = inl refl
 
 turn_ticks : (b : Bool) (me : ServerId) (look : Look) (p q : Pacing) (t : Turned)
     → IsTurnBy b me look p q t → (q.ticks ≡ p.ticks) ⊎ (q.ticks ≡ raised p.ticks)
-turn_ticks true me look p q t h = inr (ap (λ (x : Pacing). x.ticks) h.pace)
+turn_ticks true me look p q t h =
+    subst (λ (x : Pacing). (x.ticks ≡ p.ticks) ⊎ (x.ticks ≡ raised p.ticks)) (sym h.pace)
+    (due_ticks (nat_le p.due t.began) me look t.began p)
 turn_ticks false me look p q t h = inl (receives look p q t t.taken h)
 
 -- a turn ticks, or doesn't
@@ -59,8 +68,8 @@ pub turn-ticks : (me : ServerId) (a c : Spot) → Turns me a c
     → (c.server.pace.ticks ≡ a.server.pace.ticks)
     ⊎ (c.server.pace.ticks ≡ raised a.server.pace.ticks)
 turn-ticks me a c h =
-    turn_ticks (nat_le a.server.pace.due h.turned.began) me _ a.server.pace c.server.pace h.turned
-    h.turn
+    turn_ticks (is_due (look_of a.server.node) h.turned.began a.server.pace) me _ a.server.pace
+    c.server.pace h.turned h.turn
 
 -- ---- both
 

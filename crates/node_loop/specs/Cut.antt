@@ -76,7 +76,8 @@ IsGivenInPart place now input a left =
 
 -- the server is given nothing
 pub record GivesNothing (place : ServerId) (a : Spot) (left : SpotLeft) : Type 0 where
-  pub fails : FailsTurn place a.server.pace a.link left.link a.clock left.clock
+  pub fails : FailsTurn place (look_of a.server.node) a.server.pace a.link left.link a.clock
+      left.clock
   pub disk : left.disk ≡ a.disk
 
 -- or it is given a front of what the turn gives, and the next input in part
@@ -85,7 +86,7 @@ pub record GivesAFront (place : ServerId) (a : Spot) (left : SpotLeft) : Type 0 
   pub before : Option Traffic
   pub pace : Pacing
   pub turn : IsTurn place (look_of a.server.node) a.server.pace pace turned
-  pub link : LinkTurns place a.server.pace turned a.link before
+  pub link : LinkTurns place (look_of a.server.node) a.server.pace turned a.link before
   pub clock : MayTellAll (readings_of place turned) a.clock left.clock
   pub given : Stops (IsGiven place turned.now) (IsGivenInPart place turned.now) turned.inputs.items
       (at_work (record a { link = before })) (work_left left.disk left.link)

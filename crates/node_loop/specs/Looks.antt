@@ -22,7 +22,7 @@ is_settled mode.Waits = false
 is_settled mode.Open = true
 is_settled mode.Live = true
 
--- of a server that shows this
+-- of a server that shows this; a leader has committed what its partner acknowledged
 abbrev pub seen : Role → StateLine → Look
 seen role line = record {
   role = role;
@@ -30,6 +30,7 @@ seen role line = record {
   promised = line.promised;
   is_open = is_settled line.mode;
   records = line.top - line.base;
+  unacknowledged = line.top - line.cp;
 }
 
 -- WHAT A SERVER SEES of itself: the role that its mark has, and what it shows

@@ -57,7 +57,7 @@ pub record Turns (place : ServerId) (a c : Spot) : Type 0 where
   pub turned : Turned
   pub before : Option Traffic
   pub turn : IsTurn place (look_of a.server.node) a.server.pace c.server.pace turned
-  pub link : LinkTurns place a.server.pace turned a.link before
+  pub link : LinkTurns place (look_of a.server.node) a.server.pace turned a.link before
   pub clock : MayTellAll (readings_of place turned) a.clock c.clock
   pub taken : c.counts.taken ≡ taken_after turned.taken a.counts.taken
   pub given : Chain (IsGiven place turned.now) turned.inputs.items

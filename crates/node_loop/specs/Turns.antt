@@ -1,5 +1,6 @@
--- The turns of a running server: when it ticks, what it is given then, and how quiet it is.
-use Rattle.std.specs.Prelude.{ℕ, ◌+◌, ◌%◌, ◌==◌, ◌&&◌, Bool, true, false, List, [], ◌∷◌, ◌++◌, nat_le, if◌then◌else◌}
+-- The turns of a running server: when it ticks and when it is nudged, what it is given then, and how
+-- quiet it is.
+use Rattle.std.specs.Prelude.{ℕ, ◌+◌, ◌%◌, ◌==◌, ◌&&◌, ◌||◌, Bool, true, false, List, [], ◌∷◌, ◌++◌, nat_le, if◌then◌else◌}
 use Rattle.harp_types.specs.Memory.{raised}
 use Rattle.harp_types.specs.Server.{number_of}
 use Rattle.harp_types.specs.declared.server.ServerId.{ServerId}
@@ -18,14 +19,16 @@ use Rattle.node_loop.specs.declared.habit.Doubled.TheVariants.{Never}
 use Rattle.node_loop.specs.declared.habit.Habit.{Habit}
 use Rattle.node_loop.specs.declared.habit.Habit.TheVariants.{Plain, Steady}
 use Rattle.node_loop.specs.declared.look.Look.{Look}
-use Rattle.node_loop.specs.Habits.{after_suspicion, applied_at_once, flushes_by, patience_by}
+use Rattle.node_loop.specs.Habits.{after_suspicion, applied_at_once, flushes_by, is_nudged_by, patience_by}
 use Rattle.node_loop.specs.Looks.{is_told_in, view_told}
 
--- a server's habit; when it ticks next, its ticks so far, and how many of them it was quiet: since it
--- heeded a message, or suspected last; and how often its patience is doubled
+-- a server's habit; when it ticks next, and from when on it may be nudged; its ticks so far, and how
+-- many of them it was quiet: since it heeded a message, or suspected last; and how often its patience
+-- is doubled
 pub record Pacing : Type 0 where
   pub habit : Habit
   pub due : ℕ
+  pub nudge : ℕ
   pub ticks : ℕ
   pub quiet : ℕ
   pub doubled : Doubled
@@ -33,7 +36,7 @@ pub record Pacing : Type 0 where
 -- it is booted at a reading of its clock, and ticks at once
 abbrev pub first_pace : Habit → ℕ → Pacing
 first_pace habit now =
-    record { habit = habit; due = now; ticks = 0; quiet = 0; doubled = Never }
+    record { habit = habit; due = now; nudge = now; ticks = 0; quiet = 0; doubled = Never }
 
 -- ---- a tick
 
@@ -70,6 +73,7 @@ abbrev pub after_tick : ServerId → Look → ℕ → Pacing → Pacing
 after_tick me look now p = record {
   habit = p.habit;
   due = now + 200;
+  nudge = now + 10;
   ticks = raised p.ticks;
   quiet = if suspects me look p then 0 else raised p.quiet;
   doubled = after_suspicion p.habit (suspects me look p) (doubled_at look p);
@@ -82,8 +86,39 @@ given_if false input = []
 -- WHAT A TICK GIVES, in order
 abbrev pub tick_inputs : ServerId → Look → Pacing → List Input
 tick_inputs me look p =
-    Tick ∷ Apply (applied_at_once p.habit)
+    Tick ∷ Apply (applied_at_once p.habit look)
     ∷ given_if (flushes look p) Flush ++ given_if (suspects me look p) Suspect
+
+-- ---- a nudge
+
+-- whether its time has come, where no tick is due
+abbrev pub is_nudged : Look → ℕ → Pacing → Bool
+is_nudged look now p = nat_le p.nudge now && is_nudged_by p.habit look
+
+-- nothing but the time of the next one is another one then: a nudge is no tick
+abbrev pub after_nudge : ℕ → Pacing → Pacing
+after_nudge now p = record {
+  habit = p.habit;
+  due = p.due;
+  nudge = now + 10;
+  ticks = p.ticks;
+  quiet = p.quiet;
+  doubled = p.doubled;
+}
+
+-- ---- what is due
+
+-- a tick or a nudge
+abbrev pub is_due : Look → ℕ → Pacing → Bool
+is_due look now p = nat_le p.due now || is_nudged look now p
+
+-- WHAT IS GIVEN where something is due: what a tick gives, and at a nudge a Tick alone, so that a
+-- leader sends again what wasn't acknowledged
+abbrev pub due_inputs : ServerId → Look → ℕ → Pacing → List Input
+due_inputs me look now p = if nat_le p.due now then tick_inputs me look p else Tick ∷ []
+
+abbrev pub after_due : ServerId → Look → ℕ → Pacing → Pacing
+after_due me look now p = if nat_le p.due now then after_tick me look now p else after_nudge now p
 
 -- ---- a datagram
 
@@ -107,10 +142,12 @@ is_heeded habit look Flush = false
 is_heeded habit look Suspect = false
 is_heeded habit look ListTree = false
 
-abbrev pub after_input : Look → Input → Pacing → Pacing
-after_input look input p = record {
+-- what is heeded puts off a nudge, too: acknowledgements come as they should
+abbrev pub after_input : Look → ℕ → Input → Pacing → Pacing
+after_input look now input p = record {
   habit = p.habit;
   due = p.due;
+  nudge = if is_heeded p.habit look input then now + 10 else p.nudge;
   ticks = p.ticks;
   quiet = if is_heeded p.habit look input then 0 else p.quiet;
   doubled = p.doubled;

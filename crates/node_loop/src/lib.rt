@@ -5,11 +5,11 @@
 //! # What is proved
 //!
 //! `take_turn` gives what a turn gives to a server (`turns`): a tick with what belongs to it where
-//! its time has come, else what came in one datagram; a turn sends nothing. `arrived` is what a
-//! datagram gives: a server's message only from a server's port. `serve_one` runs one server and
-//! `serve_three` runs three, and both by one definition (`run`): each server is booted from its
-//! disk at a reading of the clock, and takes its turns; what a turn gives are steps of its node,
-//! one after the other, and what a step makes is sent before the next, answers first, then
+//! its time has come, or a nudge, else what came in one datagram; a turn sends nothing. `arrived`
+//! is what a datagram gives: a server's message only from a server's port. `serve_one` runs one
+//! server and `serve_three` runs three, and both by one definition (`run`): each server is booted
+//! from its disk at a reading of the clock, and takes its turns; what a turn gives are steps of its
+//! node, one after the other, and what a step makes is sent before the next, answers first, then
 //! refusals, then messages, each as its encoding. So the datagrams that a link tells as sent are
 //! just those, in order, and so are the readings and the datagrams taken. All turns were taken, and
 //! what is counted is right up to 2^64 - 1. An error leaves disks, link and clock as a front of

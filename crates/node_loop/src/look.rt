@@ -9,7 +9,8 @@ use node::Node;
 use wire::Message;
 
 /// What a server sees of itself: its role in the view that it accepted, that view, the one that it
-/// promised, whether it stands in an open view, and how many records its log has.
+/// promised, whether it stands in an open view, how many records its log has, and how many of them
+/// aren't known to be committed, which are those of a leader that its partner hasn't acknowledged.
 #[derive(Clone, Copy, PartialEq, Eq)]
 pub struct Look {
     pub role: Role,
@@ -17,6 +18,7 @@ pub struct Look {
     pub promised: ViewNo,
     pub is_open: bool,
     pub records: u64,
+    pub unacknowledged: u64,
 }
 
 impl Look {
@@ -51,6 +53,7 @@ fn seen(role: Role, line: &StateLine) -> Look
         promised: line.promised,
         is_open: is_settled(line.mode),
         records: line.top.saturating_sub(line.base),
+        unacknowledged: line.top.saturating_sub(line.cp),
     }
 }
 

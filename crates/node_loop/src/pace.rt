@@ -1,8 +1,10 @@
-//! When a server ticks, and when it suspects.
+//! When a server ticks, when it is nudged, and when it suspects.
 
-ghost use Rattle.std.specs.Prelude.{◌≡◌, ◌≤◌, ◌<◌, ◌^◌, ◌∷◌, ◌++◌, ◌&&◌, nat_le, IfOk, OnOk, OnErr};
-ghost use Rattle.node_loop.specs.Turns.{after_input, after_tick, doubled_at, first_pace, given_if};
-ghost use Rattle.node_loop.specs.Turns.{is_heeded, is_heeded_by, is_other, may_suspect, patience};
+ghost use Rattle.std.specs.Prelude.{◌≡◌, ◌≤◌, ◌<◌, ◌^◌, ◌∷◌, ◌++◌, ◌&&◌, ◌||◌, [], nat_le, IfOk, OnOk};
+ghost use Rattle.std.specs.Prelude.{OnErr};
+ghost use Rattle.node_loop.specs.Turns.{after_due, after_input, after_nudge, after_tick, doubled_at};
+ghost use Rattle.node_loop.specs.Turns.{due_inputs, first_pace, given_if, is_due, is_heeded};
+ghost use Rattle.node_loop.specs.Turns.{is_heeded_by, is_nudged, is_other, may_suspect, patience};
 ghost use Rattle.node_loop.specs.Turns.{suspects, tick_inputs};
 ghost use Rattle.node.specs.declared.input.Input.TheVariants.{Apply, Flush, Suspect, Tick};
 
@@ -17,16 +19,20 @@ use wire::Message;
 /// Milliseconds from a tick to the next.
 pub const TICK: u64 = 200;
 
+/// Milliseconds from a tick, a nudge or a message that is heeded to the next nudge.
+const NUDGE: u64 = 10;
+
 /// The disk is flushed at each tick of so many.
 const TICKS_TO_FLUSH: u64 = 5;
 
-/// What is kept of a server between its turns: its habit, when it ticks next, its ticks so far, how
-/// many of them it was quiet, since it heeded a message or suspected last, and how often its
-/// patience is doubled. Ticks are counted up to 2^64 - 1.
+/// What is kept of a server between its turns: its habit, when it ticks next, from when on it may be
+/// nudged, its ticks so far, how many of them it was quiet, since it heeded a message or suspected
+/// last, and how often its patience is doubled. Ticks are counted up to 2^64 - 1.
 #[derive(Clone, Copy, PartialEq, Eq)]
 pub struct Pace {
     habit: Habit,
     due: u64,
+    nudge: u64,
     ticks: u64,
     quiet: u64,
     doubled: Doubled,
@@ -40,6 +46,7 @@ impl Model for Pace {
     ghost view = { λ p. record {
       habit = p.habit;
       due = p.due;
+      nudge = p.nudge;
       ticks = p.ticks;
       quiet = p.quiet;
       doubled = p.doubled;
@@ -48,6 +55,7 @@ impl Model for Pace {
     ghost inverse = { λ p. record {
       habit = p.habit;
       due = p.due;
+      nudge = p.nudge;
       ticks = p.ticks;
       quiet = p.quiet;
       doubled = p.doubled;
@@ -110,17 +118,26 @@ impl Pace {
         Pace {
             habit,
             due: now,
+            nudge: now,
             ticks: 0,
             quiet: 0,
             doubled: Doubled::Never,
         }
     }
 
-    /// Whether it ticks at this reading of its clock.
-    pub fn is_due(&self, now: u64) -> bool
-        ensures { result ≡ nat_le self.now.due now }
+    /// Whether it is nudged at this reading of its clock, where it doesn't tick and sees this of
+    /// itself.
+    fn is_nudged(&self, look: &Look, now: u64) -> bool
+        ensures { result ≡ is_nudged look.now now self.now }
     {
-        self.due <= now
+        self.nudge <= now && self.habit.is_nudged(look)
+    }
+
+    /// Whether it ticks or is nudged at this reading of its clock, where it sees this of itself.
+    pub fn is_due(&self, look: &Look, now: u64) -> bool
+        ensures { result ≡ is_due look.now now self.now }
+    {
+        self.due <= now || self.is_nudged(look, now)
     }
 
     /// At which reading of its clock it ticks next.
@@ -158,7 +175,7 @@ impl Pace {
 
     /// A tick at this reading of its clock, of a server that sees this of itself: what it is given,
     /// in order. Where memory runs out, it doesn't tick.
-    pub fn tick(
+    fn tick(
         &mut self,
         alloc: Global,
         me: ServerId,
@@ -173,10 +190,11 @@ impl Pace {
         let ticks = self.ticks.saturating_add(1);
         let suspects = self.suspects(me, look);
         let flushes = self.habit.flushes(look, ticks % TICKS_TO_FLUSH == 0);
-        let most = self.habit.applied_at_once();
+        let most = self.habit.applied_at_once(look);
         let inputs = inputs_of_tick(alloc, most, flushes, suspects)?;
         let doubled = self.doubled_at(look);
         self.due = now + TICK;
+        self.nudge = now + NUDGE;
         self.ticks = ticks;
         self.quiet = if suspects {
             0
@@ -187,12 +205,51 @@ impl Pace {
         Ok(inputs)
     }
 
-    /// A server that sees this of itself is given an input that came to it.
-    pub fn heed(&mut self, look: &Look, input: &Input)
-        ensures { self.new ≡ after_input look.now input.now self.old }
+    /// A nudge at this reading of its clock: what it is given. Where memory runs out, it isn't
+    /// nudged.
+    fn nudge(&mut self, alloc: Global, now: u64) -> Result<Vec<Input>, AllocError>
+        requires { now < 2 ^ 62 }
+        ensures inputs { IfOk result (λ inputs. inputs.items ≡ Tick ∷ []) }
+        ensures pace { OnOk result (self.new ≡ after_nudge now self.old) }
+        ensures kept { OnErr result (self.new ≡ self.old) }
+    {
+        let mut inputs = Vec::with_capacity(alloc, 1)?;
+        inputs.push_reserved(Input::Tick);
+        self.nudge = now + NUDGE;
+        Ok(inputs)
+    }
+
+    /// What is due at this reading of its clock, of a server that sees this of itself: it ticks
+    /// where the time of a tick has come, and else it is nudged. It gives what it is given then, in
+    /// order. Where memory runs out, it does neither.
+    pub fn keep(
+        &mut self,
+        alloc: Global,
+        me: ServerId,
+        look: &Look,
+        now: u64,
+    ) -> Result<Vec<Input>, AllocError>
+        requires { now < 2 ^ 62 }
+        ensures inputs { IfOk result (λ inputs. inputs.items ≡ due_inputs me look.now now self.old) }
+        ensures pace { OnOk result (self.new ≡ after_due me look.now now self.old) }
+        ensures kept { OnErr result (self.new ≡ self.old) }
+    {
+        if self.due <= now {
+            self.tick(alloc, me, look, now)
+        } else {
+            self.nudge(alloc, now)
+        }
+    }
+
+    /// A server that sees this of itself is given an input that came to it by this reading of its
+    /// clock.
+    pub fn heed(&mut self, look: &Look, now: u64, input: &Input)
+        requires { now < 2 ^ 62 }
+        ensures { self.new ≡ after_input look.now now input.now self.old }
     {
         if is_heeded(self.habit, look, input) {
             self.quiet = 0;
+            self.nudge = now + NUDGE;
         }
     }
 }

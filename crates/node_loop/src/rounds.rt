@@ -21,7 +21,7 @@ use node_link::{Clock, Link};
 use std::alloc::Global;
 
 /// How many milliseconds a server alone waits for a datagram, about.
-pub const WAIT_ALONE: u32 = 20;
+const WAIT_ALONE: u32 = 20;
 
 /// A turn of the server at a place. It gives how the turn ended.
 pub fn turn_to<L: Link, D: Store, C: Clock>(

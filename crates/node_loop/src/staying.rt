@@ -16,7 +16,7 @@ use crate::habit::Habit;
 use crate::ledger::Ledger;
 use crate::orders::Orders;
 use crate::outside::Outside;
-use crate::rounds::{WAIT_ALONE, turn_to};
+use crate::rounds::turn_to;
 use crate::running::Running;
 use crate::saving::save_log;
 use crate::showing::{show_first, show_new, state_shown};
@@ -27,6 +27,10 @@ use harp_types::ServerId;
 use node_link::{Clock, Link};
 use promise::Delta;
 use std::alloc::Global;
+
+/// How many milliseconds a server that stays up waits for a datagram, about: fewer than from one
+/// nudge to the next.
+const WAIT_STEADILY: u32 = 5;
 
 /// Whether a server that had ticked so often before its turn is told to stop behind it: it asks
 /// where it ticked.
@@ -101,7 +105,7 @@ fn turns_until<L: Link, D: Store, C: Clock, O: Orders, W: Watcher>(
         match turn_to(
             alloc,
             me,
-            WAIT_ALONE,
+            WAIT_STEADILY,
             running,
             &mut outside.link,
             &mut outside.disk,

@@ -4,7 +4,7 @@ use Rattle.node_loop.specs.Chain.{Chain, Stops}
 use Rattle.node_loop.specs.Cut.{IsGivenInPart, work_left}
 use Rattle.node_loop.specs.Run.{IsGiven}
 use Rattle.node_loop.specs.Scene.{work}
-use Rattle.node_loop.specs.Turn.{IsTurn, is_dropped}
+use Rattle.node_loop.specs.Turn.{FailsTurn, IsTurn, LinkTurns, is_dropped}
 use Rattle.node_loop.proofs.Results.{on_err}
 use Rattle.node_loop.proofs.rounds.turn_to.Goals as goal
 
@@ -17,7 +17,9 @@ returns-in-Ok-clause-turns g c =
         before = g.L.Link.told c.take_turn.new.link;
         turn = subst (λ look. IsTurn c.args.me look c.args.running.now.pace c.take_turn.new.pace t)
             c.of-look.ensures c.in_ok-turned.ensures.turn.0;
-        link = c.in_ok-turned.ensures.turn.1;
+        link = subst (λ look. LinkTurns c.args.me look c.args.running.now.pace t
+            (g.L.Link.told c.args.link.now) (g.L.Link.told c.take_turn.new.link))
+            c.of-look.ensures c.in_ok-turned.ensures.turn.1;
         clock = c.in_ok-turned.ensures.turn.2;
         taken = c.give_all.ensures.taken ∙ ap (λ (n : Counts). n.taken) c.take.ensures;
         given = subst (λ n. Chain (IsGiven c.args.me t.now) t.inputs.items
@@ -40,7 +42,13 @@ returns-in-Ok-clause-turns g c =
 pub returns-in_err-turned-clause-part : goal.returns-in_err-turned-clause-part
 returns-in_err-turned-clause-part g c =
     on_err c.from_residual.result
-    (inl (record { fails = c.in_err-turned.ensures.part.1; disk = refl }))
+    (inl (record {
+      fails = subst (λ look. FailsTurn c.args.me look c.args.running.now.pace
+          (g.L.Link.told c.args.link.now) (g.L.Link.told c.take_turn.new.link)
+          (g.C.Clock.told c.args.clock.now) (g.C.Clock.told c.take_turn.new.clock))
+          c.of-look.ensures c.in_err-turned.ensures.part.1;
+      disk = refl;
+    }))
 
 pub returns-clause-part : goal.returns-clause-part
 returns-clause-part g c =
@@ -51,7 +59,9 @@ returns-clause-part g c =
       pace = c.take_turn.new.pace;
       turn = subst (λ look. IsTurn c.args.me look c.args.running.now.pace c.take_turn.new.pace t)
           c.of-look.ensures c.in_ok-turned.ensures.turn.0;
-      link = c.in_ok-turned.ensures.turn.1;
+      link = subst (λ look. LinkTurns c.args.me look c.args.running.now.pace t
+          (g.L.Link.told c.args.link.now) (g.L.Link.told c.take_turn.new.link))
+          c.of-look.ensures c.in_ok-turned.ensures.turn.1;
       clock = c.in_ok-turned.ensures.turn.2;
       given = subst (λ n. Stops (IsGiven c.args.me t.now) (IsGivenInPart c.args.me t.now)
           t.inputs.items
