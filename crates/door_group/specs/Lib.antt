@@ -1,4 +1,3 @@
 pub mod Rule
-pub mod First
 pub mod Local
 pub mod Served

@@ -12,8 +12,7 @@
 //!   loop hears, in order; where one fails it is cut off, and a front of it was sent
 //!   (`TurnBreaks`, `AskBreaks`). They count each failed call of the link and of the disks, and
 //!   show which of the two failed only where its count rose since they began (`IsLater`). They run
-//!   on the link, the disks and the clock that were lent to them at first. `first_number` is where
-//!   a client begins to number its calls.
+//!   on the link, the disks and the clock that were lent to them at first.
 //! - `serve_door` starts three servers on a link, on their disks and on a clock, and answers the
 //!   records of a source one after the other by what they reply. Its result says where it ended
 //!   (`ends`): the servers were booted from their disks, one more reading of the clock numbers the
@@ -25,7 +24,6 @@
 mod asker;
 mod brought;
 mod fault;
-mod first;
 mod local;
 mod served;
 mod servers;
@@ -33,7 +31,6 @@ mod servers;
 pub use asker::Asker;
 pub use brought::Brought;
 pub use fault::ServedFault;
-pub use first::first_number;
 pub use local::LocalServers;
 pub use served::{Caller, serve_door};
 pub use servers::{Servers, ServersFault};

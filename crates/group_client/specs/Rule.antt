@@ -1,7 +1,7 @@
 -- HOW A CALL IS ASKED of three servers elsewhere, over a link, until one of them answers it.
 use Rattle.std.specs.Prelude.{◌≡◌, ◌⊎◌, ℕ, zero, suc, ◌+◌, ◌*◌, ◌<◌, ◌≤◌, ◌==◌, ◌&&◌, min, List, [], ◌∷◌, Bool, true, Option, Some, None, Result, Ok, Err, ⊤, if◌then◌else◌}
 use Rattle.harp_types.specs.Memory.{raised}
-use Rattle.harp_types.specs.Server.{number_of}
+use Rattle.harp_types.specs.Server.{number_of, same_server}
 use Rattle.harp_types.specs.declared.call.Call.{Call}
 use Rattle.harp_types.specs.declared.cause.Cause.{Cause}
 use Rattle.harp_types.specs.declared.cause.Cause.TheVariants as cause
@@ -137,9 +137,10 @@ next_round Zero = One
 next_round One = Two
 next_round Two = Zero
 
--- where a call is asked next that this server can't serve
+-- where a call is asked next that this server can't serve; one that names itself may wait for long
 abbrev pub place_after : ServerId → Cause → ServerId
-place_after place (cause.NotLeader (Some hint)) = hint
+place_after place (cause.NotLeader (Some hint)) =
+    if same_server hint place then next_round place else hint
 place_after place (cause.NotLeader None) = next_round place
 place_after place cause.BadClient = place
 place_after place cause.NotYetOpen = place

@@ -119,7 +119,7 @@ fn refused(server: ServerId, ticket: Ticket, client: u32, number: u64, cause: Ca
 }
 
 /// What a message of a server says of a call.
-fn said(server: ServerId, ticket: Ticket, call: &Call, message: Message) -> News
+pub fn said(server: ServerId, ticket: Ticket, call: &Call, message: Message) -> News
     ensures said { result ≡ said server (asked ticket call.now) message }
     ensures form { AnswersRightly call.now result }
 {

@@ -1,7 +1,7 @@
 //! When and where a call is asked again.
 
 ghost use Rattle.std.specs.Prelude.{◌≡◌, ◌≤◌, ◌<◌, ◌^◌, ◌*◌};
-ghost use Rattle.group_client.specs.Rule.{asked_again, first_wait, longest_pause, next_by};
+ghost use Rattle.group_client.specs.Rule.{asked_again, first_wait, hinted, longest_pause, next_by};
 ghost use Rattle.group_client.specs.Rule.{next_round, place_after};
 
 use crate::news::{News, Replied};
@@ -34,11 +34,13 @@ fn next_round(place: ServerId) -> ServerId
     }
 }
 
-/// Where a call is asked next that this server can't serve.
+/// Where a call is asked next that this server can't serve. One that names itself leads no open view
+/// yet, and another one may.
 fn place_after(place: ServerId, cause: Cause) -> ServerId
     ensures { result ≡ place_after place cause }
 {
     match cause {
+        Cause::NotLeader { hint: Some(hint) } if hint.is(place) => next_round(place),
         Cause::NotLeader { hint: Some(hint) } => hint,
         Cause::NotLeader { hint: None } => next_round(place),
         Cause::BadClient => place,
@@ -73,15 +75,24 @@ impl Wait {
 
     /// That of one that was asked again at this moment.
     pub fn again(self, now: u64) -> Wait
-        requires now { now < 2 ^ 62 }
-        requires pause { self.pause ≤ longest_pause }
+        requires { now < 2 ^ 62 }
         ensures { result ≡ asked_again now self }
     {
-        let pause = (2 * self.pause).min(LONGEST_PAUSE);
+        let pause = self.pause.saturating_mul(2).min(LONGEST_PAUSE);
         Wait {
             place: next_round(self.place),
             due: now + pause,
             pause,
+        }
+    }
+
+    /// That of one that a server can't serve.
+    pub fn hinted(self, by: ServerId, cause: Cause) -> Wait
+        ensures { result ≡ hinted by cause self }
+    {
+        Wait {
+            place: place_after(by, cause),
+            ..self
         }
     }
 
@@ -91,10 +102,7 @@ impl Wait {
     {
         match news {
             News::Nothing => Next::Waits(self),
-            News::Refused { by, cause } => Next::Waits(Wait {
-                place: place_after(by, cause),
-                ..self
-            }),
+            News::Refused { by, cause } => Next::Waits(self.hinted(by, cause)),
             News::Answered(replied) => Next::Ends(replied),
         }
     }
