@@ -1,6 +1,6 @@
 -- WHAT REAL CLIENTS MEAN by the arguments of a call, and what they read in the attributes of a
 -- reply, where the door's rule leaves it open.
-use Rattle.std.specs.Prelude.{ℕ, ◌*◌, ◌/◌, ◌%◌, ◌==◌, ◌||◌, min, not, nat_lt, Bool, false, Option, Some, None, option_map, if◌then◌else◌}
+use Rattle.std.specs.Prelude.{ℕ, ◌*◌, ◌/◌, ◌%◌, ◌==◌, ◌&&◌, ◌||◌, min, not, nat_lt, Bool, false, Option, Some, None, option_map, if◌then◌else◌}
 use Rattle.harp_types.specs.declared.attr.Attr.{Attr}
 use Rattle.harp_types.specs.declared.attr.SetAttr.{SetAttr}
 use Rattle.harp_types.specs.declared.attr.Time.{Time}
@@ -20,6 +20,20 @@ time_meant now t =
     else (if t.micros == 1000000 then Some now
     else (if nat_lt 1000000 t.micros then None else Some t))
 
+-- a time that isn't told
+abbrev pub left_time : Time
+left_time = record { seconds = field_left; micros = field_left }
+
+-- a time that stands for now
+abbrev pub is_now : Time → Bool
+is_now t = not (t.seconds == field_left) && t.micros == 1000000
+
+-- whoever may set a size isn't always one who may set times. So with a size the sign for now is left
+-- out: the server sets when the file was changed
+abbrev pub mtime_meant : Time → ℕ → Time → Option Time
+mtime_meant now size t =
+    if not (size == field_left) && is_now t then Some left_time else time_meant now t
+
 abbrev pub with_times : SetAttr → Option Time → Option Time → Option SetAttr
 with_times a None mtime = None
 with_times a (Some atime) None = None
@@ -34,7 +48,7 @@ with_times a (Some atime) (Some mtime) =
     })
 
 abbrev pub attr_meant : Time → SetAttr → Option SetAttr
-attr_meant now a = with_times a (time_meant now a.atime) (time_meant now a.mtime)
+attr_meant now a = with_times a (time_meant now a.atime) (mtime_meant now a.size a.mtime)
 
 -- THE CALL THAT IS MEANT, where its times are some
 abbrev pub call_meant : Time → Call → Option Call

@@ -1,7 +1,7 @@
 //! What clients mean by the arguments of a call, and what they read in the attributes of a reply.
 
 ghost use Rattle.std.specs.Prelude.{◌≡◌, IfOk};
-ghost use Rattle.nfs_door.specs.Changes.{attr_meant, call_meant, in_512, is_regular, makes_special, reply_told, time_meant};
+ghost use Rattle.nfs_door.specs.Changes.{attr_meant, call_meant, in_512, is_regular, makes_special, mtime_meant, reply_told, time_meant};
 
 use harp_types::{Attr, Call, FIELD_LEFT, Reply, SetAttr, Time};
 use std::alloc::{AllocError, Global};
@@ -24,12 +24,26 @@ fn time_meant(now: Time, time: Time) -> Option<Time>
     }
 }
 
+/// The time of a change that is meant, beside this size. With a size the sign for now is left out,
+/// since whoever may set a size isn't always one who may set times, and the server sets that one.
+fn mtime_meant(now: Time, size: u32, time: Time) -> Option<Time>
+    ensures { result ≡ mtime_meant now size time }
+{
+    if size != FIELD_LEFT && (time.seconds != FIELD_LEFT && time.micros == SECOND) {
+        return Some(Time {
+            seconds: FIELD_LEFT,
+            micros: FIELD_LEFT,
+        });
+    }
+    time_meant(now, time)
+}
+
 /// The attributes that are meant, where their times are some.
 fn attr_meant(now: Time, attr: SetAttr) -> Option<SetAttr>
     ensures { result ≡ attr_meant now attr }
 {
     let atime = time_meant(now, attr.atime)?;
-    let mtime = time_meant(now, attr.mtime)?;
+    let mtime = mtime_meant(now, attr.size, attr.mtime)?;
     Some(SetAttr {
         mode: attr.mode,
         uid: attr.uid,
