@@ -1,0 +1,17 @@
+pub mod MoreBytes
+pub mod Later
+pub mod Coming
+pub mod Keeping
+pub mod Standing
+pub mod Following
+pub mod Changing
+pub mod Beginning
+pub mod Hearing
+pub mod Seating
+pub mod Rightness
+pub mod Chains
+pub mod Halls
+pub mod Saying
+pub mod FrontLaws
+pub mod KeptLaws
+pub mod Outcomes

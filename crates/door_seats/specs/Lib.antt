@@ -1,0 +1,10 @@
+pub mod Kept
+pub mod Connections
+pub mod Framing
+pub mod Seats
+pub mod Moving
+pub mod Events
+pub mod Answers
+pub mod Doors
+pub mod Words
+pub mod Adapters

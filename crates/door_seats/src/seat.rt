@@ -1,0 +1,401 @@
+//! A seat: a client number, as which the calls of one connection at a time are made.
+
+ghost use Rattle.std.specs.Prelude.{◌≡◌, drop, true, Some, IfOk, OnErr, OnOk};
+ghost use Rattle.door_seats.specs.Events.{empty_seat};
+ghost use Rattle.door_seats.specs.Kept.{Kept, answer_of};
+ghost use Rattle.door_seats.specs.Moving.{HasMoved, IsUsable, ask_of};
+ghost use Rattle.door_seats.specs.Seats.{arrived, asks_for, begun_by, call_of, come, followed};
+ghost use Rattle.door_seats.specs.Seats.{gone, hears, is_leaving, is_ready, left, lost, news_of, over};
+ghost use Rattle.door_seats.specs.Seats.{refused, reminded, settled, time_at, waiting, with_unread};
+ghost use Rattle.door_seats.specs.declared.seat.Line.TheVariants as line;
+ghost use Rattle.door_seats.specs.declared.seat.Visit.{Visit as Visited};
+ghost use Rattle.rpc_door.specs.Serving.{sent};
+
+use crate::byte_queue::ByteQueue;
+use crate::kept::KeptAnswers;
+use crate::request::Request;
+use crate::rule::Moment;
+use group_client::{News, Ticket, Wait, peer_of, said};
+use harp_base::fields::put_u32;
+use harp_types::{Bytes, Peer, ServerId, Time};
+use nfs_door::{Errand, Step, begin, go_on};
+use std::alloc::{AllocError, Global};
+use wire::{Message, encode};
+
+/// A record whose call is on its way.
+#[derive(Drop)]
+pub struct Visit {
+    pub request: Request,
+    pub errand: Errand,
+    pub number: u64,
+    pub wait: Wait,
+}
+
+/// How it stands with the connection of a seat.
+#[derive(Clone, Copy, PartialEq, Eq)]
+pub enum Line {
+    /// There is none.
+    Free,
+    /// More may come over it.
+    Open,
+    /// No more comes.
+    Over,
+    /// All that came is answered, and it is to be ended.
+    Done,
+    /// It takes no more.
+    Lost,
+}
+
+/// A datagram that is to be sent to a server.
+#[derive(Drop)]
+pub struct Ask {
+    pub to: Peer,
+    pub bytes: Bytes,
+}
+
+/// A client, as which the calls of one connection at a time are made, one after the other.
+#[derive(Drop)]
+pub struct Seat {
+    pub client: u32,
+    /// The number of the next call.
+    pub next: u64,
+    /// Where it is asked first.
+    pub place: ServerId,
+    pub line: Line,
+    /// Whether no record is at the front of what is unread.
+    pub is_settled: bool,
+    /// What came and isn't part of a record that was begun.
+    pub unread: ByteQueue,
+    /// What is to be handed to the connection.
+    pub unsent: ByteQueue,
+    pub visit: Option<Visit>,
+}
+
+/// No more bytes of a connection are taken while so many aren't read.
+const MOST_UNREAD: usize = 65_536;
+
+/// The mark of a record of one fragment, but for its length.
+const LAST: u32 = 1 << 31;
+
+/// A moment in milliseconds, as NFS tells it.
+fn time_at(now: u64) -> Time
+    ensures { result ≡ time_at now }
+{
+    Time {
+        seconds: (now / 1000 % (1 << 32)) as u32,
+        micros: (now % 1000 * 1000) as u32,
+    }
+}
+
+/// An answer as it is sent, a record of one fragment. One of 2^31 bytes, which there is none of,
+/// counts as want of memory.
+fn sent(alloc: Global, answer: &[u8]) -> Result<Vec<u8>, AllocError>
+    ensures { IfOk result (λ v. v.items ≡ sent answer.now) }
+{
+    if answer.len() >= LAST as usize {
+        return Err(AllocError);
+    }
+    let mut out = Vec::new(alloc);
+    put_u32(&mut out, LAST + answer.len() as u32)?;
+    out.extend_from_slice(answer)?;
+    Ok(out)
+}
+
+impl Seat {
+    /// The empty seat of a client, whose first call has this number.
+    pub fn new(alloc: Global, client: u32, first: u64) -> Seat
+        ensures { result ≡ empty_seat client first }
+    {
+        Seat {
+            client,
+            next: first,
+            place: ServerId::Zero,
+            line: Line::Free,
+            is_settled: true,
+            unread: ByteQueue::new(alloc),
+            unsent: ByteQueue::new(alloc),
+            visit: None,
+        }
+    }
+
+    /// A connection takes it.
+    pub fn arrive(&mut self)
+        ensures { self.new ≡ arrived self.old }
+    {
+        self.line = Line::Open;
+        self.is_settled = true;
+        self.unread.clear();
+        self.unsent.clear();
+    }
+
+    /// Whether more bytes of its connection are taken.
+    pub fn has_room(&self) -> bool
+        ensures { result ≡ true → self.now.line ≡ line.Open }
+    {
+        self.line == Line::Open && self.unread.len() < MOST_UNREAD
+    }
+
+    /// Bytes came over its connection.
+    pub fn come(&mut self, bytes: &[u8]) -> Result<(), AllocError>
+        ensures came { OnOk result (self.new ≡ come bytes.now self.old) }
+        ensures kept { OnErr result (self.new ≡ self.old) }
+    {
+        self.unread.extend(bytes)?;
+        self.is_settled = false;
+        Ok(())
+    }
+
+    /// No more come.
+    pub fn end(&mut self)
+        ensures { self.new ≡ over self.old }
+    {
+        self.line = Line::Over;
+        self.is_settled = false;
+    }
+
+    /// Its connection took so many bytes.
+    pub fn go(&mut self, count: usize)
+        ensures { self.new ≡ gone (drop count self.old.unsent) self.old }
+    {
+        self.unsent.drop_front(count);
+    }
+
+    /// Its connection takes no more.
+    pub fn lose(&mut self)
+        ensures { self.new ≡ lost self.old }
+    {
+        self.line = Line::Lost;
+        self.unread.clear();
+        self.unsent.clear();
+    }
+
+    /// Whether its connection is to be ended: all is answered and taken, or no more is taken and no
+    /// call is on its way.
+    pub fn is_leaving(&self) -> bool
+        ensures { result ≡ is_leaving self.now }
+    {
+        match self.line {
+            Line::Free => false,
+            Line::Open => false,
+            Line::Over => false,
+            Line::Done => true,
+            Line::Lost => self.visit.is_none(),
+        }
+    }
+
+    /// Its connection is ended.
+    pub fn leave(&mut self)
+        ensures { self.new ≡ left self.old }
+    {
+        self.line = Line::Free;
+        self.unread.clear();
+        self.unsent.clear();
+    }
+
+    /// Whether its next record may be begun.
+    pub fn is_ready(&self) -> bool
+        ensures { result ≡ is_ready self.now }
+    {
+        matches!(self.line, Line::Open | Line::Over)
+            && !self.is_settled
+            && self.visit.is_none()
+            && self.unsent.is_empty()
+    }
+
+    /// Whether this record's call is on its way.
+    pub fn asks_for(&self, request: &[u8]) -> bool
+        ensures { result ≡ asks_for request.now self.now }
+    {
+        match &self.visit {
+            Some(visit) => visit.request.as_slice() == request,
+            None => false,
+        }
+    }
+
+    /// No record is at the front of what came.
+    pub fn settle(&mut self)
+        ensures { self.new ≡ settled self.old }
+    {
+        self.is_settled = true;
+        if self.line == Line::Over {
+            self.line = Line::Done;
+        }
+    }
+
+    /// The record at the front is too large.
+    pub fn refuse(&mut self)
+        ensures { self.new ≡ refused self.old }
+    {
+        self.is_settled = true;
+        self.line = Line::Done;
+    }
+
+    /// Begins the record that stands in the first bytes, so many: its kept answer is given again,
+    /// and where there is none, its first step is taken.
+    pub fn begin(
+        &mut self,
+        alloc: Global,
+        moment: Moment,
+        request: Request,
+        taken: usize,
+        kept: &mut KeptAnswers,
+    ) -> Result<Option<Ask>, AllocError>
+        requires { IsUsable moment }
+        ensures moves { IfOk result (λ ask. HasMoved ask self.new kept.new (begun_by moment
+            request (with_unread (drop taken self.old.unread) self.old) kept.old
+            (answer_of request kept.old))) }
+        ensures client { self.new.client ≡ self.old.client }
+    {
+        self.unread.drop_front(taken);
+        if let Some(answer) = kept.answer_of(&request) {
+            self.unsent.extend(answer.as_slice())?;
+            return Ok(None);
+        }
+        let everyone = moment.rule.everyone;
+        let step = begin(alloc, everyone, time_at(moment.now), request.as_slice())?;
+        self.follow(alloc, moment, request, step, kept)
+    }
+
+    /// Goes on with a record whose next step is this one.
+    fn follow(
+        &mut self,
+        alloc: Global,
+        moment: Moment,
+        request: Request,
+        step: Step,
+        kept: &mut KeptAnswers,
+    ) -> Result<Option<Ask>, AllocError>
+        requires { IsUsable moment }
+        ensures moves { IfOk result (λ ask. HasMoved ask self.new kept.new
+            (followed moment request self.old kept.old step)) }
+        ensures client { self.new.client ≡ self.old.client }
+    {
+        match step {
+            Step::Silent => Ok(None),
+            Step::Answer(answer) => {
+                let sent = sent(alloc, answer.as_slice())?;
+                self.unsent.extend(sent.as_slice())?;
+                kept.keep(request, Bytes::from_vec(sent))?;
+                Ok(None)
+            }
+            Step::Call(errand) => {
+                let ask = self.ask(alloc, moment, &errand, self.next, self.place)?;
+                self.visit = Some(Visit {
+                    request,
+                    errand,
+                    number: self.next,
+                    wait: Wait::first(self.place, moment.now),
+                });
+                self.next = self.next.saturating_add(1);
+                Ok(Some(ask))
+            }
+        }
+    }
+
+    /// The datagram that asks a call of a server.
+    fn ask(
+        &self,
+        alloc: Global,
+        moment: Moment,
+        errand: &Errand,
+        number: u64,
+        to: ServerId,
+    ) -> Result<Ask, AllocError>
+        requires { IsUsable moment }
+        ensures { IfOk result (λ ask. ask ≡ ask_of
+            (record { asked = call_of moment self.now errand.now number; to = to })) }
+    {
+        let message = Message::Ask {
+            client: self.client,
+            number,
+            cred: errand.cred,
+            call: errand.call.copy(alloc)?,
+        };
+        Ok(Ask {
+            to: peer_of(moment.rule.port, to),
+            bytes: encode(alloc, &message)?,
+        })
+    }
+
+    /// Its call waits so.
+    fn wait(&mut self, wait: Wait)
+        ensures { (v : Visited) → self.old.visit ≡ Some v → self.new ≡ waiting wait v self.old }
+    {
+        if let Some(visit) = &mut self.visit {
+            visit.wait = wait;
+        }
+    }
+
+    /// Asks its call again, where its pause is over.
+    pub fn remind(&mut self, alloc: Global, moment: Moment) -> Result<Option<Ask>, AllocError>
+        requires { IsUsable moment }
+        ensures moves { IfOk result (λ ask. (kept : Kept)
+            → HasMoved ask self.new kept (reminded moment self.old kept)) }
+        ensures client { self.new.client ≡ self.old.client }
+    {
+        let Some(visit) = &self.visit else {
+            return Ok(None);
+        };
+        let wait = visit.wait;
+        if moment.now < wait.due {
+            return Ok(None);
+        }
+        let ask = self.ask(alloc, moment, &visit.errand, visit.number, wait.place)?;
+        self.wait(wait.again(moment.now));
+        Ok(Some(ask))
+    }
+
+    /// What a message of a server says of its call.
+    fn news(&self, moment: Moment, by: ServerId, message: Message) -> News
+        ensures { result ≡ news_of moment by message self.now }
+    {
+        match &self.visit {
+            Some(visit) => {
+                let ticket = Ticket {
+                    port: moment.rule.port,
+                    client: self.client,
+                    number: visit.number,
+                    cred: visit.errand.cred,
+                };
+                said(by, ticket, &visit.errand.call, message)
+            }
+            None => News::Nothing,
+        }
+    }
+
+    /// Takes what a message of a server says of its call.
+    pub fn hear(
+        &mut self,
+        alloc: Global,
+        moment: Moment,
+        by: ServerId,
+        message: Message,
+        kept: &mut KeptAnswers,
+    ) -> Result<Option<Ask>, AllocError>
+        requires { IsUsable moment }
+        ensures moves { IfOk result (λ ask. HasMoved ask self.new kept.new
+            (hears moment by message self.old kept.old)) }
+        ensures client { self.new.client ≡ self.old.client }
+    {
+        let news = self.news(moment, by, message);
+        let Some(visit) = self.visit.take() else {
+            return Ok(None);
+        };
+        match news {
+            News::Nothing => {
+                self.visit = Some(visit);
+                Ok(None)
+            }
+            News::Refused { by, cause } => {
+                let wait = visit.wait.hinted(by, cause);
+                self.visit = Some(Visit { wait, ..visit });
+                Ok(None)
+            }
+            News::Answered(replied) => {
+                self.place = replied.by;
+                let step = go_on(alloc, &visit.errand, &replied.reply)?;
+                self.follow(alloc, moment, visit.request, step, kept)
+            }
+        }
+    }
+}
