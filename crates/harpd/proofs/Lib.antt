@@ -1,2 +1,4 @@
 pub mod WordLaws
+pub mod DoorWordLaws
 pub mod ServeLaws
+pub mod DoorLaws

@@ -6,12 +6,12 @@ use Rattle.std.proofs.lemmas.Fmt.{decimal_injective}
 use Rattle.std.proofs.lemmas.Grind.{common_steps}
 use Rattle.promise.specs.Promise.{IsDelta}
 use Rattle.harp_types.specs.Server.{number_of}
-use Rattle.harp_types.specs.declared.server.ServerId.{ServerId}
 use Rattle.harpd.specs.declared.words.Loop.{Loop}
+use Rattle.harpd.specs.declared.words.Serving.{Serving}
 use Rattle.harpd.specs.declared.words.Command.{Command}
 use Rattle.harpd.specs.declared.words.Command.TheVariants as command
-use Rattle.harpd.specs.Words.{AsksFor, FolderWords, IsForm, LoopWords, Named, ServerWords, delta_of}
-use Rattle.harpd.specs.Words.{delta_words, texts}
+use Rattle.harpd.specs.Words.{AsksFor, DoorWords, FolderWords, IsForm, LoopWords, Named}
+use Rattle.harpd.specs.Words.{ServerWords, delta_of, delta_words, texts}
 
 -- ---- lists of words
 
@@ -95,6 +95,9 @@ named : (ws : List (String Global)) (name : List ℕ) (rest : List (List ℕ)) �
 named ws name rest are (command.Server place runs) p =
     let same = front (texts ws) name rest (codes "server") p.rest are p.are in
     (same.0, subst (ServerWords place runs) same.1 p.server_words)
+named ws name rest are (command.Door serves) p =
+    let same = front (texts ws) name rest (codes "serve") p.rest are p.are in
+    (same.0, subst (DoorWords serves) same.1 p.door_words)
 named ws name rest are command.Init p =
     let same = front (texts ws) name rest (codes "init") p.rest are p.are in
     (same.0, subst FolderWords same.1 p.folder_words)
@@ -109,6 +112,8 @@ asks : (ws : List (String Global)) (name : List ℕ) (rest : List (List ℕ)) �
     → (c : Command) → Named name rest c → AsksFor ws c
 asks ws name rest are (command.Server place runs) p =
     record { rest = rest; are = are ∙ ap (λ t. t ∷ rest) (sym p.0); server_words = p.1 }
+asks ws name rest are (command.Door serves) p =
+    record { rest = rest; are = are ∙ ap (λ t. t ∷ rest) (sym p.0); door_words = p.1 }
 asks ws name rest are command.Init p =
     record { rest = rest; are = are ∙ ap (λ t. t ∷ rest) (sym p.0); folder_words = p.1 }
 asks ws name rest are command.Help p =
@@ -123,13 +128,18 @@ pub by_name : (ws : List (String Global)) (name : List ℕ) (rest : List (List �
 by_name ws name rest are None none = λ form. none form.0 (named ws name rest are form.0 form.1)
 by_name ws name rest are (Some c) is = asks ws name rest are c is
 
--- names differ in their first letters
+-- names differ in their first letters, or in their lengths
 unfoldable pub first : List ℕ → ℕ
 first name = get_or name 0 0
+
+unfoldable pub size : List ℕ → ℕ
+size name = length name
 
 only_help : (rest : List (List ℕ)) (c : Command) → Named (codes "help") rest c → rest ≡ []
 unfolding first
 only_help rest (command.Server place runs) p =
+    let e : 115 ≡ 104 = ap first p.0 in absurd (omega (arith, e))
+only_help rest (command.Door serves) p =
     let e : 115 ≡ 104 = ap first p.0 in absurd (omega (arith, e))
 only_help rest command.Init p = let e : 105 ≡ 104 = ap first p.0 in absurd (omega (arith, e))
 only_help rest command.Help p = p.1
@@ -138,6 +148,8 @@ only_help rest command.Version p = let e : 118 ≡ 104 = ap first p.0 in absurd 
 only_version : (rest : List (List ℕ)) (c : Command) → Named (codes "version") rest c → rest ≡ []
 unfolding first
 only_version rest (command.Server place runs) p =
+    let e : 115 ≡ 118 = ap first p.0 in absurd (omega (arith, e))
+only_version rest (command.Door serves) p =
     let e : 115 ≡ 118 = ap first p.0 in absurd (omega (arith, e))
 only_version rest command.Init p = let e : 105 ≡ 118 = ap first p.0 in absurd (omega (arith, e))
 only_version rest command.Help p = let e : 104 ≡ 118 = ap first p.0 in absurd (omega (arith, e))
@@ -160,10 +172,12 @@ version_alone rest (Some c) is = subst (Named (codes "version") rest) (sym is.0)
 pub no_loop : (words rest : List (List ℕ)) (word : List ℕ) → words ≡ word ∷ rest
     → ((runs : Loop) → LoopWords runs rest → ⊥) → (c : Command)
     → Named (codes "server") words c → ⊥
-unfolding first
+unfolding first size
 no_loop words rest word are none (command.Server place runs) p =
     let same = front words word rest (decimal (number_of place)) p.1.rest are p.1.are in
     none runs (subst (LoopWords runs) same.1 p.1.loop_words)
+no_loop words rest word are none (command.Door serves) p =
+    let e : 5 ≡ 6 = ap size p.0 in absurd (omega (arith, e))
 no_loop words rest word are none command.Init p =
     let e : 105 ≡ 115 = ap first p.0 in absurd (omega (arith, e))
 no_loop words rest word are none command.Help p =
@@ -177,11 +191,27 @@ pub no_folder : (words : List (List ℕ)) → (FolderWords words → ⊥) → (c
 unfolding first
 no_folder words none (command.Server place runs) p =
     let e : 115 ≡ 105 = ap first p.0 in absurd (omega (arith, e))
+no_folder words none (command.Door serves) p =
+    let e : 115 ≡ 105 = ap first p.0 in absurd (omega (arith, e))
 no_folder words none command.Init p = none p.1
 no_folder words none command.Help p =
     let e : 104 ≡ 105 = ap first p.0 in absurd (omega (arith, e))
 no_folder words none command.Version p =
     let e : 118 ≡ 105 = ap first p.0 in absurd (omega (arith, e))
+
+-- words behind `serve` that don't say how connections are served
+pub no_serving : (words : List (List ℕ)) → ((serves : Serving) → DoorWords serves words → ⊥)
+    → (c : Command) → Named (codes "serve") words c → ⊥
+unfolding first size
+no_serving words none (command.Server place runs) p =
+    let e : 6 ≡ 5 = ap size p.0 in absurd (omega (arith, e))
+no_serving words none (command.Door serves) p = none serves p.1
+no_serving words none command.Init p =
+    let e : 105 ≡ 115 = ap first p.0 in absurd (omega (arith, e))
+no_serving words none command.Help p =
+    let e : 104 ≡ 115 = ap first p.0 in absurd (omega (arith, e))
+no_serving words none command.Version p =
+    let e : 118 ≡ 115 = ap first p.0 in absurd (omega (arith, e))
 
 -- several words are no folder's name, and neither is none, nor an empty one
 pub no_one_word : (words : List (List ℕ)) → (length words ≡ 1 → ⊥) → FolderWords words → ⊥

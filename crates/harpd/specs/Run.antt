@@ -1,6 +1,7 @@
 -- How the program ends.
 use Rattle.std.specs.Prelude.{◌≡◌, ◌⊎◌, ℕ, List, String}
 use Rattle.std.specs.Global.{Global}
+use Rattle.harpd.specs.Door.{DoorEnds, Doorway}
 use Rattle.harpd.specs.Folders.{Done, with_made}
 use Rattle.harpd.specs.Serve.{Outer, ServerEnds}
 use Rattle.harpd.specs.Texts.{UsageEnds, Writes, WritesSome, version_text}
@@ -21,23 +22,26 @@ InitEnds folder was is exit.RefusedWords = ⊥
 
 -- What each command does, over what it runs on, by these words: a server is run in the folder that
 -- the fourth one names, and the one that the second names is made. Nothing else is done to folders,
--- and what makes one writes nothing
-abbrev pub CommandEnds : Command → List (List ℕ) → Outer → Outer → Exit → Type 0
-CommandEnds (command.Server place runs) words old new e =
+-- and what makes one, or serves connections, writes nothing
+abbrev pub CommandEnds : {N L C : Type 0} → Command → List (List ℕ) → Doorway N L C
+    → (old new : Outer) → Exit → Type 0
+CommandEnds (command.Server place runs) words door old new e =
     ServerEnds place runs (word_at words 3) old new e
-CommandEnds command.Init words old new e =
+CommandEnds (command.Door serves) words door old new e =
+    DoorEnds door serves e × (new.done ≡ old.done) × (new.written ≡ old.written)
+CommandEnds command.Init words door old new e =
     InitEnds (word_at words 1) old.done new.done e × (new.written ≡ old.written)
-CommandEnds command.Help words old new e =
+CommandEnds command.Help words door old new e =
     WritesSome old.written new.written e × (new.done ≡ old.done)
-CommandEnds command.Version words old new e =
+CommandEnds command.Version words door old new e =
     Writes version_text old.written new.written e × (new.done ≡ old.done)
 
 -- the words ask for a command, and it was done
-pub record DoesCommand (words : List (String Global)) (old new : Outer) (e : Exit)
-    : Type 0 where
+pub record DoesCommand {N L C : Type 0} (words : List (String Global)) (door : Doorway N L C)
+    (old new : Outer) (e : Exit) : Type 0 where
   pub command : Command
   pub asked : AsksFor words command
-  pub ends : CommandEnds command (texts words) old new e
+  pub ends : CommandEnds command (texts words) door old new e
 
 -- on words of no form it is said how the program is called
 pub record SaysUsage (words : List (String Global)) (old new : Outer) (e : Exit) : Type 0 where
@@ -46,5 +50,6 @@ pub record SaysUsage (words : List (String Global)) (old new : Outer) (e : Exit)
   pub kept : new.done ≡ old.done
 
 -- HOW THE PROGRAM ENDS: it does what the words ask for, or says how it is called
-abbrev pub Ends : List (String Global) → Outer → Outer → Exit → Type 0
-Ends words old new e = DoesCommand words old new e ⊎ SaysUsage words old new e
+abbrev pub Ends : {N L C : Type 0} → List (String Global) → Doorway N L C → (old new : Outer) → Exit
+    → Type 0
+Ends words door old new e = DoesCommand words door old new e ⊎ SaysUsage words old new e

@@ -14,6 +14,7 @@ use Rattle.harpd.specs.declared.exit.Exit.TheVariants as exit
 unfoldable pub usage_text : List ℕ
 usage_text =
     codes "usage: harpd server S PORT DIR\nusage: harpd server S PORT DIR DELTA\n"
+    ++ codes "usage: harpd serve PORT DOOR CLIENT\nusage: harpd serve PORT DOOR CLIENT U G\n"
     ++ codes "usage: harpd init DIR\nusage: harpd help\nusage: harpd version\n"
 
 unfoldable pub version_text : List ℕ

@@ -1,13 +1,15 @@
 -- What the words of the program are.
-use Rattle.std.specs.Prelude.{◌≡◌, ◌≢◌, ℕ, ◌≤◌, List, [], ◌∷◌, map}
+use Rattle.std.specs.Prelude.{◌≡◌, ◌≢◌, ℕ, ◌≤◌, ◌<◌, ◌^◌, List, [], ◌∷◌, map, IfSome}
 use Rattle.std.specs.Prelude.{codes, decimal, String, string_bytes, Option, Some, None, get_or}
 use Rattle.std.specs.Global.{Global}
 use Rattle.harp_types.specs.Limits.{first_promise}
 use Rattle.harp_types.specs.Server.{number_of}
+use Rattle.harp_types.specs.declared.cred.Cred.{Cred}
 use Rattle.harp_types.specs.declared.server.ServerId.{ServerId}
 use Rattle.node_link.specs.Traffic.{last_port}
 use Rattle.promise.specs.Promise.{IsDelta}
 use Rattle.harpd.specs.declared.words.Loop.{Loop}
+use Rattle.harpd.specs.declared.words.Serving.{Serving}
 use Rattle.harpd.specs.declared.words.Command.{Command}
 use Rattle.harpd.specs.declared.words.Command.TheVariants as command
 
@@ -56,6 +58,39 @@ pub record IsServer (place : ServerId) (runs : Loop) (words : List (String Globa
   pub are : texts words ≡ codes "server" ∷ rest
   pub server_words : ServerWords place runs rest
 
+-- ---- how connections are served
+
+abbrev pub IsCred : Cred → Type 0
+IsCred cred = (cred.uid < 2 ^ 32) × (cred.gid < 2 ^ 32)
+
+-- the ports are from 1024 on, a user and a group that are told are below 2^32, and the sixteen
+-- clients from this one on are below 4096
+pub record AreServed (serves : Serving) : Type 0 where
+  pub low : 1024 ≤ serves.port
+  pub high : serves.port ≤ last_port
+  pub door_low : 1024 ≤ serves.door
+  pub door_high : serves.door ≤ 65535
+  pub client : serves.client ≤ 4080
+  pub everyone : IfSome serves.everyone IsCred
+
+abbrev pub cred_words : Option Cred → List (List ℕ)
+cred_words None = []
+cred_words (Some cred) = decimal cred.uid ∷ decimal cred.gid ∷ []
+
+-- the words are the servers' port, the door's, a client, and a user and a group where they are
+-- told, in decimal without leading zeros
+pub record DoorWords (serves : Serving) (words : List (List ℕ)) : Type 0 where
+  pub are : words
+      ≡ decimal serves.port ∷ decimal serves.door ∷ decimal serves.client
+      ∷ cred_words serves.everyone
+  pub within : AreServed serves
+
+-- the words are `serve`, and those
+pub record IsDoor (serves : Serving) (words : List (String Global)) : Type 0 where
+  pub rest : List (List ℕ)
+  pub are : texts words ≡ codes "serve" ∷ rest
+  pub door_words : DoorWords serves rest
+
 -- ---- the other forms
 
 -- the words are the name of a folder
@@ -81,6 +116,7 @@ IsVersion words = texts words ≡ codes "version" ∷ []
 -- the words ask for this
 abbrev pub AsksFor : List (String Global) → Command → Type 0
 AsksFor words (command.Server place runs) = IsServer place runs words
+AsksFor words (command.Door serves) = IsDoor serves words
 AsksFor words command.Init = IsInit words
 AsksFor words command.Help = IsHelp words
 AsksFor words command.Version = IsVersion words
@@ -93,16 +129,22 @@ IsForm words = (command : Command) × AsksFor words command
 abbrev pub AskForServer : List (String Global) → Type 0
 AskForServer words = (place : ServerId) × (runs : Loop) × IsServer place runs words
 
+-- they ask that connections be served
+abbrev pub AskForDoor : List (String Global) → Type 0
+AskForDoor words = (serves : Serving) × IsDoor serves words
+
 -- ---- the first word, and those behind it
 
 abbrev pub name_of : Command → List ℕ
 name_of (command.Server place runs) = codes "server"
+name_of (command.Door serves) = codes "serve"
 name_of command.Init = codes "init"
 name_of command.Help = codes "help"
 name_of command.Version = codes "version"
 
 abbrev pub Behind : List (List ℕ) → Command → Type 0
 Behind rest (command.Server place runs) = ServerWords place runs rest
+Behind rest (command.Door serves) = DoorWords serves rest
 Behind rest command.Init = FolderWords rest
 Behind rest command.Help = rest ≡ []
 Behind rest command.Version = rest ≡ []

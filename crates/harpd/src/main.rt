@@ -1,24 +1,36 @@
 //! The program `harpd`: a server that stays up, over a folder and UDP, until a file tells it to
-//! stop; and what makes a folder for one.
+//! stop; what makes a folder for one; and a door to three servers, over TCP and UDP.
 //!
 //! # What is proved
 //!
 //! `run` is the top call. It does what the words ask for, or says how the program is called
 //! (`ends`): the words are exactly `server` with the decimal spellings of a server's number and a
-//! port, a folder that isn't empty and perhaps the length of promises, `init` with such a folder,
-//! `help`, and `version`. `server` hands on what `node_loop` says of `serve_steady`: with status 0
-//! it was booted, took its turns until it was told to stop, and saved its log (`IsStay`), and its
-//! line was written; with 8 it was cut off or never started, and its line wasn't (`IsStayCut`);
-//! with 7 and 6 it is either (`ServerEnds`). `init` ends with 0 only where its folder was made. The
-//! folder that is made, that is entered with the disk, and that is left behind the end is the one
-//! whose name stands among the words, and nothing else is done to folders (`CommandEnds`). All but
-//! `server` leave link, disk, clock and who gives orders (`apart`). A failure is told only where its
-//! count rose. Not pinned: the text of `help`, and what a disk makes of the name to which it is
-//! attached. `word_fault` tells what is wrong with words exactly where they are no form. `main` and
-//! the adapters over the system's files are proved safe, and keep what was done to folders.
+//! port, a folder that isn't empty and perhaps the length of promises, `serve` with those of two
+//! ports, a client and perhaps a user and a group, `init` with such a folder, `help`, and
+//! `version`.
+//!
+//! `server` hands on what `node_loop` says of `serve_steady`: with status 0 it was booted, took its
+//! turns until it was told to stop, and saved its log (`IsStay`), and its line was written; with 8
+//! it was cut off or never started, and its line wasn't (`IsStayCut`); with 7 and 6 it is either
+//! (`ServerEnds`). `init` ends with 0 only where its folder was made. The folder that is made, that
+//! is entered with the disk, and that is left behind the end is the one whose name stands among the
+//! words, and nothing else is done to folders (`CommandEnds`).
+//!
+//! `serve` hands on what `door_seats` says of its `serve` (`Serves`), by the rule and the client
+//! that the words say, behind an opening that tells nothing: with 0 of all its turns, with 6 of
+//! those before it was cut off, and with 8 so too, or it was never opened (`DoorEnds`). It ends in
+//! no other way, writes nothing, and does nothing to folders.
+//!
+//! All but `server` leave link, disk, clock and who gives orders (`apart`), and all but `serve` the
+//! door's connections, link and clock (`door_apart`). A failure is told only where its count rose.
+//! Not pinned: the text of `help`, which port the door opens, and what a disk makes of the name to
+//! which it is attached. `word_fault` tells what is wrong with words exactly where they are no
+//! form. `main` and the adapters over the system's files are proved safe, and keep what was done to
+//! folders.
 #![tactic(auto)]
 
 mod deeds;
+mod door;
 mod exit;
 mod folders;
 mod number;
@@ -36,6 +48,7 @@ use crate::reason::Ended;
 use crate::state_lines::StateLines;
 use crate::system_folders::{StopFile, SystemFolders};
 use crate::top::{run, word_at};
+use door_seats::TcpConnections;
 use harp_types::WriterSink;
 use node_link::{UdpLink, WallClock};
 use node_loop::Outside;
@@ -76,8 +89,20 @@ fn ended<'w>(rt: &HostRuntime, words: &'w [String]) -> Result<Ended<'w>, AllocEr
         orders: StopFile::new(rt, stop),
         watcher: StateLines::new(alloc, WriterSink::new(io::writer(rt))),
     };
+    let mut door = door_seats::Outside {
+        connections: TcpConnections::new(rt),
+        link: UdpLink::new(rt),
+        clock: WallClock::new(rt),
+    };
     let mut sink = WriterSink::new(io::writer(rt));
-    let exit = run(alloc, words, &mut sink, &mut folders, &mut outside);
+    let exit = run(
+        alloc,
+        words,
+        &mut sink,
+        &mut folders,
+        &mut outside,
+        &mut door,
+    );
     let lost = outside.watcher.lost();
     // The store lets its folder go, so that somebody can look at it.
     drop(outside);

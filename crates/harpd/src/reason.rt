@@ -28,8 +28,11 @@ impl<'a> Ended<'a> {
         }
     }
 
-    // The port of the server that the words name.
+    // The port of the server or of the door that the words name.
     fn port(&self) -> Option<u16> {
+        if word_at(self.words, 0) == "serve" {
+            return word_at(self.words, 2).parse::<u16>().ok();
+        }
         let first = word_at(self.words, 2).parse::<u16>().ok()?;
         let server = word_at(self.words, 1).parse::<u16>().ok()?;
         Some(first.saturating_add(server))

@@ -17,8 +17,8 @@ use node_link::{Clock, Link};
 use node_loop::{Orders, Outside, Stayed, Watcher, serve_steady};
 use std::alloc::Global;
 
-/// So many turns a server takes at most, if nobody tells it to stop: more than it ever will.
-const MOST_TURNS: u64 = 1 << 62;
+/// So many turns a server or a door takes at most: more than it ever will.
+pub const MOST_TURNS: u64 = 1 << 62;
 
 /// Writes what a server did that stayed up.
 fn write_stopped<K: Sink>(alloc: Global, served: Stayed, sink: &mut K) -> Exit

@@ -17,6 +17,8 @@ fn usage() -> &'static [u8]
 {
     b"usage: harpd server S PORT DIR
 usage: harpd server S PORT DIR DELTA
+usage: harpd serve PORT DOOR CLIENT
+usage: harpd serve PORT DOOR CLIENT U G
 usage: harpd init DIR
 usage: harpd help
 usage: harpd version
@@ -33,7 +35,8 @@ fn version() -> &'static [u8]
 }
 
 /// What the words may be.
-const HELP: &[u8] = b"harpd runs one of the three servers of a group that keeps a file tree.
+const HELP: &[u8] = b"harpd runs one of the three servers of a group that keeps a file tree, or
+a door to them for clients of NFS.
 
 harpd server S PORT DIR
 harpd server S PORT DIR DELTA
@@ -48,6 +51,18 @@ harpd server S PORT DIR DELTA
       PORT   the port of server 0, 1024 to 65533, the same for all three
       DIR    a folder that `harpd init DIR` made, for this server alone
       DELTA  how many milliseconds a promise lasts, 500 to 100000; 2000 if left out
+harpd serve PORT DOOR CLIENT
+harpd serve PORT DOOR CLIENT U G
+    serves those who connect to 127.0.0.1, TCP port DOOR, with calls of MOUNT version
+    1 and NFS version 2, until it is killed. It answers by asking the three servers
+    at 127.0.0.1, UDP ports PORT to PORT + 2, from a port that the system gives it;
+    16 connections at once, while others wait. It writes nothing.
+      PORT    the port of server 0, 1024 to 65533
+      DOOR    the port of the door, 1024 to 65535
+      CLIENT  0 to 4080: it asks as this client and the 15 behind it, which nobody
+              else may be
+      U, G    as whom all calls are made, a user and a group, 0 to 4294967295; as
+              whom each one says, if left out
 harpd init DIR
     makes the folder DIR, but none above it, and in it the file `new`; it writes
     nothing else. A folder in which a server has run is refused.

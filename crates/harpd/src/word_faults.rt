@@ -4,7 +4,7 @@ ghost use Rattle.std.specs.Prelude.{MatchOption};
 ghost use Rattle.harpd.specs.Words.{IsForm};
 
 use crate::number::number_within;
-use crate::words::{FIRST_PORT, command_of};
+use crate::words::{FIRST_PORT, LAST_CLIENT, command_of};
 use node_link::LAST_PORT;
 use std::fmt;
 
@@ -15,6 +15,10 @@ pub enum Wanted {
     Port,
     Folder,
     Delta,
+    Door,
+    Client,
+    User,
+    Group,
 }
 
 /// What is wrong with words that are no form. Places count from 1.
@@ -38,6 +42,14 @@ const INIT: &[Wanted] = &[Wanted::Folder];
 
 const SERVER: &[Wanted] = &[Wanted::Server, Wanted::Port, Wanted::Folder, Wanted::Delta];
 
+const DOOR: &[Wanted] = &[
+    Wanted::Port,
+    Wanted::Door,
+    Wanted::Client,
+    Wanted::User,
+    Wanted::Group,
+];
+
 impl Wanted {
     // Its name in the usage text.
     fn name(self) -> &'static str {
@@ -46,6 +58,10 @@ impl Wanted {
             Wanted::Port => "PORT",
             Wanted::Folder => "DIR",
             Wanted::Delta => "DELTA",
+            Wanted::Door => "DOOR",
+            Wanted::Client => "CLIENT",
+            Wanted::User => "U",
+            Wanted::Group => "G",
         }
     }
 
@@ -56,6 +72,9 @@ impl Wanted {
             Wanted::Server => Some((0, 2)),
             Wanted::Port => Some((u64::from(FIRST_PORT), u64::from(LAST_PORT))),
             Wanted::Delta => Some((500, 100_000)),
+            Wanted::Door => Some((u64::from(FIRST_PORT), u64::from(u16::MAX))),
+            Wanted::Client => Some((0, u64::from(LAST_CLIENT))),
+            Wanted::User | Wanted::Group => Some((0, u64::from(u32::MAX))),
         }
     }
 
@@ -67,9 +86,9 @@ impl Wanted {
         }
     }
 
-    // Whether it may be left out.
+    // Whether it may be left out, with all behind it.
     fn may_lack(self) -> bool {
-        self == Wanted::Delta
+        self == Wanted::Delta || self == Wanted::User
     }
 }
 
@@ -77,6 +96,8 @@ impl Wanted {
 fn behind(name: &str) -> Option<&'static [Wanted]> {
     if name == "server" {
         Some(SERVER)
+    } else if name == "serve" {
+        Some(DOOR)
     } else if name == "init" {
         Some(INIT)
     } else if name == "help" || name == "version" {

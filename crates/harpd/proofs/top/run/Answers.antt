@@ -20,6 +20,13 @@ returns-in-Some-Server-clause-ends g c = inl (record {
       c.serve.result) c.word_at-folder.ensures c.serve.ensures.ends;
 })
 
+pub returns-in-Some-Door-clause-ends : goal.returns-in-Some-Door-clause-ends
+returns-in-Some-Door-clause-ends g c = inl (record {
+  command = command.Door c.in-Some-Door.serves;
+  asked = subst (AsksFor c.args.words.now) c.in-Some-Door.field-0-is c.in-Some-Door.ensures;
+  ends = (c.serve_door.ensures.ends, refl, refl);
+})
+
 pub returns-in-Some-Init-clause-ends : goal.returns-in-Some-Init-clause-ends
 returns-in-Some-Init-clause-ends g c = inl (record {
   command = command.Init;

@@ -32,30 +32,40 @@ unfolding rest
 returns-then-eq-2 c =
     let words = c.args.words.now in
     let text = c.as_str-word.result.now in
-    let named = same_text text (codes "init") c.if-eq-2.ensures in
-    by_name words (codes "init") (rest words)
-    (begin_with words c.word-item.result text (codes "init") c.in-len1-up.len_at_least
-    c.word-item.is c.as_str-word.ensures.value named) c.init_of.result c.init_of.ensures
+    let named = same_text text (codes "serve") c.if-eq-2.ensures in
+    by_name words (codes "serve") (rest words)
+    (begin_with words c.word-item.result text (codes "serve") c.in-len1-up.len_at_least
+    c.word-item.is c.as_str-word.ensures.value named) c.door_of.result c.door_of.ensures
 
 pub returns-then-eq-3 : goal.returns-then-eq-3
 unfolding rest
 returns-then-eq-3 c =
     let words = c.args.words.now in
     let text = c.as_str-word.result.now in
-    let named = same_text text (codes "help") c.if-eq-3.ensures in
-    by_name words (codes "help") (rest words)
-    (begin_with words c.word-item.result text (codes "help") c.in-len1-up.len_at_least
-    c.word-item.is c.as_str-word.ensures.value named)
-    c.alone.result (help_alone (rest words) c.alone.result c.alone.ensures)
+    let named = same_text text (codes "init") c.if-eq-3.ensures in
+    by_name words (codes "init") (rest words)
+    (begin_with words c.word-item.result text (codes "init") c.in-len1-up.len_at_least
+    c.word-item.is c.as_str-word.ensures.value named) c.init_of.result c.init_of.ensures
 
 pub returns-then-eq-4 : goal.returns-then-eq-4
 unfolding rest
 returns-then-eq-4 c =
     let words = c.args.words.now in
     let text = c.as_str-word.result.now in
-    let named = same_text text (codes "version") c.if-eq-4.ensures in
+    let named = same_text text (codes "help") c.if-eq-4.ensures in
+    by_name words (codes "help") (rest words)
+    (begin_with words c.word-item.result text (codes "help") c.in-len1-up.len_at_least
+    c.word-item.is c.as_str-word.ensures.value named)
+    c.alone.result (help_alone (rest words) c.alone.result c.alone.ensures)
+
+pub returns-then-eq-5 : goal.returns-then-eq-5
+unfolding rest
+returns-then-eq-5 c =
+    let words = c.args.words.now in
+    let text = c.as_str-word.result.now in
+    let named = same_text text (codes "version") c.if-eq-5.ensures in
     by_name words (codes "version") (rest words)
     (begin_with words c.word-item.result text (codes "version") c.in-len1-up.len_at_least
     c.word-item.is c.as_str-word.ensures.value named)
-    c.alone-then-eq-4.result
-    (version_alone (rest words) c.alone-then-eq-4.result c.alone-then-eq-4.ensures)
+    c.alone-then-eq-5.result
+    (version_alone (rest words) c.alone-then-eq-5.result c.alone-then-eq-5.ensures)
