@@ -2,9 +2,9 @@
 
 ghost use Rattle.std.specs.Prelude.{◌≤◌, length};
 
-use crate::fault::Fault;
-use crate::group::Asker;
-use crate::table::Table;
+use crate::observing::fault::Fault;
+use crate::observing::group::Asker;
+use crate::observing::table::Table;
 use harp_cells::Moment;
 use harp_types::{Call, Cred};
 use schedule_text::{

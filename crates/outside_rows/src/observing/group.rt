@@ -3,7 +3,7 @@
 ghost use Rattle.std.specs.Prelude.{◌≡◌, true};
 ghost use Rattle.harp_types.specs.Update.{is_update};
 
-use crate::fault::Fault;
+use crate::observing::fault::Fault;
 use event_record::{Index, Record};
 use harp_cells::{Cell, CellFault, CellRead, MemCells, Moment, Value};
 use harp_types::{Call, Cred, ServerId, ViewNo, is_update};

@@ -1,5 +1,6 @@
-//! Tries each row of standard input, and writes what came of it. Bytes are in hexadecimal, a dash
-//! for none; CALL and REPLY are spelled as in the group's own messages. A row begins with
+//! Doors and observers, which are outside of a group. Each row of standard input is tried, and what
+//! came of it is written. Bytes are in hexadecimal, a dash for none; CALL and REPLY are spelled as
+//! in the group's own messages. A row begins with
 //!
 //! - `read HEX`: a record, of which is written what it means: `silent`, `fixed HEX` with the
 //!   answer, or `ask XID CALL`;
@@ -18,26 +19,55 @@
 //!   `memory` its call N fails; a `reader` of std gives them; a `broken` one fails always;
 //! - `into KIND N HEX`: a sink that is given nothing, and then each of these bytes. In `memory` its
 //!   call N fails, and what was written is told; a `writer` of std takes them; a `broken` one takes
-//!   nothing.
+//!   nothing;
+//! - `tcp STEP..`: connections over TCP, and clients 0, 1, .. in this program. Of
+//!   each step is written what came of it: `dial`, and `send:N:HEX`, `receive:N`, `leave:N` are
+//!   client N's; `seat:S` and `take:S` wait for somebody and for something at seat S, `nobody:S`
+//!   and `look:S` don't; `give:S:HEX` and `close:S` are the connection's there.
+//! - `observe ROW`: ROW is played on a group and an observer of it. It is written behind `> `, and
+//!   then what came of it.
+//!
+//! A ROW is empty, or begins with
+//!
+//! - `#`: it says what follows;
+//! - `new`: from here on no update is committed, the clock reads 0, and the observer has no copy;
+//! - `clock 0 T` or `ask 0 CLIENT NUMBER CALL`, as in a schedule: the group commits the update;
+//! - `drop N`: the group drops its first N records;
+//! - `copy`: the observer begins a new copy;
+//! - `want`: the group shows what the observer wants, as `shown M` with what it is, M from 0 on, or
+//!   `unshown`;
+//! - `take M`: what was shown as M reaches the observer. Where its top changes comes
+//!   `observer TOP`;
+//! - `drain K`: up to K times `want`, and `take` of what came;
+//! - `peek CALL`: what the observer answers, as `peeked TOP REPLY`, or `blind`.
 #![tactic(auto)]
 
 mod group;
+mod observing;
 mod rows;
 mod steps;
 mod stream;
 mod streams;
+mod tcp;
 mod words;
 
+use crate::observing::{Table, observe};
 use crate::rows::{put_answer, put_meaning};
 use crate::steps::put_steps;
 use crate::stream::Stream;
 use crate::streams::{put_sink, put_source};
-use std::alloc::{AllocError, Global};
+use crate::tcp::put_tcp;
+use std::alloc::AllocError;
 use std::io::{self, BufRead, BufReader};
 
-/// What came of a row: lines, or nothing.
-fn outcome(alloc: Global, stream: &mut Stream, row: &str) -> Result<String, AllocError> {
-    let (word, rest) = row.split_once(' ').unwrap_or((row, ""));
+/// What came of a row with this word: lines, or nothing.
+fn outcome(
+    rt: HostRuntime,
+    stream: &mut Stream,
+    word: &str,
+    rest: &str,
+) -> Result<String, AllocError> {
+    let alloc = rt.alloc();
     let mut out = String::new(alloc);
     match word {
         "read" => put_meaning(alloc, &mut out, rest)?,
@@ -46,17 +76,28 @@ fn outcome(alloc: Global, stream: &mut Stream, row: &str) -> Result<String, Allo
         "steps" => put_steps(alloc, &mut out, rest)?,
         "from" => put_source(alloc, &mut out, rest)?,
         "into" => put_sink(alloc, &mut out, rest)?,
+        "tcp" => put_tcp(rt, alloc, &mut out, rest)?,
         _ => stream.take(alloc, word, rest)?,
     }
     Ok(out)
 }
 
+/// Tries a row.
+fn try_row(rt: HostRuntime, stream: &mut Stream, table: &mut Table, row: &str) -> io::Result<()> {
+    let (word, rest) = row.split_once(' ').unwrap_or((row, ""));
+    if word == "observe" {
+        return observe(rt, table, rest);
+    }
+    let text = outcome(rt, stream, word, rest)?;
+    print!(rt; "{text}")
+}
+
 fn main(rt: HostRuntime) -> io::Result<()> {
     let alloc = rt.alloc();
     let mut stream = Stream::new(alloc);
+    let mut table = Table::new(alloc);
     for line in BufReader::new(alloc, rt.reader())?.lines(alloc) {
-        let text = outcome(alloc, &mut stream, line?.as_str())?;
-        print!(rt; "{text}")?;
+        try_row(rt, &mut stream, &mut table, line?.as_str())?;
     }
     Ok(())
 }

@@ -3,9 +3,9 @@
 ghost use Rattle.std.specs.Prelude.{◌≡◌, false};
 ghost use Rattle.harp_types.specs.Update.{is_update};
 
-use crate::fault::Fault;
-use crate::group::Group;
-use crate::spelled::put_shown;
+use crate::observing::fault::Fault;
+use crate::observing::group::Group;
+use crate::observing::spelled::put_shown;
 use harp_types::{Call, Reply, is_update};
 use observer::Observer;
 use shown::Shown;
