@@ -38,7 +38,7 @@ import time
 
 from door_model import Tree, nfs
 from door_wire import KINDS, ByDoor, Cutting, Damage, Straight
-from load import Group, lasts, nodes, until
+from load import Group, jobs_of, lasts, nodes, until
 
 CLIENT, USER = 100, 1000
 # How long a killed server is down, a job may take, and a damaged stream, in seconds.
@@ -406,24 +406,12 @@ JOBS = {
     silent: 60,
     idle: 5,
 }
-NAMED = {job.__name__: job for job in JOBS}
-
-
-def jobs_of(words):
-    """Each job with its number. None where a word is no job."""
-    jobs = []
-    for word in words or NAMED:
-        name, _, number = word.partition("=")
-        if name not in NAMED or not number.isdecimal() and number != "":
-            return None
-        jobs.append((NAMED[name], int(number or JOBS[NAMED[name]])))
-    return jobs
 
 
 def main():
     words = sys.argv[1:]
     behind = words.index("--") if "--" in words else len(words)
-    jobs = jobs_of(words[behind + 1 :])
+    jobs = jobs_of(JOBS, words[behind + 1 :])
     if behind < 1 or jobs is None:
         print(__doc__)
         return 2

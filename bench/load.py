@@ -52,6 +52,23 @@ def getattr_of(file):
     return struct.pack(">BI", GETATTR, file)
 
 
+# ---- jobs
+
+
+def jobs_of(numbers, words):
+    """Each job that words name, as `JOB` or `JOB=N`, with its number; all where there is no word.
+    None where a word is no job. `numbers` has each job with the number that it has by itself.
+    """
+    named = {job.__name__: job for job in numbers}
+    jobs = []
+    for word in words or named:
+        name, _, number = word.partition("=")
+        if name not in named or not number.isdecimal() and number != "":
+            return None
+        jobs.append((named[name], int(number or numbers[named[name]])))
+    return jobs
+
+
 # ---- clients
 
 

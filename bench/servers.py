@@ -37,7 +37,19 @@ import socket
 import sys
 import time
 
-from load import BLOCK, LINE, Group, Load, create, getattr_of, lasts, mkdir_in, nodes, write
+from load import (
+    BLOCK,
+    LINE,
+    Group,
+    Load,
+    create,
+    getattr_of,
+    jobs_of,
+    lasts,
+    mkdir_in,
+    nodes,
+    write,
+)
 
 CLIENTS = 32
 # How long a killed server is down, and a whole group is left alone, in seconds.
@@ -347,24 +359,12 @@ JOBS = {
     stops: 20,
     syncs: 200,
 }
-NAMED = {job.__name__: job for job in JOBS}
-
-
-def jobs_of(words):
-    """Each job with its number. None where a word is no job."""
-    jobs = []
-    for word in words or NAMED:
-        name, _, number = word.partition("=")
-        if name not in NAMED or not number.isdecimal() and number != "":
-            return None
-        jobs.append((NAMED[name], int(number or JOBS[NAMED[name]])))
-    return jobs
 
 
 def main():
     words = sys.argv[1:]
     behind = words.index("--") if "--" in words else len(words)
-    jobs = jobs_of(words[behind + 1 :])
+    jobs = jobs_of(JOBS, words[behind + 1 :])
     if behind < 2 or words[0] not in nodes.FORMS or jobs is None:
         print(__doc__)
         return 2
