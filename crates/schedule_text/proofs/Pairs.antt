@@ -1,7 +1,7 @@
 -- One turn of reading pairs of digits.
-use Rattle.std.proofs.Common.{◌≡◌, ◌<◌, ◌≤◌, ℕ, zero, suc, ◌+◌, ◌-◌, ◌*◌, ◌%◌, List, [], ◌∷◌, ◌++◌, length, min, take, drop, ◌/◌, slice_set, Option, Some, None, refl, sym, ap, subst, ◌∙◌, append_assoc, arith}
+use Rattle.std.proofs.Common.{◌≡◌, ◌<◌, ◌≤◌, ℕ, zero, suc, ◌+◌, ◌-◌, ◌*◌, ◌%◌, List, [], ◌∷◌, ◌++◌, length, take, drop, slice_set, Option, Some, None, refl, sym, ap, subst, ◌∙◌, append_assoc, arith}
 use Rattle.std.specs.Prelude.{slice_index, unwrap_or}
-use Rattle.std.proofs.lemmas.List.{append-nil, take_more_set, take_all, get_or_past}
+use Rattle.std.proofs.lemmas.List.{append-nil, take_more_set, take_all}
 use Rattle.std.proofs.Math.Seq.{take-append_seam}
 use Rattle.schedule_text.specs.Fields.{hex_value, pair_of, pair_at, pairs_from}
 
@@ -118,34 +118,28 @@ fill_end n k bytes at items whole e count h =
     sym (reads_full (n - k) bytes (at + 2 * k) (take k items) whole (omega (arith, e)) h)
     ∙ (λ i. read (all i) (place i))
 
-no_low : (o : Option ℕ) → pair_of o None ≡ None
-no_low None = refl
-no_low (Some d) = refl
-
--- no pair stands at a line's end
-no_room : (bytes : List ℕ) (at : ℕ) → length bytes ≤ at + 1 → pair_at bytes at ≡ None
-no_room bytes at short =
-    ap (λ (b : ℕ). pair_of (hex_value (slice_index bytes at)) (hex_value b))
-    (get_or_past bytes (at + 1) 0 short)
-    ∙ no_low (hex_value (slice_index bytes at))
-
--- with as many pairs as there is room for, there is no further one
+-- with as many pairs as there is room for, or none behind them, there is no further one
 pub pairs_all : (room most : ℕ) (bytes items : List ℕ) (at : ℕ) → room ≤ most
-    → (room < most → length bytes ≤ at + 2 * room + 1)
+    → (room < most → pair_at bytes (at + 2 * room) ≡ None)
     → pairs_from room bytes at ≡ read items (at + 2 * room)
     → pairs_from most bytes at ≡ read items (at + 2 * room)
 unfolding pairs_from
-pairs_all zero zero bytes items at le short h = h
-pairs_all zero (suc most) bytes items at le short h =
+pairs_all zero zero bytes items at le last h = h
+pairs_all zero (suc most) bytes items at le last h =
+    let here : at + 2 * 0 ≡ at = omega arith in
     pairs_done (suc most) most bytes at (omega arith)
-    (no_room bytes at (omega (arith, short (omega arith)))) ∙ h
-pairs_all (suc room) zero bytes items at le short h = absurd (omega (arith, le))
-pairs_all (suc room) (suc most) bytes items at le short h =
+    (subst (λ (n : ℕ). pair_at bytes n ≡ None) here (last (omega arith))) ∙ h
+pairs_all (suc room) zero bytes items at le last h = absurd (omega (arith, le))
+pairs_all (suc room) (suc most) bytes items at le last h =
     by (pair_at bytes at) refl (λ end. pairs_all room most bytes rest.0 (at + 2) (omega (arith, le))
-    (λ l. omega (arith, short (omega (arith, l)))) (λ i. read rest.0 (end i)))
+    (λ l. subst (λ (n : ℕ). pair_at bytes n ≡ None) next (last (omega (arith, l))))
+    (λ i. read rest.0 (end i)))
   where
     rest : List ℕ × ℕ
     rest = pairs_from room bytes (at + 2)
+
+    next : at + 2 * suc room ≡ at + 2 + 2 * room
+    next = omega arith
 
     by : (o : Option ℕ) → pair_at bytes at ≡ o
         → (rest.1 ≡ at + 2 + 2 * room
@@ -166,11 +160,12 @@ pairs_all (suc room) (suc most) bytes items at le short h =
         ∙ ap (λ (x : List ℕ × ℕ). read (b ∷ x.0) x.1) same ∙ sym one ∙ h
 
 -- all that was read, where as many places as there is room for were filled
-pub filled_all : (most left room len count : ℕ) (bytes old new : List ℕ) (at : ℕ)
-    → room ≡ min most (left / 2) → at + left ≡ length bytes → count ≡ room → len ≡ room
-    → length new ≡ room → pairs_from count bytes at ≡ read new (at + 2 * count)
+pub filled_all : (most room len count : ℕ) (bytes old new : List ℕ) (at : ℕ)
+    → room ≤ most → count ≡ room → len ≡ room → length new ≡ room
+    → (room < most → pair_at bytes (at + 2 * room) ≡ None)
+    → pairs_from count bytes at ≡ read new (at + 2 * count)
     → read (take len (new ++ drop (length new) old)) (at + 2 * room) ≡ pairs_from most bytes at
-filled_all most left room len count bytes old new at is all all_places same full h =
+filled_all most room len count bytes old new at le all_places same full last h =
     let size : pairs_from room bytes at ≡ read new (at + 2 * room) =
     subst (λ (n : ℕ). pairs_from n bytes at ≡ read new (at + 2 * n)) all_places h in
     let seam : take len (new ++ drop (length new) old) ≡ new =
@@ -178,5 +173,4 @@ filled_all most left room len count bytes old new at is all all_places same full
     (omega (arith, same, full))
     ∙ take-append_seam new (drop (length new) old) in
     ap (λ (l : List ℕ). read l (at + 2 * room)) seam
-    ∙ sym (pairs_all room most bytes new at (omega (arith, is))
-    (λ l. omega (arith, is, all, l)) size)
+    ∙ sym (pairs_all room most bytes new at le last size)

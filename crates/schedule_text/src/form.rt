@@ -5,7 +5,7 @@ ghost use Rattle.std.specs.Str.{bytes_eq};
 ghost use Rattle.schedule_text.specs.Words.{farthest};
 ghost use Rattle.schedule_text.specs.Reading.{form_names, form_named};
 
-use crate::word::farther;
+use crate::word::{farther, is_name};
 
 /// What the first word of a line tells of its step.
 #[derive(Clone, Copy)]
@@ -32,52 +32,52 @@ pub enum Form {
 pub fn form_named(word: &[u8]) -> Option<Form>
     ensures { result ≡ form_named word.now }
 {
-    if word == b"ask".as_slice() {
+    if is_name(word, b"ask") {
         return Some(Form::Ask);
     }
-    if word == b"deliver".as_slice() {
+    if is_name(word, b"deliver") {
         return Some(Form::Deliver);
     }
-    if word == b"pump".as_slice() {
+    if is_name(word, b"pump") {
         return Some(Form::Pump);
     }
-    if word == b"tick".as_slice() {
+    if is_name(word, b"tick") {
         return Some(Form::Tick);
     }
-    if word == b"suspect".as_slice() {
+    if is_name(word, b"suspect") {
         return Some(Form::Suspect);
     }
-    if word == b"apply".as_slice() {
+    if is_name(word, b"apply") {
         return Some(Form::Apply);
     }
-    if word == b"flush".as_slice() {
+    if is_name(word, b"flush") {
         return Some(Form::Flush);
     }
-    if word == b"list".as_slice() {
+    if is_name(word, b"list") {
         return Some(Form::List);
     }
-    if word == b"boot".as_slice() {
+    if is_name(word, b"boot") {
         return Some(Form::Boot);
     }
-    if word == b"power".as_slice() {
+    if is_name(word, b"power") {
         return Some(Form::Power);
     }
-    if word == b"crash".as_slice() {
+    if is_name(word, b"crash") {
         return Some(Form::Crash);
     }
-    if word == b"stop".as_slice() {
+    if is_name(word, b"stop") {
         return Some(Form::Stop);
     }
-    if word == b"noise".as_slice() {
+    if is_name(word, b"noise") {
         return Some(Form::Noise);
     }
-    if word == b"clock".as_slice() {
+    if is_name(word, b"clock") {
         return Some(Form::Clock);
     }
-    if word == b"advance".as_slice() {
+    if is_name(word, b"advance") {
         return Some(Form::Advance);
     }
-    if word == b"delta".as_slice() {
+    if is_name(word, b"delta") {
         return Some(Form::Delta);
     }
     None

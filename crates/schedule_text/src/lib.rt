@@ -35,4 +35,4 @@ pub use number::{count_at, number_at, peek, server_at, space_at, u32_at, word_at
 pub use reading::{read_step, step_at};
 pub use set_attr::set_attr_at;
 pub use step::form_at;
-pub use word::{all_hex_at, farther, ranged_at};
+pub use word::{all_hex_at, farther, is_name, ranged_at};

@@ -1,11 +1,12 @@
 //! Names and contents that are read.
 
-ghost use Rattle.std.specs.Prelude.{◌≡◌, ◌+◌, ◌*◌, ◌<◌, ◌≤◌, [], length, slice_index, unwrap_or, IfOk, IsSome, IsTrue};
+ghost use Rattle.std.specs.Prelude.{◌≡◌, ◌+◌, ◌*◌, ◌<◌, ◌≤◌, [], length, slice_index, unwrap_or, None, IfOk, IsSome, IsTrue};
 ghost use Rattle.schedule_text.specs.Fields.{Gives, hex_value, pair_at, pairs_from, is_odd_at, hex_at};
 
 use crate::fault::TextFault;
 use crate::number::peek;
 use harp_types::Bounded;
+use memchr::memchr;
 use std::alloc::{AllocError, Global};
 
 /// The value of a lower-case hexadecimal digit.
@@ -59,6 +60,14 @@ fn fill_from(bytes: &[u8], at: usize, items: &mut [u8]) -> bool
     greatest < 16
 }
 
+/// Whether no further pair stands behind so many of them.
+fn is_last(bytes: &[u8], most: usize, count: usize, end: usize) -> bool
+    requires { end ≤ length bytes.now }
+    ensures { IsTrue result → count < most → pair_at bytes.now end ≡ None }
+{
+    count >= most || pair_at(bytes, end).is_none()
+}
+
 /// Pairs of digits up to a place where none stands, over what `items` holds.
 #[tactic(auto, unfolding(crate::specs::Fields::pairs_from))]
 fn push_pairs(
@@ -96,11 +105,15 @@ pub fn pairs_from(
     ensures within { IfOk result (λ x. x.1 ≤ length bytes.now) }
     ensures bound { IfOk result (λ x. length x.0.items ≤ most) }
 {
-    // There are no more pairs than what is left has room for, and mostly so many.
-    let room = most.min((bytes.len() - at) / 2);
+    // There are no more pairs than what is left has room for, and mostly those of the word.
+    let left = bytes.len() - at;
+    let word = memchr(b' ', &bytes[at..]).unwrap_or(left);
+    let room = most.min(word.min(left) / 2);
     let mut items = vec![in alloc; 0; room]?;
-    if fill_from(bytes, at, items.as_mut_slice()) {
-        return Ok((items, at + 2 * room));
+    let filled = fill_from(bytes, at, items.as_mut_slice());
+    let end = at + 2 * room;
+    if filled && is_last(bytes, most, room, end) {
+        return Ok((items, end));
     }
     items.clear();
     let end = push_pairs(bytes, most, at, &mut items)?;

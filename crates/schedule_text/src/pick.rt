@@ -7,7 +7,7 @@ ghost use Rattle.schedule_text.specs.Reading.{bit_of, bits_from, pick_named, pic
 
 use crate::fault::TextFault;
 use crate::number::{peek, space_at, word_at};
-use crate::word::farther;
+use crate::word::{farther, is_name};
 use std::alloc::{AllocError, Global};
 use trace_types::{Bits, Pick};
 
@@ -45,10 +45,10 @@ fn bits_from(alloc: Global, line: &[u8], at: usize) -> Result<(Vec<bool>, usize)
 fn pick_named(word: &[u8]) -> Option<Pick>
     ensures { result ≡ pick_named word.now }
 {
-    if word == b"all".as_slice() {
+    if is_name(word, b"all") {
         return Some(Pick::All);
     }
-    if word == b"none".as_slice() {
+    if is_name(word, b"none") {
         return Some(Pick::None);
     }
     None

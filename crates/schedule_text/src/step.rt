@@ -11,7 +11,7 @@ use crate::field::{spaced_count_at, spaced_server_at};
 use crate::form::Form;
 use crate::number::{number_at, peek, server_at, space_at, word_at};
 use crate::pick::spaced_pick_at;
-use crate::word::{all_hex_at, farther, ranged_at};
+use crate::word::{all_hex_at, farther, is_name, ranged_at};
 use harp_types::ServerId;
 use std::alloc::Global;
 use trace_types::{Pick, Step};
@@ -88,7 +88,7 @@ fn whole_save_at(line: &[u8], at: usize) -> Result<(ServerId, usize), TextFault>
     let (server, at) = spaced_server_at(line, at)?;
     let at = space_at(line, at)?;
     let word = word_at(line, at);
-    if word == b"all".as_slice() {
+    if is_name(word, b"all") {
         Ok((server, at + word.len()))
     } else {
         Err(TextFault::Grammar(at + farther(b"all", word, 0)))

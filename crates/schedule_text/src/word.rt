@@ -2,6 +2,7 @@
 
 ghost use Rattle.std.specs.Prelude.{◌≡◌, ◌≤◌, ◌<◌, ◌^◌, length, nat_eq, IfOk};
 ghost use Rattle.std.specs.List.{common_prefix_len};
+ghost use Rattle.std.specs.Str.{bytes_eq};
 ghost use Rattle.schedule_text.specs.Fields.{Gives};
 ghost use Rattle.schedule_text.specs.Words.{farther, ranged_at, all_hex_at};
 
@@ -10,6 +11,23 @@ use crate::name::{is_odd_at, pairs_from};
 use crate::number::{number_at, peek};
 use harp_types::Bytes;
 use std::alloc::Global;
+
+/// Whether a word is this name. Names are short and known, so that going byte by byte asks for a
+/// few bytes of the word alone.
+#[inline(always)]
+pub fn is_name(word: &[u8], name: &[u8]) -> bool
+    ensures { result ≡ bytes_eq word.now name.now }
+{
+    if word.len() != name.len() {
+        return false;
+    }
+    for i in 0..name.len() {
+        if word[i] != name[i] {
+            return false;
+        }
+    }
+    true
+}
 
 /// How many bytes two words have in common from their fronts on.
 fn common_len(name: &[u8], word: &[u8]) -> usize
