@@ -7,7 +7,7 @@ ghost use Rattle.schedule_text.specs.Words.{farthest};
 ghost use Rattle.trace_text.specs.Fields.{value_named, name_at};
 ghost use Rattle.trace_text.specs.Replies.{cause_name, cause_forms};
 
-use schedule_text::{TextFault, farther, word_at};
+use schedule_text::{TextFault, farther, is_name, word_at};
 
 /// A cause without the hint that one of them has.
 #[derive(Clone, Copy)]
@@ -20,33 +20,29 @@ pub enum CauseForm {
     Old,
 }
 
-const FORMS: [CauseForm; 6] = [
-    CauseForm::BadClient,
-    CauseForm::NotLeader,
-    CauseForm::NotYetOpen,
-    CauseForm::NoPromise,
-    CauseForm::LogFull,
-    CauseForm::Old,
-];
-
 impl CauseForm {
-    fn name(self) -> &'static [u8]
-        ensures { result.now ≡ cause_name self }
-    {
-        match self {
-            CauseForm::BadClient => b"bad-client",
-            CauseForm::NotLeader => b"not-leader",
-            CauseForm::NotYetOpen => b"not-yet-open",
-            CauseForm::NoPromise => b"no-promise",
-            CauseForm::LogFull => b"log-full",
-            CauseForm::Old => b"old",
-        }
-    }
-
     fn named(word: &[u8]) -> Option<CauseForm>
         ensures { result ≡ value_named cause_name cause_forms word.now }
     {
-        FORMS.iter().copied().find(|form| word == form.name())
+        if is_name(word, b"bad-client") {
+            return Some(CauseForm::BadClient);
+        }
+        if is_name(word, b"not-leader") {
+            return Some(CauseForm::NotLeader);
+        }
+        if is_name(word, b"not-yet-open") {
+            return Some(CauseForm::NotYetOpen);
+        }
+        if is_name(word, b"no-promise") {
+            return Some(CauseForm::NoPromise);
+        }
+        if is_name(word, b"log-full") {
+            return Some(CauseForm::LogFull);
+        }
+        if is_name(word, b"old") {
+            return Some(CauseForm::Old);
+        }
+        None
     }
 }
 

@@ -6,7 +6,7 @@ ghost use Rattle.schedule_text.specs.Fields.{Gives, spaced_at};
 ghost use Rattle.schedule_text.specs.Words.{farthest};
 ghost use Rattle.trace_text.specs.Reading.{elementary_names, elementary_named, elementary_at};
 
-use schedule_text::{Form, TextFault, farther, form_at, form_named, space_at, word_at};
+use schedule_text::{Form, TextFault, farther, form_at, form_named, is_name, space_at, word_at};
 use std::alloc::Global;
 use trace_types::Step;
 
@@ -14,7 +14,7 @@ use trace_types::Step;
 fn elementary_named(word: &[u8]) -> Option<Form>
     ensures { result ≡ elementary_named word.now }
 {
-    if word == b"pump".as_slice() {
+    if is_name(word, b"pump") {
         return None;
     }
     form_named(word)

@@ -8,7 +8,9 @@ ghost use Rattle.schedule_text.specs.Words.{farthest};
 ghost use Rattle.trace_text.specs.Fields.{sign_at, value_named, view_at, spaced_view_at, helds, held_at, some_hex_at};
 
 use harp_types::{Bounded, Held, ViewNo};
-use schedule_text::{TextFault, farther, hex_at, number_at, peek, server_at, space_at, word_at};
+use schedule_text::{
+    TextFault, farther, hex_at, is_name, number_at, peek, server_at, space_at, word_at,
+};
 use std::alloc::Global;
 
 /// The place after this byte, which has to stand here.
@@ -44,22 +46,19 @@ pub fn spaced_view_at(line: &[u8], at: usize) -> Result<(ViewNo, usize), TextFau
     view_at(line, at)
 }
 
-const HELDS: [Held; 3] = [Held::Empty, Held::Held, Held::Lost];
-
-fn held_name(held: Held) -> &'static [u8]
-    ensures { result.now ≡ held_text held }
-{
-    match held {
-        Held::Empty => b"empty",
-        Held::Held => b"held",
-        Held::Lost => b"lost",
-    }
-}
-
 fn held_named(word: &[u8]) -> Option<Held>
     ensures { result ≡ value_named held_text helds word.now }
 {
-    HELDS.iter().copied().find(|held| word == held_name(*held))
+    if is_name(word, b"empty") {
+        return Some(Held::Empty);
+    }
+    if is_name(word, b"held") {
+        return Some(Held::Held);
+    }
+    if is_name(word, b"lost") {
+        return Some(Held::Lost);
+    }
+    None
 }
 
 /// What a server has of the list of updates.

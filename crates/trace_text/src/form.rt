@@ -7,7 +7,7 @@ ghost use Rattle.schedule_text.specs.Words.{farthest};
 ghost use Rattle.trace_text.specs.Fields.{value_named, name_at};
 ghost use Rattle.trace_text.specs.Reading.{form_name, forms};
 
-use schedule_text::{TextFault, farther, word_at};
+use schedule_text::{TextFault, farther, is_name, word_at};
 
 /// What the first word of a line tells of it.
 #[derive(Clone, Copy)]
@@ -28,49 +28,53 @@ pub enum LineForm {
     End,
 }
 
-const FORMS: [LineForm; 14] = [
-    LineForm::Event,
-    LineForm::Entered,
-    LineForm::Answered,
-    LineForm::Refused,
-    LineForm::Sent,
-    LineForm::State,
-    LineForm::Listed,
-    LineForm::Unlisted,
-    LineForm::Object,
-    LineForm::Slot,
-    LineForm::Block,
-    LineForm::Text,
-    LineForm::Bad,
-    LineForm::End,
-];
-
 impl LineForm {
-    fn name(self) -> &'static [u8]
-        ensures { result.now ≡ form_name self }
-    {
-        match self {
-            LineForm::Event => b">",
-            LineForm::Entered => b"entered",
-            LineForm::Answered => b"answered",
-            LineForm::Refused => b"refused",
-            LineForm::Sent => b"send",
-            LineForm::State => b"state",
-            LineForm::Listed => b"listed",
-            LineForm::Unlisted => b"unlisted",
-            LineForm::Object => b"object",
-            LineForm::Slot => b"slot",
-            LineForm::Block => b"block",
-            LineForm::Text => b"text",
-            LineForm::Bad => b"bad",
-            LineForm::End => b"end",
-        }
-    }
-
     fn named(word: &[u8]) -> Option<LineForm>
         ensures { result ≡ value_named form_name forms word.now }
     {
-        FORMS.iter().copied().find(|form| word == form.name())
+        if is_name(word, b">") {
+            return Some(LineForm::Event);
+        }
+        if is_name(word, b"entered") {
+            return Some(LineForm::Entered);
+        }
+        if is_name(word, b"answered") {
+            return Some(LineForm::Answered);
+        }
+        if is_name(word, b"refused") {
+            return Some(LineForm::Refused);
+        }
+        if is_name(word, b"send") {
+            return Some(LineForm::Sent);
+        }
+        if is_name(word, b"state") {
+            return Some(LineForm::State);
+        }
+        if is_name(word, b"listed") {
+            return Some(LineForm::Listed);
+        }
+        if is_name(word, b"unlisted") {
+            return Some(LineForm::Unlisted);
+        }
+        if is_name(word, b"object") {
+            return Some(LineForm::Object);
+        }
+        if is_name(word, b"slot") {
+            return Some(LineForm::Slot);
+        }
+        if is_name(word, b"block") {
+            return Some(LineForm::Block);
+        }
+        if is_name(word, b"text") {
+            return Some(LineForm::Text);
+        }
+        if is_name(word, b"bad") {
+            return Some(LineForm::Bad);
+        }
+        if is_name(word, b"end") {
+            return Some(LineForm::End);
+        }
+        None
     }
 }
 

@@ -7,7 +7,7 @@ ghost use Rattle.schedule_text.specs.Words.{farthest};
 ghost use Rattle.trace_text.specs.Fields.{value_named, name_at};
 ghost use Rattle.trace_text.specs.Messages.{message_name, message_forms};
 
-use schedule_text::{TextFault, farther, word_at};
+use schedule_text::{TextFault, farther, is_name, word_at};
 
 /// What the first word of a message tells of it.
 #[derive(Clone, Copy)]
@@ -24,41 +24,41 @@ pub enum MessageForm {
     Demote,
 }
 
-const FORMS: [MessageForm; 10] = [
-    MessageForm::Invite,
-    MessageForm::Join,
-    MessageForm::Form,
-    MessageForm::Fetch,
-    MessageForm::Give,
-    MessageForm::Formed,
-    MessageForm::Event,
-    MessageForm::Beat,
-    MessageForm::Ack,
-    MessageForm::Demote,
-];
-
 impl MessageForm {
-    fn name(self) -> &'static [u8]
-        ensures { result.now ≡ message_name self }
-    {
-        match self {
-            MessageForm::Invite => b"invite",
-            MessageForm::Join => b"join",
-            MessageForm::Form => b"form",
-            MessageForm::Fetch => b"fetch",
-            MessageForm::Give => b"give",
-            MessageForm::Formed => b"formed",
-            MessageForm::Event => b"event",
-            MessageForm::Beat => b"beat",
-            MessageForm::Ack => b"ack",
-            MessageForm::Demote => b"demote",
-        }
-    }
-
     fn named(word: &[u8]) -> Option<MessageForm>
         ensures { result ≡ value_named message_name message_forms word.now }
     {
-        FORMS.iter().copied().find(|form| word == form.name())
+        if is_name(word, b"invite") {
+            return Some(MessageForm::Invite);
+        }
+        if is_name(word, b"join") {
+            return Some(MessageForm::Join);
+        }
+        if is_name(word, b"form") {
+            return Some(MessageForm::Form);
+        }
+        if is_name(word, b"fetch") {
+            return Some(MessageForm::Fetch);
+        }
+        if is_name(word, b"give") {
+            return Some(MessageForm::Give);
+        }
+        if is_name(word, b"formed") {
+            return Some(MessageForm::Formed);
+        }
+        if is_name(word, b"event") {
+            return Some(MessageForm::Event);
+        }
+        if is_name(word, b"beat") {
+            return Some(MessageForm::Beat);
+        }
+        if is_name(word, b"ack") {
+            return Some(MessageForm::Ack);
+        }
+        if is_name(word, b"demote") {
+            return Some(MessageForm::Demote);
+        }
+        None
     }
 }
 

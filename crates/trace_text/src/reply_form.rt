@@ -10,7 +10,7 @@ ghost use Rattle.trace_text.specs.Fields.{value_named, name_at};
 ghost use Rattle.trace_text.specs.Replies.{status_word, status_at, page_ends, page_end_at, reply_name, reply_forms};
 
 use harp_types::Status;
-use schedule_text::{TextFault, farther, word_at};
+use schedule_text::{TextFault, farther, is_name, word_at};
 
 /// What the first word of a reply tells of it.
 #[derive(Clone, Copy)]
@@ -25,37 +25,35 @@ pub enum ReplyForm {
     Space,
 }
 
-const FORMS: [ReplyForm; 8] = [
-    ReplyForm::Refused,
-    ReplyForm::Done,
-    ReplyForm::Attr,
-    ReplyForm::Node,
-    ReplyForm::Path,
-    ReplyForm::Bytes,
-    ReplyForm::Page,
-    ReplyForm::Space,
-];
-
 impl ReplyForm {
-    fn name(self) -> &'static [u8]
-        ensures { result.now ≡ reply_name self }
-    {
-        match self {
-            ReplyForm::Refused => b"no",
-            ReplyForm::Done => b"done",
-            ReplyForm::Attr => b"attr",
-            ReplyForm::Node => b"node",
-            ReplyForm::Path => b"path",
-            ReplyForm::Bytes => b"data",
-            ReplyForm::Page => b"dir",
-            ReplyForm::Space => b"fs",
-        }
-    }
-
     fn named(word: &[u8]) -> Option<ReplyForm>
         ensures { result ≡ value_named reply_name reply_forms word.now }
     {
-        FORMS.iter().copied().find(|form| word == form.name())
+        if is_name(word, b"no") {
+            return Some(ReplyForm::Refused);
+        }
+        if is_name(word, b"done") {
+            return Some(ReplyForm::Done);
+        }
+        if is_name(word, b"attr") {
+            return Some(ReplyForm::Attr);
+        }
+        if is_name(word, b"node") {
+            return Some(ReplyForm::Node);
+        }
+        if is_name(word, b"path") {
+            return Some(ReplyForm::Path);
+        }
+        if is_name(word, b"data") {
+            return Some(ReplyForm::Bytes);
+        }
+        if is_name(word, b"dir") {
+            return Some(ReplyForm::Page);
+        }
+        if is_name(word, b"fs") {
+            return Some(ReplyForm::Space);
+        }
+        None
     }
 }
 
@@ -86,49 +84,49 @@ pub fn form_at(line: &[u8], at: usize) -> Result<(ReplyForm, usize), TextFault>
     }
 }
 
-const STATUSES: [Status; 13] = [
-    Status::Perm,
-    Status::NoEnt,
-    Status::Io,
-    Status::NxIo,
-    Status::Acces,
-    Status::Exist,
-    Status::NotDir,
-    Status::IsDir,
-    Status::FBig,
-    Status::NoSpc,
-    Status::NameTooLong,
-    Status::NotEmpty,
-    Status::Stale,
-];
-
-fn status_word(status: Status) -> &'static [u8]
-    ensures { result.now ≡ status_word status }
-{
-    match status {
-        Status::Perm => b"1",
-        Status::NoEnt => b"2",
-        Status::Io => b"5",
-        Status::NxIo => b"6",
-        Status::Acces => b"13",
-        Status::Exist => b"17",
-        Status::NotDir => b"20",
-        Status::IsDir => b"21",
-        Status::FBig => b"27",
-        Status::NoSpc => b"28",
-        Status::NameTooLong => b"63",
-        Status::NotEmpty => b"66",
-        Status::Stale => b"70",
-    }
-}
-
 fn status_named(word: &[u8]) -> Option<Status>
     ensures { result ≡ value_named status_word statuses word.now }
 {
-    STATUSES
-        .iter()
-        .copied()
-        .find(|status| word == status_word(*status))
+    if is_name(word, b"1") {
+        return Some(Status::Perm);
+    }
+    if is_name(word, b"2") {
+        return Some(Status::NoEnt);
+    }
+    if is_name(word, b"5") {
+        return Some(Status::Io);
+    }
+    if is_name(word, b"6") {
+        return Some(Status::NxIo);
+    }
+    if is_name(word, b"13") {
+        return Some(Status::Acces);
+    }
+    if is_name(word, b"17") {
+        return Some(Status::Exist);
+    }
+    if is_name(word, b"20") {
+        return Some(Status::NotDir);
+    }
+    if is_name(word, b"21") {
+        return Some(Status::IsDir);
+    }
+    if is_name(word, b"27") {
+        return Some(Status::FBig);
+    }
+    if is_name(word, b"28") {
+        return Some(Status::NoSpc);
+    }
+    if is_name(word, b"63") {
+        return Some(Status::NameTooLong);
+    }
+    if is_name(word, b"66") {
+        return Some(Status::NotEmpty);
+    }
+    if is_name(word, b"70") {
+        return Some(Status::Stale);
+    }
+    None
 }
 
 /// How far a word goes along with the number of a status.
@@ -163,18 +161,16 @@ pub fn status_at(line: &[u8], at: usize) -> Result<(Status, usize), TextFault>
     }
 }
 
-const PAGE_ENDS: [bool; 2] = [true, false];
-
-fn page_end(eof: bool) -> &'static [u8]
-    ensures { result.now ≡ page_end eof }
-{
-    if eof { b"eof" } else { b"more" }
-}
-
 fn page_end_named(word: &[u8]) -> Option<bool>
     ensures { result ≡ value_named page_end page_ends word.now }
 {
-    PAGE_ENDS.iter().copied().find(|eof| word == page_end(*eof))
+    if is_name(word, b"eof") {
+        return Some(true);
+    }
+    if is_name(word, b"more") {
+        return Some(false);
+    }
+    None
 }
 
 /// Whether a page is the last one.

@@ -10,7 +10,9 @@ ghost use Rattle.trace_text.specs.Reading.{mode_word, modes, mode_at, role_name,
 use crate::field::{sign_at, spaced_held_at, spaced_view_at};
 use crate::message::three_at;
 use harp_types::{Mode, Role, ServerId, StateLine};
-use schedule_text::{TextFault, farther, space_at, spaced_count_at, spaced_server_at, word_at};
+use schedule_text::{
+    TextFault, farther, is_name, space_at, spaced_count_at, spaced_server_at, word_at,
+};
 use trace_types::Line;
 
 /// A role without its other server.
@@ -21,23 +23,20 @@ pub enum RoleForm {
     Outside,
 }
 
-const ROLES: [RoleForm; 3] = [RoleForm::Leads, RoleForm::Follows, RoleForm::Outside];
-
 impl RoleForm {
-    fn name(self) -> &'static [u8]
-        ensures { result.now ≡ role_name self }
-    {
-        match self {
-            RoleForm::Leads => b"leads",
-            RoleForm::Follows => b"follows",
-            RoleForm::Outside => b"outside",
-        }
-    }
-
     fn named(word: &[u8]) -> Option<RoleForm>
         ensures { result ≡ value_named role_name role_forms word.now }
     {
-        ROLES.iter().copied().find(|form| word == form.name())
+        if is_name(word, b"leads") {
+            return Some(RoleForm::Leads);
+        }
+        if is_name(word, b"follows") {
+            return Some(RoleForm::Follows);
+        }
+        if is_name(word, b"outside") {
+            return Some(RoleForm::Outside);
+        }
+        None
     }
 }
 
@@ -88,37 +87,34 @@ fn spaced_role_at(line: &[u8], at: usize) -> Result<(Role, usize), TextFault>
     role_fields_at(form, line, at)
 }
 
-const MODES: [Option<Mode>; 8] = [
-    None,
-    Some(Mode::Rests),
-    Some(Mode::Calls),
-    Some(Mode::Joined),
-    Some(Mode::Pulls),
-    Some(Mode::Waits),
-    Some(Mode::Open),
-    Some(Mode::Live),
-];
-
-/// The word for a mode, or for a server that is down.
-fn mode_word(mode: Option<Mode>) -> &'static [u8]
-    ensures { result.now ≡ mode_word mode }
-{
-    match mode {
-        None => b"down",
-        Some(Mode::Rests) => b"rests",
-        Some(Mode::Calls) => b"calls",
-        Some(Mode::Joined) => b"joined",
-        Some(Mode::Pulls) => b"pulls",
-        Some(Mode::Waits) => b"waits",
-        Some(Mode::Open) => b"open",
-        Some(Mode::Live) => b"live",
-    }
-}
-
 fn mode_named(word: &[u8]) -> Option<Option<Mode>>
     ensures { result ≡ value_named mode_word modes word.now }
 {
-    MODES.iter().copied().find(|mode| word == mode_word(*mode))
+    if is_name(word, b"down") {
+        return Some(None);
+    }
+    if is_name(word, b"rests") {
+        return Some(Some(Mode::Rests));
+    }
+    if is_name(word, b"calls") {
+        return Some(Some(Mode::Calls));
+    }
+    if is_name(word, b"joined") {
+        return Some(Some(Mode::Joined));
+    }
+    if is_name(word, b"pulls") {
+        return Some(Some(Mode::Pulls));
+    }
+    if is_name(word, b"waits") {
+        return Some(Some(Mode::Waits));
+    }
+    if is_name(word, b"open") {
+        return Some(Some(Mode::Open));
+    }
+    if is_name(word, b"live") {
+        return Some(Some(Mode::Live));
+    }
+    None
 }
 
 /// How far a word goes along with the word for a mode.
