@@ -81,18 +81,23 @@ fn push_digits(out: &mut Vec<u8>, n: u64)
     push_four(out, n % 10000)
 }
 
-/// A number.
-#[tactic(auto, using(crate::proofs::Numerals::at_most_twenty))]
+/// A number. Most have one digit, which is put at the place of the call.
+#[tactic(auto, using(crate::proofs::Numerals::one, crate::proofs::Numerals::at_most_twenty))]
+#[inline(always)]
 pub fn push_decimal(out: &mut Vec<u8>, n: u64)
     requires room { vec_len out.old + 20 ≤ vec_capacity out.old }
     ensures items { out.new.items ≡ out.old.items ++ decimal n }
     ensures len { vec_len out.new ≤ vec_len out.old + 20 }
     ensures capacity { vec_capacity out.new ≡ vec_capacity out.old }
 {
+    if n < 10 {
+        return push_one(out, n);
+    }
     push_digits(out, n)
 }
 
 /// A number behind a mark.
+#[inline(always)]
 pub fn push_behind(out: &mut Vec<u8>, mark: u8, n: u64)
     requires room { vec_len out.old + 21 ≤ vec_capacity out.old }
     ensures items { out.new.items ≡ out.old.items ++ mark ∷ decimal n }

@@ -1,6 +1,6 @@
 //! Bytes in hexadecimal digits, put at the end of what is written.
 
-ghost use Rattle.std.specs.Prelude.{◌≡◌, ◌++◌, ◌*◌, ◌<◌, length, slice_index, OnOk};
+ghost use Rattle.std.specs.Prelude.{◌≡◌, ◌++◌, ◌*◌, ◌<◌, ◌≤◌, length, slice_index, IfOk, OnOk};
 ghost use Rattle.hex.specs.Hex.{encode_lower, lower_digits};
 ghost use Rattle.text_spelling.specs.Text.{spaced, hex_text};
 
@@ -12,7 +12,8 @@ fn digit(value: u8) -> u8
     requires { value < 16 }
     ensures { result ≡ slice_index lower_digits value }
 {
-    if value < 10 { 48 + value } else { 87 + value }
+    let beyond = if value > 9 { 39 } else { 0 };
+    48 + value + beyond
 }
 
 /// Two digits over each place of a byte.
@@ -27,20 +28,33 @@ fn write_hex(bytes: &[u8], digits: &mut [u8])
     }
 }
 
-/// Two digits for each byte. The room for them is made once.
-fn put_pairs(out: &mut Vec<u8>, bytes: &[u8]) -> Result<(), AllocError>
-    ensures { OnOk result (out.new.items ≡ out.old.items ++ encode_lower bytes.now) }
+/// Two digits for each byte of a group. They are made apart, since many are made at once there.
+#[inline(always)]
+fn put_group<const N: usize>(out: &mut Vec<u8>, group: &[u8; N]) -> Result<(), AllocError>
+    requires { N ≤ 32 }
+    ensures { OnOk result (out.new.items ≡ out.old.items ++ encode_lower group.now) }
 {
-    let start = out.len();
-    let Some(count) = bytes.len().checked_mul(2) else {
-        return Err(AllocError);
-    };
-    let Some(end) = start.checked_add(count) else {
-        return Err(AllocError);
-    };
-    out.resize(end, 0)?;
-    write_hex(bytes, &mut out[start..]);
-    Ok(())
+    let mut digits = [0; 64];
+    write_hex(group, &mut digits[..2 * N]);
+    out.extend_from_slice(&digits[..2 * N])
+}
+
+/// The digits of the groups of N bytes, from the first one on. The bytes behind the last group are
+/// given.
+fn put_groups<'a, const N: usize>(
+    out: &mut Vec<u8>,
+    bytes: &'a [u8],
+) -> Result<&'a [u8], AllocError>
+    requires { (0 < N) × (N ≤ 32) }
+    ensures { IfOk result (λ rest. (length rest.now < N)
+        × (out.new.items ++ encode_lower rest.now ≡ out.old.items ++ encode_lower bytes.now)) }
+{
+    let mut rest = bytes;
+    while let Some((group, behind)) = rest.split_first_chunk::<N>() {
+        put_group(out, group)?;
+        rest = behind;
+    }
+    Ok(rest)
 }
 
 /// Two digits for each byte, or a dash for none.
@@ -49,10 +63,12 @@ pub fn put_hex(alloc: Global, out: &mut Vec<u8>, bytes: &[u8]) -> Result<(), All
     ensures { OnOk result (out.new.items ≡ out.old.items ++ hex_text bytes.now) }
 {
     if bytes.is_empty() {
-        Ok(out.push(b'-')?)
-    } else {
-        put_pairs(out, bytes)
+        return Ok(out.push(b'-')?);
     }
+    let rest = put_groups::<32>(out, bytes)?;
+    let rest = put_groups::<8>(out, rest)?;
+    let _none = put_groups::<1>(out, rest)?;
+    Ok(())
 }
 
 /// Bytes in hexadecimal digits behind a space.

@@ -28,4 +28,4 @@ pub use write_attr::put_attr;
 pub use write_call::put_call;
 pub use write_reply::put_reply;
 pub use write_state::{put_held, put_in_view, put_state, put_view};
-pub use writing::{append_line, texts_are_lines, write_line, write_step};
+pub use writing::{append_line, append_step, texts_are_lines, write_line, write_step};

@@ -35,6 +35,7 @@ pub fn put_number(out: &mut Vec<u8>, n: u64) -> Result<(), AllocError>
 }
 
 /// A server's number behind a space.
+#[inline(always)]
 pub fn put_server(out: &mut Vec<u8>, server: ServerId) -> Result<(), AllocError>
     ensures { OnOk result (out.new.items ≡ out.old.items ++ spaced (decimal (number_of server))) }
 {
@@ -42,6 +43,7 @@ pub fn put_server(out: &mut Vec<u8>, server: ServerId) -> Result<(), AllocError>
 }
 
 /// A word, and a number behind it.
+#[inline(always)]
 pub fn put_named(out: &mut Vec<u8>, word: &[u8], n: u64) -> Result<(), AllocError>
     ensures { OnOk result (out.new.items ≡ out.old.items ++ word.now ++ spaced (decimal n)) }
 {
@@ -50,6 +52,7 @@ pub fn put_named(out: &mut Vec<u8>, word: &[u8], n: u64) -> Result<(), AllocErro
 }
 
 /// A word, and a server behind it.
+#[inline(always)]
 pub fn put_at(out: &mut Vec<u8>, word: &[u8], server: ServerId) -> Result<(), AllocError>
     ensures { OnOk result (out.new.items ≡ out.old.items
         ++ word.now ++ spaced (decimal (number_of server))) }
@@ -71,6 +74,7 @@ pub fn put_three(out: &mut Vec<u8>, first: u64, second: u64, third: u64) -> Resu
 }
 
 /// A word, and behind it a server, a client and a number of it.
+#[inline(always)]
 pub fn put_client(
     out: &mut Vec<u8>,
     word: &[u8],

@@ -23,6 +23,14 @@ pub fn write_step(alloc: Global, step: &Step, into: &mut Bytes) -> Result<(), Al
     into.extend(&text)
 }
 
+/// Appends the one spelling of a step, without a line end. Where memory runs out a first part of it
+/// may stand.
+pub fn append_step(alloc: Global, step: &Step, into: &mut Vec<u8>) -> Result<(), AllocError>
+    ensures { OnOk result (into.new.items ≡ into.old.items ++ step_text step.now) }
+{
+    put_step(alloc, into, step)
+}
+
 /// Appends the one spelling of a line of a trace, without its line end. Where memory runs out a first
 /// part of it may stand.
 pub fn append_line(alloc: Global, line: &Line, into: &mut Vec<u8>) -> Result<(), AllocError>
