@@ -12,10 +12,11 @@ use Rattle.trace_types.specs.declared.line.ShownMessage.TheVariants as shown
 use Rattle.trace_claims.specs.Trace.{Trace}
 use Rattle.trace_claims.specs.Servers.{AckDelivered, Packet, PromiseDelivered, ack_packet, packet_in}
 use Rattle.trace_check.specs.Keys.{way_key}
-use Rattle.trace_check.specs.Network.{ack_at, ack_of, or_ack, IsNetworkOf}
+use Rattle.trace_check.specs.Network.{ack_at, ack_of, IsNetworkOf}
+use Rattle.trace_check.specs.Packets.{or_ack}
 use Rattle.trace_check.specs.Readings.{packet_told}
 use Rattle.trace_check.specs.declared.network.Network.{Network}
-use Rattle.trace_check.specs.declared.network.SentAck.{SentAck}
+use Rattle.trace_check.specs.declared.packets.SentAck.{SentAck}
 use Rattle.trace_check.specs.declared.readings.PacketTold.{PacketTold}
 use Rattle.trace_check.specs.declared.readings.PacketTold.TheVariants as packet
 use Rattle.trace_check.proofs.ServerLemmas.{number_same, view_same}

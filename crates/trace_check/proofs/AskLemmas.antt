@@ -1,26 +1,25 @@
 -- What is kept of asks, as a trace grows.
-use Rattle.std.proofs.Common.{◌≡◌, ℕ, ◌<◌, ◌^◌, Bool, true, false, List, [], ◌∷◌, ◌++◌, refl, sym, ap, subst, ◌∙◌, inl, inr, Some, ◌||◌}
+use Rattle.std.proofs.Common.{◌≡◌, ℕ, Bool, true, false, List, [], ◌∷◌, ◌++◌, refl, sym, ap, subst, ◌∙◌, inl, inr, Some, ◌||◌, ◌&&◌, ◌==◌}
 use Rattle.std.specs.Prelude.{◌↔◌, ◌⊎◌, Contains, IsTrue}
 use Rattle.std.specs.Cmp.Lexicographic.{slice_cmp}
 use Rattle.std.specs.List.{list_any}
 use Rattle.std.specs.BTreeSet.{insert_key}
 use Rattle.std.specs.Cmp.{unsigned_tied}
-use Rattle.std.specs.Ordering.{is_eq, match_ordering, nat_cmp}
+use Rattle.std.specs.Ordering.{is_eq, match_ordering, nat_cmp, ordering_then}
 use Rattle.std.specs.declared.cmp.Ordering.{Ordering}
 use Rattle.std.specs.declared.cmp.Ordering.TheVariants.{Less, Equal, Greater}
-use Rattle.std.proofs.lemmas.Bool.{and_from, eq-eqb}
+use Rattle.std.proofs.lemmas.Bool.{and_from, eq-eqb, eqb-true}
 use Rattle.std.proofs.lemmas.Map.Lookups.{exact_bytes}
 use Rattle.std.proofs.lemmas.List.{append-nil}
 use Rattle.std.proofs.lemmas.List.Elements.{Contains-push, Contains-push_cases, Contains-append_left}
 use Rattle.harp_base.specs.Calls.{CallFits, call_at}
-use Rattle.harp_base.specs.Fields.{◌⊗◌, u32_at, u64_at}
+use Rattle.harp_base.specs.Fields.{◌⊗◌}
 use Rattle.harp_base.specs.Names.{CredFits, cred_at}
 use Rattle.harp_types.specs.declared.call.Call.{Call}
 use Rattle.harp_types.specs.declared.cred.Cred.{Cred}
 use Rattle.harp_types.specs.declared.server.ServerId.{ServerId}
 use Rattle.harp_base.proofs.AttributeLaws.{then}
 use Rattle.harp_base.proofs.CallLaws.{call_codec}
-use Rattle.harp_base.proofs.Codec.{u32_codec, u64_codec}
 use Rattle.harp_base.proofs.NameLaws.{cred_codec}
 use Rattle.harp_types.specs.declared.book.BookEntry.{BookEntry}
 use Rattle.trace_types.specs.declared.line.Line.{Line}
@@ -30,25 +29,24 @@ use Rattle.trace_types.specs.declared.step.Step.TheVariants as step
 use Rattle.trace_claims.specs.Faithful.{WasAsked}
 use Rattle.trace_claims.specs.Trace.{Trace, step_of_line, steps}
 use Rattle.trace_claims.proofs.Places.{steps-append}
-use Rattle.trace_check.specs.Asks.{ask_bytes, begins_ask, AreAsksOf, AskFits, Has, IsAdded, TellsAsk}
+use Rattle.trace_check.specs.Asks.{ask_cmp, ask_key, asked_bytes, begins_ask, key_of, AreAsksOf, AskFits, AskKey, Has, IsAdded, TellsAsk}
 use Rattle.trace_check.specs.declared.asks.Asks.{Asks}
 use Rattle.trace_check.proofs.MarkLemmas.{tied_then}
 use Rattle.trace_check.proofs.SameLemmas.{codec_same}
 
-abbrev Ask : Type 0
-Ask = ((ℕ × ℕ) × Cred) × Call
+abbrev Asked : Type 0
+Asked = Cred × Call
 
-abbrev bytes_of : Ask → List ℕ
-bytes_of a = ask_bytes a.0.0.0 a.0.0.1 a.0.1 a.1
+abbrev bytes_of : Asked → List ℕ
+bytes_of a = asked_bytes a.0 a.1
 
-abbrev FitsAsk : Ask → Type 0
-FitsAsk a = ((((a.0.0.0 < 2 ^ 32) × (a.0.0.1 < 2 ^ 64)) × CredFits a.0.1) × CallFits a.1)
+abbrev FitsAsked : Asked → Type 0
+FitsAsked a = CredFits a.0 × CallFits a.1
 
--- asks with the same bytes are the same
-ask_same : (a b : Ask) → FitsAsk a → FitsAsk b → bytes_of a ≡ bytes_of b → a ≡ b
-ask_same a b f g e =
-    codec_same (((u32_at ⊗ u64_at) ⊗ cred_at) ⊗ call_at) bytes_of FitsAsk
-    (then (then (then u32_codec u64_codec) cred_codec) call_codec) a b f g e
+-- a caller and a call with the same bytes are the same
+asked_same : (a b : Asked) → FitsAsked a → FitsAsked b → bytes_of a ≡ bytes_of b → a ≡ b
+asked_same a b f g e =
+    codec_same (cred_at ⊗ call_at) bytes_of FitsAsked (then cred_codec call_codec) a b f g e
 
 -- ---- steps
 
@@ -65,7 +63,7 @@ no_step asks t l e a = record {
   each = λ server client number cred call h. a.each server client number cred call
       (subst (λ (s : List Step). Contains s (step.Ask server client number cred call))
       (steps_same t l e) h);
-  alone = λ bytes h. let w = a.alone bytes h in record {
+  alone = λ ask h. let w = a.alone ask h in record {
     server = w.server;
     client = w.client;
     number = w.number;
@@ -93,7 +91,7 @@ no_ask asks t s none a = record {
         | inl before ↦ a.each server client number cred call before
         | inr same ↦ (let wrong : false ≡ true = sym none ∙ ap is_ask same in absurd cc)
       ];
-  alone = λ bytes h. let w = a.alone bytes h in record {
+  alone = λ ask h. let w = a.alone ask h in record {
     server = w.server;
     client = w.client;
     number = w.number;
@@ -109,22 +107,22 @@ no_ask asks t s none a = record {
 }
 
 pub one_ask : (old new : Asks) (t : Trace) (server : ServerId) (client number : ℕ) (cred : Cred)
-    (call : Call) → AskFits client number cred call
-    → IsAdded (ask_bytes client number cred call) old new → AreAsksOf old t
+    (call : Call) → AskFits cred call
+    → IsAdded (ask_key client number cred call) old new → AreAsksOf old t
     → AreAsksOf new (t ++ line.Event (step.Ask server client number cred call) ∷ [])
 one_ask old new t server client number cred call fits added a =
     let s = step.Ask server client number cred call in record {
       each = λ v c n d x h.
-          (added (ask_bytes c n d x)).1 (elim (Contains-push_cases (steps t) s
+          (added (ask_key c n d x)).1 (elim (Contains-push_cases (steps t) s
           (step.Ask v c n d x) (subst (λ (y : List Step). Contains y (step.Ask v c n d x))
           (steps_more t s) h))
-          as (λ _. Has old (ask_bytes c n d x)
-          ⊎ (ask_bytes c n d x ≡ ask_bytes client number cred call)) [
+          as (λ _. Has old (ask_key c n d x)
+          ⊎ (ask_key c n d x ≡ ask_key client number cred call)) [
             | inl before ↦ inl (a.each v c n d x before)
-            | inr same ↦ inr (asked_bytes v c n d x server client number cred call same)
+            | inr same ↦ inr (same_key v c n d x server client number cred call same)
           ]);
-      alone = λ bytes h. elim ((added bytes).0 h) [
-        | inl before ↦ (let w = a.alone bytes before in record {
+      alone = λ ask h. elim ((added ask).0 h) [
+        | inl before ↦ (let w = a.alone ask before in record {
           server = w.server;
           client = w.client;
           number = w.number;
@@ -151,52 +149,52 @@ one_ask old new t server client number cred call fits added a =
       ];
     }
   where
-    asked_bytes : (v : ServerId) (c n : ℕ) (d : Cred) (x : Call) (v' : ServerId) (c' n' : ℕ)
+    same_key : (v : ServerId) (c n : ℕ) (d : Cred) (x : Call) (v' : ServerId) (c' n' : ℕ)
         (d' : Cred) (x' : Call) → step.Ask v' c' n' d' x' ≡ step.Ask v c n d x
-        → ask_bytes c n d x ≡ ask_bytes c' n' d' x'
-    asked_bytes v c n d x v' c' n' d' x' e =
+        → ask_key c n d x ≡ ask_key c' n' d' x'
+    same_key v c n d x v' c' n' d' x' e =
         let a0 : c' ≡ c = cc in
         let a1 : n' ≡ n = cc in
         let a2 : d' ≡ d = cc in
         let a3 : x' ≡ x = cc in
-        sym (ap (λ (i : ℕ). ask_bytes i n' d' x') a0 ∙ ap (λ (i : ℕ). ask_bytes c i d' x') a1
-        ∙ ap (λ (i : Cred). ask_bytes c n i x') a2 ∙ ap (λ (i : Call). ask_bytes c n d i) a3)
+        sym (ap (λ (i : ℕ). ask_key i n' d' x') a0 ∙ ap (λ (i : ℕ). ask_key c i d' x') a1
+        ∙ ap (λ (i : Cred). ask_key c n i x') a2 ∙ ap (λ (i : Call). ask_key c n d i) a3)
 
 -- ---- whether an entry's call was asked
 
-same_asked : (t : Trace) (server : ServerId) (a b : Ask) → a ≡ b
-    → Contains (steps t) (step.Ask server a.0.0.0 a.0.0.1 a.0.1 a.1)
-    → Contains (steps t) (step.Ask server b.0.0.0 b.0.0.1 b.0.1 b.1)
-same_asked t server a b e h =
-    subst (λ (x : Ask). Contains (steps t) (step.Ask server x.0.0.0 x.0.0.1 x.0.1 x.1)) e h
+same_asked : (t : Trace) (server : ServerId) (c n : ℕ) (a : Asked) (d m : ℕ) (b : Asked)
+    → c ≡ d → n ≡ m → a ≡ b → Contains (steps t) (step.Ask server c n a.0 a.1)
+    → Contains (steps t) (step.Ask server d m b.0 b.1)
+same_asked t server c n a d m b e f g h =
+    subst (λ (x : Asked). Contains (steps t) (step.Ask server d m x.0 x.1)) g
+    (subst (λ (y : ℕ). Contains (steps t) (step.Ask server d y a.0 a.1)) f
+    (subst (λ (z : ℕ). Contains (steps t) (step.Ask server z n a.0 a.1)) e h))
 
 pub asked_is : (asks : Asks) (t : Trace) (place : ℕ) (entry : BookEntry) (found : Bool)
-    → AreAsksOf asks t → AskFits entry.client entry.number entry.cred entry.call
-    → (IsTrue found ↔ Has asks (ask_bytes entry.client entry.number entry.cred entry.call))
+    → AreAsksOf asks t → AskFits entry.cred entry.call
+    → (IsTrue found ↔ Has asks (ask_key entry.client entry.number entry.cred entry.call))
     → IsTrue found ↔ WasAsked t (line.Entered place entry)
 asked_is asks t place entry found a fits is = (
-  λ h. let w = a.alone (ask_bytes entry.client entry.number entry.cred entry.call) (is.0 h) in (
+  λ h. let w = a.alone (ask_key entry.client entry.number entry.cred entry.call) (is.0 h) in (
     w.server,
-    same_asked t w.server (((w.client, w.number), w.cred), w.call)
-        (((entry.client, entry.number), entry.cred), entry.call)
-        (ask_same (((w.client, w.number), w.cred), w.call)
-        (((entry.client, entry.number), entry.cred), entry.call)
-        (((w.fits.0, w.fits.1), w.fits.2), w.fits.3) (((fits.0, fits.1), fits.2), fits.3)
-        (sym w.is)) w.stands,
+    same_asked t w.server w.client w.number (w.cred, w.call) entry.client entry.number
+        (entry.cred, entry.call) (sym (ap (λ (k : AskKey). k.0) w.is))
+        (sym (ap (λ (k : AskKey). k.1) w.is)) (asked_same (w.cred, w.call) (entry.cred, entry.call)
+        w.fits fits (sym (ap (λ (k : AskKey). k.2) w.is))) w.stands,
   ),
   λ h. is.1 (a.each h.0 entry.client entry.number entry.cred entry.call h.1),
 )
 
 -- ---- a line
 
-pub takes_ask : (old new : Asks) (before : Trace) (l : Line) (bytes : List ℕ)
-    → TellsAsk (Some bytes) l → IsAdded bytes old new → AreAsksOf old before
+pub takes_ask : (old new : Asks) (before : Trace) (l : Line) (ask : AskKey)
+    → TellsAsk (Some ask) l → IsAdded ask old new → AreAsksOf old before
     → AreAsksOf new (before ++ l ∷ [])
-takes_ask old new before (line.Event (step.Ask server client number cred call)) bytes t added a =
+takes_ask old new before (line.Event (step.Ask server client number cred call)) ask t added a =
     one_ask old new before server client number cred call t.1
-    (subst (λ (b : List ℕ). IsAdded b old new) t.0 added) a
-takes_ask old new before (line.Event s) bytes t added a = absurd t
-takes_ask old new before l bytes t added a = absurd t
+    (subst (λ (k : AskKey). IsAdded k old new) t.0 added) a
+takes_ask old new before (line.Event s) ask t added a = absurd t
+takes_ask old new before l ask t added a = absurd t
 
 pub takes_none : (asks : Asks) (before : Trace) (l : Line) → begins_ask l ≡ false
     → AreAsksOf asks before → AreAsksOf asks (before ++ l ∷ [])
@@ -204,7 +202,7 @@ takes_none asks before (line.Event (step.Ask server client number cred call)) no
 takes_none asks before (line.Event s) none a = no_ask asks before s refl a
 takes_none asks before l none a = no_step asks before l refl a
 
--- ---- the set of bytes
+-- ---- the set of asks
 
 is_equal : (o : Ordering) → is_eq o ≡ true → o ≡ Equal
 is_equal Less e = absurd cc
@@ -219,6 +217,39 @@ bytes_tied [] = refl
 bytes_tied (x ∷ b) = tied_then (nat_cmp x x) (slice_cmp nat_cmp b b)
     ∙ and_from (is_eq (nat_cmp x x)) (is_eq (slice_cmp nat_cmp b b))
     (unsigned_tied x x ∙ eq-eqb x x refl) (bytes_tied b)
+
+-- asks are tied where they are the same
+ask_tied : (x y : AskKey) → is_eq (ask_cmp x y)
+    ≡ (((x.0 == y.0) && (x.1 == y.1)) && is_eq (slice_cmp nat_cmp x.2 y.2))
+ask_tied x y =
+    let c0 = nat_cmp x.0 y.0 in
+    let c1 = nat_cmp x.1 y.1 in
+    let c2 = slice_cmp nat_cmp x.2 y.2 in
+    tied_then (ordering_then c0 c1) c2
+    ∙ ap (λ (b : Bool). b && is_eq c2) (tied_then c0 c1
+    ∙ ap (λ (b : Bool). b && is_eq c1) (unsigned_tied x.0 y.0)
+    ∙ ap (λ (b : Bool). (x.0 == y.0) && b) (unsigned_tied x.1 y.1))
+
+and_parts : (a b : Bool) → (a && b) ≡ true → (a ≡ true) × (b ≡ true)
+and_parts true b e = (refl, e)
+and_parts false b e = absurd cc
+
+ask_same : (x y : AskKey) → is_eq (ask_cmp x y) ≡ true → x ≡ y
+ask_same x y e =
+    let p = and_parts ((x.0 == y.0) && (x.1 == y.1)) (is_eq (slice_cmp nat_cmp x.2 y.2))
+    (sym (ask_tied x y) ∙ e) in
+    let q = and_parts (x.0 == y.0) (x.1 == y.1) p.0 in
+    let e0 = eqb-true x.0 y.0 q.0 in
+    let e1 = eqb-true x.1 y.1 q.1 in
+    let e2 = bytes_same x.2 y.2 p.1 in
+    ap (λ (i : ℕ). (i, x.1, x.2)) e0 ∙ ap (λ (i : ℕ). (y.0, i, x.2)) e1
+    ∙ ap (λ (i : List ℕ). (y.0, y.1, i)) e2
+
+ask_itself : (x : AskKey) → is_eq (ask_cmp x x) ≡ true
+ask_itself x = ask_tied x x
+    ∙ and_from ((x.0 == x.0) && (x.1 == x.1)) (is_eq (slice_cmp nat_cmp x.2 x.2))
+    (and_from (x.0 == x.0) (x.1 == x.1) (eq-eqb x.0 x.0 refl) (eq-eqb x.1 x.1 refl))
+    (bytes_tied x.2)
 
 or_swap : (a b d : Bool) → (a || (b || d)) ≡ (b || (a || d))
 or_swap true true d = refl
@@ -241,18 +272,16 @@ inserted_at T Equal key x xs rest same e = or_twice (T key) (T x) (list_any T xs
 inserted_at T Greater key x xs rest same e = ap (λ (b : Bool). T x || b) e
     ∙ or_swap (T x) (T key) (list_any T xs)
 
-inserted : {V : Type 0} (items : V → List ℕ) (b : List ℕ) (key : V) (keys : List V)
-    → list_any (λ k. is_eq (slice_cmp nat_cmp b (items k)))
-    (insert_key (λ x y. slice_cmp nat_cmp (items x) (items y)) keys key)
-    ≡ (is_eq (slice_cmp nat_cmp b (items key))
-    || list_any (λ k. is_eq (slice_cmp nat_cmp b (items k))) keys)
-inserted items b key [] = refl
-inserted items b key (x ∷ keys) =
-    inserted_at (λ k. is_eq (slice_cmp nat_cmp b (items k)))
-    (slice_cmp nat_cmp (items key) (items x)) key x keys
-    (insert_key (λ v w. slice_cmp nat_cmp (items v) (items w)) keys key)
-    (λ e. ap (λ (d : List ℕ). is_eq (slice_cmp nat_cmp b d)) (exact_bytes (items key) (items x) e))
-    (inserted items b key keys)
+inserted : {V : Type 0} (view : V → AskKey) (b : AskKey) (key : V) (keys : List V)
+    → list_any (λ k. is_eq (ask_cmp b (view k)))
+    (insert_key (λ x y. ask_cmp (view x) (view y)) keys key)
+    ≡ (is_eq (ask_cmp b (view key)) || list_any (λ k. is_eq (ask_cmp b (view k))) keys)
+inserted view b key [] = refl
+inserted view b key (x ∷ keys) =
+    inserted_at (λ k. is_eq (ask_cmp b (view k))) (ask_cmp (view key) (view x)) key x keys
+    (insert_key (λ v w. ask_cmp (view v) (view w)) keys key)
+    (λ e. ap (λ (d : AskKey). is_eq (ask_cmp b d)) (ask_same (view key) (view x) (ap is_eq e)))
+    (inserted view b key keys)
 
 or_cases : (a b : Bool) → (a || b) ≡ true → (a ≡ true) ⊎ (b ≡ true)
 or_cases true b e = inl refl
@@ -266,30 +295,30 @@ or_right : (a b : Bool) → b ≡ true → (a || b) ≡ true
 or_right true b e = refl
 or_right false b e = e
 
-pub added_is : {V : Type 0} (items : V → List ℕ) (old new : List V) (key : V)
-    → new ≡ insert_key (λ x y. slice_cmp nat_cmp (items x) (items y)) old key → (b : List ℕ)
-    → (list_any (λ k. is_eq (slice_cmp nat_cmp b (items k))) new ≡ true)
-    ↔ ((list_any (λ k. is_eq (slice_cmp nat_cmp b (items k))) old ≡ true) ⊎ (b ≡ items key))
-added_is {V} items old new key e b =
-    let T : V → Bool = λ k. is_eq (slice_cmp nat_cmp b (items k)) in
+pub added_is : {V : Type 0} (view : V → AskKey) (old new : List V) (key : V)
+    → new ≡ insert_key (λ x y. ask_cmp (view x) (view y)) old key → (b : AskKey)
+    → (list_any (λ k. is_eq (ask_cmp b (view k))) new ≡ true)
+    ↔ ((list_any (λ k. is_eq (ask_cmp b (view k))) old ≡ true) ⊎ (b ≡ view key))
+added_is {V} view old new key e b =
+    let T : V → Bool = λ k. is_eq (ask_cmp b (view k)) in
     let is : list_any T new ≡ (T key || list_any T old) = ap (list_any T) e
-    ∙ inserted items b key old in (
+    ∙ inserted view b key old in (
       λ h. elim (or_cases (T key) (list_any T old) (sym is ∙ h)) [
-        | inl same ↦ inr (bytes_same b (items key) same)
+        | inl same ↦ inr (ask_same b (view key) same)
         | inr before ↦ inl before
       ],
       λ h. is ∙ elim h [
         | inl before ↦ or_right (T key) (list_any T old) before
         | inr same ↦ or_left (T key) (list_any T old)
-            (subst (λ (d : List ℕ). is_eq (slice_cmp nat_cmp b d) ≡ true) same (bytes_tied b))
+            (subst (λ (d : AskKey). is_eq (ask_cmp b d) ≡ true) same (ask_itself b))
       ],
     )
 
-pub found_is : (asks : Asks) (found : Bool) (s bytes : List ℕ)
-    → found ≡ list_any (λ k. is_eq (slice_cmp nat_cmp s k.items)) asks.asked.keys → s ≡ bytes
-    → IsTrue found ↔ Has asks bytes
-found_is asks found s bytes e same =
-    let is : found ≡ list_any (λ k. is_eq (slice_cmp nat_cmp bytes k.items)) asks.asked.keys =
-    subst (λ (b : List ℕ). found ≡ list_any (λ k. is_eq (slice_cmp nat_cmp b k.items))
+pub found_is : (asks : Asks) (found : Bool) (s ask : AskKey)
+    → found ≡ list_any (λ k. is_eq (ask_cmp s (key_of k))) asks.asked.keys → s ≡ ask
+    → IsTrue found ↔ Has asks ask
+found_is asks found s ask e same =
+    let is : found ≡ list_any (λ k. is_eq (ask_cmp ask (key_of k))) asks.asked.keys =
+    subst (λ (b : AskKey). found ≡ list_any (λ k. is_eq (ask_cmp b (key_of k)))
     asks.asked.keys) same e in
     (λ h. sym is ∙ h, λ h. is ∙ h)

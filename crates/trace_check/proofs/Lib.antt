@@ -3,6 +3,7 @@ pub mod MarkLemmas
 pub mod Somewhere
 pub mod ServerLemmas
 pub mod ClockLemmas
+pub mod PacketLemmas
 pub mod AckLemmas
 pub mod NetworkLemmas
 pub mod SameLemmas

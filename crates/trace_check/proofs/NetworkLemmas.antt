@@ -1,13 +1,8 @@
 -- What is kept of packets, as a trace grows.
-use Rattle.std.proofs.Common.{◌≡◌, ℕ, ◌+◌, ◌<◌, ◌≤◌, Bool, true, false, cond, is_some, [], ◌∷◌, ◌++◌, Option, Some, None, refl, sym, ap, subst, ◌∙◌, arith, ◌==◌, inl, inr}
+use Rattle.std.proofs.Common.{◌≡◌, ℕ, ◌+◌, ◌<◌, ◌≤◌, Bool, true, false, [], ◌∷◌, ◌++◌, Option, Some, None, refl, sym, ap, subst, ◌∙◌, arith, ◌==◌, inl, inr}
 use Rattle.std.specs.Prelude.{◌↔◌, ◌⊎◌}
 use Rattle.std.specs.Bool.{if◌then◌else◌}
-use Rattle.std.specs.BTreeMap.{get}
-use Rattle.std.specs.Cmp.{unsigned_tied}
-use Rattle.std.specs.Map.{lookup}
 use Rattle.std.specs.Option.{option_map}
-use Rattle.std.specs.Ordering.{is_eq, nat_cmp}
-use Rattle.std.proofs.lemmas.Bool.{eqb-true}
 use Rattle.harp_types.specs.View.{View}
 use Rattle.harp_types.specs.declared.server.ServerId.{ServerId}
 use Rattle.trace_types.specs.declared.line.Line.{Line}
@@ -17,10 +12,11 @@ use Rattle.trace_claims.specs.Trace.{Trace}
 use Rattle.trace_claims.specs.Servers.{AckDelivered, Packet, PromiseDelivered, ack_packet, packet_in}
 use Rattle.trace_check.specs.Keys.{way_key}
 use Rattle.trace_check.specs.Marks.{Entries, Key, mark_at, IsRaised, IsWithin, Reaches}
-use Rattle.trace_check.specs.Network.{ack_at, ack_of, or_ack, told_ack, AcksDelivered, Acknowledges, IsNetworkOf, IsSent}
+use Rattle.trace_check.specs.Network.{ack_at, ack_of, told_ack, AcksDelivered, Acknowledges, IsNetworkOf, IsSent}
+use Rattle.trace_check.specs.Packets.{packet_at}
 use Rattle.trace_check.specs.Readings.{packet_told}
 use Rattle.trace_check.specs.declared.network.Network.{Network}
-use Rattle.trace_check.specs.declared.network.SentAck.{SentAck}
+use Rattle.trace_check.specs.declared.packets.SentAck.{SentAck}
 use Rattle.trace_check.specs.declared.readings.PacketTold.{PacketTold}
 use Rattle.trace_check.specs.declared.readings.PacketTold.TheVariants as packet
 use Rattle.trace_check.proofs.Somewhere.{somewhere_push, somewhere_nothing}
@@ -228,12 +224,7 @@ takes_delivered old new before l number a told d =
     delivered old new before l number (packet_in before number) a told refl d.sent
     (subst (λ o. Acknowledges o old new) (a.sent number) d.told)
 
--- ---- the map of packets
-
-pub nothing_sent : (network : Network) → network.sent.entries ≡ [] → (n : ℕ)
-    → ack_at network n ≡ None
-unfolding ack_at
-nothing_sent network e n = ap (lookup (λ k. is_eq (nat_cmp n k))) e
+-- ---- packets
 
 pub no_packets : (network : Network) → ((n : ℕ) → ack_at network n ≡ None)
     → ((key : Key) → mark_at network.tops key ≡ None)
@@ -259,62 +250,7 @@ no_packets network sent tops moments = record {
     nowhere (Some m) n e h = absurd cc
 
 pub same_packets : (old new : Network) → new.sent ≡ old.sent → (n : ℕ) → ack_at new n ≡ ack_at old n
-unfolding ack_at
-same_packets old new e n = ap (λ m. get nat_cmp m n) e
-
-or_nothing : (o : Option (Option SentAck)) → o ≡ or_ack o None
-or_nothing None = refl
-or_nothing (Some p) = refl
-
-or_there : (o p : Option (Option SentAck)) → is_some o ≡ true → o ≡ or_ack o p
-or_there None p h = absurd cc
-or_there (Some a) p h = refl
-
-sent_there : (network : Network) (number n : ℕ) (ack : Option SentAck) (same : Bool)
-    → (same ≡ true → number ≡ n) → is_some (ack_at network number) ≡ true
-    → ack_at network n ≡ or_ack (ack_at network n) (if same then Some ack else None)
-sent_there network number n ack true is h = or_there (ack_at network n) (Some ack)
-    (subst (λ (k : ℕ). is_some (ack_at network k) ≡ true) (is refl) h)
-sent_there network number n ack false is h = or_nothing (ack_at network n)
-
-pub sent_already : (network : Network) (number : ℕ) (ack : Option SentAck)
-    → is_some (ack_at network number) ≡ true → IsSent number ack network network
-sent_already network number ack h = record {
-  sent = λ n. sent_there network number n ack (number == n) (eqb-true number n) h;
-  tops = refl;
-  moments = refl;
-}
-
-absent : (o : Option (Option SentAck)) → is_some o ≡ false → o ≡ None
-absent None h = refl
-absent (Some p) h = absurd cc
-
-sent_here : (a b : Option (Option SentAck)) (ack : Option SentAck) (same : Bool)
-    → (same ≡ true → a ≡ None) → b ≡ (if same then Some ack else a)
-    → b ≡ or_ack a (if same then Some ack else None)
-sent_here a b ack true none e = e ∙ sym (ap (λ o. or_ack o (Some ack)) (none refl))
-sent_here a b ack false none e = e ∙ or_nothing a
-
-pub sent_first : (old new : Network) (number : ℕ) (ack : Option SentAck)
-    → is_some (ack_at old number) ≡ false
-    → ((n : ℕ) → get nat_cmp new.sent n
-    ≡ cond (is_eq (nat_cmp number n)) (Some ack) (get nat_cmp old.sent n))
-    → new.tops ≡ old.tops → new.moments ≡ old.moments → IsSent number ack old new
-unfolding ack_at
-sent_first old new number ack none updates tops moments = record {
-  sent = λ n. sent_here (get nat_cmp old.sent n) (get nat_cmp new.sent n) ack (number == n)
-      (λ same. ap (get nat_cmp old.sent) (sym (eqb-true number n same))
-      ∙ absent (get nat_cmp old.sent number) none)
-      (updates n ∙ ap (λ (b : Bool). cond b (Some ack) (get nat_cmp old.sent n))
-      (unsigned_tied number n));
-  tops = tops;
-  moments = moments;
-}
-
-pub at_number : (network : Network) (number : ℕ) → get nat_cmp network.sent number
-    ≡ ack_at network number
-unfolding ack_at
-at_number network number = refl
+same_packets old new e n = ap (λ m. packet_at m n) e
 
 pub delivers_ack : (old new : Network) (number : ℕ) (ack : SentAck) → new.sent ≡ old.sent
     → ack_at old number ≡ Some (Some ack) → IsRaised ack.key ack.top old.tops new.tops

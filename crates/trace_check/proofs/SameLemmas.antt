@@ -1,5 +1,5 @@
 -- Values with one spelling are the same.
-use Rattle.std.proofs.Common.{◌≡◌, ℕ, ◌+◌, Bool, List, [], ◌∷◌, ◌++◌, length, eqb, sym, ap, ◌∙◌, arith}
+use Rattle.std.proofs.Common.{◌≡◌, ℕ, ◌+◌, Bool, List, [], length, eqb, sym, ap, ◌∙◌}
 use Rattle.std.specs.Prelude.{◌↔◌, IsTrue}
 use Rattle.std.specs.Cmp.Lexicographic.{pointwise}
 use Rattle.std.proofs.lemmas.Bool.Decides.{Decides-eqb}
@@ -27,32 +27,22 @@ calls_same x y f g e = codec_same call_at call_bytes CallFits call_codec x y f g
 pub replies_same : (x y : Reply) → ReplyFits x → ReplyFits y → reply_bytes x ≡ reply_bytes y → x ≡ y
 replies_same x y f g e = codec_same reply_at reply_bytes ReplyFits reply_codec x y f g e
 
--- the bytes that are written behind nothing
-written : (p w b : List ℕ) → length p ≡ 0 → w ≡ p ++ b → w ≡ b
-written [] w b n e = e
-written (x ∷ p) w b n e = absurd (omega (arith, n))
-
-same_is : {A : Type 0} (x y : A) (r : Bool) (s t v w p q a b : List ℕ) → r ≡ pointwise eqb s t
-    → s ≡ v → t ≡ w → v ≡ p ++ a → w ≡ q ++ b → length p ≡ 0 → length q ≡ 0
-    → (a ≡ b → x ≡ y) → (x ≡ y → a ≡ b) → IsTrue r ↔ (x ≡ y)
-same_is x y r s t v w p q a b e sv tw va wb np nq to from =
-    let d = slice_eq-Decides Decides-eqb s t r e in
-    let sa : s ≡ a = sv ∙ written p v a np va in
-    let tb : t ≡ b = tw ∙ written q w b nq wb in (
+same_is : {A : Type 0} (x y : A) (r : Bool) (s t a b : List ℕ) → r ≡ pointwise eqb s t
+    → s ≡ a → t ≡ b → (a ≡ b → x ≡ y) → (x ≡ y → a ≡ b) → IsTrue r ↔ (x ≡ y)
+same_is x y r s t a b e sa tb to from =
+    let d = slice_eq-Decides Decides-eqb s t r e in (
       λ h. to (sym sa ∙ d.0 h ∙ tb),
       λ h. d.1 (sa ∙ from h ∙ sym tb),
     )
 
-pub calls_by_bytes : (x y : Call) (r : Bool) (s t v w p q : List ℕ) → r ≡ pointwise eqb s t
-    → s ≡ v → t ≡ w → v ≡ p ++ call_bytes x → w ≡ q ++ call_bytes y → length p ≡ 0 → length q ≡ 0
-    → CallFits x → CallFits y → IsTrue r ↔ (x ≡ y)
-calls_by_bytes x y r s t v w p q e sv tw va wb np nq f g =
-    same_is x y r s t v w p q (call_bytes x) (call_bytes y) e sv tw va wb np nq
-    (calls_same x y f g) (λ h. ap call_bytes h)
+pub calls_by_bytes : (x y : Call) (r : Bool) (s t : List ℕ) → r ≡ pointwise eqb s t
+    → s ≡ call_bytes x → t ≡ call_bytes y → CallFits x → CallFits y → IsTrue r ↔ (x ≡ y)
+calls_by_bytes x y r s t e sx ty f g =
+    same_is x y r s t (call_bytes x) (call_bytes y) e sx ty (calls_same x y f g)
+    (λ h. ap call_bytes h)
 
-pub replies_by_bytes : (x y : Reply) (r : Bool) (s t v w p q : List ℕ) → r ≡ pointwise eqb s t
-    → s ≡ v → t ≡ w → v ≡ p ++ reply_bytes x → w ≡ q ++ reply_bytes y → length p ≡ 0
-    → length q ≡ 0 → ReplyFits x → ReplyFits y → IsTrue r ↔ (x ≡ y)
-replies_by_bytes x y r s t v w p q e sv tw va wb np nq f g =
-    same_is x y r s t v w p q (reply_bytes x) (reply_bytes y) e sv tw va wb np nq
-    (replies_same x y f g) (λ h. ap reply_bytes h)
+pub replies_by_bytes : (x y : Reply) (r : Bool) (s t : List ℕ) → r ≡ pointwise eqb s t
+    → s ≡ reply_bytes x → t ≡ reply_bytes y → ReplyFits x → ReplyFits y → IsTrue r ↔ (x ≡ y)
+replies_by_bytes x y r s t e sx ty f g =
+    same_is x y r s t (reply_bytes x) (reply_bytes y) e sx ty (replies_same x y f g)
+    (λ h. ap reply_bytes h)

@@ -39,12 +39,13 @@ last_push before [] l = refl
 last_push before (x ∷ t) l = last_push (entry_told x) t l
 
 pub goes_on : (old : UnderWay) (before : Trace) (l : Line) (o : Option BookEntry)
-    → IsUnderWay old before → reading_told l ≡ None → o ≡ entry_told l
+    → IsUnderWay old before → reading_told l ≡ None
+    → (is_some old.reading ≡ true → o ≡ entry_told l)
     → IsUnderWay (record { reading = old.reading; entered = o }) (before ++ l ∷ [])
 goes_on old before l o a told is = record {
   reading = a.reading ∙ sym (reading_push before l
       ∙ ap (next_reading (reading_of (step_under_way before))) told);
-  entered = is ∙ sym (last_push None before l);
+  entered = λ reads. is reads ∙ sym (last_push None before l);
 }
 
 pub begins : (before : Trace) (l : Line) (r : Option Reading) (o : Option BookEntry)
@@ -53,7 +54,7 @@ pub begins : (before : Trace) (l : Line) (r : Option Reading) (o : Option BookEn
 begins before l r o told is = record {
   reading = sym (reading_push before l
       ∙ ap (next_reading (reading_of (step_under_way before))) told);
-  entered = is ∙ sym (last_push None before l);
+  entered = λ reads. is ∙ sym (last_push None before l);
 }
 
 reads_if : (b : Bool) (r : Reading) → is_some (if b then None else Some r) ≡ not b
@@ -122,10 +123,10 @@ pub not_first : (e : BookEntry) → None ≡ Some e → ⊥
 not_first e h = cc
 
 pub enters_is : (u : UnderWay) (t : Trace) (client number : ℕ) (cred : Cred) (call : Call)
-    (reply : Reply) → IsUnderWay u t
+    (reply : Reply) → IsUnderWay u t → is_some u.reading ≡ true
     → Enters u.entered client number cred call reply ↔ IsReadReply t client number cred call reply
-enters_is u t client number cred call reply a = (
-  λ h. elim (last_stands None t h.entry (sym a.entered ∙ h.is)) [
+enters_is u t client number cred call reply a reads = (
+  λ h. elim (last_stands None t h.entry (sym (a.entered reads) ∙ h.is)) [
     | inl p ↦ absurd (not_first h.entry p.1)
     | inr p ↦ record {
       earlier = p.0;
@@ -141,7 +142,7 @@ enters_is u t client number cred call reply a = (
   ],
   λ h. record {
     entry = h.entry;
-    is = a.entered ∙ last_is None t h.earlier h.place h.entry h.stands;
+    is = a.entered reads ∙ last_is None t h.earlier h.place h.entry h.stands;
     client_is = h.client_is;
     number_is = h.number_is;
     cred_is = h.cred_is;

@@ -4,6 +4,7 @@ pub mod Keys
 pub mod Readings
 pub mod ServersSeen
 pub mod ClocksRead
+pub mod Packets
 pub mod Network
 pub mod History
 pub mod Asks

@@ -1,5 +1,5 @@
 -- Numbers by key.
-use Rattle.std.specs.Prelude.{◌≡◌, ◌↔◌, ◌≤◌, ◌⊎◌, ℕ, Bool, ◌&&◌, ◌==◌, List, Option, Some, None, if◌then◌else◌}
+use Rattle.std.specs.Prelude.{◌≡◌, ◌↔◌, ◌≤◌, ◌⊎◌, ℕ, Bool, ◌&&◌, ◌==◌, List, ◌∷◌, Option, Some, None, if◌then◌else◌}
 use Rattle.std.specs.Map.{lookup}
 
 abbrev pub Key : Type 0
@@ -7,6 +7,11 @@ Key = ℕ × ℕ × ℕ × ℕ
 
 abbrev pub Entries : Type 0
 Entries = List (Key × ℕ)
+
+-- one of them stands before the others
+abbrev pub marks_of : Option (Key × ℕ) → Entries → Entries
+marks_of None others = others
+marks_of (Some last) others = last ∷ others
 
 -- whether two keys are the same
 abbrev pub is_key : Key → Key → Bool

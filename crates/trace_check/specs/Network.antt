@@ -1,8 +1,6 @@
 -- What is kept of packets.
-use Rattle.std.specs.Prelude.{◌≡◌, ◌↔◌, ℕ, ◌+◌, ◌==◌, Option, Some, None, if◌then◌else◌}
-use Rattle.std.specs.BTreeMap.{get}
+use Rattle.std.specs.Prelude.{◌≡◌, ◌↔◌, ℕ, ◌+◌, Option, Some, None}
 use Rattle.std.specs.Option.{option_map}
-use Rattle.std.specs.Ordering.{nat_cmp}
 use Rattle.harp_types.specs.View.{View}
 use Rattle.harp_types.specs.declared.server.ServerId.{ServerId}
 use Rattle.trace_types.specs.declared.line.ShownMessage.{ShownMessage}
@@ -11,8 +9,9 @@ use Rattle.trace_claims.specs.Trace.{Trace}
 use Rattle.trace_claims.specs.Servers.{AckDelivered, Packet, PromiseDelivered, packet_in}
 use Rattle.trace_check.specs.Keys.{way_key}
 use Rattle.trace_check.specs.Marks.{IsRaised, Reaches}
+use Rattle.trace_check.specs.Packets.{packet_at, IsNumbered}
 use Rattle.trace_check.specs.declared.network.Network.{Network}
-use Rattle.trace_check.specs.declared.network.SentAck.{SentAck}
+use Rattle.trace_check.specs.declared.packets.SentAck.{SentAck}
 
 -- what a message acknowledges, if anything
 abbrev pub told_ack : ServerId → ServerId → ShownMessage → Option SentAck
@@ -24,8 +23,8 @@ abbrev pub ack_of : Packet → Option SentAck
 ack_of p = told_ack p.from p.to p.message
 
 -- what is kept of the packet of a number
-unfoldable pub ack_at : Network → ℕ → Option (Option SentAck)
-ack_at network number = get nat_cmp network.sent number
+abbrev pub ack_at : Network → ℕ → Option (Option SentAck)
+ack_at network number = packet_at network.sent number
 
 -- the packets, and the greatest tops and moments of delivered acknowledgements, are those of
 -- these lines
@@ -37,14 +36,9 @@ pub record IsNetworkOf (network : Network) (trace : Trace) : Type 0 where
       → Reaches network.moments (way_key from to view) (moment + 1)
       ↔ PromiseDelivered trace from to view moment
 
-abbrev pub or_ack : Option (Option SentAck) → Option (Option SentAck) → Option (Option SentAck)
-or_ack None other = other
-or_ack (Some p) other = Some p
-
 -- a number that had no packet has this one
 pub record IsSent (number : ℕ) (ack : Option SentAck) (old new : Network) : Type 0 where
-  pub sent : (n : ℕ) → ack_at new n
-      ≡ or_ack (ack_at old n) (if number == n then Some ack else None)
+  pub sent : IsNumbered number ack old.sent new.sent
   pub tops : new.tops ≡ old.tops
   pub moments : new.moments ≡ old.moments
 

@@ -1,5 +1,5 @@
 -- What is kept of the step that is under way.
-use Rattle.std.specs.Prelude.{◌≡◌, Option, Some, None, [], ◌∷◌, if◌then◌else◌}
+use Rattle.std.specs.Prelude.{◌≡◌, true, Option, Some, None, [], ◌∷◌, is_some, if◌then◌else◌}
 use Rattle.harp_types.specs.Update.{is_update}
 use Rattle.harp_types.specs.declared.book.BookEntry.{BookEntry}
 use Rattle.trace_types.specs.declared.line.Line.{Line}
@@ -31,7 +31,7 @@ abbrev pub last_or : Option BookEntry → Trace → Option BookEntry
 last_or before [] = before
 last_or before (l ∷ lines) = last_or (entry_told l) lines
 
--- the read of the step under way, and the entry of the last of these lines
+-- the read of the step under way; and where there is one, the entry of the last of these lines
 pub record IsUnderWay (under_way : UnderWay) (trace : Trace) : Type 0 where
   pub reading : under_way.reading ≡ reading_of (step_under_way trace)
-  pub entered : under_way.entered ≡ last_or None trace
+  pub entered : is_some under_way.reading ≡ true → under_way.entered ≡ last_or None trace

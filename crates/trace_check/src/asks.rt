@@ -5,43 +5,40 @@ ghost use Rattle.std.specs.Option.{option_map};
 ghost use Rattle.trace_types.specs.declared.line.Line.TheVariants as line;
 ghost use Rattle.trace_claims.specs.Trace.{Trace};
 ghost use Rattle.trace_claims.specs.Faithful.{WasAsked};
-ghost use Rattle.trace_check.specs.Asks.{ask_bytes, AreAsksOf, AskFits, IsAdded, TellsAsk};
+ghost use Rattle.trace_check.specs.Asks.{ask_key, asked_bytes, key_of, AreAsksOf, AskFits, IsAdded, TellsAsk};
 
-use harp_base::fields::{put_call, put_cred, put_u32, put_u64};
+use harp_base::fields::{put_call, put_cred};
 use harp_types::{BookEntry, Call, Cred};
 use std::alloc::{AllocError, Global};
 use std::collections::BTreeSet;
 use trace_types::{Line, Step};
 
-/// The asks, at any server, each by its bytes.
+/// A client, its number, and the bytes of its caller and call. Most are told apart by the number.
+pub type Ask = (u32, u64, Vec<u8>);
+
+/// The asks, at any server.
 #[derive(Drop)]
 pub struct Asks {
-    asked: BTreeSet<Vec<u8>>,
+    asked: BTreeSet<Ask>,
 }
 
-/// The bytes of an ask: its client, its number, its caller and its call.
-fn ask_bytes(
-    alloc: Global,
-    client: u32,
-    number: u64,
-    cred: Cred,
-    call: &Call,
-) -> Result<Vec<u8>, AllocError>
-    ensures value { IfOk result (λ bytes. bytes.items ≡ ask_bytes client number cred call.now) }
-    ensures fits { OnOk result (AskFits client number cred call.now) }
+/// How many bytes there is room for at first, so that most calls are spelled without more.
+const ROOM: usize = 64;
+
+/// The bytes of a caller and a call.
+fn asked_bytes(alloc: Global, cred: Cred, call: &Call) -> Result<Vec<u8>, AllocError>
+    ensures value { IfOk result (λ bytes. bytes.items ≡ asked_bytes cred call.now) }
+    ensures fits { OnOk result (AskFits cred call.now) }
 {
-    let mut bytes = Vec::new(alloc);
-    put_u32(&mut bytes, client)?;
-    put_u64(&mut bytes, number)?;
+    let mut bytes = Vec::with_capacity(alloc, ROOM)?;
     put_cred(&mut bytes, cred)?;
     put_call(&mut bytes, call)?;
     Ok(bytes)
 }
 
-// The bytes of a step that asks.
-fn ask_of_step(alloc: Global, step: &Step) -> Result<Option<Vec<u8>>, AllocError>
-    ensures { IfOk result (λ told. TellsAsk (option_map (λ b. b.items) told)
-        (line.Event step.now)) }
+// What a step asks.
+fn ask_of_step(alloc: Global, step: &Step) -> Result<Option<Ask>, AllocError>
+    ensures { IfOk result (λ told. TellsAsk (option_map key_of told) (line.Event step.now)) }
 {
     match step {
         Step::Ask {
@@ -50,7 +47,7 @@ fn ask_of_step(alloc: Global, step: &Step) -> Result<Option<Vec<u8>>, AllocError
             cred,
             call,
             ..
-        } => Ok(Some(ask_bytes(alloc, *client, *number, *cred, call)?)),
+        } => Ok(Some((*client, *number, asked_bytes(alloc, *cred, call)?))),
         Step::Deliver { .. }
         | Step::Pump { .. }
         | Step::Tick { .. }
@@ -70,9 +67,9 @@ fn ask_of_step(alloc: Global, step: &Step) -> Result<Option<Vec<u8>>, AllocError
     }
 }
 
-// The bytes of an ask, where a line begins one.
-fn ask_told(alloc: Global, line: &Line) -> Result<Option<Vec<u8>>, AllocError>
-    ensures { IfOk result (λ told. TellsAsk (option_map (λ b. b.items) told) line.now) }
+// What is asked, where a line begins an ask.
+fn ask_told(alloc: Global, line: &Line) -> Result<Option<Ask>, AllocError>
+    ensures { IfOk result (λ told. TellsAsk (option_map key_of told) line.now) }
 {
     match line {
         Line::Event { step } => ask_of_step(alloc, step),
@@ -103,10 +100,10 @@ impl Asks {
         }
     }
 
-    fn add(&mut self, bytes: Vec<u8>) -> Result<(), AllocError>
-        ensures { OnOk result (IsAdded bytes.items self.old self.new) }
+    fn add(&mut self, ask: Ask) -> Result<(), AllocError>
+        ensures { OnOk result (IsAdded (key_of ask) self.old self.new) }
     {
-        self.asked.insert(bytes)?;
+        self.asked.insert(ask)?;
         Ok(())
     }
 
@@ -116,7 +113,7 @@ impl Asks {
             → OnOk result (AreAsksOf self.new (before ++ line.now ∷ [])) }
     {
         match ask_told(alloc, line)? {
-            Some(bytes) => self.add(bytes),
+            Some(ask) => self.add(ask),
             None => Ok(()),
         }
     }
@@ -126,7 +123,7 @@ impl Asks {
         ensures { (before : Trace) (place : ℕ) → AreAsksOf self.now before
             → IfOk result (λ was. IsTrue was ↔ WasAsked before (line.Entered place entry.now)) }
     {
-        let bytes = ask_bytes(alloc, entry.client, entry.number, entry.cred, &entry.call)?;
-        Ok(self.asked.contains(bytes.as_slice()))
+        let bytes = asked_bytes(alloc, entry.cred, &entry.call)?;
+        Ok(self.asked.contains(&(entry.client, entry.number, bytes)))
     }
 }

@@ -29,6 +29,7 @@ mod clocks;
 mod history;
 mod marks;
 mod network;
+mod packets;
 mod readings;
 mod same;
 mod servers;

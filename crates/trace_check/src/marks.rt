@@ -10,18 +10,20 @@ use std::marker::Model;
 /// Servers, packets and views by number, or a client; what isn't needed is 0.
 pub type Key = (u64, u64, u64, u64);
 
-/// A number for each of some keys.
+/// A number for each of some keys. The key that was set last stands before the others, since most
+/// often it is the next one too.
 #[derive(Drop)]
 pub struct Marks {
-    numbers: BTreeMap<Key, u64>,
+    last: Option<(Key, u64)>,
+    others: BTreeMap<Key, u64>,
 }
 
 impl Model for Marks {
-    ghost use Rattle.trace_check.specs.Marks.{Entries};
+    ghost use Rattle.trace_check.specs.Marks.{marks_of, Entries};
 
     ghost Value = { Entries };
 
-    ghost view = { λ m. m.numbers.entries };
+    ghost view = { λ m. marks_of m.last m.others.entries };
 }
 
 impl Marks {
@@ -31,7 +33,8 @@ impl Marks {
         ensures { (key : ℕ × ℕ × ℕ × ℕ) → mark_at result key ≡ None }
     {
         Marks {
-            numbers: BTreeMap::new(alloc),
+            last: None,
+            others: BTreeMap::new(alloc),
         }
     }
 
@@ -39,15 +42,37 @@ impl Marks {
     pub fn get(&self, key: Key) -> Option<u64>
         ensures { result ≡ mark_at self.now key }
     {
-        self.numbers.get(&key).copied()
+        match self.last {
+            Some((at, number)) => {
+                if key == at {
+                    Some(number)
+                } else {
+                    self.others.get(&key).copied()
+                }
+            }
+            None => self.others.get(&key).copied(),
+        }
     }
 
     /// The key has this number.
     pub fn set(&mut self, key: Key, number: u64) -> Result<(), AllocError>
         ensures { OnOk result (IsSet key number self.old self.new) }
     {
-        self.numbers.insert(key, number)?;
-        Ok(())
+        match self.last {
+            Some((at, before)) => {
+                if key == at {
+                    self.last = Some((key, number));
+                    return Ok(());
+                }
+                self.others.insert(at, before)?;
+                self.last = Some((key, number));
+                Ok(())
+            }
+            None => {
+                self.last = Some((key, number));
+                Ok(())
+            }
+        }
     }
 
     /// Whether the key has this number or a greater one.

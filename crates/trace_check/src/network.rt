@@ -8,26 +8,16 @@ ghost use Rattle.trace_check.specs.Marks.{Reaches};
 ghost use Rattle.trace_check.specs.Network.{AcksDelivered, IsNetworkOf, IsSent, told_ack};
 
 use crate::marks::{Key, Marks};
+use crate::packets::{Packets, SentAck};
 use crate::readings::{PacketTold, packet_told};
 use harp_types::{ServerId, ViewNo};
 use std::alloc::{AllocError, Global};
-use std::collections::BTreeMap;
 use trace_types::{Line, ShownMessage};
-
-/// An acknowledgement: between which servers and in which view, its top and the moment that it
-/// promises.
-#[derive(Clone, Copy)]
-pub struct SentAck {
-    key: Key,
-    top: u64,
-    until: u64,
-}
 
 /// The packets by number, and what delivered acknowledgements tell.
 #[derive(Drop)]
 pub struct Network {
-    /// What the first packet of each number acknowledges, if anything.
-    sent: BTreeMap<u64, Option<SentAck>>,
+    sent: Packets,
     /// The greatest top that was acknowledged between two servers in a view.
     tops: Marks,
     /// The latest moment that was promised between two servers in a view.
@@ -85,7 +75,7 @@ impl Network {
         ensures { IsNetworkOf result [] }
     {
         Network {
-            sent: BTreeMap::new(alloc),
+            sent: Packets::new(alloc),
             tops: Marks::new(alloc),
             moments: Marks::new(alloc),
         }
@@ -94,17 +84,13 @@ impl Network {
     fn send(&mut self, number: u64, ack: Option<SentAck>) -> Result<(), AllocError>
         ensures { OnOk result (IsSent number ack self.old self.new) }
     {
-        if self.sent.contains_key(&number) {
-            return Ok(());
-        }
-        self.sent.insert(number, ack)?;
-        Ok(())
+        self.sent.note(number, ack)
     }
 
     fn deliver(&mut self, number: u64) -> Result<(), AllocError>
         ensures { OnOk result (AcksDelivered number self.old self.new) }
     {
-        match self.sent.get(&number).copied() {
+        match self.sent.get(number) {
             Some(Some(ack)) => {
                 self.tops.raise(ack.key, ack.top)?;
                 self.moments.raise(ack.key, ack.until)

@@ -1,11 +1,12 @@
 //! The step that is under way, and the line before.
 
-ghost use Rattle.std.specs.Prelude.{◌≡◌, ◌↔◌, ◌++◌, ◌∷◌, [], is_some, IsTrue, IfOk, OnOk, Some};
+ghost use Rattle.std.specs.Prelude.{◌≡◌, ℕ, ◌↔◌, ◌++◌, ◌∷◌, [], is_some, IsTrue, IfOk, OnOk, Some};
 ghost use Rattle.harp_types.specs.declared.call.Call.{Call as CallValue};
 ghost use Rattle.harp_types.specs.declared.cred.Cred.{Cred as CredValue};
+ghost use Rattle.trace_types.specs.declared.line.Line.TheVariants as line;
 ghost use Rattle.trace_claims.specs.Faithful.{IsReadReply};
 ghost use Rattle.trace_claims.specs.Trace.{Trace};
-ghost use Rattle.trace_check.specs.UnderWay.{entry_told, reading_of, reading_told, IsUnderWay};
+ghost use Rattle.trace_check.specs.UnderWay.{reading_of, IsUnderWay};
 
 use crate::same::{same_call, same_reply};
 use harp_types::{BookEntry, Call, Cred, Reply, is_update};
@@ -19,8 +20,8 @@ pub struct Reading {
     call: Call,
 }
 
-/// The read that the step asks for, where it asks for one, and the entry of the line before, where
-/// that entered one.
+/// The read that the step asks for, where it asks for one; and there the entry of the line before,
+/// where that entered one.
 #[derive(Drop)]
 pub struct UnderWay {
     reading: Option<Reading>,
@@ -59,51 +60,6 @@ fn reading_of(alloc: Global, step: &Step) -> Result<Option<Reading>, AllocError>
     }
 }
 
-// The read that a line's step asks for, if any, where a step begins.
-fn reading_told(alloc: Global, line: &Line) -> Result<Option<Option<Reading>>, AllocError>
-    ensures { IfOk result (λ told. told ≡ reading_told line.now) }
-{
-    match line {
-        Line::Event { step } => Ok(Some(reading_of(alloc, step)?)),
-        Line::Entered { .. }
-        | Line::Answered { .. }
-        | Line::Refused { .. }
-        | Line::Sent { .. }
-        | Line::State { .. }
-        | Line::Down { .. }
-        | Line::Listed { .. }
-        | Line::Unlisted { .. }
-        | Line::Object { .. }
-        | Line::Slot { .. }
-        | Line::Block { .. }
-        | Line::Text { .. }
-        | Line::Bad { .. }
-        | Line::End { .. } => Ok(None),
-    }
-}
-
-fn entry_told(alloc: Global, line: &Line) -> Result<Option<BookEntry>, AllocError>
-    ensures { IfOk result (λ told. told ≡ entry_told line.now) }
-{
-    match line {
-        Line::Entered { entry, .. } => Ok(Some(entry.copy(alloc)?)),
-        Line::Event { .. }
-        | Line::Answered { .. }
-        | Line::Refused { .. }
-        | Line::Sent { .. }
-        | Line::State { .. }
-        | Line::Down { .. }
-        | Line::Listed { .. }
-        | Line::Unlisted { .. }
-        | Line::Object { .. }
-        | Line::Slot { .. }
-        | Line::Block { .. }
-        | Line::Text { .. }
-        | Line::Bad { .. }
-        | Line::End { .. } => Ok(None),
-    }
-}
-
 fn same_cred(one: Cred, other: Cred) -> bool
     ensures { IsTrue result ↔ (one ≡ other) }
 {
@@ -121,19 +77,46 @@ impl UnderWay {
         }
     }
 
+    /// Takes up that an entry is entered. It is kept where the step asks for a read.
+    fn enter(&mut self, alloc: Global, entry: &BookEntry) -> Result<(), AllocError>
+        ensures { (before : Trace) (place : ℕ) → IsUnderWay self.old before
+            → OnOk result (IsUnderWay self.new (before ++ line.Entered place entry.now ∷ [])) }
+    {
+        if self.reading.is_none() {
+            return Ok(());
+        }
+        self.entered = Some(entry.copy(alloc)?);
+        Ok(())
+    }
+
     /// Takes up what a line tells.
     pub fn take(&mut self, alloc: Global, line: &Line) -> Result<(), AllocError>
         ensures { (before : Trace) → IsUnderWay self.old before
             → OnOk result (IsUnderWay self.new (before ++ line.now ∷ [])) }
     {
-        let told = reading_told(alloc, line)?;
-        self.entered = entry_told(alloc, line)?;
-        match told {
-            Some(reading) => {
-                self.reading = reading;
+        match line {
+            Line::Event { step } => {
+                self.reading = reading_of(alloc, step)?;
+                self.entered = None;
                 Ok(())
             }
-            None => Ok(()),
+            Line::Entered { entry, .. } => self.enter(alloc, entry),
+            Line::Answered { .. }
+            | Line::Refused { .. }
+            | Line::Sent { .. }
+            | Line::State { .. }
+            | Line::Down { .. }
+            | Line::Listed { .. }
+            | Line::Unlisted { .. }
+            | Line::Object { .. }
+            | Line::Slot { .. }
+            | Line::Block { .. }
+            | Line::Text { .. }
+            | Line::Bad { .. }
+            | Line::End { .. } => {
+                self.entered = None;
+                Ok(())
+            }
         }
     }
 

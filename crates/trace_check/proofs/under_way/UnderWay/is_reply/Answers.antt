@@ -1,4 +1,4 @@
-use Rattle.std.proofs.Common.{◌≡◌, true, false, sym, ap, ◌∙◌}
+use Rattle.std.proofs.Common.{◌≡◌, true, false, is_some, sym, ap, ◌∙◌}
 use Rattle.std.proofs.lemmas.Result.{IfOk-weaker}
 use Rattle.trace_check.specs.declared.under_way.Reading.{Reading}
 use Rattle.trace_check.proofs.UnderWayLemmas.{enters_by, enters_is, not_first}
@@ -7,7 +7,7 @@ use Rattle.trace_check.proofs.under_way.UnderWay.is_reply.Goals as goal
 pub returns-in_default-entered : goal.returns-in_default-entered
 returns-in_default-entered c before cred call a r =
     let e = enters_is c.args.self.now before c.args.client c.args.number cred call
-    c.args.reply.now a in (
+    c.args.reply.now a (ap is_some r) in (
       λ t. absurd cc,
       λ h. let w = e.1 h in absurd (not_first w.entry (sym c.in_default-entered.is ∙ w.is)),
     )
@@ -15,7 +15,7 @@ returns-in_default-entered c before cred call a r =
 pub returns-then-entry-client : goal.returns-then-entry-client
 returns-then-entry-client c before cred call a r =
     let e = enters_is c.args.self.now before c.args.client c.args.number cred call
-    c.args.reply.now a in
+    c.args.reply.now a (ap is_some r) in
     let by = enters_by c.args.self.now.entered c.in-Some-entered.entry c.args.client c.args.number
     cred call c.args.reply.now c.in-Some-entered.is in
     (λ t. absurd cc, λ h. absurd (c.if-entry-client.true (by (e.1 h)).0))
@@ -23,7 +23,7 @@ returns-then-entry-client c before cred call a r =
 pub returns-then-entry-number : goal.returns-then-entry-number
 returns-then-entry-number c before cred call a r =
     let e = enters_is c.args.self.now before c.args.client c.args.number cred call
-    c.args.reply.now a in
+    c.args.reply.now a (ap is_some r) in
     let by = enters_by c.args.self.now.entered c.in-Some-entered.entry c.args.client c.args.number
     cred call c.args.reply.now c.in-Some-entered.is in
     (λ t. absurd cc, λ h. absurd (c.if-entry-number.true (by (e.1 h)).1))
@@ -31,7 +31,7 @@ returns-then-entry-number c before cred call a r =
 pub returns-then-not-same_cred : goal.returns-then-not-same_cred
 returns-then-not-same_cred c before cred call a r =
     let e = enters_is c.args.self.now before c.args.client c.args.number cred call
-    c.args.reply.now a in
+    c.args.reply.now a (ap is_some r) in
     let by = enters_by c.args.self.now.entered c.in-Some-entered.entry c.args.client c.args.number
     cred call c.args.reply.now c.in-Some-entered.is in
     let i = c.in-Some.is in
@@ -44,7 +44,7 @@ returns-then-not-same_cred c before cred call a r =
 pub returns-then-not-branch : goal.returns-then-not-branch
 returns-then-not-branch c before cred call a r =
     let e = enters_is c.args.self.now before c.args.client c.args.number cred call
-    c.args.reply.now a in
+    c.args.reply.now a (ap is_some r) in
     let by = enters_by c.args.self.now.entered c.in-Some-entered.entry c.args.client c.args.number
     cred call c.args.reply.now c.in-Some-entered.is in
     let i = c.in-Some.is in
@@ -58,7 +58,7 @@ returns-then-not-branch c before cred call a r =
 pub returns : goal.returns
 returns c before cred call a r =
     let e = enters_is c.args.self.now before c.args.client c.args.number cred call
-    c.args.reply.now a in
+    c.args.reply.now a (ap is_some r) in
     let by = enters_by c.args.self.now.entered c.in-Some-entered.entry c.args.client c.args.number
     cred call c.args.reply.now c.in-Some-entered.is in
     let i = c.in-Some.is in
