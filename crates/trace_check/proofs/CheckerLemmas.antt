@@ -5,6 +5,7 @@ use Rattle.std.specs.Bool.{if◌then◌else◌}
 use Rattle.std.specs.Option.{option_map}
 use Rattle.std.proofs.lemmas.List.{length-append}
 use Rattle.harp_types.specs.Update.{is_update}
+use Rattle.harp_types.specs.Trio.{value_of}
 use Rattle.harp_types.specs.View.{View}
 use Rattle.harp_types.specs.declared.call.Call.{Call}
 use Rattle.harp_types.specs.declared.cred.Cred.{Cred}
@@ -104,7 +105,7 @@ within_is (Some x) n = (
 
 pub opening_is : (servers : Servers) (t : Trace) (s : ServerId) (view : View) (n : ℕ)
     → AreServersOf servers t
-    → Reaches servers.opened (place_key s view) n ↔ WithinOpening t s view n
+    → Reaches (value_of servers.opened s) (place_key s view) n ↔ WithinOpening t s view n
 opening_is servers t s view n a =
     let w = within_is (first_open t s view) n in (
       λ r. let h = w.0 (subst (IsWithin n) (a.opened s view) r) in

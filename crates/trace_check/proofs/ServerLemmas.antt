@@ -3,6 +3,7 @@ use Rattle.std.proofs.Common.{◌≡◌, ℕ, ◌≤◌, Bool, true, false, [], 
 use Rattle.std.specs.Prelude.{◌↔◌, ◌⊎◌, MatchBool}
 use Rattle.std.specs.Bool.{if◌then◌else◌}
 use Rattle.std.specs.Option.{option_map}
+use Rattle.std.proofs.lemmas.Bool.{eq-eqb, eqb-true}
 use Rattle.std.proofs.lemmas.List.Sums.{fold_push}
 use Rattle.harp_types.specs.Server.{number_of}
 use Rattle.harp_types.specs.Trio.{value_of, with_value}
@@ -19,7 +20,7 @@ use Rattle.trace_claims.specs.Servers.{HasShown, first_open, first_state, is_ope
 use Rattle.trace_check.specs.Keys.{place_key}
 use Rattle.trace_check.specs.Marks.{mark_at, is_key, or_else, Entries, IsNoted, IsRaised, IsWithin, Reaches}
 use Rattle.trace_check.specs.Readings.{state_told}
-use Rattle.trace_check.specs.ServersSeen.{AreServersOf, ShowsState}
+use Rattle.trace_check.specs.ServersSeen.{AreServersOf, IsAt, ShowsState}
 use Rattle.trace_check.specs.declared.servers.Servers.{Servers}
 use Rattle.trace_check.proofs.Somewhere.{Somewhere, somewhere_push, somewhere_nothing}
 
@@ -126,21 +127,88 @@ place_same s t v w e = (
   view_same v w (ap (λ k. k.1) e) (ap (λ k. k.2) e),
 )
 
+-- ---- marks of one server
+
+or_else_none : (o : Option ℕ) → o ≡ or_else o None
+or_else_none None = refl
+or_else_none (Some n) = refl
+
+same_number : (s t : ServerId) → s ≡ t → same_server s t ≡ true
+same_number s t e = eq-eqb (number_of s) (number_of t) (ap number_of e)
+
+other_stays : (old new : Trio Entries) (server s : ServerId) (marks : Entries)
+    → new ≡ with_value old server marks → same_server server s ≡ false
+    → value_of new s ≡ value_of old s
+other_stays old new server s marks is other =
+    ap (λ (t : Trio Entries). value_of t s) is ∙ value_with old server s marks
+    ∙ ap (λ (b : Bool). if b then marks else value_of old s) other
+
+raised_at : (old new : Trio Entries) (server : ServerId) (at : View) (top : ℕ)
+    → IsAt server (IsRaised (place_key server at) top) old new → (s : ServerId) (view : View) (n : ℕ)
+    → Reaches (value_of new s) (place_key s view) n ↔ (Reaches (value_of old s) (place_key s view) n
+    ⊎ ((place_key s view ≡ place_key server at) × (n ≤ top)))
+raised_at old new server at top h s view n = by (same_server server s) refl
+  where
+    by : (b : Bool) → same_server server s ≡ b
+        → Reaches (value_of new s) (place_key s view) n
+        ↔ (Reaches (value_of old s) (place_key s view) n
+        ⊎ ((place_key s view ≡ place_key server at) × (n ≤ top)))
+    by true e =
+        let is : server ≡ s = number_same server s (eqb-true (number_of server) (number_of s) e) in
+        subst (λ (x : ServerId). Reaches (value_of new x) (place_key x view) n
+        ↔ (Reaches (value_of old x) (place_key x view) n
+        ⊎ ((place_key x view ≡ place_key server at) × (n ≤ top)))) is
+        (h.1 (place_key server view) n)
+    by false e =
+        let same = other_stays old new server s (value_of new server) h.0 e in (
+          λ r. inl (subst (λ (m : Entries). Reaches m (place_key s view) n) same r),
+          λ r. elim r [
+            | inl q ↦ subst (λ (m : Entries). Reaches m (place_key s view) n) (sym same) q
+            | inr p ↦ (let is = same_number server s (sym (place_same s server view at p.0).0) in
+                let wrong : false ≡ true = sym e ∙ is in absurd cc)
+          ],
+        )
+
+noted_at : (old new : Trio Entries) (server : ServerId) (at : View) (cp : ℕ)
+    → IsAt server (IsNoted (place_key server at) cp) old new → (s : ServerId) (view : View)
+    → mark_at (value_of new s) (place_key s view)
+    ≡ or_else (mark_at (value_of old s) (place_key s view))
+    (if is_key (place_key server at) (place_key s view) then Some cp else None)
+noted_at old new server at cp h s view = by (same_server server s) refl
+  where
+    by : (b : Bool) → same_server server s ≡ b → mark_at (value_of new s) (place_key s view)
+        ≡ or_else (mark_at (value_of old s) (place_key s view))
+        (if is_key (place_key server at) (place_key s view) then Some cp else None)
+    by true e =
+        let is : server ≡ s = number_same server s (eqb-true (number_of server) (number_of s) e) in
+        subst (λ (x : ServerId). mark_at (value_of new x) (place_key x view)
+        ≡ or_else (mark_at (value_of old x) (place_key x view))
+        (if is_key (place_key server at) (place_key x view) then Some cp else None)) is
+        (h.1 (place_key server view))
+    by false e =
+        let same = other_stays old new server s (value_of new server) h.0 e in
+        ap (λ (m : Entries). mark_at m (place_key s view)) same
+        ∙ or_else_none (mark_at (value_of old s) (place_key s view))
+        ∙ sym (ap (λ (b : Bool). or_else (mark_at (value_of old s) (place_key s view))
+        (if ((b && (at.count == view.count))
+        && (number_of at.coordinator == number_of view.coordinator)) && true
+        then Some cp else None)) e)
+
 shown_more : (old new : Servers) (before : Trace) (l : Line) (server : ServerId) (state : StateLine)
     → AreServersOf old before → state_told l ≡ Some (server, Some state)
-    → IsRaised (place_key server state.accepted) state.top old.shown new.shown
-    → (s : ServerId) (view : View) (n : ℕ) → Reaches new.shown (place_key s view) n
+    → IsAt server (IsRaised (place_key server state.accepted) state.top) old.shown new.shown
+    → (s : ServerId) (view : View) (n : ℕ) → Reaches (value_of new.shown s) (place_key s view) n
     ↔ HasShown (before ++ l ∷ []) s view n
 shown_more old new before l server state a told raised s view n =
     let push = shown_push before l s view n in
-    let here = raised (place_key s view) n in (
+    let here = raised_at old.shown new.shown server state.accepted state.top raised s view n in (
       λ r. push.1 (elim (here.0 r) as (λ _. HasShown before s view n
           ⊎ ShownTold s view n (state_told l)) [
             | inl q ↦ inl ((a.shown s view n).0 q)
             | inr p ↦ inr (let same = place_same s server view state.accepted p.0 in
                 subst (ShownTold s view n) (sym told) (sym same.0, sym same.1, p.1))
           ]),
-      λ h. here.1 (elim (push.0 h) as (λ _. Reaches old.shown (place_key s view) n
+      λ h. here.1 (elim (push.0 h) as (λ _. Reaches (value_of old.shown s) (place_key s view) n
           ⊎ ((place_key s view ≡ place_key server state.accepted) × (n ≤ state.top))) [
             | inl q ↦ inl ((a.shown s view n).1 q)
             | inr p ↦ inr (let is = subst (ShownTold s view n) told p in (
@@ -154,13 +222,13 @@ shown_more old new before l server state a told raised s view n =
 shown_stays : (old new : Servers) (before : Trace) (l : Line) → AreServersOf old before
     → ((s : ServerId) (view : View) (n : ℕ) → ShownTold s view n (state_told l) → ⊥)
     → new.shown ≡ old.shown
-    → (s : ServerId) (view : View) (n : ℕ) → Reaches new.shown (place_key s view) n
+    → (s : ServerId) (view : View) (n : ℕ) → Reaches (value_of new.shown s) (place_key s view) n
     ↔ HasShown (before ++ l ∷ []) s view n
 shown_stays old new before l a none same s view n =
     let push = shown_push before l s view n in (
       λ r. push.1 (inl ((a.shown s view n).0
-          (subst (λ (m : Entries). Reaches m (place_key s view) n) same r))),
-      λ h. subst (λ (m : Entries). Reaches m (place_key s view) n) (sym same)
+          (subst (λ (m : Trio Entries). Reaches (value_of m s) (place_key s view) n) same r))),
+      λ h. subst (λ (m : Trio Entries). Reaches (value_of m s) (place_key s view) n) (sym same)
           (elim (push.0 h) [
             | inl q ↦ (a.shown s view n).1 q
             | inr p ↦ absurd (none s view n p)
@@ -239,43 +307,42 @@ opens_not true a b d state h = absurd cc
 opens_not false true b d state h = refl
 opens_not false false b d state h = refl
 
-or_else_none : (o : Option ℕ) → o ≡ or_else o None
-or_else_none None = refl
-or_else_none (Some n) = refl
-
 opened_with : (old new : Servers) (before : Trace) (l : Line) (w : Option ℕ) (s : ServerId)
     (view : View) → AreServersOf old before
-    → mark_at new.opened (place_key s view) ≡ or_else (mark_at old.opened (place_key s view)) w
+    → mark_at (value_of new.opened s) (place_key s view)
+    ≡ or_else (mark_at (value_of old.opened s) (place_key s view)) w
     → w ≡ cp_of (opened_told s view (state_told l))
-    → mark_at new.opened (place_key s view) ≡ cp_of (first_open (before ++ l ∷ []) s view)
+    → mark_at (value_of new.opened s) (place_key s view) ≡ cp_of (first_open (before ++ l ∷ []) s view)
 opened_with old new before l w s view a e is =
     e ∙ ap (λ o. or_else o w) (a.opened s view)
     ∙ ap (or_else (cp_of (first_open before s view))) is
     ∙ sym (cp_or (first_open before s view) (opened_told s view (state_told l)))
     ∙ ap cp_of (sym (open_push before l s view))
 
-same_marks : (old new : Entries) (k : ℕ × ℕ × ℕ × ℕ) → new ≡ old
-    → mark_at new k ≡ or_else (mark_at old k) None
-same_marks old new k e = ap (λ m. mark_at m k) e ∙ or_else_none (mark_at old k)
+same_marks : (old new : Trio Entries) (s : ServerId) (k : ℕ × ℕ × ℕ × ℕ) → new ≡ old
+    → mark_at (value_of new s) k ≡ or_else (mark_at (value_of old s) k) None
+same_marks old new s k e = ap (λ (m : Trio Entries). mark_at (value_of m s) k) e
+    ∙ or_else_none (mark_at (value_of old s) k)
 
 opened_more : (old new : Servers) (before : Trace) (l : Line) (server : ServerId)
     (state : StateLine) (is : Bool) → AreServersOf old before
     → state_told l ≡ Some (server, Some state) → is_open state.mode ≡ is
-    → MatchBool is (IsNoted (place_key server state.accepted) state.cp old.opened new.opened)
+    → MatchBool is (IsAt server (IsNoted (place_key server state.accepted) state.cp) old.opened
+    new.opened)
     (new.opened ≡ old.opened)
     → (s : ServerId) (view : View)
-    → mark_at new.opened (place_key s view) ≡ cp_of (first_open (before ++ l ∷ []) s view)
+    → mark_at (value_of new.opened s) (place_key s view) ≡ cp_of (first_open (before ++ l ∷ []) s view)
 opened_more old new before l server state true a told is noted s view =
     opened_with old new before l
     (if is_key (place_key server state.accepted) (place_key s view) then Some state.cp else None)
-    s view a (noted (place_key s view))
+    s view a (noted_at old.opened new.opened server state.accepted state.cp noted s view)
     (opens_at (is_open state.mode) (number_of server == number_of s)
     (state.accepted.count == view.count)
     (number_of state.accepted.coordinator == number_of view.coordinator) state is
     ∙ ap (λ o. cp_of (opened_told s view o)) (sym told))
 opened_more old new before l server state false a told is same s view =
     opened_with old new before l None s view a
-    (same_marks old.opened new.opened (place_key s view) same)
+    (same_marks old.opened new.opened s (place_key s view) same)
     (sym (ap (λ o. cp_of (opened_told s view o)) told
     ∙ opens_not (is_open state.mode) (number_of server == number_of s)
     (state.accepted.count == view.count)
@@ -317,7 +384,7 @@ takes_down old new before l server a told is = record {
   shown = shown_stays old new before l a (nothing_shown server l told)
       (ap (λ (t : Servers). t.shown) is);
   opened = λ s view. opened_with old new before l None s view a
-      (same_marks old.opened new.opened (place_key s view) (ap (λ (t : Servers). t.opened) is))
+      (same_marks old.opened new.opened s (place_key s view) (ap (λ (t : Servers). t.opened) is))
       (sym (ap (λ o. cp_of (opened_told s view o)) told));
 }
   where
@@ -332,7 +399,7 @@ takes_nothing servers before l a told = record {
   shown = shown_stays servers servers before l a
       (λ s view n h. subst (ShownTold s view n) told h) refl;
   opened = λ s view. opened_with servers servers before l None s view a
-      (same_marks servers.opened servers.opened (place_key s view) refl)
+      (same_marks servers.opened servers.opened s (place_key s view) refl)
       (sym (ap (λ o. cp_of (opened_told s view o)) told));
 }
   where
@@ -342,18 +409,26 @@ takes_nothing servers before l a told = record {
 
 pub no_line : (servers : Servers)
     → ((s : ServerId) → value_of servers.last s ≡ Some (first_state s))
-    → ((key : ℕ × ℕ × ℕ × ℕ) → mark_at servers.shown key ≡ None)
-    → ((key : ℕ × ℕ × ℕ × ℕ) → mark_at servers.opened key ≡ None)
+    → ((s : ServerId) (key : ℕ × ℕ × ℕ × ℕ) → mark_at (value_of servers.shown s) key ≡ None)
+    → ((s : ServerId) (key : ℕ × ℕ × ℕ × ℕ) → mark_at (value_of servers.opened s) key ≡ None)
     → AreServersOf servers []
 no_line servers last shown opened = record {
   last = last;
   shown = λ s view n. (
-    λ r. absurd (nowhere (mark_at servers.shown (place_key s view)) n (shown (place_key s view)) r),
+    λ r. absurd (nowhere (mark_at (value_of servers.shown s) (place_key s view)) n
+        (shown s (place_key s view)) r),
     λ h. absurd (somewhere_nothing (ShowsHere s view n) (shown_somewhere [] s view n h)),
   );
-  opened = λ s view. opened (place_key s view);
+  opened = λ s view. opened s (place_key s view);
 }
   where
     nowhere : (o : Option ℕ) (n : ℕ) → o ≡ None → IsWithin n o → ⊥
     nowhere None n e h = h
     nowhere (Some m) n e h = absurd cc
+
+pub no_state : (l : Line)
+    → ((server : ServerId) (state : StateLine) → l ≡ line.State server state → ⊥)
+    → ((server : ServerId) → l ≡ line.Down server → ⊥) → state_told l ≡ None
+no_state (line.State server state) shows down = absurd (shows server state refl)
+no_state (line.Down server) shows down = absurd (down server refl)
+no_state l shows down = refl

@@ -57,6 +57,13 @@ begins before l r o told is = record {
   entered = λ reads. is ∙ sym (last_push None before l);
 }
 
+pub nothing_told : (l : Line) → ((step : Step) → l ≡ line.Event step → ⊥)
+    → ((place : ℕ) (entry : BookEntry) → l ≡ line.Entered place entry → ⊥)
+    → (reading_told l ≡ None) × (entry_told l ≡ None)
+nothing_told (line.Event step) begins enters = absurd (begins step refl)
+nothing_told (line.Entered place entry) begins enters = absurd (enters place entry refl)
+nothing_told l begins enters = (refl, refl)
+
 reads_if : (b : Bool) (r : Reading) → is_some (if b then None else Some r) ≡ not b
 reads_if true r = refl
 reads_if false r = refl

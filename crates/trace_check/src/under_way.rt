@@ -101,19 +101,7 @@ impl UnderWay {
                 Ok(())
             }
             Line::Entered { entry, .. } => self.enter(alloc, entry),
-            Line::Answered { .. }
-            | Line::Refused { .. }
-            | Line::Sent { .. }
-            | Line::State { .. }
-            | Line::Down { .. }
-            | Line::Listed { .. }
-            | Line::Unlisted { .. }
-            | Line::Object { .. }
-            | Line::Slot { .. }
-            | Line::Block { .. }
-            | Line::Text { .. }
-            | Line::Bad { .. }
-            | Line::End { .. } => {
+            _ => {
                 self.entered = None;
                 Ok(())
             }

@@ -22,8 +22,8 @@ returns c =
         one = Some c.at_rest-2.result;
         two = Some c.at_rest-3.result;
       };
-      shown = c.new.result;
-      opened = c.new-2.result;
+      shown = c.no_marks.result;
+      opened = c.no_marks-2.result;
     })
     (firsts c.at_rest.result c.at_rest-2.result c.at_rest-3.result c.at_rest.ensures
-    c.at_rest-2.ensures c.at_rest-3.ensures) c.new.ensures c.new-2.ensures
+    c.at_rest-2.ensures c.at_rest-3.ensures) c.no_marks.ensures c.no_marks-2.ensures
