@@ -137,6 +137,20 @@ pub no_lines : (lines : List Line) (start n : ℕ)
 unfolding entered_lines new_updates
 no_lines lines start n = sym (append-nil lines)
 
+-- no updates change nothing
+pub none_come : (b : BookValue) (es : List BookEntry) → length es ≡ 0
+    → b ≡ with_updates b (new_updates b.updates (map entered es))
+unfolding new_updates
+none_come b [] none = ap (λ xs. record { entries = xs; updates = b.updates })
+    (sym (append-nil b.entries))
+    ∙ ap (λ n. record { entries = b.entries ++ []; updates = n }) (omega arith)
+none_come b (e ∷ es) none = absurd (omega (arith, none))
+
+pub none_shown : (lines : List Line) (start n : ℕ) (es : List BookEntry) → length es ≡ 0
+    → lines ≡ lines ++ entered_lines start (new_updates n (map entered es))
+none_shown lines start n [] none = no_lines lines start n
+none_shown lines start n (e ∷ es) none = absurd (omega (arith, none))
+
 -- ---- reads
 
 abbrev pub makes_reads : Makes Answered Entry

@@ -67,6 +67,25 @@ impl Book {
             ++ entered_lines (length self.old.entries)
             (new_updates self.old.updates (map entered updates.items))) }
     {
+        if updates.is_empty() {
+            return Ok(());
+        }
+        self.enter_each(alloc, updates, lines)
+    }
+
+    /// The same, whether there are any or none.
+    fn enter_each(
+        &mut self,
+        alloc: Global,
+        updates: Vec<BookEntry>,
+        lines: &mut Vec<Line>,
+    ) -> Result<(), AllocError>
+        ensures book { OnOk result (self.new ≡ with_updates self.old
+            (new_updates self.old.updates (map entered updates.items))) }
+        ensures lines { OnOk result (lines.new.items ≡ lines.old.items
+            ++ entered_lines (length self.old.entries)
+            (new_updates self.old.updates (map entered updates.items))) }
+    {
         let _ = &self.updates;
         for update in updates {
             self.enter_update(alloc, update, lines)?;

@@ -12,15 +12,11 @@ use harp_types::{ServerId, Trio};
 /// For each sender and each target the lowest number of a packet that was never delivered.
 pub(crate) type Ways = Trio<Trio<Option<u64>>>;
 
-/// The ways with another number for one sender and one target.
-pub(crate) fn with_way(due: Ways, from: ServerId, to: ServerId, n: Option<u64>) -> Ways
-    ensures { result ≡ with_way due from to n }
+/// Sets the number for one sender and one target.
+fn set_way(due: &mut Ways, from: ServerId, to: ServerId, n: Option<u64>)
+    ensures { due.new ≡ with_way due.old from to n }
 {
-    let mut row = *due.get(from);
-    *row.get_mut(to) = n;
-    let mut due = due;
-    *due.get_mut(from) = row;
-    due
+    *due.get_mut(from).get_mut(to) = n;
 }
 
 /// The first packet from one server to another that was never delivered, of those from `start` on.
@@ -35,26 +31,26 @@ pub(crate) fn first_after(kept: &[Kept], start: usize, from: ServerId, to: Serve
     None
 }
 
-/// The ways after a packet of this number was sent from one server to another, behind all others.
-pub(crate) fn with_new(due: Ways, from: ServerId, to: ServerId, n: u64) -> Ways
-    ensures { result ≡ with_way due from to (option_or (way due from to) (Some n)) }
+/// A packet of this number was sent from one server to another, behind all others.
+pub(crate) fn add_new(due: &mut Ways, from: ServerId, to: ServerId, n: u64)
+    ensures { due.new ≡ with_way due.old from to (option_or (way due.old from to) (Some n)) }
 {
     let first = due.get(from).get(to).or(Some(n));
-    with_way(due, from, to, first)
+    set_way(due, from, to, first);
 }
 
-/// The ways after packet n of these came.
-pub(crate) fn without(due: Ways, kept: &[Kept], n: usize) -> Ways
+/// Packet n of these came.
+pub(crate) fn take_due(due: &mut Ways, kept: &[Kept], n: usize)
     requires { n < length kept.now }
-    ensures { (ps : List Posted) → kept.now ≡ delivered_at ps n → AreFirst ps due
-        → AreFirst kept.now result }
+    ensures { (ps : List Posted) → kept.now ≡ delivered_at ps n → AreFirst ps due.old
+        → AreFirst kept.now due.new }
 {
     let packet = &kept[n];
     let (from, to) = (packet.from(), packet.to());
     if *due.get(from).get(to) == Some(n as u64) {
-        return with_way(due, from, to, first_after(kept, n + 1, from, to));
+        set_way(due, from, to, first_after(kept, n + 1, from, to));
+        return;
     }
-    due
 }
 
 /// The lower of two numbers, where there are any.

@@ -14,7 +14,7 @@ ghost use Rattle.world_lines.specs.Due.{first_due};
 ghost use Rattle.world_lines.specs.Machine.{StandFor, opened_as, sent};
 ghost use Rattle.world_lines.specs.Posted.{Posted, bytes_sent, delivered_at, posted};
 
-use crate::due::{Ways, lower, lowest, with_new, without};
+use crate::due::{Ways, add_new, lower, lowest, take_due};
 use crate::kept::Kept;
 use crate::packet::Packet;
 use crate::size::message_size;
@@ -83,7 +83,7 @@ impl Packets {
         let n = self.kept.len() as u64;
         self.kept.push(kept)?;
         self.bytes = self.bytes.saturating_add(size);
-        self.due = with_new(self.due, from, to, n);
+        add_new(&mut self.due, from, to, n);
         Ok(())
     }
 
@@ -170,7 +170,7 @@ impl Packets {
         }
         let kept = &mut self.kept[at];
         kept.arrive();
-        self.due = without(self.due, self.kept.as_slice(), at);
+        take_due(&mut self.due, self.kept.as_slice(), at);
     }
 
     /// The lowest number of a packet that was never delivered, among two servers where they are

@@ -1,8 +1,9 @@
 //! The lines of a server's state and of its listing.
 
-ghost use Rattle.std.specs.Prelude.{◌≡◌, ◌++◌, OnOk};
+ghost use Rattle.std.specs.Prelude.{◌≡◌, ◌++◌, ◌∷◌, [], OnOk};
 ghost use Rattle.group_rules.specs.Names.{place_of};
 ghost use Rattle.group_trace.specs.Lines.{state_lines};
+ghost use Rattle.trace_types.specs.declared.line.Line.TheVariants as line;
 ghost use Rattle.world_lines.specs.Given.{listing_shown};
 
 use crate::lines_of_listing;
@@ -24,28 +25,35 @@ pub fn show_state(
 {
     match (before, now) {
         (None, None) => Ok(()),
-        (Some(_), None) => {
-            lines.push(Line::Down { server })?;
-            Ok(())
-        }
-        (None, Some(state)) => {
-            lines.push(Line::State {
-                server,
-                state: *state,
-            })?;
-            Ok(())
-        }
+        (Some(_), None) => push_down(server, lines),
+        (None, Some(state)) => push_state(server, state, lines),
         (Some(before), Some(state)) => {
             if *before == *state {
                 return Ok(());
             }
-            lines.push(Line::State {
-                server,
-                state: *state,
-            })?;
-            Ok(())
+            push_state(server, state, lines)
         }
     }
+}
+
+/// The line that a server is down.
+fn push_down(server: ServerId, lines: &mut Vec<Line>) -> Result<(), AllocError>
+    ensures { OnOk result (lines.new.items ≡ lines.old.items ++ line.Down server ∷ []) }
+{
+    lines.push(Line::Down { server })?;
+    Ok(())
+}
+
+/// The line of a state.
+fn push_state(server: ServerId, state: &StateLine, lines: &mut Vec<Line>) -> Result<(), AllocError>
+    ensures { OnOk result (lines.new.items ≡ lines.old.items
+        ++ line.State server state.now ∷ []) }
+{
+    lines.push(Line::State {
+        server,
+        state: *state,
+    })?;
+    Ok(())
 }
 
 /// The lines of a listing that a server was asked for.

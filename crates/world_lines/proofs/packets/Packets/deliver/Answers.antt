@@ -31,8 +31,8 @@ invariant_of-self c =
     ∙ set_is ps n c.index_mut-kept.result.now within c.index_mut-kept.ensures.value in
     record {
       counted = rw is (rw (bytes_stay ps n) c.self.invariant.counted);
-      first = subst (λ (qs : List Posted). AreFirst qs c.without-self-inside.result)
-          c.as_slice.ensures.value (c.without-self-inside.ensures ps (c.as_slice.ensures.value
+      first = subst (λ (qs : List Posted). AreFirst qs c.take_due.new.due)
+          c.as_slice.ensures.value (c.take_due.ensures ps (c.as_slice.ensures.value
           ∙ is) c.self.invariant.first);
     }
 

@@ -19,10 +19,10 @@ invariant_of-self-2 c =
     let n : c.len-n.result ≡ length ps = omega (arith, c.len-n.ensures, c.self.inside.kept.ok.0) in
     let ways : with_way due c.args.from c.args.to
     (option_or (way due c.args.from c.args.to) (Some (length ps)))
-    ≡ c.with_new-self-inside.result =
+    ≡ c.add_new.new.due =
     ap (λ k. with_way due c.args.from c.args.to
     (option_or (way due c.args.from c.args.to) (Some k))) (sym n)
-    ∙ sym c.with_new-self-inside.ensures in
+    ∙ sym c.add_new.ensures in
     record {
       counted = rw items (omega (
         arith,

@@ -2,7 +2,7 @@ use Rattle.std.proofs.Common.{◌≡◌, ◌+◌, ◌++◌, length, map}
 use Rattle.group_trace.specs.Lines.{entered_lines}
 use Rattle.node_outputs.specs.Said.{entered}
 use Rattle.world_lines.specs.Book.{new_updates}
-use Rattle.world_lines.proofs.book.Book.enter_updates.Given as goal
+use Rattle.world_lines.proofs.book.Book.enter_each.Given as goal
 
 abbrev pub invariant-loop-update : goal.invariant-loop-update
 invariant-loop-update l = record {
