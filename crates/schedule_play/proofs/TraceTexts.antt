@@ -1,6 +1,7 @@
 -- The texts of traces and of their parts.
 use Rattle.std.proofs.Common.{◌≡◌, ℕ, ◌+◌, List, [], ◌∷◌, ◌++◌, append-nil, length, take, refl, sym, ap, ◌∙◌, subst, append_assoc, Option, Some, None, arith, inl, inr}
 use Rattle.std.specs.Io.KnownBytes.{Appends}
+use Rattle.std.specs.Prelude.{codes, decimal}
 use Rattle.std.proofs.lemmas.List.{take-append-le, take_all}
 use Rattle.std.proofs.Math.Seq.{take-append_seam, take-append-add}
 use Rattle.std.proofs.lemmas.Bool.{cases_lt}
@@ -9,9 +10,11 @@ use Rattle.harp_types.specs.Streams.{GrewByPart}
 use Rattle.trace_types.specs.declared.line.Line.{Line}
 use Rattle.trace_types.specs.declared.line.Line.TheVariants as line
 use Rattle.trace_types.specs.declared.step.Step.{Step}
+use Rattle.trace_types.specs.declared.step.Step.TheVariants as steps
 use Rattle.trace_claims.specs.Trace.{Trace}
 use Rattle.text_spelling.specs.TraceLines.{line_text}
 use Rattle.text_spelling.specs.Steps.{step_text}
+use Rattle.text_spelling.specs.Text.{spaced}
 use Rattle.schedule_play.specs.Trace.{trace_text}
 
 pub trace_text-append : (xs ys : Trace) → trace_text (xs ++ ys) ≡ trace_text xs ++ trace_text ys
@@ -30,6 +33,13 @@ unfolding trace_text line_text
 event-text spelled s is =
     ap (λ t. (62 ∷ 32 ∷ t) ++ 10 ∷ []) is
     ∙ sym (append-nil ((62 ∷ 32 ∷ step_text s) ++ 10 ∷ []))
+
+-- and that of a delivery
+pub delivery-text : (packet : ℕ) → (codes "> deliver" ++ spaced (decimal packet)) ++ 10 ∷ []
+    ≡ trace_text (line.Event (steps.Deliver packet) ∷ [])
+unfolding step_text
+delivery-text packet = event-text (codes "deliver" ++ spaced (decimal packet))
+    (steps.Deliver packet) refl
 
 -- what is appended in two writes
 pub appends-twice : (a b c : Option (List ℕ)) (x y : List ℕ) → Appends a b x → Appends b c y

@@ -10,7 +10,7 @@ ghost use Rattle.schedule_play.specs.Trace.{trace_text};
 use crate::exit::Stop;
 use harp_types::{Sink, write_all};
 use std::alloc::{AllocError, Global};
-use text_writer::append_line;
+use text_writer::{append_line, put_named};
 use trace_types::{Line, Step};
 
 /// Room for what a step gives, which the next one uses anew.
@@ -53,11 +53,10 @@ pub fn begin_with_delivery(alloc: Global, packet: u64, out: &mut Vec<u8>) -> Res
     ensures { OnOk result (out.new.items
         ≡ trace_text (Line.Event (steps.Deliver packet) ∷ [])) }
 {
-    let event = Line::Event {
-        step: Step::Deliver { packet },
-    };
     out.clear();
-    append_lines(alloc, &[event], out)
+    put_named(out, b"> deliver", packet)?;
+    out.push(b'\n')?;
+    Ok(())
 }
 
 /// Appends these lines, each with its line feed.
