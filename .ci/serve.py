@@ -7,8 +7,9 @@ starts three servers as examples/nodes.py does, and a door to them by `PROGRAM W
 DOOR 100`. Three clients of examples/nfs_client.py visit it, one time after the other, each over a
 connection of its own, and keep a file of each visit. Meanwhile server 0, which leads, is killed,
 and started again a second later. In the end each file that was acknowledged must be there with its
-bytes, and nothing else. A record whose connection ends before its answer must be done once. Then
-all are told to stop. A line tells how it went; the exit status is 0 where all is well, else 1.
+bytes, and nothing else. A record whose connection ends before its answer must be done once. What a
+mode lets others do with a file, and members of its group, they may, and no more. Then all are told
+to stop. A line tells how it went; the exit status is 0 where all is well, else 1.
 """
 
 import os
@@ -88,6 +89,26 @@ def done_once(port):
     look(status == 2, status, "RMDIR, asked again")
 
 
+def allowed(port, at):
+    """Who may what with a file: its owner, another user, and who is in its group beside his own."""
+    doors = nfs.Door(port, 1, 1), nfs.Door(port, 8, 8), nfs.Door(port, 9, 9, [7, 1])
+    status, rest = doors[0].nfs(nfs.CREATE, at + counted(b"allowed") + settings(0o600))
+    look(status == 0, status, "CREATE")
+    file, now = rest[:32], words(*[nfs.LEFT] * 4, *[1, 1_000_000] * 2)
+    calls = (nfs.READ, words(0, 8, 0)), (nfs.WRITE, words(0, 0, 0) + counted(b"text"))
+    for mode, *expected in (
+        (0o400, (0, 13, 13), (0, 13, 13), (0, 1, 1)),
+        (0o711, (0, 0, 0), (0, 13, 13), (0, 1, 1)),
+        (0o640, (0, 13, 0), (0, 13, 13), (0, 1, 1)),
+        (0o664, (0, 0, 0), (0, 13, 0), (0, 1, 0)),
+    ):
+        look(doors[0].nfs(nfs.SETATTR, file + settings(mode))[0] == 0, mode, "SETATTR")
+        for (call, arguments), right in zip((*calls, (nfs.SETATTR, now)), expected):
+            found = tuple(door.nfs(call, file + arguments)[0] for door in doors)
+            look(found == right, found, f"procedure {call} on a file of mode {mode:o}")
+    look(doors[0].nfs(nfs.REMOVE, at + counted(b"allowed"))[0] == 0, at, "REMOVE")
+
+
 def run(program):
     """Gives what was done, in words."""
     servers, door, is_over = nodes.Stayers(program), None, threading.Event()
@@ -108,6 +129,7 @@ def run(program):
         for it in visitors:
             it.compare(port)
         done_once(port)
+        allowed(port, visitors[0].at)
         servers.stop_all()
         count, longest = sum(len(it.kept) for it in visitors), max(it.longest for it in visitors)
         return f"{count} files kept and found, the leader killed, longest visit {longest:.1f} s"

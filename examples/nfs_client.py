@@ -4,8 +4,9 @@
     python3 examples/nfs_client.py PORT [NAME]
 
 mounts `/` at the door of this port (`harpd serve`), makes a directory NAME, and in it a file, which
-it writes, reads back, lists, renames, and removes again with the directory. A line tells how it
-went; the exit status is 0 where each answer was right, else 1.
+it writes, reads back, lists, renames, and removes again with the directory. The file's mode is 444,
+as in many archives: its owner writes it all the same. A line tells how it went; the exit status is
+0 where each answer was right, else 1.
 
 It needs nothing but Python. A connection that breaks is made anew, and the record that had no
 answer is sent again as it is: the door knows it, so it is done once. Records, calls and answers
@@ -44,12 +45,13 @@ def settings(mode=LEFT, size=LEFT):
 
 
 class Door:
-    """A connection to a door, over which calls are made as a user and a group."""
+    """A connection to a door, over which calls are made as a user, a group and other groups."""
 
-    def __init__(self, port, user=0, group=0):
+    def __init__(self, port, user=0, group=0, others=()):
         self.port, self.socket = port, None
         self.xid = struct.unpack(">I", os.urandom(4))[0]
-        body = words(os.getpid()) + counted(b"nfs_client") + words(user, group, 0)
+        body = words(os.getpid()) + counted(b"nfs_client")
+        body += words(user, group, len(others), *others)
         self.auth = words(UNIX) + counted(body) + bytes(8)
 
     def record(self, program, procedure, arguments):
@@ -150,7 +152,7 @@ def visit(door, root, name):
         return rest
 
     at = ask(MKDIR, root + counted(name) + settings(0o755))[:32]
-    file = ask(CREATE, at + counted(b"notes") + settings(0o644))[:32]
+    file = ask(CREATE, at + counted(b"notes") + settings(0o444))[:32]
     ask(WRITE, file + words(0, 0, 0) + counted(first))
     is_whole = lambda rest: attributes(rest)[5] == len(data)
     ask(WRITE, file + words(0, len(first), 0) + counted(second), is_whole)

@@ -1,11 +1,12 @@
 -- AS WHOM A CREDENTIAL SPEAKS: the one of a Unix user (RFC 1057, section 9.2), in its words, and
 -- how it is read.
-use Rattle.std.specs.Prelude.{◌≡◌, ℕ, ◌==◌, ◌≤◌, ◌<◌, ◌^◌, List, ◌++◌, length, Option, Some, None, Ok, Err, nat_lt, option_map, if◌then◌else◌}
+use Rattle.std.specs.Prelude.{◌≡◌, ℕ, ◌==◌, ◌≤◌, ◌<◌, ◌^◌, List, [], ◌++◌, length, Option, Some, None, Ok, Err, nat_lt, option_map, if◌then◌else◌}
 use Rattle.harp_types.specs.declared.cred.Cred.{Cred}
 use Rattle.harp_base.specs.declared.field.Misread.TheVariants.{TooLong}
 use Rattle.harp_base.specs.Fields.{AllFit, Read, Reader, ◌>>=◌, ◌⊗◌, field_as, many_at, u32_at, u32_bytes}
 use Rattle.rpc_door.specs.Grammar.{IsOpaque, IsWord, Says, ◌then◌}
 use Rattle.rpc_door.specs.Xdr.{opaque_at, words}
+use Rattle.nfs_door.specs.declared.credential.Caller.{Caller}
 use Rattle.nfs_door.specs.declared.credential.Credential.{Credential}
 
 -- ---- the grammar
@@ -55,14 +56,18 @@ unix_auth bytes = whole (length bytes) (unix_auth_at bytes 0)
 
 -- ---- as whom it speaks
 
--- as whom a call is made that doesn't say whose it is
-abbrev pub nobody : Cred
-nobody = record { uid = 65534; gid = 65534 }
+-- a user and a group, in no other one
+abbrev pub alone : Cred → Caller
+alone who = record { cred = who; groups = [] }
 
-abbrev pub user_of : UnixAuth → Cred
-user_of a = record { uid = a.uid; gid = a.gid }
+-- as whom a call is made that doesn't say whose it is
+abbrev pub nobody : Caller
+nobody = alone (record { uid = 65534; gid = 65534 })
+
+abbrev pub user_of : UnixAuth → Caller
+user_of a = record { cred = record { uid = a.uid; gid = a.gid }; groups = a.groups }
 
 -- AS WHOM A CREDENTIAL SPEAKS: with flavour 1 as the Unix user that it names, and as none where its
 -- body isn't one; with any other flavour as nobody
-abbrev pub speaks_as : Credential → Option Cred
+abbrev pub speaks_as : Credential → Option Caller
 speaks_as c = if c.flavour == 1 then option_map user_of (unix_auth c.body) else Some nobody

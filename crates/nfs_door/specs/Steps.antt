@@ -1,6 +1,6 @@
 -- WHAT IS DONE FOR A RECORD of a client, step by step: calls are made, one after the other, and
 -- then it is answered. The door's rule stands but for what is said here.
-use Rattle.std.specs.Prelude.{◌≡◌, ℕ, ◌==◌, true, List, [], ◌∷◌, Option, Some, None, unwrap_or, if◌then◌else◌}
+use Rattle.std.specs.Prelude.{◌≡◌, ℕ, ◌==◌, true, List, [], ◌∷◌, Option, Some, None, if◌then◌else◌}
 use Rattle.harp_types.specs.declared.attr.Time.{Time}
 use Rattle.harp_types.specs.declared.call.Call.{Call}
 use Rattle.harp_types.specs.declared.cred.Cred.{Cred}
@@ -14,35 +14,39 @@ use Rattle.rpc_door.specs.Meaning.{accepted, meaning_of, no_arguments}
 use Rattle.rpc_door.specs.Results.{answer_bytes, is_reply_to}
 use Rattle.rpc_door.specs.Serving.{sent}
 use Rattle.rpc_door.specs.Xdr.{words}
+use Rattle.nfs_door.specs.declared.claim.Claim.{Claim}
+use Rattle.nfs_door.specs.declared.credential.Caller.{Caller}
 use Rattle.nfs_door.specs.declared.front.Front.{Front}
 use Rattle.nfs_door.specs.declared.step.Errand.{Errand}
 use Rattle.nfs_door.specs.declared.step.Step.{Step}
 use Rattle.nfs_door.specs.declared.step.Step.TheVariants.{Silent, Answer}
 use Rattle.nfs_door.specs.declared.step.Step.TheVariants as step
 use Rattle.nfs_door.specs.declared.step.Then.{Then}
-use Rattle.nfs_door.specs.declared.step.Then.TheVariants.{Replies, Mounts}
-use Rattle.nfs_door.specs.Changes.{call_meant, makes_special, reply_told}
-use Rattle.nfs_door.specs.Credentials.{nobody, speaks_as}
+use Rattle.nfs_door.specs.declared.step.Then.TheVariants.{Replies, Looks, Mounts}
+use Rattle.nfs_door.specs.Allowances.{claim_of, looked, made_as, replied}
+use Rattle.nfs_door.specs.Changes.{call_meant, makes_special}
+use Rattle.nfs_door.specs.Credentials.{alone, nobody, speaks_as}
 use Rattle.nfs_door.specs.Fronts.{front_of}
 use Rattle.nfs_door.specs.Mounts.{mount_called, mounts_on}
 
 -- ---- calls of NFS
 
--- the call is made by a caller, and its reply is the answer; but no special file is made
-abbrev pub asks_for : Cred → ℕ → Call → Step
-asks_for who xid c =
+-- the call is made by a caller who may claim this; but no special file is made
+abbrev pub asks_for : Cred → ℕ → Option Claim → Call → Step
+asks_for who xid claim c =
     if makes_special c then Answer (answer_bytes xid c (reply.Refused status.Perm))
-    else step.Call (record { cred = who; call = c; then = Replies xid })
+    else made_as who xid claim c
 
-abbrev pub asks_if_some : Cred → ℕ → Option Call → Step
-asks_if_some who xid (Some c) = asks_for who xid c
-asks_if_some who xid None = Answer (accepted xid no_arguments)
+abbrev pub asks_if_some : Cred → ℕ → Option Claim → Option Call → Step
+asks_if_some who xid claim (Some c) = asks_for who xid claim c
+asks_if_some who xid claim None = Answer (accepted xid no_arguments)
 
 -- what is done where the door's rule gives a record this meaning
-abbrev pub nfs_called : Cred → Time → RpcIn → Step
+abbrev pub nfs_called : Caller → Time → RpcIn → Step
 nfs_called who now means.Silent = Silent
 nfs_called who now (means.Fixed answer) = Answer answer
-nfs_called who now (means.Ask xid c) = asks_if_some who xid (call_meant now c)
+nfs_called who now (means.Ask xid c) =
+    asks_if_some who.cred xid (claim_of who c) (call_meant now c)
 
 -- ---- the first step
 
@@ -51,14 +55,18 @@ abbrev pub bad_credential : ℕ → List ℕ
 bad_credential xid = words (xid ∷ 1 ∷ 1 ∷ 1 ∷ 1 ∷ [])
 
 -- a call by a caller: MOUNT is program 100005
-abbrev pub called_by : Cred → Time → List ℕ → Front → ℕ → Step
+abbrev pub called_by : Caller → Time → List ℕ → Front → ℕ → Step
 called_by who now bytes f at =
-    if f.program == 100005 then mount_called who f bytes at
+    if f.program == 100005 then mount_called who.cred f bytes at
     else nfs_called who now (meaning_of bytes)
 
 -- all calls are made as everyone, where one is named, and otherwise as each one's own caller
-abbrev pub called_as : Option Cred → Time → List ℕ → Front → ℕ → Option Cred → Step
-called_as everyone now bytes f at (Some own) = called_by (unwrap_or everyone own) now bytes f at
+abbrev pub caller_for : Option Cred → Caller → Caller
+caller_for None own = own
+caller_for (Some who) own = alone who
+
+abbrev pub called_as : Option Cred → Time → List ℕ → Front → ℕ → Option Caller → Step
+called_as everyone now bytes f at (Some own) = called_by (caller_for everyone own) now bytes f at
 called_as everyone now bytes f at None = Answer (bad_credential f.xid)
 
 -- a record that is no call of RPC version 2 asks for none
@@ -74,7 +82,8 @@ begun everyone now bytes = begun_with everyone now bytes (front_of bytes)
 -- ---- the next steps
 
 abbrev pub after_then : Errand → Then → Reply → Step
-after_then e (Replies xid) r = Answer (answer_bytes xid e.call (reply_told r))
+after_then e (Replies xid claim) r = replied e.cred xid claim e.call r
+after_then e (Looks denied) r = looked e.cred denied r
 after_then e (Mounts xid names) r = mounts_on e.cred xid names r
 
 -- THE STEP AFTER a call with this reply

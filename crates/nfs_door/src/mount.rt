@@ -2,10 +2,9 @@
 
 ghost use Rattle.std.specs.Prelude.{◌≡◌, ◌≤◌, ◌∷◌, [], length, IfOk};
 ghost use Rattle.harp_types.specs.Numbered.{value_with_number};
-ghost use Rattle.rpc_door.specs.Xdr.{words};
-ghost use Rattle.nfs_door.specs.declared.step.Step.TheVariants as step;
 ghost use Rattle.nfs_door.specs.Mounts.{gives_handle, looks_up, mount_called, mounts, mounts_if_some, mounts_on, path_at, procedure_called, procedure_number, procedures, reaches, refusal, refuses, unmounts_if_some};
 
+use crate::answers::answer;
 use crate::front::Front;
 use crate::path::{Names, is_absolute};
 use crate::step::{Errand, Step, Then};
@@ -53,15 +52,6 @@ fn procedure_with(number: u32) -> Option<MountProcedure>
         5 => Some(MountProcedure::Export),
         _ => None,
     }
-}
-
-/// An answer of these words.
-pub(crate) fn answer(alloc: Global, answer: &[u32]) -> Result<Step, AllocError>
-    ensures { IfOk result (λ s. s ≡ step.Answer (words answer.now)) }
-{
-    let mut out = Vec::new(alloc);
-    put_words(&mut out, answer)?;
-    Ok(Step::Answer(Bytes::from_vec(out)))
 }
 
 /// The directory that was mounted.

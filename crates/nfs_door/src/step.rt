@@ -1,5 +1,6 @@
 //! What is to be done for a record.
 
+use crate::claim::{Claim, Denied};
 use crate::path::Names;
 use harp_types::{Bytes, Call, Cred};
 
@@ -25,8 +26,11 @@ pub struct Errand {
 /// What follows the reply to a call.
 #[derive(Drop)]
 pub enum Then {
-    /// The reply is the answer of the record with this number.
-    Replies { xid: u32 },
+    /// The reply is the answer of the record with this number, unless a user who is refused may
+    /// claim more.
+    Replies { xid: u32, claim: Option<Claim> },
+    /// It tells of an object for which a call may have been refused.
+    Looks(Denied),
     /// It is a step of a MOUNT: these names are still to be looked up behind this one.
     Mounts { xid: u32, names: Names },
 }

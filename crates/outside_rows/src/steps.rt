@@ -45,6 +45,37 @@ fn next_step(alloc: Global, step: &Step, word: &str) -> Result<Option<Step>, All
     }
 }
 
+/// Shows the step after one that makes a call, by the reply of a word, and gives it on.
+fn put_next(
+    alloc: Global,
+    out: &mut String,
+    step: Step,
+    word: &str,
+) -> Result<Option<Step>, AllocError> {
+    let next = next_step(alloc, &step, word)?;
+    if let Some(next) = &next {
+        put_step(alloc, out, next)?;
+    }
+    Ok(next)
+}
+
+/// Shows the steps behind a first one, as long as they make calls that words have replies to.
+fn put_others(
+    alloc: Global,
+    out: &mut String,
+    first: Step,
+    replies: &str,
+) -> Result<(), AllocError> {
+    let mut step = first;
+    for word in replies.split(' ') {
+        step = match put_next(alloc, out, step, word)? {
+            Some(next) => next,
+            None => return Ok(()),
+        };
+    }
+    Ok(())
+}
+
 /// Who makes all calls, a record, and the replies to its calls.
 pub(crate) fn put_steps(alloc: Global, out: &mut String, words: &str) -> Result<(), AllocError> {
     let (who, words) = words.split_once(' ').unwrap_or((words, ""));
@@ -52,14 +83,7 @@ pub(crate) fn put_steps(alloc: Global, out: &mut String, words: &str) -> Result<
     let Some(record) = bytes_of(alloc, digits) else {
         return out.push_str("not hexadecimal\n");
     };
-    let mut step = begin(alloc, who_of(who), NOW, record.as_slice())?;
-    put_step(alloc, out, &step)?;
-    for word in replies.split(' ') {
-        let Some(next) = next_step(alloc, &step, word)? else {
-            return Ok(());
-        };
-        put_step(alloc, out, &next)?;
-        step = next;
-    }
-    Ok(())
+    let first = begin(alloc, who_of(who), NOW, record.as_slice())?;
+    put_step(alloc, out, &first)?;
+    put_others(alloc, out, first, replies)
 }
