@@ -1,5 +1,5 @@
 -- A word that isn't there.
-use Rattle.std.proofs.Common.{◌≡◌, ℕ, Err}
+use Rattle.std.proofs.Common.{◌≡◌, Err}
 use Rattle.harp_base.specs.declared.field.Misread.{Misread}
 use Rattle.harp_base.specs.declared.field.Misread.TheVariants.{Ends, BadTag, TooLong, NoMemory}
 use Rattle.harp_base.specs.Fields.{Fails, Read}

@@ -1,7 +1,7 @@
--- AS WHOM A CALL THAT IS REFUSED MAY BE MADE YET. The tree goes by the mode at each call, and by one
--- group. A server whose clients open their files for themselves allows more (RFC 1094, section 3.3):
--- a file's owner reads and writes it whatever its mode is, who may execute it reads it, and all
--- groups of a caller count.
+-- AS WHOM A CALL THAT IS REFUSED MAY BE MADE YET. The tree goes by the mode at each call, and by
+-- one group. A server whose clients open their files for themselves allows more (RFC 1094, section
+-- 3.3): a file's owner reads and writes it whatever its mode is, who may execute it reads it, and
+-- all groups of a caller count.
 use Rattle.std.specs.Prelude.{ℕ, ◌/◌, ◌%◌, ◌==◌, ◌&&◌, ◌||◌, not, Bool, true, false, List, length, is_some, Option, Some, None, if◌then◌else◌}
 use Rattle.std.specs.List.{list_any}
 use Rattle.harp_types.specs.Limits.{field_left}

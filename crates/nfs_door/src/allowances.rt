@@ -1,8 +1,9 @@
 //! As whom a call that is refused may be made yet (RFC 1094, section 3.3).
 
 ghost use Rattle.std.specs.Prelude.{◌≡◌, IfOk};
-ghost use Rattle.harp_types.specs.declared.reply.Reply.TheVariants as reply;
-ghost use Rattle.nfs_door.specs.Allowances.{group_for, is_denial, lets_in, looked, looks_on, made_again, made_as, member, member_if_in, mode_alone, replied, replied_to, wrote};
+ghost use Rattle.nfs_door.specs.Allowances.{group_for, is_denial, lets_in, looked, looks_on};
+ghost use Rattle.nfs_door.specs.Allowances.{made_again, made_as, member, member_if_in, mode_alone};
+ghost use Rattle.nfs_door.specs.Allowances.{replied, replied_to, wrote};
 
 use crate::answers::answered;
 use crate::claim::{Claim, Denied, is_left};

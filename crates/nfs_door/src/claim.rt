@@ -1,7 +1,8 @@
 //! What callers may claim for calls that are refused.
 
 ghost use Rattle.std.specs.Prelude.{◌≡◌, IfOk};
-ghost use Rattle.nfs_door.specs.Allowances.{claim_of, enough_for, is_left, is_left_or_now, object_of, other_of, sets_as_write};
+ghost use Rattle.nfs_door.specs.Allowances.{claim_of, enough_for, is_left, is_left_or_now};
+ghost use Rattle.nfs_door.specs.Allowances.{object_of, other_of, sets_as_write};
 
 use crate::credential::Caller;
 use crate::groups::Groups;

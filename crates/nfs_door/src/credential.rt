@@ -2,7 +2,8 @@
 
 ghost use Rattle.std.specs.Prelude.{◌≡◌, ◌≤◌, length, option_map, IfOk};
 ghost use Rattle.harp_base.specs.Fields.{Gives, GivesAs, field_as, many_at, u32_at};
-ghost use Rattle.nfs_door.specs.Credentials.{alone, speaks_as, unix_auth, unix_auth_at, user_of, words_at};
+ghost use Rattle.nfs_door.specs.Credentials.{alone, speaks_as, unix_auth, unix_auth_at};
+ghost use Rattle.nfs_door.specs.Credentials.{user_of, words_at};
 
 use crate::groups::Groups;
 use harp_base::Misread;

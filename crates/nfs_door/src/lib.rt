@@ -30,6 +30,8 @@ mod path;
 mod step;
 mod steps;
 
+pub use claim::{Claim, Denied};
+pub use groups::Groups;
 pub use laws::{mounted_paths, path_names, read_credentials};
 pub use path::Names;
 pub use step::{Errand, Step, Then};

@@ -1,7 +1,8 @@
 //! The steps from a record to its answer.
 
 ghost use Rattle.std.specs.Prelude.{◌≡◌, ◌≤◌, length, IfOk};
-ghost use Rattle.nfs_door.specs.Steps.{after, asks_for, asks_if_some, begun, called_by, caller_for, nfs_called};
+ghost use Rattle.nfs_door.specs.Steps.{after, asks_for, asks_if_some, begun, called_by};
+ghost use Rattle.nfs_door.specs.Steps.{caller_for, nfs_called};
 
 use crate::allowances::{looked, made_as, replied};
 use crate::answers::{answer, answer_by};
