@@ -9,8 +9,9 @@ use Rattle.group_rules.specs.Shown.{state_of}
 use Rattle.group_rules.specs.State.{Server}
 use Rattle.group_trace.specs.Shown.{shown_of}
 use Rattle.harp_types.specs.declared.state.StateLine.{StateLine}
+use Rattle.world_host.specs.Shows.{IsShown}
 use Rattle.world_rules.specs.Host.{HostValue, IsHost, IsNodeOf, Runs, disk_of}
-use Rattle.node.specs.Node.{IsServer, NodeValue, server}
+use Rattle.node.specs.Node.{IsServer, NodeValue}
 use Rattle.node.specs.Stock.{Stock}
 use Rattle.std.specs.Prelude.{map}
 
@@ -21,14 +22,13 @@ pub its_node : (s : Server Entry) (k : Stock) (saved : List RecordFields) (r : D
 its_node s k saved r h n host is =
     subst (λ (o : Option NodeValue). IsNodeOf s k saved h.me (disk_of h) o) is host.node
 
--- its state is that of the machine's server
+-- the line that is kept of it is that of the machine's server
 pub shown_up : (s : Server Entry) (k : Stock) (saved : List RecordFields) (r : Disk)
-    (h : HostValue) (n : NodeValue) (line : StateLine) → IsHost s k saved r h
-    → h.node ≡ Some n → IsServer n
-    → ((items : List Entry) → line ≡ state_of (server n items)) → Some line ≡ shown_of s
+    (h : HostValue) (n : NodeValue) (line : Option StateLine) → IsHost s k saved r h
+    → h.node ≡ Some n → IsServer n → IsShown line n → line ≡ shown_of s
 shown_up s k saved r h n line host is served shows =
     let same = (its_node s k saved r h n host is).server in
     let up : s.up ≡ true = ap (λ (x : Server Entry). x.up) (sym same) ∙ served.up in
-    ap (λ (x : StateLine). Some x) (shows (map entry_of saved)
-    ∙ ap (λ (x : Server Entry). state_of x) same)
+    shows (map entry_of saved)
+    ∙ ap (λ (x : Server Entry). Some (state_of x)) same
     ∙ sym (if_is s.up (Some (state_of s)) None up)

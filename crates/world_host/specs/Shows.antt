@@ -1,7 +1,10 @@
 -- What a host shows of what is wanted of it, and what that leaves of it.
-use Rattle.std.specs.Prelude.{◌≡◌, Option, None, Some}
+use Rattle.std.specs.Prelude.{◌≡◌, List, Option, None, Some}
+use Rattle.file_tree.specs.Book.{Entry}
+use Rattle.group_rules.specs.Shown.{state_of}
 use Rattle.harp_store.specs.Disk.{Disk as ToldDisk, reads}
-use Rattle.node.specs.Node.{NodeValue}
+use Rattle.harp_types.specs.declared.state.StateLine.{StateLine}
+use Rattle.node.specs.Node.{NodeValue, server}
 use Rattle.node.specs.Wants.{Shows}
 use Rattle.shown.specs.declared.shown.Shown.{Shown}
 use Rattle.shown.specs.declared.shown.Want.{Want}
@@ -27,3 +30,7 @@ pub record IsStill (old new : HostValue) : Type 0 where
   pub me : new.me ≡ old.me
   pub node : IsNodeStill old.node new.node
   pub disk : disk_of new ≡ disk_of old
+
+-- A STATE LINE IS A NODE'S
+abbrev pub IsShown : Option StateLine → NodeValue → Type 0
+IsShown line n = (items : List Entry) → line ≡ Some (state_of (server n items))

@@ -40,10 +40,13 @@ pub struct Host {
     disk: SoundStore,
     /// The records that its boots read: each boot after a crash meets most of them again.
     seen: SeenRecords,
+    /// What a trace shows of the node, if it is there: it is wanted before each step and after it.
+    shown: Option<StateLine>,
 }
 
 impl Model for Host {
     ghost use Rattle.world_rules.specs.Host.{HostValue, IsRunning};
+    ghost use Rattle.world_host.specs.Shows.{IsShown};
     ghost use Rattle.group_rules.specs.Names.{place_of};
     ghost use Rattle.std.specs.Prelude.{◌≡◌, [], IfSome, option_map};
     ghost use Rattle.harp_store.specs.Values.{stored};
@@ -56,9 +59,10 @@ impl Model for Host {
       store = h.disk;
     } };
 
-    // No earlier moment of its disk is told any more, and its node can go on.
+    // No earlier moment of its disk is told any more, and its node can go on, and is shown so.
     ghost invariant = { λ h. ((stored h.disk).past ≡ [])
-        × IfSome (option_map (λ b. b.value) h.node) (IsRunning (stored h.disk).now) };
+        × IfSome (option_map (λ b. b.value) h.node) (IsRunning (stored h.disk).now)
+        × IfSome (option_map (λ b. b.value) h.node) (IsShown h.shown) };
 }
 
 impl Host {
@@ -73,6 +77,7 @@ impl Host {
             node: None,
             disk: SoundStore::new(alloc),
             seen: SeenRecords::new(alloc),
+            shown: None,
         };
         host.start(alloc, 0, Delta::first())?;
         Ok(host)
@@ -92,7 +97,7 @@ impl Host {
             → IsHost s k saved r self.now → result ≡ shown_of s }
     {
         match &self.node {
-            Some(node) => Some(node.state_line()),
+            Some(_) => self.shown,
             None => None,
         }
     }
@@ -185,6 +190,7 @@ impl Host {
         requires { IsRunning (disk_of self.old) node.value }
         ensures { self.new ≡ with_node self.old node.value }
     {
+        self.shown = Some(node.state_line());
         self.node = Some(node);
     }
 
