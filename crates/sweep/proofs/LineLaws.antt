@@ -21,22 +21,31 @@ no_number seed (suc (suc zero)) = omega arith
 no_number seed (suc (suc (suc zero))) = omega arith
 no_number seed (suc (suc (suc (suc client)))) = omega arith
 
+-- the next of the lines that are left
+pub next_drawn : (step : Step) (g next : Generator) (lines at : ℕ) → at < lines
+    → next_line g ≡ (step, next)
+    → drawn_lines (lines - at) g ≡ step ∷ drawn_lines (lines - (at + 1)) next
+unfolding drawn_lines
+next_drawn step g next lines at below made =
+    let left = lines - (at + 1) in
+    let count : lines - at ≡ suc left = omega arith in
+    ap (λ n. drawn_lines n g) count ∙ ap (λ m. m.0 ∷ drawn_lines left m.1) made
+
+-- no line is left
+pub none_drawn : (g : Generator) (lines at : ℕ) → lines ≤ at → drawn_lines (lines - at) g ≡ []
+unfolding drawn_lines
+none_drawn g lines at done =
+    let count : lines - at ≡ 0 = omega arith in ap (λ n. drawn_lines n g) count
+
 pub one_line : (steps : List Step) (step : Step) (g next : Generator) (lines at : ℕ)
     (all : List Step) → at < lines → next_line g ≡ (step, next)
     → steps ++ drawn_lines (lines - at) g ≡ all
     → (steps ++ step ∷ []) ++ drawn_lines (lines - (at + 1)) next ≡ all
-unfolding drawn_lines
 one_line steps step g next lines at all below made h =
-    let left = lines - (at + 1) in
-    let count : lines - at ≡ suc left = omega arith in
-    let first : drawn_lines (suc left) g ≡ step ∷ drawn_lines left next =
-    ap (λ m. m.0 ∷ drawn_lines left m.1) made in
-    append_assoc steps (step ∷ []) (drawn_lines left next)
-    ∙ ap (λ s. steps ++ s) (sym (ap (λ n. drawn_lines n g) count ∙ first)) ∙ h
+    append_assoc steps (step ∷ []) (drawn_lines (lines - (at + 1)) next)
+    ∙ ap (λ s. steps ++ s) (sym (next_drawn step g next lines at below made)) ∙ h
 
 pub all_lines : (steps : List Step) (g : Generator) (lines at : ℕ) (all : List Step)
     → lines ≤ at → steps ++ drawn_lines (lines - at) g ≡ all → steps ≡ all
-unfolding drawn_lines
 all_lines steps g lines at all done h =
-    let count : lines - at ≡ 0 = omega arith in
-    sym (append-nil steps) ∙ ap (λ s. steps ++ s) (sym (ap (λ n. drawn_lines n g) count)) ∙ h
+    sym (append-nil steps) ∙ ap (λ s. steps ++ s) (sym (none_drawn g lines at done)) ∙ h

@@ -10,7 +10,7 @@ use trace_types::Step;
 
 /// The steps by which server 0 comes to lead a view.
 #[tactic(auto, unfolding(crate::specs::Lines::opening))]
-fn opening(alloc: Global) -> Result<Vec<Step>, AllocError>
+pub fn opening(alloc: Global) -> Result<Vec<Step>, AllocError>
     ensures { IfOk result (λ steps. steps.items ≡ opening) }
 {
     let server = ServerId::Zero;

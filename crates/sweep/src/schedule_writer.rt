@@ -1,25 +1,49 @@
 //! Generated schedules as text.
 
-ghost use Rattle.std.specs.Prelude.{◌≡◌, ◌≤◌, IfOk, OnOk, OnErr, Err};
+ghost use Rattle.std.specs.Prelude.{◌≡◌, ◌≤◌, ◌++◌, ◌∷◌, [], IfOk, OnOk, OnErr, Err};
 ghost use Rattle.std.specs.Io.KnownBytes.{Appends};
 ghost use Rattle.harp_types.specs.Streams.{GrewByPart, Rose};
+ghost use Rattle.text_spelling.specs.Steps.{step_text};
 ghost use Rattle.sweep.specs.Lines.{generated};
 ghost use Rattle.sweep.specs.Texts.{schedule_text};
 
-use crate::generate;
-use harp_types::{Bytes, Sink, SinkFault, write_all};
+use crate::generator::Generator;
+use crate::schedule::opening;
+use harp_types::{Sink, SinkFault, write_all};
 use std::alloc::{AllocError, Global};
-use text_writer::write_step;
+use text_writer::append_step;
 use trace_types::Step;
 
-/// The text of these steps, each with its line feed.
-fn text_of(alloc: Global, steps: &[Step]) -> Result<Bytes, AllocError>
-    ensures { IfOk result (λ text. text ≡ schedule_text steps.now) }
+/// A step with its line feed.
+fn put_line(alloc: Global, step: &Step, text: &mut Vec<u8>) -> Result<(), AllocError>
+    ensures { OnOk result (text.new.items ≡ text.old.items ++ step_text step.now ++ 10 ∷ []) }
 {
-    let mut text = Bytes::new(alloc);
+    append_step(alloc, step, text)?;
+    Ok(text.push(b'\n')?)
+}
+
+/// These steps, each with its line feed.
+fn put_lines(alloc: Global, steps: &[Step], text: &mut Vec<u8>) -> Result<(), AllocError>
+    ensures { OnOk result (text.new.items ≡ text.old.items ++ schedule_text steps.now) }
+{
     for step in steps {
-        write_step(alloc, step, &mut text)?;
-        text.extend(b"\n")?;
+        put_line(alloc, step, text)?;
+    }
+    Ok(())
+}
+
+/// The text of the schedule of a seed with so many drawn lines. Each step is let go when its line
+/// is written.
+fn text_of(alloc: Global, seed: u64, lines: u32) -> Result<Vec<u8>, AllocError>
+    ensures { IfOk result (λ text. text.items ≡ schedule_text (generated seed lines)) }
+{
+    let mut generator = Generator::of(seed);
+    let steps = opening(alloc)?;
+    let mut text = Vec::new(alloc);
+    put_lines(alloc, steps.as_slice(), &mut text)?;
+    for _ in 0..lines {
+        let step = generator.next_line(alloc)?;
+        put_line(alloc, &step, &mut text)?;
     }
     Ok(text)
 }
@@ -39,7 +63,6 @@ pub fn write_schedule<K: Sink>(
     ensures rose { result ≡ Err SinkFault.Failed → Rose (K.faults sink.old) (K.faults sink.new) }
     ensures count { K.faults sink.old ≤ K.faults sink.new }
 {
-    let steps = generate(alloc, seed, lines)?;
-    let text = text_of(alloc, steps.as_slice())?;
+    let text = text_of(alloc, seed, lines)?;
     write_all(sink, text.as_slice())
 }

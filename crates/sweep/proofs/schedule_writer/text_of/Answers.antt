@@ -1,19 +1,32 @@
-use Rattle.std.proofs.Common.{◌++◌, sym, ap, ◌∙◌}
-use Rattle.std.proofs.lemmas.List.{at_drop_all, append-nil}
-use Rattle.sweep.specs.Texts.{schedule_text}
-use Rattle.sweep.proofs.TextLaws.{one_step}
+use Rattle.std.proofs.Common.{◌+◌, subst, sym, ◌∙◌}
+use Rattle.sweep.specs.declared.generator.Generator.{Generator}
+use Rattle.sweep.specs.Lines.{Made, AreUpTo}
+use Rattle.sweep.proofs.LineLaws.{no_number}
+use Rattle.sweep.proofs.NumberLaws.{next_line-up_to}
+use Rattle.sweep.proofs.TextLaws.{opening_written, one_drawn, all_drawn}
 use Rattle.sweep.proofs.schedule_writer.text_of.Goals as goal
 
-pub loop-step-preserved : goal.loop-step-preserved
-loop-step-preserved c =
-    rw (c.in_ok-extend.ensures.ok, c.in_ok-write_step.ensures.ok)
-    (one_step c.loop-step.text c.args.steps.now c.loop-step.step-index c.step-item.result _
-    c.loop-step-test.true c.step-item.is c.loop-step.invariant)
+pub loop-init : goal.loop-init
+loop-init c =
+    let up_to : Generator → Type 0 = AreUpTo 0 in (
+      opening_written c.new-text.result.items c.put_lines.new.text.items c.as_slice.result.now
+          c.of-generator.result c.args.seed c.args.lines c.new-text.ensures.items
+          c.in_ok-put_lines.ensures (c.as_slice.ensures.value ∙ c.in_ok-steps.ensures)
+          c.of-generator.ensures,
+      subst up_to (sym c.of-generator.ensures) (no_number c.args.seed),
+    )
+
+pub loop-preserved : goal.loop-preserved
+loop-preserved c =
+    let up_to : Made → Type 0 = λ m. AreUpTo (c.loop.counter + 1) m.1 in (
+      one_drawn c.loop.text.items c.put_line.new.text.items c.in_ok-step.step c.loop.generator
+          c.next_line.new.self c.args.lines c.loop.counter _ c.loop-test.true
+          c.in_ok-step.ensures c.in_ok-put_line.ensures c.loop.invariant.0,
+      subst up_to c.in_ok-step.ensures
+          (next_line-up_to c.loop.counter c.loop.generator c.loop.invariant.1),
+    )
 
 pub returns : goal.returns
-unfolding schedule_text
 returns c =
-    let none =
-    at_drop_all schedule_text c.args.steps.now c.loop-step.step-index c.loop-step-test.false in
-    sym (append-nil c.loop-step.text) ∙ ap (λ s. c.loop-step.text ++ s) (sym none)
-    ∙ c.loop-step.invariant
+    all_drawn c.loop.text.items c.loop.generator c.args.lines c.loop.counter _ c.loop-test.false
+    c.loop.invariant.0
