@@ -5,10 +5,11 @@
 
 starts three servers and a door, as bench/door.py does, and boots the kernel of FOLDER in an
 emulator. There it mounts the door's tree (docs/SERVING.md) and works on it: what it reads must be
-what it wrote, behind an emptied cache. Meanwhile server 0, which leads, is killed, and started
-again 3 s later, and then the door. The exit status is 0 where all was right. The emulator is
-qemu-system-x86_64 of Debian's qemu-system-x86, or what QEMU names. FOLDER is what was unpacked of
-two more packages; any kernel does that has NFS_V2 as a module (apt-cache search linux-image):
+what it wrote, behind an emptied cache, and two users may do with files what owners, modes and
+groups let them. Meanwhile server 0, which leads, is killed, and started again 3 s later, and then
+the door. The exit status is 0 where all was right. The emulator is qemu-system-x86_64 of Debian's
+qemu-system-x86, or what QEMU names. FOLDER is what was unpacked of two more packages; any kernel
+does that has NFS_V2 as a module (apt-cache search linux-image):
 
     apt-get download busybox-static linux-image-6.1.0-57-amd64
     for it in *.deb; do dpkg -x $it FOLDER; done
@@ -54,7 +55,17 @@ touch -d "2001-02-03 04:05:06" moved; drop; right cmp own/8193 /tmp/set/8193
 right cmp sign /tmp/set/1; right [ "$(stat -c '%a %h %s %Y' linked)" = "640 2 1 981173106" ]
 mkdir names; for n in $(seq 300); do echo $n > names/$n; done; drop
 right [ "$(ls names | wc -l)" = 300 ]; cp /bin/busybox .; drop; right ./busybox true
-tar cf /tmp/tar -C /tmp/set .; trip
+chmod 444 /tmp/set/*; tar cf /tmp/tar -C /tmp/set .; trip
+as() { su "u$1" -c "$2" 2> /dev/null; }; not() { ! "$@"; }
+for n in 7 8; do echo "u$n:x:$n:$n::/tmp:/bin/sh" >> /etc/passwd; done
+echo "all:x:50:u8" > /etc/group; mkdir home; chown 7:7 home
+right as 7 "umask 333; echo text > home/only; cp /bin/busybox home/true; tar xf /tmp/tar -C home"
+right as 7 "chmod 400 home/only; chmod 711 home/true"; drop
+right as 7 "cat home/only"; right not as 8 "cat home/only"; right as 8 home/true
+right not as 8 "touch home/true"; chgrp 50 home/only; chmod 664 home/only; drop
+right as 8 "echo most >> home/only; touch home/only"; chmod 6755 home/true; drop
+right as 7 "printf x >> home/true"; drop; right [ "$(stat -c %a home/true)" = 755 ]
+right [ "$(cat home/only | tr '\n' ' ')" = "text most " ]; rm -r home
 for it in 0 door; do echo "READY $it"; for n in 1 2 3 4; do trip; done; done
 right rm -r busybox linked moved names own sign
 right [ -z "$(ls -A)" ]; cd /; right umount /mnt
@@ -63,7 +74,7 @@ right [ -z "$(ls -A)" ]; cd /; right umount /mnt
 
 def initial(folder, room, file):
     """Packs what the guest runs: its modules, as far as there are files of them, and the work."""
-    for name in ("bin", "lib", "proc", "dev", "mnt", "tmp"):
+    for name in ("bin", "etc", "lib", "proc", "dev", "mnt", "tmp"):
         (room / name).mkdir()
     found = {it.stem: it for it in folder.glob("lib/modules/*/kernel/**/*.ko")}
     listed = [f"{it}.ko" for it in MODULES.split() if it in found]
