@@ -9,3 +9,8 @@ pub slot_then : (told now : Option Cells) (dir many : ℕ) (slots : Slots) (i : 
     → TellsSlots told dir many slots → TellsSlot now dir i (get_or slots i None)
 slot_then told now dir many slots i kept t =
     record { cells = t.cells; are = kept ∙ t.are; holds = t.holds i }
+
+pub slots_then : (told now : Option Cells) (dir many : ℕ) (slots : Slots) → now ≡ told
+    → TellsSlots told dir many slots → TellsSlots now dir many slots
+slots_then told now dir many slots kept t =
+    record { cells = t.cells; are = kept ∙ t.are; holds = t.holds; count = t.count }

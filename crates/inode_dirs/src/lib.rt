@@ -5,8 +5,9 @@
 //! Directories over any `CellRead`.
 //!
 //! - Where the cells are told and hold a directory's slots: `find` gives the entry with a name
-//!   (`found`), `slot_for` the first free slot, else the one behind the last (`free`), and
-//!   `list_from` the page above a cookie, where there are fewer than 2^32 - 2 slots (`page`).
+//!   (`found`), `find_or_slot` that entry, or where there is none the first free slot, else the
+//!   one behind the last (`sought`), and `list_from` the page above a cookie, where there are
+//!   fewer than 2^32 - 2 slots (`page`).
 //! - Over any cells the slot found is below the number of slots, the one for a new entry not above
 //!   it (`within`), and a page has at most 512 entries (`few`).
 //! - `is_below` says, where the cells hold the parents of a sound tree, whether a directory is
@@ -24,7 +25,7 @@ mod page;
 mod parents;
 mod slot;
 
-pub use entries::{find, slot_for};
+pub use entries::{Sought, find, find_or_slot};
 pub use laws::{entry_laws, parent_laws, slot_laws};
 pub use page::{DirPage, list_from};
 pub use parents::is_below;

@@ -58,10 +58,17 @@ pub fn object_at<R: CellRead>(
     Ok(object_found(cells, name))
 }
 
-/// Whether a slot is free.
-pub fn is_free_at<R: CellRead>(cells: &mut R, dir: u32, slot: u32) -> Result<bool, CellFault>
+/// The object that a slot names by a name, and whether the slot is free.
+pub fn look_at<R: CellRead>(
+    cells: &mut R,
+    dir: u32,
+    slot: u32,
+    name: &[u8],
+) -> Result<(Option<u32>, bool), CellFault>
+    ensures found { (s : Option Slot) → TellsSlot (R.cells cells.old) dir slot s
+        → IfOk result (λ x. x.0 ≡ object_named name.now s) }
     ensures free { (s : Option Slot) → TellsSlot (R.cells cells.old) dir slot s
-        → IfOk result (λ free. free ≡ not (is_some s)) }
+        → IfOk result (λ x. x.1 ≡ not (is_some s)) }
     ensures kept { R.cells cells.new ≡ R.cells cells.old }
     ensures left { R.left cells.new ≡ R.left cells.old }
     ensures rose { result ≡ Err CellFault.StoreFailed
@@ -69,7 +76,7 @@ pub fn is_free_at<R: CellRead>(cells: &mut R, dir: u32, slot: u32) -> Result<boo
     ensures count { R.faults cells.old ≤ R.faults cells.new }
 {
     cells.fetch(Cell::Slot { object: dir, slot })?;
-    Ok(cells.value().is_none())
+    Ok((object_found(cells, name), cells.value().is_none()))
 }
 
 /// The entry that a value stands for, with a cookie.

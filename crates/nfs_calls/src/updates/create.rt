@@ -1,10 +1,10 @@
 //! Files that are created.
 
-ghost use Rattle.std.specs.Prelude.{◌≡◌, ◌≤◌, ℕ, Some, None, Ok, Err, IfOk};
+ghost use Rattle.std.specs.Prelude.{◌≡◌, ◌≢◌, ◌≤◌, ℕ, Some, None, Ok, Err, IfOk};
 ghost use Rattle.harp_types.specs.Streams.{Rose};
 ghost use Rattle.harp_types.specs.declared.call.Call.TheVariants as call;
 ghost use Rattle.file_tree.specs.declared.object.Body.{Body};
-ghost use Rattle.file_tree.specs.Tree.{place, slots_of, entry, kind_of};
+ghost use Rattle.file_tree.specs.Tree.{place, slots_of, entry, free_from, kind_of};
 ghost use Rattle.file_tree.specs.Tries.{entry_name};
 ghost use Rattle.file_tree.specs.Outcome.{create, create_again, create_new, is_regular, is_regular_at};
 ghost use Rattle.harp_cells.specs.Effect.{Cells};
@@ -18,10 +18,9 @@ ghost use Rattle.nfs_calls.specs.Gives.{Gives};
 ghost use Rattle.nfs_calls.specs.Forms.{form, node_form};
 
 use crate::error::CallError;
-use crate::parts::directory::entry;
 use crate::parts::inode::{attr_by, inode_at};
 use crate::parts::names::{entry_name, refuse};
-use crate::parts::new_entry::entered;
+use crate::parts::new_entry::{entered, entry_or_slot};
 use crate::parts::permissions::{may_make, searched};
 use crate::parts::totals::Totals;
 use crate::updates::make::{Entering, made, make, name_of, room_for};
@@ -30,6 +29,7 @@ use crate::updates::set_attr::{given, set_found};
 use file_tree::heeded;
 use harp_cells::{CellFault, CellRead, Inode};
 use harp_types::{Cred, Kind, LARGEST_FILE, Reply, SetAttr, Status, Time};
+use inode_dirs::Sought;
 use std::alloc::Global;
 
 fn is_regular(kind: Kind) -> bool
@@ -81,37 +81,33 @@ fn create_again<R: CellRead>(
     })
 }
 
-/// A file of zeros with a new entry.
+/// A file of zeros with a new entry in the first free slot.
 #[tactic(auto, unfolding(file_tree::specs::Outcome::create_new))]
-fn create_new<R: CellRead>(
+fn create_new(
     alloc: Global,
-    cells: &mut R,
     totals: Totals,
     cred: Cred,
     dir: u32,
     inode: &Inode,
+    slot: u32,
     name: &[u8],
     attr: &SetAttr,
     now: Time,
 ) -> Result<Planned, CallError>
     requires { FitsName name.now }
-    ensures plan { (t : TreeCells) → R.cells cells.old ≡ Some t.cells → totals ≡ totals_of t.tree
-        → IsDirectory t.tree dir inode.now → entry_name name.now ≡ Ok tt
-        → entry (slots_of (place t.tree dir)) name.now ≡ None
+    ensures plan { (t : TreeCells) → totals ≡ totals_of t.tree
+        → IsDirectory t.tree dir inode.now → slot ≡ free_from 0 (slots_of (place t.tree dir))
+        → entry_name name.now ≡ Ok tt → entry (slots_of (place t.tree dir)) name.now ≡ None
         → Gives plan_view result (planned t.cells t.tree (call.Create dir name.now attr.now)
         (create_new t.tree cred dir (slots_of (place t.tree dir)) name.now attr.now now)) }
     ensures short { IfOk result (λ p. AreShort 13 p.changes.items) }
     ensures form { IfOk result (λ p. form p.reply ≡ node_form) }
-    ensures kept { R.cells cells.new ≡ R.cells cells.old }
-    ensures left { R.left cells.new ≡ R.left cells.old }
-    ensures rose { result ≡ Err (CallError.Fault CellFault.StoreFailed)
-        → Rose (R.faults cells.old) (R.faults cells.new) }
-    ensures count { R.faults cells.old ≤ R.faults cells.new }
+    ensures store { result ≢ Err (CallError.Fault CellFault.StoreFailed) }
 {
     may_make(cred, inode, attr)?;
     let size = given(attr.size, 0);
     refuse(Status::FBig, size > LARGEST_FILE)?;
-    let room = room_for(cells, totals, dir, inode, size)?;
+    let room = room_for(totals, slot, inode, size)?;
     let made = made(cred, attr, Kind::Regular, 1, 0, size, now);
     let entering = Entering {
         dir,
@@ -160,8 +156,12 @@ pub fn create<R: CellRead>(
 {
     let inode = searched(cells, cred, dir)?;
     entry_name(name)?;
-    match entry(cells, dir, &inode, name)? {
-        Some((_, number)) => create_again(alloc, cells, totals, cred, number, attr, now),
-        None => { create_new(alloc, cells, totals, cred, dir, &inode, name, attr, now) },
+    match entry_or_slot(cells, dir, &inode, name)? {
+        Sought::Entry { object, .. } => {
+            create_again(alloc, cells, totals, cred, object, attr, now)
+        }
+        Sought::Free { slot } => {
+            create_new(alloc, totals, cred, dir, &inode, slot, name, attr, now)
+        }
     }
 }

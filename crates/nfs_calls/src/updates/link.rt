@@ -1,13 +1,13 @@
 //! A further entry of a file or a link.
 
-ghost use Rattle.std.specs.Prelude.{◌≡◌, ◌≤◌, ◌<◌, ◌*◌, ◌^◌, Some, Ok, Err, IfOk, length};
+ghost use Rattle.std.specs.Prelude.{◌≡◌, ◌≤◌, ◌<◌, ◌*◌, ◌^◌, ℕ, Some, Ok, Err, IfOk, length};
 ghost use Rattle.harp_types.specs.Limits.{slot_size};
 ghost use Rattle.harp_types.specs.Streams.{Rose};
 ghost use Rattle.harp_types.specs.declared.call.Call.TheVariants as call;
 ghost use Rattle.harp_types.specs.declared.attr.Time.{Time};
 ghost use Rattle.file_tree.specs.declared.object.Body.{Body};
 ghost use Rattle.file_tree.specs.declared.object.Slot.{Slot};
-ghost use Rattle.file_tree.specs.Tree.{is_directory, kind_of, place, slots_of, with_entry};
+ghost use Rattle.file_tree.specs.Tree.{Tree, free_from, is_directory, kind_of, place, slots_of, with_entry};
 ghost use Rattle.file_tree.specs.Outcome.{add_entry, change, link, reslotted};
 ghost use Rattle.harp_cells.specs.Effect.{Cells};
 ghost use Rattle.cell_changes.specs.Short.{AreShort};
@@ -16,13 +16,13 @@ ghost use Rattle.nfs_calls.specs.TreeCells.{IsDirectory, IsRoom};
 ghost use Rattle.nfs_calls.specs.Plans.{plan_view, planned, totals_of};
 ghost use Rattle.nfs_calls.specs.NewEntries.{linked, links_by};
 ghost use Rattle.nfs_calls.specs.Space.{replaced_blocks};
-ghost use Rattle.nfs_calls.specs.Gives.{Gives};
+ghost use Rattle.nfs_calls.specs.Gives.{Gives, Tells};
 ghost use Rattle.nfs_calls.specs.Forms.{done_form, form};
 
 use crate::error::CallError;
 use crate::parts::inode::live;
 use crate::parts::names::refuse;
-use crate::parts::new_entry::{Room, entered, free_name, room_in};
+use crate::parts::new_entry::{Room, entered, free_name, room_at};
 use crate::parts::permissions::{allowed, searched};
 use crate::parts::pushes::{put_object, put_slot};
 use crate::parts::space::capped;
@@ -55,35 +55,25 @@ fn linked(inode: &Inode, now: Time) -> Inode
     }
 }
 
-/// The place of an entry of an object that is there, where a directory has room for it.
+/// The place of an entry of an object that is there in the first free slot, where a directory has
+/// room for it.
 #[tactic(auto, unfolding(file_tree::specs::Outcome::add_entry))]
-fn room_beside<R: CellRead>(
-    cells: &mut R,
-    totals: Totals,
-    dir: u32,
-    inode: &Inode,
-) -> Result<Room, CallError>
-    ensures step { (t : TreeCells) (s : Slot) (now : Time) → R.cells cells.old ≡ Some t.cells
-        → totals ≡ totals_of t.tree
-        → IsDirectory t.tree dir inode.now
-        → Gives (λ _. change t.tree dir
-        (reslotted now (with_entry (slots_of (place t.tree dir)) s))) result
-        (add_entry t.tree dir (slots_of (place t.tree dir)) s now) }
-    ensures used { (t : TreeCells) (s : Slot) → R.cells cells.old ≡ Some t.cells
-        → IsDirectory t.tree dir inode.now
+fn room_beside(totals: Totals, slot: u32, inode: &Inode) -> Result<Room, Status>
+    ensures step { (tree : Tree) (dir : ℕ) (s : Slot) (now : Time) → totals ≡ totals_of tree
+        → IsDirectory tree dir inode.now → slot ≡ free_from 0 (slots_of (place tree dir))
+        → Tells (λ _. change tree dir
+        (reslotted now (with_entry (slots_of (place tree dir)) s))) result
+        (add_entry tree dir (slots_of (place tree dir)) s now) }
+    ensures used { (tree : Tree) (dir : ℕ) (s : Slot) → IsDirectory tree dir inode.now
+        → slot ≡ free_from 0 (slots_of (place tree dir))
         → IfOk result (λ room. replaced_blocks totals.used inode.now.size
-        (slot_size * length (with_entry (slots_of (place t.tree dir)) s)) ≡ Ok room.used) }
-    ensures room { (t : TreeCells) → R.cells cells.old ≡ Some t.cells
-        → IsDirectory t.tree dir inode.now
-        → IfOk result (IsRoom (slots_of (place t.tree dir))) }
+        (slot_size * length (with_entry (slots_of (place tree dir)) s)) ≡ Ok room.used) }
+    ensures room { (tree : Tree) (dir : ℕ) → IsDirectory tree dir inode.now
+        → slot ≡ free_from 0 (slots_of (place tree dir))
+        → IfOk result (IsRoom (slots_of (place tree dir))) }
     ensures bound { IfOk result (λ room. room.slots < 2 ^ 40) }
-    ensures kept { R.cells cells.new ≡ R.cells cells.old }
-    ensures left { R.left cells.new ≡ R.left cells.old }
-    ensures rose { result ≡ Err (CallError.Fault CellFault.StoreFailed)
-        → Rose (R.faults cells.old) (R.faults cells.new) }
-    ensures count { R.faults cells.old ≤ R.faults cells.new }
 {
-    let room = room_in(cells, u64::from(totals.used), dir, inode)?;
+    let room = room_at(u64::from(totals.used), slot, inode)?;
     Ok(room)
 }
 
@@ -137,9 +127,9 @@ pub fn link<R: CellRead>(
     let target = live(cells, handle)?;
     let inode = searched(cells, cred, dir)?;
     refuse(Status::Perm, is_directory(target.kind))?;
-    free_name(cells, dir, &inode, name)?;
+    let slot = free_name(cells, dir, &inode, name)?;
     allowed(cred, &inode, TO_WRITE)?;
-    let room = room_beside(cells, totals, dir, &inode)?;
+    let room = room_beside(totals, slot, &inode)?;
     let entering = Entering {
         dir,
         inode: entered(&inode, room.slots, 0, now),

@@ -5,7 +5,7 @@ ghost use Rattle.harp_types.specs.Limits.{longest_path, object_numbers, slot_siz
 ghost use Rattle.harp_types.specs.Streams.{Rose};
 ghost use Rattle.harp_types.specs.declared.call.Call.TheVariants as call;
 ghost use Rattle.file_tree.specs.declared.object.Slot.{Slot};
-ghost use Rattle.file_tree.specs.Tree.{place, slots_of, with_entry, blocks_of};
+ghost use Rattle.file_tree.specs.Tree.{Tree, place, slots_of, free_from, with_entry, blocks_of};
 ghost use Rattle.file_tree.specs.Outcome.{make_dir, make_link, room_for};
 ghost use Rattle.harp_cells.specs.Effect.{Cells};
 ghost use Rattle.inode_blocks.specs.Changes.{text_put};
@@ -15,13 +15,13 @@ ghost use Rattle.nfs_calls.specs.TreeCells.{IsDirectory, IsRoom};
 ghost use Rattle.nfs_calls.specs.Plans.{plan_view, planned, totals_of};
 ghost use Rattle.nfs_calls.specs.NewEntries.{FitsName, made_inode, makes_by};
 ghost use Rattle.nfs_calls.specs.Space.{replaced_blocks};
-ghost use Rattle.nfs_calls.specs.Gives.{Gives};
+ghost use Rattle.nfs_calls.specs.Gives.{Gives, Tells};
 ghost use Rattle.nfs_calls.specs.Forms.{done_form, form, node_form};
 
 use crate::error::CallError;
 use crate::parts::inode::attr_by;
 use crate::parts::names::{entry_name, refuse};
-use crate::parts::new_entry::{Room, entered, free_name, has_entry, room_in};
+use crate::parts::new_entry::{Room, entered, free_name, free_slot, room_at};
 use crate::parts::permissions::{may_make, searched};
 use crate::parts::pushes::{put_object, put_slot};
 use crate::parts::space::blocks_of;
@@ -34,38 +34,27 @@ use harp_types::{
 };
 use std::alloc::{AllocError, Global};
 
-/// The place of the entry of a new object of a size, where there is room for both.
-pub fn room_for<R: CellRead>(
-    cells: &mut R,
-    totals: Totals,
-    dir: u32,
-    inode: &Inode,
-    size: u32,
-) -> Result<Room, CallError>
-    ensures step { (t : TreeCells) (name : List ℕ) → R.cells cells.old ≡ Some t.cells
-        → totals ≡ totals_of t.tree
-        → IsDirectory t.tree dir inode.now
-        → Gives (λ _. with_entry (slots_of (place t.tree dir))
+/// The place of the entry of a new object of a size in the first free slot, where there is room for
+/// both.
+pub fn room_for(totals: Totals, slot: u32, inode: &Inode, size: u32) -> Result<Room, Status>
+    ensures step { (tree : Tree) (dir : ℕ) (name : List ℕ) → totals ≡ totals_of tree
+        → IsDirectory tree dir inode.now → slot ≡ free_from 0 (slots_of (place tree dir))
+        → Tells (λ _. with_entry (slots_of (place tree dir))
         (record { name = name; number = totals.next })) result
-        (room_for t.tree dir (slots_of (place t.tree dir)) name size) }
-    ensures used { (t : TreeCells) (s : Slot) → R.cells cells.old ≡ Some t.cells
-        → IsDirectory t.tree dir inode.now
+        (room_for tree dir (slots_of (place tree dir)) name size) }
+    ensures used { (tree : Tree) (dir : ℕ) (s : Slot) → IsDirectory tree dir inode.now
+        → slot ≡ free_from 0 (slots_of (place tree dir))
         → IfOk result (λ room. replaced_blocks (totals.used + blocks_of size) inode.now.size
-        (slot_size * length (with_entry (slots_of (place t.tree dir)) s)) ≡ Ok room.used) }
-    ensures room { (t : TreeCells) → R.cells cells.old ≡ Some t.cells
-        → IsDirectory t.tree dir inode.now
-        → IfOk result (IsRoom (slots_of (place t.tree dir))) }
+        (slot_size * length (with_entry (slots_of (place tree dir)) s)) ≡ Ok room.used) }
+    ensures room { (tree : Tree) (dir : ℕ) → IsDirectory tree dir inode.now
+        → slot ≡ free_from 0 (slots_of (place tree dir))
+        → IfOk result (IsRoom (slots_of (place tree dir))) }
     ensures bound { IfOk result (λ room. room.slots < 2 ^ 40) }
     ensures few { IfOk result (λ _. totals.next < object_numbers) }
-    ensures kept { R.cells cells.new ≡ R.cells cells.old }
-    ensures left { R.left cells.new ≡ R.left cells.old }
-    ensures rose { result ≡ Err (CallError.Fault CellFault.StoreFailed)
-        → Rose (R.faults cells.old) (R.faults cells.new) }
-    ensures count { R.faults cells.old ≤ R.faults cells.new }
 {
     refuse(Status::NoSpc, totals.next >= OBJECT_NUMBERS)?;
     let used = u64::from(totals.used) + blocks_of(u64::from(size));
-    let room = room_in(cells, used, dir, inode)?;
+    let room = room_at(used, slot, inode)?;
     Ok(room)
 }
 
@@ -190,9 +179,9 @@ pub fn make_dir<R: CellRead>(
     ensures count { R.faults cells.old ≤ R.faults cells.new }
 {
     let inode = searched(cells, cred, dir)?;
-    free_name(cells, dir, &inode, name)?;
+    let slot = free_name(cells, dir, &inode, name)?;
     may_make(cred, &inode, attr)?;
-    let room = room_for(cells, totals, dir, &inode, 0)?;
+    let room = room_for(totals, slot, &inode, 0)?;
     let made = made(cred, attr, Kind::Directory, 2, dir, 0, now);
     let entering = Entering {
         dir,
@@ -243,11 +232,10 @@ pub fn make_link<R: CellRead>(
     let inode = searched(cells, cred, dir)?;
     entry_name(name)?;
     refuse(Status::NameTooLong, text.len() > LONGEST_PATH)?;
-    let taken = has_entry(cells, dir, &inode, name)?;
-    refuse(Status::Exist, taken)?;
+    let slot = free_slot(cells, dir, &inode, name)?;
     may_make(cred, &inode, attr)?;
     let size = text.len() as u32;
-    let room = room_for(cells, totals, dir, &inode, size)?;
+    let room = room_for(totals, slot, &inode, size)?;
     let made = made(cred, attr, Kind::Link, 1, 0, size, now);
     let entering = Entering {
         dir,

@@ -7,7 +7,7 @@ ghost use Rattle.harp_types.specs.declared.reply.Reply.TheVariants.{Done};
 ghost use Rattle.harp_cells.specs.declared.cell.Cell.TheVariants as cell;
 ghost use Rattle.harp_cells.specs.declared.value.Value.TheVariants as value;
 ghost use Rattle.harp_cells.specs.declared.change.Change.TheVariants as change;
-ghost use Rattle.file_tree.specs.Tree.{place, slots_of, entry};
+ghost use Rattle.file_tree.specs.Tree.{place, slots_of, entry, free_from};
 ghost use Rattle.file_tree.specs.Rename.{check_target};
 ghost use Rattle.cell_changes.specs.Short.{AreShort};
 ghost use Rattle.cell_changes.specs.TreeCells.{TreeCells};
@@ -20,7 +20,7 @@ ghost use Rattle.nfs_calls.specs.Forms.{done_form, form};
 
 use crate::error::CallError;
 use crate::parts::loss::{after_loss, is_directory, link_of, lose, named, relinked};
-use crate::parts::new_entry::{entered, room_in};
+use crate::parts::new_entry::{entered, room_at};
 use crate::parts::pushes::put_object;
 use crate::parts::totals::Totals;
 use crate::updates::planned::Planned;
@@ -30,7 +30,6 @@ use crate::updates::relocation::{
 use crate::updates::remove::is_empty;
 use harp_cells::{CellFault, CellRead, Inode, NonEmpty};
 use harp_types::{LONGEST_NAME, Reply, Status, Time};
-use inode_dirs::slot_for;
 use std::alloc::{AllocError, Global};
 
 /// The plan where no entry is replaced, by the totals and the attributes of the directory after it.
@@ -101,17 +100,18 @@ fn plan_over(
     })
 }
 
-/// The move to another name in the same directory: the old slot counts as free.
-fn move_within<R: CellRead>(
+/// The move to another name in the same directory: the old slot counts as free, beside the first
+/// free one.
+fn move_within(
     alloc: Global,
-    cells: &mut R,
     totals: Totals,
     moving: &Relocation,
+    free: u32,
     to_name: NonEmpty<LONGEST_NAME>,
     now: Time,
-) -> Result<Planned, CellFault>
-    ensures plan { (t : TreeCells) (name : List ℕ) → R.cells cells.old ≡ Some t.cells
-        → totals ≡ totals_of t.tree
+) -> Result<Planned, AllocError>
+    ensures plan { (t : TreeCells) (name : List ℕ) → totals ≡ totals_of t.tree
+        → free ≡ free_from 0 (slots_of (place t.tree moving.now.to_dir))
         → moving.now.dir ≡ moving.now.to_dir → IsMoving t.tree moving.now name to_name
         → entry (slots_of (place t.tree moving.now.to_dir)) to_name ≡ None
         → IfOk result (λ p. planned t.cells t.tree
@@ -121,29 +121,23 @@ fn move_within<R: CellRead>(
         ≡ Ok (plan_view p)) }
     ensures short { IfOk result (λ p. AreShort 13 p.changes.items) }
     ensures form { IfOk result (λ p. form p.reply ≡ done_form) }
-    ensures kept { R.cells cells.new ≡ R.cells cells.old }
-    ensures left { R.left cells.new ≡ R.left cells.old }
-    ensures rose { result ≡ Err CellFault.StoreFailed
-        → Rose (R.faults cells.old) (R.faults cells.new) }
-    ensures count { R.faults cells.old ≤ R.faults cells.new }
 {
-    let free = slot_for(cells, moving.to_dir, moving.to.slots)?;
     let to_slot = moving.slot.min(free);
     let to = relinked(&moving.to, moving.to.links, now);
     Ok(plan_in(alloc, totals, moving, to_slot, &to, to_name, now)?)
 }
 
-/// The move to another directory, where that has room.
-fn move_across<R: CellRead>(
+/// The move into the first free slot of another directory, where that has room.
+fn move_across(
     alloc: Global,
-    cells: &mut R,
     totals: Totals,
     moving: &Relocation,
+    free: u32,
     to_name: NonEmpty<LONGEST_NAME>,
     now: Time,
 ) -> Result<Planned, CallError>
-    ensures plan { (t : TreeCells) (name : List ℕ) → R.cells cells.old ≡ Some t.cells
-        → totals ≡ totals_of t.tree
+    ensures plan { (t : TreeCells) (name : List ℕ) → totals ≡ totals_of t.tree
+        → free ≡ free_from 0 (slots_of (place t.tree moving.now.to_dir))
         → moving.now.dir ≢ moving.now.to_dir → IsMoving t.tree moving.now name to_name
         → entry (slots_of (place t.tree moving.now.to_dir)) to_name ≡ None
         → Gives plan_view result (planned t.cells t.tree
@@ -152,14 +146,10 @@ fn move_across<R: CellRead>(
         (moving.now.slot, moving.now.number) moving.now.to_dir to_name None now)) }
     ensures short { IfOk result (λ p. AreShort 13 p.changes.items) }
     ensures form { IfOk result (λ p. form p.reply ≡ done_form) }
-    ensures kept { R.cells cells.new ≡ R.cells cells.old }
-    ensures left { R.left cells.new ≡ R.left cells.old }
-    ensures rose { result ≡ Err (CallError.Fault CellFault.StoreFailed)
-        → Rose (R.faults cells.old) (R.faults cells.new) }
-    ensures count { R.faults cells.old ≤ R.faults cells.new }
+    ensures store { result ≢ Err (CallError.Fault CellFault.StoreFailed) }
 {
-    match room_in(cells, u64::from(totals.used), moving.to_dir, &moving.to) {
-        Err(refusal) => Err(refusal),
+    match room_at(u64::from(totals.used), free, &moving.to) {
+        Err(refusal) => Err(CallError::Status(refusal)),
         Ok(room) => {
             let to = entered(&moving.to, room.slots, link_of(moving.moved.kind), now);
             let after = Totals {
@@ -171,17 +161,17 @@ fn move_across<R: CellRead>(
     }
 }
 
-/// The move where there is no target.
-pub fn move_in<R: CellRead>(
+/// The move where there is no target, to a directory with this first free slot.
+pub fn move_in(
     alloc: Global,
-    cells: &mut R,
     totals: Totals,
     moving: &Relocation,
+    free: u32,
     to_name: NonEmpty<LONGEST_NAME>,
     now: Time,
 ) -> Result<Planned, CallError>
-    ensures plan { (t : TreeCells) (name : List ℕ) → R.cells cells.old ≡ Some t.cells
-        → totals ≡ totals_of t.tree
+    ensures plan { (t : TreeCells) (name : List ℕ) → totals ≡ totals_of t.tree
+        → free ≡ free_from 0 (slots_of (place t.tree moving.now.to_dir))
         → IsMoving t.tree moving.now name to_name
         → entry (slots_of (place t.tree moving.now.to_dir)) to_name ≡ None
         → Gives plan_view result (planned t.cells t.tree
@@ -190,16 +180,12 @@ pub fn move_in<R: CellRead>(
         (moving.now.slot, moving.now.number) moving.now.to_dir to_name None now)) }
     ensures short { IfOk result (λ p. AreShort 13 p.changes.items) }
     ensures form { IfOk result (λ p. form p.reply ≡ done_form) }
-    ensures kept { R.cells cells.new ≡ R.cells cells.old }
-    ensures left { R.left cells.new ≡ R.left cells.old }
-    ensures rose { result ≡ Err (CallError.Fault CellFault.StoreFailed)
-        → Rose (R.faults cells.old) (R.faults cells.new) }
-    ensures count { R.faults cells.old ≤ R.faults cells.new }
+    ensures store { result ≢ Err (CallError.Fault CellFault.StoreFailed) }
 {
     if moving.dir == moving.to_dir {
-        return Ok(move_within(alloc, cells, totals, moving, to_name, now)?);
+        return Ok(move_within(alloc, totals, moving, free, to_name, now)?);
     }
-    move_across(alloc, cells, totals, moving, to_name, now)
+    move_across(alloc, totals, moving, free, to_name, now)
 }
 
 /// The refusal where a directory and what is none would take each other's place.

@@ -20,6 +20,7 @@ use crate::parts::directory::{entry, slots_in};
 use crate::parts::inode::live;
 use crate::parts::loss::{is_directory, named};
 use crate::parts::names::{check_name, is_dots, refuse};
+use crate::parts::new_entry::entry_or_slot;
 use crate::parts::permissions::allowed;
 use crate::parts::totals::Totals;
 use crate::updates::make::name_of;
@@ -29,7 +30,7 @@ use crate::updates::relocation::{Directories, Relocation};
 use file_tree::{TO_SEARCH, TO_WRITE};
 use harp_cells::{CellFault, CellRead, Inode};
 use harp_types::{Cred, Status, Time};
-use inode_dirs::is_below;
+use inode_dirs::{Sought, is_below};
 use std::alloc::Global;
 
 /// Whether an object is a directory that the new directory is or is below.
@@ -101,10 +102,10 @@ fn rename_found<R: CellRead>(
         to: directories.to,
     };
     let owned = name_of(alloc, to_name)?;
-    match entry(cells, directories.to_dir, &directories.to, to_name)? {
-        None => move_in(alloc, cells, totals, &moving, owned, now),
-        Some((to_slot, target)) => move_over(
-            alloc, cells, totals, &moving, to_slot, target, owned, now,
+    match entry_or_slot(cells, directories.to_dir, &directories.to, to_name)? {
+        Sought::Free { slot } => move_in(alloc, totals, &moving, slot, owned, now),
+        Sought::Entry { slot, object } => move_over(
+            alloc, cells, totals, &moving, slot, object, owned, now,
         ),
     }
 }

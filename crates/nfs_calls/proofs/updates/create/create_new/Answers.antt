@@ -11,7 +11,7 @@ use Rattle.nfs_calls.proofs.NewPlans.{create_new_plan, passed}
 use Rattle.nfs_calls.proofs.updates.create.create_new.Goals as goal
 
 pub returns-clause-plan : goal.returns-clause-plan
-returns-clause-plan g c t told totals is right none =
+returns-clause-plan c t totals is free right none =
     let a = c.args in
     let i = a.inode.now in
     let room = c.in_ok-room.room in
@@ -32,10 +32,10 @@ returns-clause-plan g c t told totals is right none =
     create_new_plan t a.totals a.cred a.dir i a.name.now a.attr.now room a.now c.made-made.result
     c.attr_by.result c.in_ok-changes.changes.items totals
     (is_open t.tree a.totals a.dir i a.name.now size room totals is
-    (c.in_ok-room.ensures.room t told is)
+    (c.in_ok-room.ensures.room t.tree a.dir is free)
     (ap (room_for t.tree a.dir slots a.name.now) sized
-    ∙ c.in_ok-room.ensures.step t a.name.now told totals is)
+    ∙ c.in_ok-room.ensures.step t.tree a.dir a.name.now totals is free)
     (λ s. ap (λ (n : ℕ). replaced_blocks (a.totals.used + blocks_of n) i.size
-    (264 * length (with_entry slots s))) sized ∙ c.in_ok-room.ensures.used t s told is))
+    (264 * length (with_entry slots s))) sized ∙ c.in_ok-room.ensures.used t.tree a.dir s is free))
     right (ap (ltb largest_file) sized ∙ passed FBig _ c.in_ok-refuse.ensures) none
     (sym (c.in_ok-may_make.ensures t.tree a.dir is.own)) computed c.attr_by.ensures

@@ -15,18 +15,19 @@ returns-clause-plan g c t told totals =
     let room = c.in_ok-room.room in
     let looked = c.live.ensures.kept ∙ told in
     let listed = c.searched.ensures.kept ∙ looked in
-    let named = c.free_name.ensures.kept ∙ listed in
     let file : IsInode t.tree a.handle f = c.in_ok-target.ensures.inode t told in
     let is : IsDirectory t.tree a.dir i = c.in_ok-inode.ensures.directory t looked in
     let kind : is_directory (object_at t.tree a.handle).body ≡ false =
     sym (c.is_directory.ensures (object_at t.tree a.handle).body (kind_is t.tree a.handle f file))
     ∙ passed Perm _ c.in_ok-refuse.ensures in
+    let free = c.in_ok-slot.ensures.slot t listed is in
     let linking : IsLinking t.tree a.handle a.dir f i a.name.now room = record {
       file = file;
       kind = kind;
       directory = is;
-      opens = c.in_ok-room.ensures.room t named is;
-      used = rw totals at (c.in_ok-room.ensures.used t (link_of a.name.now a.handle) named is);
+      opens = c.in_ok-room.ensures.room t.tree a.dir is free;
+      used = rw totals at
+          (c.in_ok-room.ensures.used t.tree a.dir (link_of a.name.now a.handle) is free);
     } in
     let computed : IsComputed a.dir a.handle f i a.name.now room a.now
     c.in_ok-changes.changes.items = record {
@@ -41,5 +42,6 @@ returns-clause-plan g c t told totals =
     link_plan t a.totals a.cred a.handle a.dir f i a.name.now room a.now
     c.in_ok-changes.changes.items totals linking
     (c.in_ok-target.ensures.step t told) (c.in_ok-inode.ensures.step t looked)
-    (c.in_ok-free_name.ensures.step t listed is) (sym (c.in_ok-allowed.ensures t.tree a.dir is.own))
-    (c.in_ok-room.ensures.step t (link_of a.name.now a.handle) a.now named totals is) computed
+    (c.in_ok-slot.ensures.step t listed is) (sym (c.in_ok-allowed.ensures t.tree a.dir is.own))
+    (c.in_ok-room.ensures.step t.tree a.dir (link_of a.name.now a.handle) a.now totals is free)
+    computed

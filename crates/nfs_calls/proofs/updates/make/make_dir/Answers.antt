@@ -10,9 +10,9 @@ returns-clause-plan g c t told totals =
     let a = c.args in
     let room = c.in_ok-room.room in
     let listed = c.searched.ensures.kept ∙ told in
-    let named = c.free_name.ensures.kept ∙ listed in
     let is : IsDirectory t.tree a.dir c.in_ok-inode.inode =
     c.in_ok-inode.ensures.directory t told in
+    let free = c.in_ok-slot.ensures.slot t listed is in
     let computed : IsComputed a.dir c.in_ok-inode.inode a.name.now [] room 1
     (made_inode a.cred a.attr.now kind.Directory 2 a.dir 0 a.now) a.now a.totals
     c.made-made.result c.in_ok-changes.changes.items = record {
@@ -26,8 +26,8 @@ returns-clause-plan g c t told totals =
     make_dir_plan t a.totals a.cred a.dir c.in_ok-inode.inode a.name.now a.attr.now room a.now
     c.made-made.result c.attr_by.result c.in_ok-changes.changes.items totals
     (is_open t.tree a.totals a.dir c.in_ok-inode.inode a.name.now 0 room totals is
-    (c.in_ok-room.ensures.room t named is)
-    (c.in_ok-room.ensures.step t a.name.now named totals is)
-    (λ s. c.in_ok-room.ensures.used t s named is))
+    (c.in_ok-room.ensures.room t.tree a.dir is free)
+    (c.in_ok-room.ensures.step t.tree a.dir a.name.now totals is free)
+    (λ s. c.in_ok-room.ensures.used t.tree a.dir s is free))
     (c.in_ok-inode.ensures.step t told) (sym (c.in_ok-may_make.ensures t.tree a.dir is.own))
-    (c.in_ok-free_name.ensures.step t listed is) computed c.attr_by.ensures
+    (c.in_ok-slot.ensures.step t listed is) computed c.attr_by.ensures

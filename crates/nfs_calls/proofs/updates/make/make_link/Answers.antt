@@ -13,8 +13,8 @@ returns-clause-plan g c t told totals =
     let i = c.in_ok-inode.inode in
     let room = c.in_ok-room.room in
     let listed = c.searched.ensures.kept ∙ told in
-    let named = c.has_entry.ensures.kept ∙ listed in
     let is : IsDirectory t.tree a.dir i = c.in_ok-inode.ensures.directory t told in
+    let free = c.in_ok-slot.ensures.slot t listed is in
     let computed : IsComputed a.dir i a.name.now a.text.now room 0
     (made_inode a.cred a.attr.now kind.Link 1 0
     (length a.text.now) a.now) a.now a.totals c.made-made.result c.in_ok-changes.changes.items =
@@ -29,10 +29,10 @@ returns-clause-plan g c t told totals =
     make_link_plan t a.totals a.cred a.dir i a.name.now a.text.now a.attr.now room a.now
     c.made-made.result c.in_ok-changes.changes.items totals
     (is_open t.tree a.totals a.dir i a.name.now (length a.text.now) room totals is
-    (c.in_ok-room.ensures.room t named is)
-    (c.in_ok-room.ensures.step t a.name.now named totals is)
-    (λ s. c.in_ok-room.ensures.used t s named is))
+    (c.in_ok-room.ensures.room t.tree a.dir is free)
+    (c.in_ok-room.ensures.step t.tree a.dir a.name.now totals is free)
+    (λ s. c.in_ok-room.ensures.used t.tree a.dir s is free))
     (sym c.in_ok-entry_name.ensures.step) (passed NameTooLong _ c.in_ok-refuse.ensures)
-    (sym (c.in_ok-taken.ensures.has t listed is) ∙ passed Exist _ c.in_ok-refuse-2.ensures)
+    (passed Exist _ (sym (c.in_ok-slot.ensures.step t listed is)))
     (c.in_ok-inode.ensures.step t told)
     (sym (c.in_ok-may_make.ensures t.tree a.dir is.own)) computed

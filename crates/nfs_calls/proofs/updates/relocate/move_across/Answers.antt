@@ -7,32 +7,30 @@ use Rattle.nfs_calls.specs.Space.{replaced_blocks}
 use Rattle.nfs_calls.specs.Entries.{link_of}
 use Rattle.nfs_calls.proofs.MovesIn.{moved_slot, in_view}
 use Rattle.nfs_calls.proofs.MovesAcross.{across_planned, across_full}
-use Rattle.nfs_calls.proofs.Targets.{fails_then}
 use Rattle.nfs_calls.proofs.updates.relocate.move_across.Goals as goal
 
 pub returns-in-Err-clause-plan : goal.returns-in-Err-clause-plan
-returns-in-Err-clause-plan g c t name told totals two is none =
+returns-in-Err-clause-plan c t name totals free two is none =
     let m = c.args.moving.now in
     let s = moved_slot m c.args.to_name in
     let many = 264 * length (with_entry (slots_of (place t.tree m.to_dir)) s) in
     let used : c.from.result ≡ used_blocks t.tree = c.from.ensures
     ∙ ap (λ (n : Totals). n.used) totals in
-    fails_then c.in-Err.refusal (replaced_blocks c.from.result m.to.size many) _
-    (λ status e. across_full t.cells t.tree m name c.args.to_name c.args.now status two is
-    (ap (λ (n : ℕ). replaced_blocks n m.to.size many) (sym used) ∙ e))
-    (c.in-Err.ensures.step t s told is.to)
+    across_full t.cells t.tree m name c.args.to_name c.args.now c.in-Err.refusal two is
+    (ap (λ (n : ℕ). replaced_blocks n m.to.size many) (sym used)
+    ∙ c.in-Err.ensures.step t.tree m.to_dir s is.to free)
 
 pub returns-in_ok-plan_in-in-Ok-clause-plan : goal.returns-in_ok-plan_in-in-Ok-clause-plan
-returns-in_ok-plan_in-in-Ok-clause-plan g c t name told totals two is none =
+returns-in_ok-plan_in-in-Ok-clause-plan c t name totals free two is none =
     let m = c.args.moving.now in
     let s = moved_slot m c.args.to_name in
-    let room = c.in-Ok.ensures.room t told is.to in
+    let room = c.in-Ok.ensures.room t.tree m.to_dir is.to free in
     let count = room.slots_are s in
     let used : c.from.result ≡ used_blocks t.tree = c.from.ensures
     ∙ ap (λ (n : Totals). n.used) totals in
     let fits = ap (λ (n : ℕ). replaced_blocks n m.to.size (264 * c.in-Ok.room.slots)) (sym used)
     ∙ ap (λ (n : ℕ). replaced_blocks c.from.result m.to.size (264 * n)) count
-    ∙ c.in-Ok.ensures.step t s told is.to in
+    ∙ c.in-Ok.ensures.step t.tree m.to_dir s is.to free in
     let next : c.args.totals.next ≡ length t.tree = ap (λ (n : Totals). n.next) totals in
     let after : Totals = record { next = c.args.totals.next; used = c.in-Ok.room.used } in
     across_planned t.cells t.tree m name c.args.to_name c.args.now c.in-Ok.room.slot

@@ -1,6 +1,7 @@
-use Rattle.std.proofs.Common.{◌≡◌, ℕ, None, Some, ◌∙◌, sym}
+use Rattle.std.proofs.Common.{◌≡◌, ℕ, None, Some, ◌∙◌, subst, sym}
 use Rattle.file_tree.specs.Tree.{place, slots_of, entry}
 use Rattle.nfs_calls.specs.declared.updates.relocation.Relocation.{Relocation}
+use Rattle.inode_dirs.specs.Searches.{IsSought}
 use Rattle.nfs_calls.specs.TreeCells.{IsInode}
 use Rattle.nfs_calls.specs.Moves.{IsMoving}
 use Rattle.nfs_calls.proofs.MovedEntry.{directory_is_one}
@@ -19,8 +20,8 @@ returns-then-branch-clause-plan g c t name told totals from to found right =
     above_refused t.cells t.tree d.dir x d.to_dir name c.args.to_name.now c.args.now
     (sym above ∙ c.if-branch.true)
 
-pub returns-in-None-clause-plan : goal.returns-in-None-clause-plan
-returns-in-None-clause-plan g c t name told totals from to found right =
+pub returns-in-Free-clause-plan : goal.returns-in-Free-clause-plan
+returns-in-Free-clause-plan g c t name told totals from to found right =
     let d = c.args.directories.now in
     let x : ℕ × ℕ = (c.args.slot, c.args.number) in
     let moved : IsInode t.tree x.1 c.in_ok-moved.moved =
@@ -49,18 +50,18 @@ returns-in-None-clause-plan g c t name told totals from to found right =
       apart = sym above ∙ c.if-branch.false;
     } in
     let last = c.holds_itself.ensures.kept ∙ later in
-    let none : entry (slots_of (place t.tree d.to_dir)) c.args.to_name.now ≡ None =
-    sym (c.in_ok-entry.ensures.entry t last to) ∙ c.in-None.is in
+    let none =
+    subst (IsSought (slots_of (place t.tree d.to_dir)) c.args.to_name.now) c.in-Free.is
+    (c.in_ok-slot.ensures.sought t last to) in
     moved_gives t.cells t.tree m name c.in_ok-owned.owned c.args.to_name.now c.args.now None
     c.move_in.result c.in_ok-owned.ensures
-    (λ moving empty. c.move_in.ensures.plan t name
-    (c.entry.ensures.kept ∙ last) totals moving empty) is none
+    (λ moving empty. c.move_in.ensures.plan t name totals none.1 moving empty) is none.0
 
-pub returns-in-Some-clause-plan : goal.returns-in-Some-clause-plan
-returns-in-Some-clause-plan g c t name told totals from to found right =
+pub returns-in-Entry-clause-plan : goal.returns-in-Entry-clause-plan
+returns-in-Entry-clause-plan g c t name told totals from to found right =
     let d = c.args.directories.now in
     let x : ℕ × ℕ = (c.args.slot, c.args.number) in
-    let y : ℕ × ℕ = (c.in-Some.to_slot, c.in-Some.target) in
+    let y : ℕ × ℕ = (c.in-Entry.slot, c.in-Entry.object) in
     let moved : IsInode t.tree x.1 c.in_ok-moved.moved =
     c.in_ok-moved.ensures.inode t d.dir x.0 name told found in
     let later = c.named.ensures.kept ∙ told in
@@ -88,8 +89,12 @@ returns-in-Some-clause-plan g c t name told totals from to found right =
     } in
     let last = c.holds_itself.ensures.kept ∙ later in
     let some : entry (slots_of (place t.tree d.to_dir)) c.args.to_name.now ≡ Some y =
-    sym (c.in_ok-entry.ensures.entry t last to) ∙ c.in-Some.is in
+    subst (IsSought (slots_of (place t.tree d.to_dir)) c.args.to_name.now) c.in-Entry.is
+    (c.in_ok-slot.ensures.sought t last to) in
     moved_gives t.cells t.tree m name c.in_ok-owned.owned c.args.to_name.now c.args.now
     (Some y) c.move_over.result c.in_ok-owned.ensures
     (λ moving target. c.move_over.ensures.plan t name
-    (c.entry.ensures.kept ∙ last) totals moving target) is some
+    (c.entry_or_slot.ensures.kept ∙ last) totals moving target) is some
+
+pub returns-in-Free-clause-rose : goal.returns-in-Free-clause-rose
+returns-in-Free-clause-rose g c e = absurd (c.move_in.ensures.store e)

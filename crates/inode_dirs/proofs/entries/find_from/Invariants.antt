@@ -1,7 +1,7 @@
 use Rattle.std.proofs.Common.{◌≡◌, ◌≤◌, drop}
-use Rattle.file_tree.specs.Tree.{Slots, entry, entry_from}
+use Rattle.file_tree.specs.Tree.{Slots, entry_from}
 use Rattle.inode_dirs.specs.Slots.{TellsSlots}
-use Rattle.inode_dirs.proofs.entries.find.Given as goal
+use Rattle.inode_dirs.proofs.entries.find_from.Given as goal
 
 abbrev pub invariant-loop-slot : goal.invariant-loop-slot
 invariant-loop-slot g l = record {
@@ -9,5 +9,5 @@ invariant-loop-slot g l = record {
   left : g.R.CellRead.left l.cells ≡ g.R.CellRead.left l.fn.cells;
   count : g.R.CellRead.faults l.fn.cells ≤ g.R.CellRead.faults l.cells;
   found : (held : Slots) → TellsSlots (g.R.CellRead.cells l.fn.cells) l.dir l.slots held
-      → entry_from l.slot (drop l.slot held) l.name ≡ entry held l.name;
+      → entry_from l.slot (drop l.slot held) l.name ≡ entry_from l.first (drop l.first held) l.name;
 }

@@ -1,7 +1,7 @@
 use Rattle.std.proofs.Common.{◌<◌, ◌≤◌, length, get_or, None, arith, sym, ◌∙◌}
 use Rattle.inode_dirs.proofs.HeldSlots.{slot_then}
 use Rattle.inode_dirs.proofs.Searches.{entry_passes, entry_hits, entry_ends}
-use Rattle.inode_dirs.proofs.entries.find.Goals as goal
+use Rattle.inode_dirs.proofs.entries.find_from.Goals as goal
 
 pub returns-in-Some-clause-found : goal.returns-in-Some-clause-found
 returns-in-Some-clause-found g c held t =
