@@ -1,8 +1,8 @@
 -- What the records of a log make of one cell.
-use Rattle.std.proofs.Common.{◌≡◌, ℕ, zero, suc, ◌+◌, ◌-◌, ◌≤◌, ◌<◌, List, [], ◌∷◌, length, get_or, take, drop, Option, refl, sym, ap, ◌∙◌, inl, inr, arith, append-nil}
+use Rattle.std.proofs.Common.{◌≡◌, ℕ, zero, suc, ◌+◌, ◌-◌, ◌≤◌, ◌<◌, List, [], ◌∷◌, ◌++◌, length, get_or, take, drop, Option, refl, sym, ap, subst, ◌∙◌, inl, inr, arith, append-nil}
 use Rattle.std.specs.Prelude.{fold}
 use Rattle.std.proofs.lemmas.Bool.{cases_eq}
-use Rattle.std.proofs.lemmas.List.{take-take}
+use Rattle.std.proofs.lemmas.List.{drop_more, take-append-drop, take-take}
 use Rattle.std.proofs.lemmas.List.Sums.{fold-append}
 use Rattle.harp_cells.specs.declared.cell.Cell.{Cell}
 use Rattle.harp_cells.specs.declared.value.Value.{Value}
@@ -11,7 +11,7 @@ use Rattle.harp_cells.specs.Effect.{after, changed}
 use Rattle.fuzzy_cells.specs.History.{History, between, in_a_row}
 use Rattle.fuzzy_cells.proofs.Fuzzy.{gives_exactly}
 use Rattle.overlay.specs.Laws.{IsLogOf, ReadsExactly}
-use Rattle.overlay.specs.Overlay.{IsToldBy, Leaves, changes_upto}
+use Rattle.overlay.specs.Overlay.{IsToldBy, Leaves, Sets, changes_upto, value_of}
 
 -- the records of a log up to an index are those of its history from the base on
 upto_is : (history : History) (base : ℕ) (records : History) (upto : ℕ) → IsLogOf history base records
@@ -77,3 +77,25 @@ pub told_same : (c : Cell) (changes others found : List Change)
     → IsToldBy c changes found → IsToldBy c others found
 told_same c changes others [] same told = λ held. same held ∙ told held
 told_same c changes others (x ∷ found) same told = λ held. same held ∙ told held
+
+-- one change more in front, which leaves the cell as those behind it do
+pub one_more_leaves : (c : Cell) (changes : List Change) (at : ℕ) (d : Change) → at < length changes
+    → Leaves c (get_or changes at d ∷ []) → Leaves c (drop (at + 1) changes) → Leaves c (drop at changes)
+one_more_leaves c changes at d lt one rest = λ held.
+    ap (λ (l : List Change). fold (changed c) held l) (drop_more changes at d lt)
+    ∙ ap (λ (v : Option Value). fold (changed c) v (drop (at + 1) changes)) (one held)
+    ∙ rest held
+
+-- a change sets the cell, and those behind it leave it
+pub told_from : (c : Cell) (changes : List Change) (at : ℕ) (d : Change) → at < length changes
+    → Sets c (get_or changes at d ∷ []) (value_of (get_or changes at d)) → Leaves c (drop (at + 1) changes)
+    → IsToldBy c changes (drop at changes)
+told_from c changes at d lt one rest =
+    let x = get_or changes at d in
+    subst (λ (l : List Change). IsToldBy c changes l) (sym (drop_more changes at d lt)) (λ held.
+    ap (λ (l : List Change). fold (changed c) held l)
+    (sym (take-append-drop at changes) ∙ ap (λ (l : List Change). take at changes ++ l) (drop_more changes at d lt))
+    ∙ fold-append (changed c) held (take at changes) (x ∷ drop (at + 1) changes)
+    ∙ ap (λ (v : Option Value). fold (changed c) v (drop (at + 1) changes))
+    (one (fold (changed c) held (take at changes)))
+    ∙ rest (value_of x))

@@ -156,6 +156,13 @@ impl CellIndex {
         }
     }
 
+    /// It is one over no records again.
+    pub fn clear(&mut self)
+        ensures { (base : ℕ) → IsIndexOf self.new base [] }
+    {
+        self.places.clear();
+    }
+
     /// The records up to n go, of this log over which the index is: what each of them changes is
     /// read of the log, which drops them after that.
     pub fn drop_to<L: ChangeLog>(&mut self, log: &L, n: u64)

@@ -20,13 +20,14 @@ fn sets(change: &Change, cell: Cell) -> bool
 fn from_last(changes: &[Change], cell: Cell) -> &[Change]
     ensures { IsToldBy cell changes.now result.now }
 {
-    let mut found = &changes[..0];
-    for i in 0..changes.len() {
-        if sets(&changes[i], cell) {
-            found = &changes[i..];
+    let mut at = changes.len();
+    while at > 0 {
+        at -= 1;
+        if sets(&changes[at], cell) {
+            return &changes[at..];
         }
     }
-    found
+    &[]
 }
 
 /// The changes of a record from the last one on that sets the cell, in the last record up to an

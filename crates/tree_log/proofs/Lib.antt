@@ -1,5 +1,6 @@
 pub mod Forgetting
 pub mod Holding
+mod Indexed
 pub mod Lengths
 mod Plans
 mod Sizes

@@ -9,7 +9,7 @@ ghost use Rattle.overlay.specs.Index.{IsIndexOf};
 ghost use Rattle.tree_log.specs.Committed.{committed_over};
 ghost use Rattle.tree_log.specs.TreeLog.{changes_in};
 
-use crate::tree_log::TreeLog;
+use crate::tree_log::{TreeLog, follow};
 use cell_cache::Cached;
 use harp_cells::{Cell, CellFault, CellRead, Value};
 use harp_store::Store;
@@ -66,6 +66,7 @@ impl TreeLog {
         ensures count { D.faults store.old ≤ D.faults store.new }
     {
         let _ = self.log.top();
+        follow(&mut self.index, &mut self.indexed, &self.log)?;
         let mut cached = Cached::new(alloc, store, &mut self.cache);
         value_over(alloc, &mut cached, &self.index, &self.log, cell)
     }

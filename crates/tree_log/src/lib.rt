@@ -5,11 +5,11 @@
 //! # What is proved
 //!
 //! An active log over a store, together with an index over its records and a cache of the store's
-//! cells. Its type keeps that the index holds just the changes of the log's records. The record of
-//! a new update is planned here.
+//! cells. Its type keeps that the index holds just the changes of the log's first records; the
+//! others come into it before a cell is read. The record of a new update is planned here.
 //!
 //! - `of`, `append`, `commit_to`, `lower_to`, `drop_to`, `freeze` and the numbers are those of the
-//!   log. `append` takes the memory of the index first: where it fails, all is as before (`err`).
+//!   log. Where `append` fails, all is as before (`err`).
 //!   With the record of the next entry of a list the log is of the list with it (`tree`).
 //! - The premise of what speaks of the tree (`HoldsTree list upto`): the records are those of the
 //!   entries of a list after the base, with the changes that the list gives them; and the store,

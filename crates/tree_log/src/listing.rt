@@ -13,7 +13,7 @@ ghost use Rattle.tree_listing.specs.Listing.{tree_listed};
 ghost use Rattle.tree_log.specs.Reading.{HoldsTree};
 ghost use Rattle.tree_log.specs.TreeLog.{changes_in};
 
-use crate::tree_log::TreeLog;
+use crate::tree_log::{TreeLog, follow};
 use cell_cache::Cached;
 use harp_cells::{CellFault, CellRead};
 use harp_store::Store;
@@ -61,6 +61,7 @@ impl TreeLog {
         ensures count { D.faults store.old ≤ D.faults store.new }
     {
         let cp = self.log.cp();
+        follow(&mut self.index, &mut self.indexed, &self.log)?;
         let mut cached = Cached::new(alloc, store, &mut self.cache);
         let objects = objects_over(alloc, &mut cached, &self.index, &self.log)?;
         Ok(Listing { cp, objects })

@@ -20,7 +20,7 @@ ghost use Rattle.tree_log.specs.TreeLog.{changes_in};
 ghost use Rattle.volatile_log.specs.Log.{top};
 
 use crate::new_record;
-use crate::tree_log::TreeLog;
+use crate::tree_log::{TreeLog, follow};
 use cell_cache::Cached;
 use event_record::{Index, Moment, Record};
 use harp_cells::{Cell, CellFault, CellRead, Value};
@@ -151,6 +151,7 @@ impl TreeLog {
         ensures count { D.faults store.old ≤ D.faults store.new }
     {
         let _ = self.log.top();
+        follow(&mut self.index, &mut self.indexed, &self.log)?;
         let mut cached = Cached::new(alloc, store, &mut self.cache);
         record_over(
             alloc,

@@ -17,7 +17,7 @@ ghost use Rattle.tree_log.specs.Reading.{HoldsTree};
 ghost use Rattle.tree_log.specs.TreeLog.{changes_in};
 ghost use Rattle.volatile_log.specs.Log.{top};
 
-use crate::tree_log::TreeLog;
+use crate::tree_log::{TreeLog, follow};
 use cell_cache::Cached;
 use dedup::Seen;
 use harp_cells::{CellFault, CellRead};
@@ -96,6 +96,7 @@ impl TreeLog {
         ensures count { D.faults store.old ≤ D.faults store.new }
     {
         let _ = self.log.top();
+        follow(&mut self.index, &mut self.indexed, &self.log)?;
         let mut cached = Cached::new(alloc, store, &mut self.cache);
         seen_over(alloc, &mut cached, &self.index, &self.log, client, number)
     }
@@ -123,6 +124,7 @@ impl TreeLog {
         ensures count { D.faults store.old ≤ D.faults store.new }
     {
         let _ = self.log.top();
+        follow(&mut self.index, &mut self.indexed, &self.log)?;
         let mut cached = Cached::new(alloc, store, &mut self.cache);
         answer_over(alloc, &mut cached, &self.index, &self.log, cred, call)
     }

@@ -1,6 +1,6 @@
 //! A log over a tree.
 
-ghost use Rattle.std.specs.Prelude.{◌≡◌, ℕ, ◌+◌, ◌-◌, ◌<◌, ◌≤◌, ◌^◌, ◌↔◌, ◌++◌, ◌∷◌, [], List, length, take, true, Option, IfOk, IfErr, IfSome, IsSome, OnErr, OnOk};
+ghost use Rattle.std.specs.Prelude.{◌≡◌, ℕ, ◌+◌, ◌-◌, ◌<◌, ◌≤◌, ◌^◌, ◌↔◌, ◌++◌, ◌∷◌, [], List, drop, length, take, true, Option, IfOk, IfErr, IfSome, IsSome, OnErr, OnOk};
 ghost use Rattle.std.specs.Option.{option_copied};
 ghost use Rattle.file_tree.specs.Book.{Entry};
 ghost use Rattle.harp_types.specs.Update.{is_update};
@@ -22,37 +22,76 @@ use volatile_log::{ActiveLog, FrozenLog};
 const PLACES: u32 = 4096;
 
 /// An active log over a store that has the first of its updates. It has an index of which record
-/// changes which cell, and a cache of the store's cells. Contracts see it as the log and the cells
-/// that the cache has.
+/// changes which cell, which follows the log where cells are read, and a cache of the store's
+/// cells. Contracts see it as the log and the cells that the cache has.
 #[derive(Drop)]
 pub struct TreeLog {
     pub(crate) log: ActiveLog,
     pub(crate) index: CellIndex,
+    /// Up to which record the index goes: a log may end before a cell is read.
+    pub(crate) indexed: u64,
     pub(crate) cache: CellCache,
 }
 
 impl Model for TreeLog {
+    ghost use Rattle.std.specs.Prelude.{◌≤◌, ◌-◌, take};
     ghost use Rattle.overlay.specs.Index.{IsIndexOf};
     ghost use Rattle.tree_log.specs.TreeLog.{TreeLogValue, changes_in};
+    ghost use Rattle.volatile_log.specs.Log.{top};
 
     ghost Value = { TreeLogValue };
 
     ghost view = { λ t. record { log = t.log; cached = t.cache.entries } };
 
-    ghost invariant = { λ t. IsIndexOf t.index t.log.base (changes_in t.log.records) };
+    ghost invariant = { λ t. (t.log.base ≤ t.indexed) × (t.indexed ≤ top t.log)
+        × IsIndexOf t.index t.log.base
+        (take (t.indexed - t.log.base) (changes_in t.log.records)) };
 }
 
-// An index over the records of a log.
-fn index_of(alloc: Global, log: &ActiveLog) -> Result<CellIndex, AllocError>
-    ensures { IfOk result (λ index. IsIndexOf index log.now.base (changes_in log.now.records)) }
+// The index of the first records of a log gets the others too; where memory runs out, some first
+// ones of them.
+pub(crate) fn follow(
+    index: &mut CellIndex,
+    indexed: &mut u64,
+    log: &ActiveLog,
+) -> Result<(), AllocError>
+    requires within { (log.now.base ≤ indexed.old) × (indexed.old ≤ top log.now) }
+    requires index { IsIndexOf index.old log.now.base
+        (take (indexed.old - log.now.base) (changes_in log.now.records)) }
+    ensures within { (log.now.base ≤ indexed.new) × (indexed.new ≤ top log.now) }
+    ensures index { IsIndexOf index.new log.now.base
+        (take (indexed.new - log.now.base) (changes_in log.now.records)) }
+    ensures end { OnOk result (indexed.new ≡ top log.now) }
+    ensures whole { OnOk result (IsIndexOf index.new log.now.base
+        (changes_in log.now.records)) }
 {
-    let mut index = CellIndex::new(alloc);
-    let mut at = log.base();
-    while at < log.top() {
-        index.add(at + 1, log.changes(at + 1))?;
-        at += 1;
+    while *indexed < log.top() {
+        index.add(*indexed + 1, log.changes(*indexed + 1))?;
+        *indexed += 1;
     }
-    Ok(index)
+    Ok(())
+}
+
+// The records up to n go of the index, before the log drops them. Where it has none behind them, or
+// no memory to follow the log, it begins anew there.
+fn drop_indexed(index: &mut CellIndex, indexed: &mut u64, log: &ActiveLog, n: u64)
+    requires dropped { (log.now.base ≤ n) × (n ≤ log.now.lb) }
+    requires within { (log.now.base ≤ indexed.old) × (indexed.old ≤ top log.now) }
+    requires index { IsIndexOf index.old log.now.base
+        (take (indexed.old - log.now.base) (changes_in log.now.records)) }
+    ensures within { (n ≤ indexed.new) × (indexed.new ≤ top log.now) }
+    ensures index { IsIndexOf index.new n
+        (take (indexed.new - n) (drop (n - log.now.base) (changes_in log.now.records))) }
+{
+    let _ = log.top();
+    if *indexed > n {
+        if let Ok(()) = follow(index, indexed, log) {
+            index.drop_to(log, n);
+            return;
+        }
+    }
+    index.clear();
+    *indexed = n;
 }
 
 impl TreeLog {
@@ -62,12 +101,14 @@ impl TreeLog {
         ensures ok { IfOk result (λ t. t ≡ bare log) }
         ensures err { IfErr result (λ back. back ≡ log) }
     {
-        let index = match index_of(alloc, &log) {
-            Ok(index) => index,
-            Err(_) => return Err(log),
-        };
+        let indexed = log.base();
         match CellCache::new(alloc, PLACES) {
-            Ok(cache) => Ok(TreeLog { log, index, cache }),
+            Ok(cache) => Ok(TreeLog {
+                log,
+                index: CellIndex::new(alloc),
+                indexed,
+                cache,
+            }),
             Err(_) => Err(log),
         }
     }
@@ -95,8 +136,6 @@ impl TreeLog {
             → HoldsTree list upto self.old.log told
             → OnOk result (HoldsTree (list ++ e ∷ []) upto self.new.log told) }
     {
-        self.index
-            .add(item.index().get(), item.fields().changes.as_slice())?;
         match self.log.append(item) {
             Ok(()) => Ok(()),
             Err(_) => unreachable!(),
@@ -130,9 +169,11 @@ impl TreeLog {
         ensures tree { (list : List Entry) (upto : ℕ) (told : Option Moments)
             → HoldsTree list upto self.old.log told → HoldsTree list upto self.new.log told }
     {
-        let _ = self.log.top();
+        if n == self.log.base() {
+            return;
+        }
         // The index reads of the log what the records change that go.
-        self.index.drop_to(&self.log, n);
+        drop_indexed(&mut self.index, &mut self.indexed, &self.log, n);
         self.log.drop_to(n);
     }
 

@@ -15,6 +15,11 @@ new-cached-requires g c =
     subst (λ (t : TreeLogValue). AreOf (cells_told (g.D.Store.told c.args.store.now)) t.cached)
     (sym c.self.view_is) c.requires.cached
 
+pub returns-in_err-follow-clause-cached : goal.returns-in_err-follow-clause-cached
+returns-in_err-follow-clause-cached g c =
+    subst (λ (t : TreeLogValue). AreOf (cells_told (g.D.Store.told c.args.store.now)) t.cached)
+    (sym c.self.view_is) c.requires.cached
+
 pub returns-clause-cached : goal.returns-clause-cached
 returns-clause-cached g c cells is = c.answer_over.new.under.are cells (search (rules, is))
 
