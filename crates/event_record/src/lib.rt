@@ -7,8 +7,10 @@
 //! and at most 60,008 bytes as they are spelled.
 //!
 //! - `Record::of` gives a record exactly where its fields have at most so many bytes (`found`),
-//!   with these fields (`value`). `copy` gives an equal record; `of`, `new` and `get` of the two
-//!   kinds of numbers give exactly the number, and `of` gives one exactly within its bounds.
+//!   with these fields (`value`). `copy` gives an equal record, and so does `with_bytes`, which
+//!   keeps its spelling; where `bytes` gives any, they are the record's. `of`, `new` and `get` of
+//!   the two kinds of numbers give exactly the number, and `of` gives one exactly within its
+//!   bounds.
 //! - `read_item` gives a record exactly where its one spelling stands at the front of the bytes,
 //!   with its length (`found`, `only`), and else tells the first fault and its place (`exact`). A
 //!   field that would pass the 60,008 bytes is too long at its first byte, also where the input
@@ -22,6 +24,7 @@ pub mod fields;
 mod numbers;
 mod reading;
 mod record;
+mod size;
 mod writing;
 
 pub use changes::Changes;

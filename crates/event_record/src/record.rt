@@ -1,7 +1,7 @@
 //! Event records.
 
 ghost use Rattle.std.specs.Prelude.{◌≡◌, ◌≤◌, ◌↔◌, length, IfOk, IfSome, IsSome, OnOk};
-ghost use Rattle.event_record.specs.Bytes.{FieldsFit, record_bytes};
+ghost use Rattle.event_record.specs.Bytes.{FieldsFit, RecordFits, record_bytes};
 ghost use Rattle.harp_cells.specs.ValueBytes.{longest_record};
 
 use crate::changes::Changes;
@@ -54,24 +54,27 @@ impl RecordFields {
     }
 }
 
-/// An event record: fields whose bytes are at most 60,008. Copies share them. Contracts see it as
-/// its fields.
+/// An event record: fields whose bytes are at most 60,008. Copies share them, and the bytes where
+/// the record keeps those too. Contracts see it as its fields.
 #[derive(Drop)]
 pub struct Record {
     fields: Rc<RecordFields>,
+    bytes: Option<Rc<Vec<u8>>>,
 }
 
 impl Model for Record {
-    ghost use Rattle.std.specs.Prelude.{length, ◌≤◌};
+    ghost use Rattle.std.specs.Prelude.{◌≡◌, length, ◌≤◌, IfSome};
     ghost use Rattle.event_record.specs.declared.record.RecordFields.{RecordFields};
-    ghost use Rattle.event_record.specs.Bytes.{record_bytes};
+    ghost use Rattle.event_record.specs.Bytes.{RecordFits, record_bytes};
     ghost use Rattle.harp_cells.specs.ValueBytes.{longest_record};
 
     ghost Value = { RecordFields };
 
     ghost view = { λ r. r.fields.value };
 
-    ghost invariant = { λ r. length (record_bytes r.fields.value) ≤ longest_record };
+    ghost invariant = { λ r. (length (record_bytes r.fields.value) ≤ longest_record)
+        × IfSome r.bytes (λ bytes. (bytes.value.items ≡ record_bytes r.fields.value)
+        × RecordFits r.fields.value) };
 }
 
 impl Record {
@@ -88,6 +91,7 @@ impl Record {
         if bytes.len() <= LONGEST_RECORD {
             Ok(Some(Record {
                 fields: Rc::new(alloc, fields)?,
+                bytes: None,
             }))
         } else {
             Ok(None)
@@ -99,7 +103,33 @@ impl Record {
         requires { length (record_bytes fields.value) ≤ longest_record }
         ensures { result ≡ fields.value }
     {
-        Record { fields }
+        Record {
+            fields,
+            bytes: None,
+        }
+    }
+
+    /// An equal record, which keeps its bytes: these.
+    pub fn with_bytes(&self, bytes: Rc<Vec<u8>>) -> Result<Record, AllocError>
+        requires bytes { bytes.value.items ≡ record_bytes self.now }
+        requires fits { RecordFits self.now }
+        ensures { IfOk result (λ copy. copy ≡ self.now) }
+    {
+        Ok(Record {
+            fields: self.fields.clone()?,
+            bytes: Some(bytes),
+        })
+    }
+
+    /// Its bytes, where it keeps them.
+    pub fn bytes(&self) -> Option<&[u8]>
+        ensures { IfSome result (λ bytes. (bytes.now ≡ record_bytes self.now)
+            × RecordFits self.now) }
+    {
+        match &self.bytes {
+            Some(bytes) => Some(bytes.as_slice()),
+            None => None,
+        }
     }
 
     /// The fields.
@@ -117,12 +147,24 @@ impl Record {
         self.fields.index
     }
 
-    /// An equal record, which shares the fields.
+    /// An equal record, which shares the fields, and the bytes that are kept.
     pub fn copy(&self, _alloc: Global) -> Result<Record, AllocError>
         ensures { IfOk result (λ copy. copy ≡ self.now) }
     {
         Ok(Record {
             fields: self.fields.clone()?,
+            bytes: self.shared_bytes()?,
         })
+    }
+
+    /// The bytes that it keeps, shared.
+    fn shared_bytes(&self) -> Result<Option<Rc<Vec<u8>>>, AllocError>
+        ensures { IfOk result (λ found. IfSome found (λ bytes.
+            (bytes.value.items ≡ record_bytes self.now) × RecordFits self.now)) }
+    {
+        match &self.bytes {
+            Some(bytes) => Ok(Some(bytes.clone()?)),
+            None => Ok(None),
+        }
     }
 }

@@ -13,14 +13,29 @@ use harp_base::FieldFault;
 use harp_cells::{NonEmpty, Value};
 use harp_store::SharedValue;
 use std::alloc::{AllocError, Global};
+use std::rc::Rc;
+
+/// The bytes of a record. They are written only where the record doesn't keep them.
+fn bytes_of(alloc: Global, item: &Record) -> Result<Vec<u8>, AllocError>
+    ensures value { IfOk result (λ bytes. bytes.items ≡ record_bytes item.now) }
+    ensures fits { OnOk result (RecordFits item.now) }
+{
+    match item.bytes() {
+        Some(bytes) => Ok(Vec::from_slice(alloc, bytes)?),
+        None => {
+            let mut bytes = Vec::with_capacity(alloc, USUAL_RECORD)?;
+            put_item(&mut bytes, item)?;
+            Ok(bytes)
+        }
+    }
+}
 
 /// The value that is written for a record: its bytes.
 pub(crate) fn value_of(alloc: Global, item: &Record) -> Result<Value, AllocError>
     ensures value { IfOk result (λ value. value ≡ SavedCred (record_bytes item.now)) }
     ensures fits { OnOk result (RecordFits item.now) }
 {
-    let mut bytes = Vec::with_capacity(alloc, USUAL_RECORD)?;
-    put_item(&mut bytes, item)?;
+    let bytes = bytes_of(alloc, item)?;
     let _ = item.fields();
     Ok(Value::SavedCred {
         bytes: NonEmpty::new(bytes),
@@ -71,7 +86,18 @@ pub fn whole_old_record(alloc: Global, bytes: &[u8]) -> Result<Option<Record>, A
     }
 }
 
-/// The same, where the record may have been seen before.
+/// The same record, which keeps these bytes.
+fn with_bytes(alloc: Global, bytes: &[u8], record: &Record) -> Result<Record, AllocError>
+    requires bytes { bytes.now ≡ record_bytes record.now }
+    requires fits { RecordFits record.now }
+    ensures { IfOk result (λ same. same ≡ record.now) }
+{
+    let kept = Rc::new(alloc, Vec::from_slice(alloc, bytes)?)?;
+    record.with_bytes(kept)
+}
+
+/// The record that these bytes are, where it may have been seen before. One with few bytes keeps
+/// them; one with more does so only if it was seen, so that a log doesn't take twice the room.
 fn seen_record(
     alloc: Global,
     bytes: &[u8],
@@ -86,9 +112,16 @@ fn seen_record(
     if let Some(record) = seen.record_of(alloc, index, bytes)? {
         return Ok(Some(record));
     }
-    let item = whole_record(alloc, bytes)?;
-    seen.note(alloc, bytes, &item)?;
-    Ok(item)
+    let Some(record) = whole_record(alloc, bytes)? else {
+        return Ok(None);
+    };
+    let kept = with_bytes(alloc, bytes, &record)?;
+    seen.note(kept.copy(alloc)?)?;
+    if bytes.len() <= USUAL_RECORD {
+        Ok(Some(kept))
+    } else {
+        Ok(Some(record))
+    }
 }
 
 /// The record that a cell has, None where it has none. It is that of the index, if it was seen

@@ -5,43 +5,9 @@ ghost use Rattle.event_record.specs.Bytes.{RecordFits, record_bytes};
 
 use event_record::Record;
 use std::alloc::{AllocError, Global};
-use std::marker::Model;
 
 // How many records are kept in mind.
 const PLACES: usize = 64;
-
-/// A record that was read, and its bytes. Contracts see it as the record.
-#[derive(Drop)]
-struct Seen {
-    bytes: Vec<u8>,
-    read: Record,
-}
-
-impl Model for Seen {
-    ghost use Rattle.std.specs.Prelude.{◌≡◌};
-    ghost use Rattle.event_record.specs.Bytes.{RecordFits, record_bytes};
-    ghost use Rattle.event_record.specs.declared.record.RecordFields.{RecordFields};
-
-    ghost Value = { RecordFields };
-
-    ghost view = { λ s. s.read };
-
-    ghost invariant = { λ s. (s.bytes.items ≡ record_bytes s.read) × RecordFits s.read };
-}
-
-impl Seen {
-    /// The record, where these are its bytes.
-    fn record_of(&self, alloc: Global, bytes: &[u8]) -> Result<Option<Record>, AllocError>
-        ensures { IfOk result (λ found. IfSome found
-            (λ r. (bytes.now ≡ record_bytes r) × RecordFits r)) }
-    {
-        if are_same(self.bytes.as_slice(), bytes) {
-            Ok(Some(self.read.copy(alloc)?))
-        } else {
-            Ok(None)
-        }
-    }
-}
 
 /// Whether bytes are the same. All are compared, without a way out in between: so many can be at
 /// once.
@@ -60,11 +26,26 @@ fn are_same(some: &[u8], others: &[u8]) -> bool
     same
 }
 
-/// Records that were read, with their bytes. Where the bytes of one come again, it is shared and
-/// not read anew. No result depends on what is kept in mind.
+/// An equal record, where it keeps its bytes and these are they.
+fn where_same(alloc: Global, record: &Record, bytes: &[u8]) -> Result<Option<Record>, AllocError>
+    ensures { IfOk result (λ found. IfSome found
+        (λ r. (bytes.now ≡ record_bytes r) × RecordFits r)) }
+{
+    let Some(own) = record.bytes() else {
+        return Ok(None);
+    };
+    if are_same(own, bytes) {
+        Ok(Some(record.copy(alloc)?))
+    } else {
+        Ok(None)
+    }
+}
+
+/// Records that were read, which keep their bytes. Where the bytes of one come again, it is shared
+/// and not read anew. No result depends on what is kept in mind.
 #[derive(Drop)]
 pub struct SeenRecords {
-    places: Vec<Option<Seen>>,
+    places: Vec<Option<Record>>,
 }
 
 impl SeenRecords {
@@ -86,7 +67,7 @@ impl SeenRecords {
             (λ r. (bytes.now ≡ record_bytes r) × RecordFits r)) }
     {
         match self.places.get(place_of(index)) {
-            Some(Some(seen)) => seen.record_of(alloc, bytes),
+            Some(Some(record)) => where_same(alloc, record, bytes),
             Some(None) => Ok(None),
             None => Ok(None),
         }
@@ -99,26 +80,12 @@ impl SeenRecords {
         Ok(())
     }
 
-    /// Keeps a record with its bytes in mind, where there is one.
-    pub(crate) fn note(
-        &mut self,
-        alloc: Global,
-        bytes: &[u8],
-        item: &Option<Record>,
-    ) -> Result<(), AllocError>
-        requires { IfSome item.now (λ r. (bytes.now ≡ record_bytes r) × RecordFits r) }
-    {
-        let Some(record) = item else {
-            return Ok(());
-        };
+    /// Keeps a record in mind. It keeps its bytes, or is of no use.
+    pub(crate) fn note(&mut self, record: Record) -> Result<(), AllocError> {
         self.make_places()?;
         let place = place_of(record.index().get());
-        let seen = Seen {
-            bytes: Vec::from_slice(alloc, bytes)?,
-            read: record.copy(alloc)?,
-        };
         if place < self.places.len() {
-            self.places[place] = Some(seen);
+            self.places[place] = Some(record);
         }
         Ok(())
     }

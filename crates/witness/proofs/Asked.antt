@@ -1,12 +1,10 @@
 -- The records that are asked for, one by one.
-use Rattle.std.proofs.Common.{append-nil, append_assoc, nat_le, ◌≡◌, ℕ, zero, suc, ◌+◌, ◌-◌, ◌<◌, ◌≤◌, List, [], ◌∷◌, ◌++◌, length, take, drop, None, Some, Bool, true, false, nat_lt, refl, ap, sym, ◌∙◌, arith, if◌then◌else◌}
+use Rattle.std.proofs.Common.{append-nil, append_assoc, nat_le, ◌≡◌, ℕ, zero, suc, ◌+◌, ◌-◌, ◌<◌, ◌≤◌, List, [], ◌∷◌, ◌++◌, take, drop, None, Some, Bool, true, false, nat_lt, refl, ap, sym, ◌∙◌, arith, if◌then◌else◌}
 use Rattle.std.specs.List.{slice_get}
-use Rattle.std.proofs.lemmas.List.{length-append}
 use Rattle.std.proofs.lemmas.Bool.{ltb-true, le-leb, lt-leb}
-use Rattle.event_record.specs.Bytes.{record_bytes}
 use Rattle.event_record.specs.declared.record.RecordFields.{RecordFields}
 use Rattle.volatile_log.specs.Log.{LogValue, record_at}
-use Rattle.witness.specs.Serving.{asked_for, front, most_bytes, one_or_more, record_size}
+use Rattle.witness.specs.Serving.{asked_for, front, most_bytes, one_or_more}
 
 drop_there : (rs : List RecordFields) (n : ℕ) (r : RecordFields) → slice_get rs n ≡ Some r
     → drop n rs ≡ r ∷ drop (n + 1) rs
@@ -84,11 +82,3 @@ goes_on size log index last used more r items longer all h to is sum few next =
     ∙ append_assoc items (r ∷ []) (front size (used + size r) rest)
     ∙ sym (ap (λ xs. items ++ xs) (ap (front size used) (asked_next log index last r to is)
     ∙ fits size used r rest few')) ∙ h
-
--- ---- counting their bytes
-
--- with the spelling of one more record behind those that take so many bytes
-pub counted : (out old : List ℕ) (used : ℕ) (r : RecordFields) → out ≡ old ++ record_bytes r
-    → length old ≡ used → length out ≡ used + record_size r
-counted out old used r is was =
-    ap length is ∙ length-append old (record_bytes r) ∙ ap (λ n. n + length (record_bytes r)) was

@@ -6,7 +6,7 @@ ghost use Rattle.volatile_log.specs.Log.{LogValue, record_at, top};
 ghost use Rattle.witness.specs.Serving.{asked_for, given, one_or_more, record_size};
 
 use event_record::Record;
-use event_record::fields::put_item;
+use event_record::fields::record_size;
 use std::alloc::{AllocError, Global};
 use volatile_log::{ActiveLog, FrozenLog};
 
@@ -114,7 +114,8 @@ fn collect<L: Holds>(
     }
 }
 
-/// The record of an index that is held, and those after it. The records are spelled to be counted.
+/// The record of an index that is held, and those after it. The bytes of the records are counted,
+/// and not spelled.
 fn beginning<L: Holds>(
     alloc: Global,
     log: &L,
@@ -130,14 +131,13 @@ fn beginning<L: Holds>(
 {
     let mut given = Vec::new(alloc);
     given.push(item.copy(alloc)?)?;
-    let mut spelled = Vec::new(alloc);
-    put_item(&mut spelled, item)?;
+    let mut used = record_size(item);
     for index in first + 1..last + 1 {
         match log.held(index) {
             None => unreachable!(),
             Some(item) => {
-                put_item(&mut spelled, item)?;
-                if spelled.len() > MOST {
+                used += record_size(item);
+                if used > MOST {
                     return Ok(given);
                 }
                 given.push(item.copy(alloc)?)?;

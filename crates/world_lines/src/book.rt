@@ -6,6 +6,7 @@ ghost use Rattle.world_lines.specs.Book.{new_updates, with_reads, with_updates};
 ghost use Rattle.world_lines.specs.Given.{read_in, reads_in};
 ghost use Rattle.node_outputs.specs.Said.{entered};
 
+use crate::room::make_room;
 use harp_types::BookEntry;
 use node_outputs::Answered;
 use std::alloc::{AllocError, Global};
@@ -196,6 +197,7 @@ impl Book {
             entry: entry.copy(alloc)?,
         };
         lines.push(line)?;
+        make_room(&mut self.entries)?;
         self.entries.push(entry)?;
         Ok(())
     }

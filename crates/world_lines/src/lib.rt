@@ -38,7 +38,7 @@ mod listing;
 mod listings;
 mod packet;
 mod packets;
-mod record;
+mod room;
 mod shown;
 mod size;
 mod states;

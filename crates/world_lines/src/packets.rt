@@ -17,6 +17,7 @@ ghost use Rattle.world_lines.specs.Posted.{Posted, bytes_sent, delivered_at, pos
 use crate::due::{Ways, add_new, lower, lowest, take_due};
 use crate::kept::Kept;
 use crate::packet::Packet;
+use crate::room::make_room;
 use crate::size::message_size;
 use harp_types::{ServerId, Trio};
 use std::alloc::{AllocError, Global};
@@ -81,6 +82,7 @@ impl Packets {
         let size = message_size(&message);
         let kept = Kept::new(from, to, message, size);
         let n = self.kept.len() as u64;
+        make_room(&mut self.kept)?;
         self.kept.push(kept)?;
         self.bytes = self.bytes.saturating_add(size);
         add_new(&mut self.due, from, to, n);

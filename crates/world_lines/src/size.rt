@@ -3,7 +3,7 @@
 ghost use Rattle.std.specs.Prelude.{◌≡◌, length};
 ghost use Rattle.wire.specs.Messages.{message_bytes};
 
-use crate::record::{call_size, record_size, records_size, reply_size};
+use event_record::fields::{call_size, record_size, records_size, reply_size};
 use wire::Message;
 
 /// How many bytes a message has. It isn't spelled.

@@ -1,11 +1,10 @@
-use Rattle.std.proofs.Common.{rules, ◌≡◌, ◌≤◌, ℕ, List, length, arith, sym, subst}
-use Rattle.event_record.specs.Bytes.{record_bytes}
+use Rattle.std.proofs.Common.{◌≤◌, ℕ, List, length, arith, sym, subst}
 use Rattle.power_save.proofs.Values.{some_bytes}
 use Rattle.power_save.proofs.record.value_of.Goals as goal
 
 pub new-requires : goal.new-requires
 new-requires c =
-    let same : c.put_item.new.out.items ≡ record_bytes c.args.item.now = search rules in (
+    let same = c.in_ok-bytes.ensures.value in (
       omega arith,
       (
         subst (λ (xs : List ℕ). 1 ≤ length xs) (sym same) (some_bytes c.args.item.now),

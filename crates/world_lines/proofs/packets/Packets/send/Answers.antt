@@ -14,6 +14,7 @@ invariant_of-self-2 c =
     let due = c.self.inside.due in
     let p = posted c.args.from c.args.to c.args.message in
     let items : c.push.new.self.items ≡ ps ++ p ∷ [] = c.in_ok-push.ensures.items
+    ∙ ap (λ (xs : List Posted). xs ++ c.new-kept.result ∷ []) c.make_room.ensures
     ∙ ap (λ (x : Posted). ps ++ x ∷ []) c.new-kept.ensures in
     let size : c.message_size-size.result ≡ bytes_of p = c.message_size-size.ensures in
     let n : c.len-n.result ≡ length ps = omega (arith, c.len-n.ensures, c.self.inside.kept.ok.0) in
@@ -41,6 +42,7 @@ pub returns-clause-machine : goal.returns-clause-machine
 returns-clause-machine c packets numbers body stands is =
     let p = posted c.args.from c.args.to c.args.message in
     let items : c.push.new.self.items ≡ c.args.self.now ++ p ∷ [] = c.in_ok-push.ensures.items
+    ∙ ap (λ (xs : List Posted). xs ++ c.new-kept.result ∷ []) c.make_room.ensures
     ∙ ap (λ (x : Posted). c.self.inside.kept.items ++ x ∷ []) c.new-kept.ensures
     ∙ ap (λ (ps : List Posted). ps ++ p ∷ []) c.self.view_is in
     subst (λ (ps : List Posted). StandFor ps (sent c.args.from c.args.to body ∷ packets) numbers)

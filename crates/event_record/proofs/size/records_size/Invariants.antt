@@ -1,7 +1,7 @@
 use Rattle.std.proofs.Common.{◌≡◌, ◌+◌, ◌*◌, ◌≤◌, drop, length}
 use Rattle.harp_base.specs.Fields.{many_bytes}
 use Rattle.event_record.specs.Bytes.{record_bytes}
-use Rattle.world_lines.proofs.record.records_size.Given as goal
+use Rattle.event_record.proofs.size.records_size.Given as goal
 
 abbrev pub invariant-loop-record : goal.invariant-loop-record
 invariant-loop-record l = record {

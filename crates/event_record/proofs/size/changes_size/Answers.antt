@@ -1,7 +1,7 @@
 use Rattle.std.proofs.Common.{arith}
 use Rattle.harp_cells.specs.CellBytes.{change_bytes}
-use Rattle.world_lines.proofs.Sizes.{many_more, many_past}
-use Rattle.world_lines.proofs.record.changes_size.Goals as goal
+use Rattle.event_record.proofs.Sizes.{many_more, many_past}
+use Rattle.event_record.proofs.size.changes_size.Goals as goal
 
 pub loop-change-preserved : goal.loop-change-preserved
 loop-change-preserved c =

@@ -1,7 +1,7 @@
 use Rattle.std.proofs.Common.{arith}
 use Rattle.event_record.specs.Bytes.{record_bytes}
-use Rattle.world_lines.proofs.Sizes.{many_more, many_past}
-use Rattle.world_lines.proofs.record.records_size.Goals as goal
+use Rattle.event_record.proofs.Sizes.{many_more, many_past}
+use Rattle.event_record.proofs.size.records_size.Goals as goal
 
 pub loop-record-preserved : goal.loop-record-preserved
 loop-record-preserved c =

@@ -8,13 +8,13 @@ ghost use Rattle.harp_base.specs.Replies.{entry_bytes, reply_bytes};
 ghost use Rattle.harp_cells.specs.CellBytes.{cell_bytes, change_bytes};
 ghost use Rattle.harp_cells.specs.ValueBytes.{value_bytes};
 
-use event_record::Record;
+use crate::record::Record;
 use harp_cells::{Cell, Change, Value};
 use harp_types::{Call, DirEntry, Reply};
 
 /// How many bytes a call has.
 #[tactic(auto, using(crate::proofs::Sizes::fields))]
-pub(crate) fn call_size(call: &Call) -> usize
+pub fn call_size(call: &Call) -> usize
     ensures value { result ≡ length (call_bytes call.now) }
     ensures bound { result ≤ 9000 }
 {
@@ -58,7 +58,7 @@ fn entries_size(entries: &[DirEntry]) -> usize
 
 /// How many bytes a reply has.
 #[tactic(auto, using(crate::proofs::Sizes::fields))]
-pub(crate) fn reply_size(reply: &Reply) -> usize
+pub fn reply_size(reply: &Reply) -> usize
     ensures value { result ≡ length (reply_bytes reply.now) }
     ensures bound { result ≤ 2 ^ 26 }
 {
@@ -132,7 +132,7 @@ fn changes_size(changes: &[Change]) -> usize
 
 /// How many bytes a record has.
 #[tactic(auto, using(crate::proofs::Sizes::record_size))]
-pub(crate) fn record_size(record: &Record) -> usize
+pub fn record_size(record: &Record) -> usize
     ensures value { result ≡ length (record_bytes record.now) }
     ensures bound { result ≤ 60008 }
 {
@@ -142,7 +142,7 @@ pub(crate) fn record_size(record: &Record) -> usize
 }
 
 /// How many bytes records have, behind their number.
-pub(crate) fn records_size(records: &[Record]) -> usize
+pub fn records_size(records: &[Record]) -> usize
     requires { length records.now < 2 ^ 16 }
     ensures value { result ≡ length (many_bytes record_bytes records.now) }
     ensures bound { result ≤ 2 ^ 32 }

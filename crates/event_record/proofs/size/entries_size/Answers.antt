@@ -1,7 +1,7 @@
 use Rattle.std.proofs.Common.{arith}
 use Rattle.harp_base.specs.Replies.{entry_bytes}
-use Rattle.world_lines.proofs.Sizes.{many_more, many_past}
-use Rattle.world_lines.proofs.record.entries_size.Goals as goal
+use Rattle.event_record.proofs.Sizes.{many_more, many_past}
+use Rattle.event_record.proofs.size.entries_size.Goals as goal
 
 pub loop-entry-preserved : goal.loop-entry-preserved
 loop-entry-preserved c =

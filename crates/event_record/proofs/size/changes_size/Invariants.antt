@@ -1,7 +1,7 @@
 use Rattle.std.proofs.Common.{◌≡◌, ◌+◌, ◌*◌, ◌≤◌, drop, length}
 use Rattle.harp_base.specs.Fields.{many_bytes}
 use Rattle.harp_cells.specs.CellBytes.{change_bytes}
-use Rattle.world_lines.proofs.record.changes_size.Given as goal
+use Rattle.event_record.proofs.size.changes_size.Given as goal
 
 abbrev pub invariant-loop-change : goal.invariant-loop-change
 invariant-loop-change l = record {

@@ -1,7 +1,7 @@
 use Rattle.std.proofs.Common.{◌≡◌, ◌+◌, ◌*◌, ◌≤◌, drop, length}
 use Rattle.harp_base.specs.Fields.{many_bytes}
 use Rattle.harp_base.specs.Replies.{entry_bytes}
-use Rattle.world_lines.proofs.record.entries_size.Given as goal
+use Rattle.event_record.proofs.size.entries_size.Given as goal
 
 abbrev pub invariant-loop-entry : goal.invariant-loop-entry
 invariant-loop-entry l = record {
