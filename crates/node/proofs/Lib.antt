@@ -43,3 +43,4 @@ pub mod Faults
 pub mod Handled
 pub mod Joined
 pub mod Opening
+pub mod Coming

@@ -1,6 +1,7 @@
 -- A step's moves, by what it is given, as moves of whole records.
-use Rattle.std.proofs.Common.{◌≡◌, ◌≤◌, ℕ, ◌+◌, ◌-◌, Bool, true, false, List, [], ◌∷◌, ◌++◌, refl, ap, sym, ◌∙◌, subst, inl, inr, arith, append_assoc, if◌then◌else◌}
+use Rattle.std.proofs.Common.{◌≡◌, ◌≤◌, ℕ, ◌+◌, ◌-◌, Bool, true, false, List, [], ◌∷◌, ◌++◌, refl, ap, sym, ◌∙◌, subst, inl, inr, arith, append_assoc, map, if◌then◌else◌}
 use Rattle.std.specs.Prelude.{◌==◌, Contains, max, nat_le, nat_lt, Option, None, Some, option_map, is_some}
+use Rattle.std.specs.List.{flat_map}
 use Rattle.std.proofs.lemmas.Grind.{flat_map-append}
 use Rattle.std.proofs.lemmas.List.{append-nil}
 use Rattle.std.proofs.lemmas.List.Elements.{Contains-append_cases, Contains-append_left, Contains-append_right}
@@ -53,9 +54,10 @@ use Rattle.node.proofs.Stepped.{sent_beats}
 use Rattle.node.proofs.Stocks.{AreIdle, as_stock, idle_if, idle_open, idle_sent, idle_then, stock_then}
 use Rattle.node_outputs.specs.Makes.{Makes}
 use Rattle.node_outputs.specs.Messages.{heard}
-use Rattle.node_outputs.specs.Records.{records_sent}
-use Rattle.node_outputs.specs.Said.{nothing, said, waits_of}
+use Rattle.node_outputs.specs.Records.{carried, records_sent}
+use Rattle.node_outputs.specs.Said.{Said, nothing, said, sent as sent_one, waits_of}
 use Rattle.node_outputs.specs.declared.outputs.Outputs.{Outputs}
+use Rattle.node_outputs.specs.declared.outputs.Sent.{Sent}
 use Rattle.replica.specs.Asking.{recorded, recorded_by}
 use Rattle.wire.specs.declared.message.Message.{Message as Wire}
 
@@ -372,6 +374,15 @@ lists_none input.List n told old new none = cc
 pub no_listing : (x : Option Listing) → option_map (λ (l : Listing). l.cp) x ≡ None → x ≡ None
 no_listing None is = refl
 no_listing (Some l) is = cc
+
+-- outputs that say nothing send no record
+pub unsaid_records : (o : Outputs) → said o ≡ nothing → records_sent o ≡ []
+unsaid_records o none = by o.sends.items (ap (λ (x : Said). x.sends) none)
+  where
+    by : (sends : List Sent) → map sent_one sends ≡ []
+        → flat_map (λ (s : Sent). carried s.message) sends ≡ []
+    by [] is = refl
+    by (s ∷ sends) is = cc
 
 -- ---- what a Fetch rests on
 

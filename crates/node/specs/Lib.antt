@@ -18,3 +18,4 @@ pub mod Asking
 pub mod Stock
 pub mod Wants
 pub mod Handles
+pub mod Showing

@@ -66,7 +66,7 @@ impl Node {
         match partner.event(cp, base, item, now, &mut self.horizon, outs) {
             Ok(()) => Ok(()),
             Err(fault) => {
-                self.state = State::Gone;
+                self.state.halt();
                 Err(fault)
             }
         }

@@ -56,7 +56,7 @@ impl Node {
         match leader.ack(alloc, top, lb, until, outs) {
             Ok(()) => Ok(()),
             Err(fault) => {
-                self.state = State::Gone;
+                self.state.halt();
                 Err(fault)
             }
         }
@@ -87,7 +87,7 @@ impl Node {
         match leader.try_open(alloc, now, outs) {
             Ok(()) => Ok(()),
             Err(fault) => {
-                self.state = State::Gone;
+                self.state.halt();
                 Err(fault)
             }
         }

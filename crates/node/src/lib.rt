@@ -3,9 +3,9 @@
 //! # What is proved
 //!
 //! One server as a server of the group's machine, over any store. Its public calls are `boot`,
-//! `step`, `show`, `power`, `state_line` and `is_halted`. A step is of a tick, a suspicion, a server's
-//! message, a client's ask, an apply, a flush or a listing; a power failure takes the server with
-//! it.
+//! `step`, `step_into`, `show`, `power`, `state_line` and `is_halted`. A step is of a tick, a
+//! suspicion, a server's message, a client's ask, an apply, a flush or a listing; `step_into` fills
+//! outputs that are lent, none as yet. A power failure takes the server with it.
 //!
 //! - `boot` is the machine's boot of the mark on the disk (`boots`, `lost`): the first mark on a
 //!   disk that has none, else the mark with its longest promise raised, written only where it

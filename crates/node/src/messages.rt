@@ -2,15 +2,11 @@
 
 ghost use Rattle.idle_log.specs.Gives.{StandIn};
 ghost use Rattle.node_outputs.specs.Records.{carried, records_sent};
-ghost use Rattle.node.specs.Stock.{Stocks, stock, IsFetch};
-ghost use Rattle.std.specs.Prelude.{◌≡◌, ◌<◌, ◌≤◌, ◌^◌, List, ℕ, Err, OnErr, OnOk, false, ◌++◌};
+ghost use Rattle.node.specs.Stock.{IsFetch};
+ghost use Rattle.std.specs.Prelude.{◌≡◌, ◌<◌, ◌≤◌, ◌^◌, List, ℕ, OnOk, false, ◌++◌};
 ghost use Rattle.file_tree.specs.Book.{Entry};
-ghost use Rattle.harp_types.specs.Streams.{Rose};
-ghost use Rattle.node.specs.Cached.{IsCachedAs};
-ghost use Rattle.node.specs.Disk.{MayLeave, disk_after, marked_by};
-ghost use Rattle.node.specs.Node.{server};
+ghost use Rattle.node.specs.Handles.{Handles};
 ghost use Rattle.node.specs.Taking.{Fills, input_in, ruled};
-ghost use Rattle.node_outputs.specs.Makes.{Makes};
 
 use crate::fault::NodeFault;
 use crate::node::Node;
@@ -37,34 +33,14 @@ impl Node {
     ) -> Result<(), NodeFault>
         requires up { self.old.halted ≡ false }
         requires now { now < 2 ^ 62 }
-        ensures makes { OnOk result ((items : List Entry) (size : List Entry → Entry → ℕ)
-            (list : List Entry) → Fills size list self.old message
-            → let s = server self.old items in Makes self.old.me now
-            (ruled size self.old.me now list s (input_in from message)) self.old.peers s
-            (server self.new items) outs.old outs.new) }
-        ensures me { self.new.me ≡ self.old.me }
-        ensures stock { OnOk result ((items : List Entry) (size : List Entry → Entry → ℕ)
-            (list : List Entry) → let s = server self.old items in
-            Stocks (carried message) self.old.me s
-            (ruled size self.old.me now list s (input_in from message))
-            (stock self.old) (stock self.new)) }
+        ensures handles { (size : List Entry → Entry → ℕ) (list : List Entry)
+            → Handles result (Fills size list self.old message) now
+            (λ q s. ruled size q now list s (input_in from message)) (carried message)
+            self.old.peers self.old self.new
+            outs.old outs.new (D.told store.old) (D.told store.new) (D.faults store.old)
+            (D.faults store.new) }
         ensures sent { OnOk result (IsFetch message → StandIn (records_sent outs.old
             ++ self.old.records) (records_sent outs.new)) }
-        ensures cached { OnOk result (IsCachedAs self.old.cached self.new.cached) }
-        ensures mark { OnOk result ((size : List Entry → Entry → ℕ) (list : List Entry)
-            → self.new.mark ≡ marked_by self.old.mark
-            (ruled size self.old.me now list self.old.plain (input_in from message))) }
-        ensures up { OnOk result (self.new.halted ≡ false) }
-        ensures written { OnOk result ((size : List Entry → Entry → ℕ) (list : List Entry)
-            → D.told store.new ≡ disk_after
-            (ruled size self.old.me now list self.old.plain (input_in from message))
-            self.new.mark (D.told store.old)) }
-        ensures part { OnErr result ((size : List Entry → Entry → ℕ) (list : List Entry)
-            → let ms = ruled size self.old.me now list self.old.plain (input_in from message) in
-            MayLeave ms (marked_by self.old.mark ms) (D.told store.old) (D.told store.new)) }
-        ensures running { result ≡ Err NodeFault.Halted → ⊥ }
-        ensures rose { result ≡ Err NodeFault.StoreFailed → Rose (D.faults store.old)
-            (D.faults store.new) }
         ensures count { D.faults store.old ≤ D.faults store.new }
     {
         match message {

@@ -9,7 +9,7 @@ ghost use Rattle.node.specs.Active.{is_followed, is_led};
 ghost use Rattle.node.specs.Demoting.{GoesOn};
 ghost use Rattle.node.specs.State.{Fits, IsKept, ap_in, base_in, cached_in, cp_in, held_in, is_gone, items_in, mode_in, pulled_in, records_in};
 ghost use Rattle.node.specs.Stock.{stock_in};
-ghost use Rattle.node.specs.declared.state.State.TheVariants.{Joined, Pulls};
+ghost use Rattle.node.specs.declared.state.State.TheVariants.{Gone, Joined, Pulls};
 
 use crate::pull::Pull;
 use harp_types::{Trio, ViewNo};
@@ -68,6 +68,14 @@ impl Drop for State {
 }
 
 impl State {
+    /// A call failed: nothing is done any more. It stands alone, so that a step doesn't make room
+    /// for this state.
+    pub(crate) fn halt(&mut self)
+        ensures { self.new ≡ Gone }
+    {
+        *self = State::Gone;
+    }
+
     /// What the state keeps of the list of updates.
     pub(crate) fn into_kept(self) -> Kept
         requires { is_gone self ≡ false }

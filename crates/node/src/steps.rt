@@ -74,22 +74,70 @@ impl Node {
             (D.faults store.new) }
         ensures count { D.faults store.old ≤ D.faults store.new }
     {
+        let mut outs = Outputs::new(alloc);
+        match self.step_into(alloc, input, now, store, &mut outs) {
+            Ok(()) => Ok(outs),
+            Err(fault) => Err(fault),
+        }
+    }
+
+    /// The same step, which gives its outputs where none are yet.
+    pub fn step_into<D: Store>(
+        &mut self,
+        alloc: Global,
+        input: Input,
+        now: u64,
+        store: &mut D,
+        outs: &mut Outputs,
+    ) -> Result<(), NodeFault>
+        requires none { said outs.old ≡ nothing }
+        requires cached { AreOf (cells_told (D.told store.old)) self.old.cached }
+        requires now { now < 2 ^ 62 }
+        ensures steps { OnOk result ((items list : List Entry)
+            → FillsInput list self.old now (D.told store.old) input
+            → StepsWhole now list items input
+            (stepped entry_size self.old.me now list (server self.old items) (input_of input))
+            self.old self.new outs.new) }
+        ensures listing { OnOk result (ListsFor input self.old (D.told store.old) None
+            outs.new.listing) }
+        ensures me { self.new.me ≡ self.old.me }
+        ensures is_server { OnOk result (IsServer self.new) }
+        ensures cached { AreOf (cells_told (D.told store.new)) self.new.cached }
+        ensures mark { OnOk result ((size : List Entry → Entry → ℕ) (list : List Entry)
+            → self.new.mark ≡ mark_by self.old
+            (stepped size self.old.me now list self.old.plain (input_of input)) (input_of input)) }
+        ensures halted { (result ≡ Err NodeFault.Halted) ↔ (self.old.halted ≡ true) }
+        ensures still { self.old.halted ≡ true → (self.new ≡ self.old)
+            × (D.told store.new ≡ D.told store.old) }
+        ensures up { OnOk result (self.new.halted ≡ false) }
+        ensures fails { OnErr result (self.new.halted ≡ true) }
+        ensures written { OnOk result ((size : List Entry → Entry → ℕ) (list : List Entry)
+            → D.told store.new ≡ disk_by self.old
+            (stepped size self.old.me now list self.old.plain (input_of input)) (input_of input)
+            (D.told store.old)) }
+        ensures part { OnErr result ((size : List Entry → Entry → ℕ) (list : List Entry)
+            → LeavesBy self.old
+            (stepped size self.old.me now list self.old.plain (input_of input)) (input_of input)
+            (D.told store.old) (D.told store.new)) }
+        ensures rose { result ≡ Err NodeFault.StoreFailed → Rose (D.faults store.old)
+            (D.faults store.new) }
+        ensures count { D.faults store.old ≤ D.faults store.new }
+    {
         if self.is_halted() {
             return Err(NodeFault::Halted);
         }
-        let mut outs = Outputs::new(alloc);
         if !input.is_heeded() {
-            return Ok(outs);
+            return Ok(());
         }
-        match self.rule(alloc, input, now, store, &mut outs) {
+        match self.rule(alloc, input, now, store, outs) {
             Ok(()) => {}
             Err(fault) => {
-                self.state = State::Gone;
+                self.state.halt();
                 return Err(fault);
             }
         }
         self.rebase();
-        Ok(outs)
+        Ok(())
     }
 
     /// A step but for the base: what the server does with what it is given. An error leaves a part

@@ -76,7 +76,7 @@ impl Node {
         match leader.tick(alloc, now, outs) {
             Ok(()) => Ok(()),
             Err(fault) => {
-                self.state = State::Gone;
+                self.state.halt();
                 Err(fault)
             }
         }

@@ -48,7 +48,7 @@ impl Node {
         match self.shown(alloc, want, store) {
             Ok(shown) => Ok(shown),
             Err(fault) => {
-                self.state = State::Gone;
+                self.state.halt();
                 Err(fault)
             }
         }

@@ -1,10 +1,11 @@
 //! What a host does, beside the rest of the world.
 
-ghost use Rattle.std.specs.Prelude.{◌≡◌, ◌<◌, ◌^◌, None, IfOk, OnOk};
+ghost use Rattle.std.specs.Prelude.{◌≡◌, ◌<◌, ◌^◌, None, Some, IfOk, OnOk, if◌then◌else◌};
 ghost use Rattle.group_trace.specs.DiskRun.{DiskScene};
 ghost use Rattle.group_rules.specs.Names.{place_of};
 ghost use Rattle.group_trace.specs.Shown.{shown_of};
 ghost use Rattle.harp_types.specs.Trio.{value_of, with_value};
+ghost use Rattle.node_outputs.specs.Said.{nothing, said};
 ghost use Rattle.world_rules.specs.Steps.{HostBoots, HostFails, HostFalls, HostTakes};
 ghost use Rattle.world.specs.World.{IsWorld};
 ghost use Rattle.world.specs.Hosts.{HasHost};
@@ -44,21 +45,27 @@ impl World {
         self.stops.get_mut(server).take()
     }
 
-    /// A step of a server's host by its clock.
+    /// A step of a server's host by its clock. Its outputs come where none are yet, and the result
+    /// tells whether it gave them.
     pub(crate) fn step_host(
         &mut self,
         alloc: Global,
         server: ServerId,
         input: Input,
         stop: Option<Stop>,
-    ) -> Result<Option<Outputs>, AllocError>
-        requires { value_of self.old.clocks server < 2 ^ 62 }
+        outs: &mut Outputs,
+    ) -> Result<bool, AllocError>
+        requires now { value_of self.old.clocks server < 2 ^ 62 }
+        requires none { said outs.old ≡ nothing }
         ensures world { HasHost self.old self.new server }
-        ensures takes { IfOk result (λ outs. HostTakes (value_of self.old.hosts server)
-            (value_of self.new.hosts server) input (value_of self.old.clocks server) stop outs) }
+        ensures takes { IfOk result (λ gives. HostTakes (value_of self.old.hosts server)
+            (value_of self.new.hosts server) input (value_of self.old.clocks server) stop
+            (if gives then Some outs.new else None)) }
     {
         let now = *self.clocks.get(server);
-        self.hosts.get_mut(server).take(alloc, input, now, stop)
+        self.hosts
+            .get_mut(server)
+            .take(alloc, input, now, stop, outs)
     }
 
     /// A power failure of a server's host.

@@ -1,6 +1,6 @@
 //! The turn of a server: what its step gives.
 
-ghost use Rattle.std.specs.Prelude.{◌≡◌, IfOk, OnOk};
+ghost use Rattle.std.specs.Prelude.{◌≡◌, None, Some, IfOk, OnOk, if◌then◌else◌};
 ghost use Rattle.schedule_play.specs.Stage.{AreReadings};
 ghost use Rattle.trace_types.specs.declared.line.Line.TheVariants as line;
 ghost use Rattle.world.specs.Given.{Gives};
@@ -34,8 +34,9 @@ impl World {
     {
         let before = self.state_line(server);
         let stop = self.spend_stop(server);
-        let outs = self.step_host(alloc, server, input, stop)?;
-        let listing = self.give(alloc, server, outs, lines)?;
+        let mut outs = Outputs::new(alloc);
+        let gives = self.step_host(alloc, server, input, stop, &mut outs)?;
+        let listing = self.give(alloc, server, gives, outs, lines)?;
         let after = self.state_line(server);
         show_state(server, &before, &after, lines)?;
         Ok(listing)
@@ -47,18 +48,17 @@ impl World {
         &mut self,
         alloc: Global,
         server: ServerId,
-        outs: Option<Outputs>,
+        gives: bool,
+        outs: Outputs,
         lines: &mut Vec<Line>,
     ) -> Result<Option<Listing>, AllocError>
-        ensures { IfOk result (λ listing. Gives self.old self.new server outs
-            lines.old.items lines.new.items listing) }
+        ensures { IfOk result (λ listing. Gives self.old self.new server
+            (if gives then Some outs else None) lines.old.items lines.new.items listing) }
     {
-        match outs {
-            None => Ok(None),
-            Some(outs) => {
-                let (book, packets) = (&mut self.book, &mut self.packets);
-                give(alloc, server, outs, book, packets, lines)
-            }
+        if !gives {
+            return Ok(None);
         }
+        let (book, packets) = (&mut self.book, &mut self.packets);
+        give(alloc, server, outs, book, packets, lines)
     }
 }

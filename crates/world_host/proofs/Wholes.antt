@@ -1,6 +1,7 @@
 -- A host after a whole step of its node.
-use Rattle.std.proofs.Common.{◌≡◌, ℕ, List, [], ◌++◌, map, Option, Some, None, refl, sym, ap, subst, ◌∙◌}
-use Rattle.std.specs.Prelude.{IfSome}
+use Rattle.std.proofs.Common.{◌≡◌, Box, ℕ, List, [], ◌++◌, map, Option, Some, None, refl, sym, ap, subst, ◌∙◌}
+use Rattle.std.specs.Prelude.{IfSome, option_map}
+use Rattle.std.specs.declared.alloc.Global.{Global}
 use Rattle.event_record.specs.Record.{entry_of}
 use Rattle.event_record.specs.declared.record.RecordFields.{RecordFields}
 use Rattle.file_tree.specs.Book.{Entry}
@@ -9,7 +10,7 @@ use Rattle.group_trace.specs.DiskCalls.{measures_of}
 use Rattle.world_host.proofs.Givens.{listing_is, same_fills, same_peers, same_tree}
 use Rattle.world_host.proofs.Marks.{base_written, mark_written, saves_written}
 use Rattle.world_host.proofs.NodeCalls.{CanCall, is_of, none_saved, plain_moves}
-use Rattle.world_rules.specs.Host.{HostValue, IsHost, IsHostAt, SavesRecords, disk_of}
+use Rattle.world_rules.specs.Host.{HostValue, IsHost, IsHostAt, IsRunning, SavesRecords, disk_of, with_node}
 use Rattle.world_rules.specs.Spellings.{spellings}
 use Rattle.world_rules.specs.Steps.{CanTakeAt, TakesWhole, listing_by, moves_at, peers_by}
 use Rattle.group_rules.specs.Moves.{Move, acts}
@@ -49,6 +50,18 @@ pub record Stepped (clock : ℕ) (given : Input) (n new : NodeValue) (told left 
       (stepped size n.me clock list n.plain (input_of given)) (input_of given)
   pub written : (size : List Entry → Entry → ℕ) (list : List Entry) → left ≡ disk_by n
       (stepped size n.me clock list n.plain (input_of given)) (input_of given) told
+
+-- ---- the node that a host had
+
+pub ran_node : (o : Option (Box NodeValue Global)) (b : Box NodeValue Global) (d : ToldDisk)
+    → o ≡ Some b → IfSome (option_map (λ x. x.value) o) (IsRunning d) → IsRunning d b.value
+ran_node o b d is runs = subst (λ (o : Option (Box NodeValue Global)).
+    IfSome (option_map (λ x. x.value) o) (IsRunning d)) is runs
+
+pub had_node : (h : HostValue) (o : Option (Box NodeValue Global)) (b : Box NodeValue Global)
+    → option_map (λ x. x.value) o ≡ h.node → o ≡ Some b → with_node h b.value ≡ h
+had_node h o b had is = ap (λ (n : Option NodeValue). record h { node = n })
+    (sym (ap (λ (o : Option (Box NodeValue Global)). option_map (λ x. x.value) o) is) ∙ had)
 
 -- ---- hosts by their parts
 

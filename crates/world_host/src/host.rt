@@ -1,6 +1,6 @@
 //! A server of a played group.
 
-ghost use Rattle.std.specs.Prelude.{◌≡◌, ◌<◌, ◌^◌, List, [], None, Some, IfOk, OnOk, false, is_some, true};
+ghost use Rattle.std.specs.Prelude.{◌≡◌, ◌<◌, ◌^◌, List, [], None, Some, IfOk, OnOk, false, is_some, true, if◌then◌else◌};
 ghost use Rattle.event_record.specs.declared.record.RecordFields.{RecordFields};
 ghost use Rattle.file_tree.specs.Book.{Entry};
 ghost use Rattle.fuzzy_cells.specs.Disk.{Disk};
@@ -11,6 +11,7 @@ ghost use Rattle.group_rules.specs.Step.{first_group};
 ghost use Rattle.group_trace.specs.Shown.{shown_of};
 ghost use Rattle.harp_store.specs.Memory.{crashed_by};
 ghost use Rattle.node.specs.Stock.{Stock};
+ghost use Rattle.node_outputs.specs.Said.{nothing, said};
 ghost use Rattle.world_rules.specs.Host.{IsHost, IsRunning, disk_of, no_stock, with_node, without_node};
 ghost use Rattle.world_rules.specs.Steps.{HostBoots, HostFails, HostFalls, HostTakes};
 ghost use Rattle.world_host.specs.Starts.{HostStarts};
@@ -102,49 +103,52 @@ impl Host {
         }
     }
 
-    /// A step of the server, which is up, at this reading of its clock. Where a stop comes, nothing
-    /// is given: the server falls, and its disk is what the stop's pick leaves.
+    /// A step of the server, which is up, at this reading of its clock. Its outputs come where none
+    /// are yet, and the result tells whether it gave them. Where a stop comes, nothing is given:
+    /// the server falls, and its disk is what the stop's pick leaves.
     pub fn take(
         &mut self,
         alloc: Global,
         input: Input,
         now: u64,
         stop: Option<Stop>,
-    ) -> Result<Option<Outputs>, AllocError>
-        requires { now < 2 ^ 62 }
+        outs: &mut Outputs,
+    ) -> Result<bool, AllocError>
+        requires now { now < 2 ^ 62 }
+        requires none { said outs.old ≡ nothing }
         ensures me { self.new.me ≡ self.old.me }
-        ensures takes { IfOk result (λ outs. HostTakes self.old self.new input now stop outs) }
+        ensures takes { IfOk result (λ gives. HostTakes self.old self.new input now stop
+            (if gives then Some outs.new else None)) }
     {
-        let Some(node) = self.node.take() else {
-            return Ok(None);
-        };
         match stop {
-            None => self.run(alloc, node, input, now),
-            Some(stop) => self.run_until(alloc, node, input, now, &stop),
+            None => self.run(alloc, input, now, outs),
+            Some(stop) => self.run_until(alloc, input, now, &stop, outs),
         }
     }
 
-    /// A whole step of the node that it had.
+    /// The same without a stop.
     fn run(
         &mut self,
         alloc: Global,
-        mut node: Box<Node>,
         input: Input,
         now: u64,
-    ) -> Result<Option<Outputs>, AllocError>
+        outs: &mut Outputs,
+    ) -> Result<bool, AllocError>
         requires now { now < 2 ^ 62 }
-        requires runs { IsRunning (disk_of self.old) node.value }
-        requires down { self.old.node ≡ None }
+        requires none { said outs.old ≡ nothing }
         ensures me { self.new.me ≡ self.old.me }
-        ensures takes { IfOk result (λ outs. HostTakes (with_node self.old node.value) self.new
-            input now None outs) }
+        ensures takes { IfOk result (λ gives. HostTakes self.old self.new input now None
+            (if gives then Some outs.new else None)) }
     {
-        let stepped = node.step::<SoundStore>(alloc, input, now, &mut self.disk);
+        let Some(mut node) = self.node.take() else {
+            return Ok(false);
+        };
+        let stepped = node.step_into::<SoundStore>(alloc, input, now, &mut self.disk, outs);
         self.disk.settle();
         match stepped {
-            Ok(outs) => {
+            Ok(()) => {
                 self.keep(node);
-                Ok(Some(outs))
+                Ok(true)
             }
             Err(NodeFault::NoMemory) => Err(AllocError),
             Err(NodeFault::StoreFailed) => unreachable!(),
@@ -152,32 +156,34 @@ impl Host {
         }
     }
 
-    /// A step of the node that it had, over its disk with a stop.
+    /// The same over its disk with a stop.
     fn run_until(
         &mut self,
         alloc: Global,
-        mut node: Box<Node>,
         input: Input,
         now: u64,
         stop: &Stop,
-    ) -> Result<Option<Outputs>, AllocError>
+        outs: &mut Outputs,
+    ) -> Result<bool, AllocError>
         requires now { now < 2 ^ 62 }
-        requires runs { IsRunning (disk_of self.old) node.value }
-        requires down { self.old.node ≡ None }
+        requires none { said outs.old ≡ nothing }
         ensures me { self.new.me ≡ self.old.me }
-        ensures takes { IfOk result (λ outs. HostTakes (with_node self.old node.value) self.new
-            input now (Some stop.now) outs) }
+        ensures takes { IfOk result (λ gives. HostTakes self.old self.new input now
+            (Some stop.now) (if gives then Some outs.new else None)) }
     {
+        let Some(mut node) = self.node.take() else {
+            return Ok(false);
+        };
         let mut disk = self.stop_disk(alloc, stop.calls);
-        let stepped = node.step::<StoppingStore>(alloc, input, now, &mut disk);
+        let stepped = node.step_into::<StoppingStore>(alloc, input, now, &mut disk, outs);
         let stopped = self.put_back(disk, &stop.pick);
         if stopped {
-            return Ok(None);
+            return Ok(false);
         }
         match stepped {
-            Ok(outs) => {
+            Ok(()) => {
                 self.keep(node);
-                Ok(Some(outs))
+                Ok(true)
             }
             Err(NodeFault::NoMemory) => Err(AllocError),
             Err(NodeFault::StoreFailed) => unreachable!(),

@@ -6,6 +6,7 @@ use Rattle.group_rules.specs.Tick.{tick}
 use Rattle.node.proofs.Brought.{both_ok, came_disk, came_mark, came_part, marks_cached}
 use Rattle.node.proofs.Cached.{stays_cached}
 use Rattle.node.proofs.Calls.{any_peers}
+use Rattle.node.proofs.Handled.{err_each, me_of, ok_each, ok_of, rose_of, runs_on}
 use Rattle.node.proofs.Marks.{alike_none, disk_as, mark_as}
 use Rattle.node.proofs.Stepped.{mute_tick, tick_unmarked}
 use Rattle.node.specs.Disk.{marked_by}
@@ -78,13 +79,11 @@ returns-in-Suspect-clause-cached g c =
 pub returns-in-Message-clause-cached : goal.returns-in-Message-clause-cached
 returns-in-Message-clause-cached g c =
     let n = c.args.self.now in
-    both_ok c.take_message.result
-    (λ kept written. marks_cached (ruled (λ before e. 0) n.me c.args.now [] n.plain
+    ok_of _ c.take_message.result (c.take_message.ensures.handles (λ before e. 0) [])
+    (λ h. marks_cached (ruled (λ before e. 0) n.me c.args.now [] n.plain
     (input_in c.in-Message.from c.in-Message.message)) c.take_message.new.self.mark n.cached
     c.take_message.new.self.cached (g.D.Store.told c.args.store.now)
-    (g.D.Store.told c.take_message.new.store) c.requires.cached kept
-    (written (λ before e. 0) []))
-    c.take_message.ensures.cached c.take_message.ensures.written
+    (g.D.Store.told c.take_message.new.store) c.requires.cached h.cached h.written)
 
 pub returns-in-Message-clause-mark : goal.returns-in-Message-clause-mark
 returns-in-Message-clause-mark g c =
@@ -93,19 +92,20 @@ returns-in-Message-clause-mark g c =
     (λ marks size list. subst (λ (x : Input). c.take_message.new.self.mark ≡ mark_by n
     (ruled size n.me c.args.now list n.plain (input_of x)) (input_of x)) (sym c.in-Message.is)
     (came_mark size c.args.now list n (place_of c.in-Message.from) (heard c.in-Message.message)
-    c.take_message.new.self.mark (marks size list))) c.take_message.ensures.mark
+    c.take_message.new.self.mark (marks size list).mark))
+    (ok_each _ _ c.take_message.result c.take_message.ensures.handles)
 
 pub returns-in-Message-clause-written : goal.returns-in-Message-clause-written
 returns-in-Message-clause-written g c =
     let n = c.args.self.now in
     let told = g.D.Store.told c.args.store.now in
     let left = g.D.Store.told c.take_message.new.store in
-    both_ok c.take_message.result
-    (λ marks written size list. subst (λ (x : Input). left ≡ disk_by n
+    on_ok_weaker c.take_message.result
+    (λ h size list. subst (λ (x : Input). left ≡ disk_by n
     (ruled size n.me c.args.now list n.plain (input_of x)) (input_of x) told) (sym c.in-Message.is)
     (came_disk size c.args.now list n (place_of c.in-Message.from) (heard c.in-Message.message)
-    c.take_message.new.self.mark told left (marks size list) (written size list)))
-    c.take_message.ensures.mark c.take_message.ensures.written
+    c.take_message.new.self.mark told left (h size list).mark (h size list).written))
+    (ok_each _ _ c.take_message.result c.take_message.ensures.handles)
 
 pub returns-in-Message-clause-part : goal.returns-in-Message-clause-part
 returns-in-Message-clause-part g c =
@@ -117,7 +117,8 @@ returns-in-Message-clause-part g c =
     (ruled size n.me c.args.now list n.plain (input_of x)) (input_of x) told left)
     (sym c.in-Message.is)
     (came_part size c.args.now list n (place_of c.in-Message.from) (heard c.in-Message.message)
-    told left (leaves size list))) c.take_message.ensures.part
+    told left (leaves size list)))
+    (err_each _ c.take_message.result c.take_message.ensures.handles (λ size list why h. h.part))
 
 pub returns-in-Ask-clause-makes : goal.returns-in-Ask-clause-makes
 returns-in-Ask-clause-makes g c =
@@ -179,7 +180,8 @@ returns-in-Message-clause-stock g c =
     subst (λ (x : Input). stock c.take_message.new.self ≡ stock_after n.me c.args.now list
     (came x) (peers_of n x) s (ruled size n.me c.args.now list s (input_of x)) (stock n))
     (sym c.in-Message.is)
-    (h items size list c.args.now list n.peers)) c.take_message.ensures.stock
+    ((h size list).stock items c.args.now list n.peers))
+    (ok_each _ _ c.take_message.result c.take_message.ensures.handles)
 
 pub returns-in-Ask-clause-stock : goal.returns-in-Ask-clause-stock
 returns-in-Ask-clause-stock g c =
@@ -254,12 +256,12 @@ pub returns-in-Message-clause-sent : goal.returns-in-Message-clause-sent
 returns-in-Message-clause-sent g c =
     let n = c.args.self.now in
     both_ok c.take_message.result
-    (λ made sent items size list fills fresh none. message_sent size n.me c.args.now list
+    (λ h sent items size list fills fresh none. message_sent size n.me c.args.now list
     (server n items) (server c.take_message.new.self items) c.in-Message.from c.in-Message.message
     n.peers c.args.outs.now c.take_message.new.outs n.records _
-    (made items size list (subst (λ (x : Input). FillsSized size list n c.args.now
-    (g.D.Store.told c.args.store.now) x) c.in-Message.is fills)) sent fresh none)
-    c.take_message.ensures.makes c.take_message.ensures.sent
+    ((h size list).makes (subst (λ (x : Input). FillsSized size list n c.args.now
+    (g.D.Store.told c.args.store.now) x) c.in-Message.is fills) items) sent fresh none)
+    (ok_each _ _ c.take_message.result c.take_message.ensures.handles) c.take_message.ensures.sent
 
 pub returns-in-Ask-clause-sent : goal.returns-in-Ask-clause-sent
 returns-in-Ask-clause-sent g c =
@@ -303,3 +305,37 @@ returns-in-List-clause-listing g c =
       other = λ no. ap (λ (o : Outputs). o.listing) (c.list.ensures.silent no);
     }))
     c.list.ensures.listing
+
+-- ---- a message, but for its mark and disk
+
+pub returns-in-Message-clause-makes : goal.returns-in-Message-clause-makes
+returns-in-Message-clause-makes g c =
+    let n = c.args.self.now in
+    on_ok_weaker c.take_message.result
+    (λ h items size list fills. subst (λ (x : Input). Makes n.me c.args.now
+    (ruled size n.me c.args.now list (server n items) (input_of x)) (peers_of n x)
+    (server n items) (server c.take_message.new.self items) c.args.outs.now
+    c.take_message.new.outs)
+    (sym c.in-Message.is) ((h size list).makes (subst (λ (x : Input). FillsSized size list n
+    c.args.now (g.D.Store.told c.args.store.now) x) c.in-Message.is fills) items))
+    (ok_each _ _ c.take_message.result c.take_message.ensures.handles)
+
+pub returns-in-Message-clause-me : goal.returns-in-Message-clause-me
+returns-in-Message-clause-me g c = me_of c.take_message.result _ _ _ _ _ _ _ _ _ _ _ _ _
+    (c.take_message.ensures.handles (λ before e. 0) [])
+
+pub returns-in-Message-clause-up : goal.returns-in-Message-clause-up
+returns-in-Message-clause-up g c = ok_of _ c.take_message.result (c.take_message.ensures.handles
+    (λ before e. 0) [])
+    (λ h. h.up)
+
+pub returns-in-Message-clause-running : goal.returns-in-Message-clause-running
+returns-in-Message-clause-running g c = runs_on _ c.take_message.result
+    (c.take_message.ensures.handles (λ before e. 0) []) (λ why h. h.running)
+
+pub returns-in-Message-clause-rose : goal.returns-in-Message-clause-rose
+returns-in-Message-clause-rose g c = rose_of _ c.take_message.result
+    (c.take_message.ensures.handles (λ before e. 0) []) (λ why h. h.rose)
+
+pub returns-in-Message-clause-count : goal.returns-in-Message-clause-count
+returns-in-Message-clause-count g c = c.take_message.ensures.count

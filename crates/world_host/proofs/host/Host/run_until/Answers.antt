@@ -1,41 +1,48 @@
-use Rattle.std.proofs.Common.{Some, ap, refl, subst, sym, ◌∙◌}
+use Rattle.std.proofs.Common.{None, Some, ap, refl, subst, sym, ◌∙◌}
 use Rattle.cell_cache.specs.Entries.{AreOf}
-use Rattle.world_host.proofs.StopStores.{IsArmed, armed_now, on_told}
+use Rattle.world_host.proofs.StopStores.{armed_now, on_told}
 use Rattle.world_host.proofs.Takes.{TellsDisk, either_way}
-use Rattle.world_host.proofs.Wholes.{Stepped}
+use Rattle.world_host.proofs.Wholes.{Stepped, had_node, ran_node}
 use Rattle.world_host.proofs.UntilStops.{takes_on, takes_until}
 use Rattle.world_host.proofs.host.Host.run_until.Goals as goal
 use Rattle.harp_store.specs.Disk.{Disk, Moments, reads}
 use Rattle.world_rules.specs.Host.{HostValue, disk_of, with_node}
+use Rattle.world_rules.specs.Steps.{HostTakes}
 use Rattle.node.specs.Node.{NodeValue}
-use Rattle.harp_store.specs.Values.{told}
+use Rattle.harp_store.specs.Values.{stored, told}
 
-armed : (c : goal.After-disk-1) → IsArmed c.args.stop.now.calls c.stop_disk-disk.result
-armed c = record {
-  left = c.stop_disk-disk.ensures.left;
-  stopped = c.stop_disk-disk.ensures.stopped;
-  past = c.stop_disk-disk.ensures.past;
-}
-
-pub step-stepped-requires-clause-cached : goal.step-stepped-requires-clause-cached
-step-stepped-requires-clause-cached c =
+pub step_into-stepped-requires-clause-cached : goal.step_into-stepped-requires-clause-cached
+step_into-stepped-requires-clause-cached c =
     let s = c.stop_disk-disk.result in
+    let runs = ran_node c.self.inside.node c.in-Some.node (stored c.self.inside.disk).now
+    (sym c.take.ensures.value ∙ c.in-Some.is) c.self.invariant.1 in
     subst (λ (n : NodeValue). AreOf (Some (reads (told s).now)) n.cached)
     (sym c.deref_mut.ensures.value)
-    (subst (λ (d : Disk). AreOf (Some (reads d)) c.args.node.value.cached)
-    (sym (armed_now c.args.stop.now.calls s (armed c) ∙ c.stop_disk-disk.ensures.stands))
-    c.requires.runs.cached)
+    (subst (λ (d : Disk). AreOf (Some (reads d)) c.in-Some.node.value.cached)
+    (sym (armed_now c.args.stop.now.calls s (record {
+      left = c.stop_disk-disk.ensures.left;
+      stopped = c.stop_disk-disk.ensures.stopped;
+      past = c.stop_disk-disk.ensures.past;
+    }) ∙ c.stop_disk-disk.ensures.stands))
+    runs.cached)
 
 pub returns-then-stopped-clause-takes : goal.returns-then-stopped-clause-takes
-returns-then-stopped-clause-takes c g most pick i k saved r h =
-    let n = c.args.node.value in
-    takes_until (with_node c.args.self.now n) c.put_back-stopped.new.self c.args.input c.args.now n
-    c.args.stop.now c.stop_disk-disk.result c.step-stepped.new.store (record {
+returns-then-stopped-clause-takes c =
+    let n = c.in-Some.node.value in
+    let old = c.args.self.now in
+    subst (λ (h : HostValue). HostTakes h c.put_back-stopped.new.self c.args.input c.args.now
+    (Some c.args.stop.now) None)
+    (had_node old c.self.inside.node c.in-Some.node (ap (λ (h : HostValue). h.node) c.self.view_is)
+    (sym c.take.ensures.value ∙ c.in-Some.is))
+    (λ g most pick i k saved r h. takes_until (with_node old n) c.put_back-stopped.new.self
+    c.args.input c.args.now n
+    c.args.stop.now c.stop_disk-disk.result c.step_into-stepped.new.store (record {
       me = sym h.node.me;
       node = refl;
-      disk = sym c.stop_disk-disk.ensures.stands;
+      disk = sym (ap disk_of c.self.view_is) ∙ sym c.stop_disk-disk.ensures.stands;
     }) (record {
-      me = c.put_back-stopped.ensures.me ∙ c.stop_disk-disk.ensures.me ∙ sym h.node.me;
+      me = c.put_back-stopped.ensures.me ∙ c.stop_disk-disk.ensures.me
+          ∙ ap (λ (x : HostValue). x.me) c.self.view_is ∙ sym h.node.me;
       node = c.put_back-stopped.ensures.node;
       disk = c.put_back-stopped.ensures.stopped c.if-stopped.true;
     }) (record {
@@ -44,36 +51,45 @@ returns-then-stopped-clause-takes c g most pick i k saved r h =
       past = c.stop_disk-disk.ensures.past;
     }) (sym c.put_back-stopped.ensures.came ∙ c.if-stopped.true)
     (subst (λ (m : NodeValue). TellsDisk c.args.now c.args.input m
-    (Some (told c.stop_disk-disk.result)) (Some (told c.step-stepped.new.store)))
+    (Some (told c.stop_disk-disk.result)) (Some (told c.step_into-stepped.new.store)))
     c.deref_mut.ensures.value
-    (either_way c.step-stepped.result c.step-stepped.ensures.written c.step-stepped.ensures.part))
-    g most pick i k saved r h
+    (either_way c.step_into-stepped.result c.step_into-stepped.ensures.written
+    c.step_into-stepped.ensures.part))
+    g most pick i k saved r h)
 
 pub keep-requires : goal.keep-requires
 keep-requires c =
-    let s = c.step-stepped.new.store in
+    let s = c.step_into-stepped.new.store in
     let on = sym c.put_back-stopped.ensures.came ∙ c.if-stopped.false in
     record {
       up = c.in-Ok.ensures.up;
       served = c.in-Ok.ensures.is_server;
-      cached = subst (λ (d : Disk). AreOf (Some (reads d)) c.step-stepped.new.self.cached)
+      cached = subst (λ (d : Disk). AreOf (Some (reads d)) c.step_into-stepped.new.self.cached)
           (ap (λ (m : Moments). m.now) (on_told s on)
           ∙ sym (c.put_back-stopped.ensures.lifted c.if-stopped.false))
-          c.step-stepped.ensures.cached;
+          c.step_into-stepped.ensures.cached;
     }
 
 pub returns-in-Ok-clause-takes : goal.returns-in-Ok-clause-takes
-returns-in-Ok-clause-takes c g most pick i k saved r h =
-    let n = c.args.node.value in
-    let new = c.step-stepped.new.self in
-    takes_on (with_node c.args.self.now n) c.keep.new.self c.args.input c.args.now n new
-    c.args.stop.now c.stop_disk-disk.result c.step-stepped.new.store c.in-Ok.outs (record {
+returns-in-Ok-clause-takes c =
+    let n = c.in-Some.node.value in
+    let old = c.args.self.now in
+    let new = c.step_into-stepped.new.self in
+    let outs = c.step_into-stepped.new.outs in
+    subst (λ (h : HostValue). HostTakes h c.keep.new.self c.args.input c.args.now
+    (Some c.args.stop.now) (Some outs))
+    (had_node old c.self.inside.node c.in-Some.node (ap (λ (h : HostValue). h.node) c.self.view_is)
+    (sym c.take.ensures.value ∙ c.in-Some.is))
+    (λ g most pick i k saved r h. takes_on (with_node old n) c.keep.new.self c.args.input
+    c.args.now n new
+    c.args.stop.now c.stop_disk-disk.result c.step_into-stepped.new.store outs (record {
       me = sym h.node.me;
       node = refl;
-      disk = sym c.stop_disk-disk.ensures.stands;
+      disk = sym (ap disk_of c.self.view_is) ∙ sym c.stop_disk-disk.ensures.stands;
     }) (record {
       me = ap (λ (x : HostValue). x.me) c.keep.ensures
-          ∙ c.put_back-stopped.ensures.me ∙ c.stop_disk-disk.ensures.me ∙ sym h.node.me;
+          ∙ c.put_back-stopped.ensures.me ∙ c.stop_disk-disk.ensures.me
+          ∙ ap (λ (x : HostValue). x.me) c.self.view_is ∙ sym h.node.me;
       node = ap (λ (x : HostValue). x.node) c.keep.ensures;
       disk = ap disk_of c.keep.ensures ∙ c.put_back-stopped.ensures.lifted c.if-stopped.false;
     }) (record {
@@ -82,12 +98,12 @@ returns-in-Ok-clause-takes c g most pick i k saved r h =
       past = c.stop_disk-disk.ensures.past;
     }) (sym c.put_back-stopped.ensures.came ∙ c.if-stopped.false)
     (subst (λ (m : NodeValue). Stepped c.args.now c.args.input m new
-    (Some (told c.stop_disk-disk.result)) (Some (told c.step-stepped.new.store)) c.in-Ok.outs)
+    (Some (told c.stop_disk-disk.result)) (Some (told c.step_into-stepped.new.store)) outs)
     c.deref_mut.ensures.value (record {
       steps = c.in-Ok.ensures.steps;
       listing = c.in-Ok.ensures.listing;
-      me = c.step-stepped.ensures.me;
+      me = c.step_into-stepped.ensures.me;
       served = c.in-Ok.ensures.is_server;
       mark = c.in-Ok.ensures.mark;
       written = c.in-Ok.ensures.written;
-    })) g most pick i k saved r h
+    })) g most pick i k saved r h)

@@ -10,14 +10,14 @@ use Rattle.node.specs.Input.{input_of, peers_of, came}
 use Rattle.node.specs.Node.{server}
 use Rattle.node.specs.Taking.{stepped}
 use Rattle.std.specs.Prelude.{None, Option}
-use Rattle.node.proofs.Wholes.{fills_sized, lists_none, no_listing, stand_none, stands_stepped, stock_none, stock_stepped}
+use Rattle.node.proofs.Wholes.{fills_sized, lists_none, no_listing, stand_none, stands_stepped, stock_none, stock_stepped, unsaid_records}
 use Rattle.node.specs.Serving.{entry_size}
 use Rattle.node.specs.Step.{ListsFor}
 use Rattle.node.specs.Stock.{stock, stock_after}
 use Rattle.node_outputs.specs.Records.{records_sent}
 use Rattle.node_outputs.specs.Said.{Said}
 use Rattle.tree_listing.specs.declared.listing.Listing.{Listing}
-use Rattle.node.proofs.node.Node.step.Goals as goal
+use Rattle.node.proofs.node.Node.step_into.Goals as goal
 
 pub returns-then-is_halted-clause-part : goal.returns-then-is_halted-clause-part
 returns-then-is_halted-clause-part g c size list =
@@ -32,15 +32,16 @@ returns-then-not-is_heeded-clause-steps g c items list fills =
     let none = sym c.is_heeded.ensures ∙ c.if-not-is_heeded.true in record {
       machine = step_none entry_size n.me c.args.now list (input_of i) (peers_of n i)
           (server n items)
-          c.new-outs.result none c.new-outs.ensures.said;
+          c.args.outs.now none c.requires.none;
       whole = stock_none entry_size n.me c.args.now list (came i) (peers_of n i) (server n items)
           (input_of i) (stock n) none;
-      sent = stand_none _ (records_sent c.new-outs.result) c.new-outs.ensures.records;
+      sent = stand_none _ (records_sent c.args.outs.now) (unsaid_records c.args.outs.now
+          c.requires.none);
     }
 
 pub returns-then-not-is_heeded-clause-listing : goal.returns-then-not-is_heeded-clause-listing
 returns-then-not-is_heeded-clause-listing g c = lists_none c.args.input c.args.self.now
-    (g.D.Store.told c.args.store.now) None c.new-outs.result.listing
+    (g.D.Store.told c.args.store.now) None c.args.outs.now.listing
     (sym c.is_heeded.ensures ∙ c.if-not-is_heeded.true)
 
 pub returns-in-Err-clause-part : goal.returns-in-Err-clause-part
@@ -60,8 +61,8 @@ returns-clause-steps g c items list fills =
     let some = sym c.is_heeded.ensures ∙ c.if-not-is_heeded.false in
     let made = c.in-Ok.ensures.makes items entry_size list sized in record {
       machine = step_made entry_size n.me c.args.now list (input_of i) (peers_of n i)
-          s mid (server c.rebase.new.self items) c.new-outs.result c.rule.new.outs
-          some c.new-outs.ensures.said made
+          s mid (server c.rebase.new.self items) c.args.outs.now c.rule.new.outs
+          some c.requires.none made
           (c.rebase.ensures.state items c.args.now
           ∙ ap (λ (p : Place). acts p c.args.now mid (rebase mid)) c.rule.ensures.me);
       whole = stock_stepped entry_size n.me c.args.now list (came i) (peers_of n i) s mid
@@ -74,14 +75,14 @@ returns-clause-steps g c items list fills =
       sent = stands_stepped entry_size n.me c.args.now list s (input_of i) n.records
           n.plain.accepted
           (records_sent c.rule.new.outs)
-          (c.in-Ok.ensures.sent items entry_size list sized c.new-outs.ensures.said
-          c.new-outs.ensures.records);
+          (c.in-Ok.ensures.sent items entry_size list sized c.requires.none
+          (unsaid_records c.args.outs.now c.requires.none));
     }
 
 pub returns-clause-listing : goal.returns-clause-listing
 returns-clause-listing g c = subst (λ (o : Option Listing). ListsFor c.args.input c.args.self.now
     (g.D.Store.told c.args.store.now) o c.rule.new.outs.listing)
-    (no_listing c.new-outs.result.listing (ap (λ (x : Said). x.listed) c.new-outs.ensures.said))
+    (no_listing c.args.outs.now.listing (ap (λ (x : Said). x.listed) c.requires.none))
     c.in-Ok.ensures.listing
 
 pub returns-clause-cached : goal.returns-clause-cached
