@@ -13,7 +13,7 @@ pub trait Player {
     // The one summary of each list of steps.
     ghost summary_of: { Self → List Step → Summary };
 
-    /// Plays these steps from the start.
-    fn play(&self, alloc: Global, steps: &[Step]) -> Result<Summary, AllocError>
-        ensures { IfOk result (λ summary. summary ≡ summary_of self.now steps.now) };
+    /// Plays these steps, which are let go, from the start.
+    fn play(&self, alloc: Global, steps: Vec<Step>) -> Result<Summary, AllocError>
+        ensures { IfOk result (λ summary. summary ≡ summary_of self.now steps.items) };
 }

@@ -11,7 +11,7 @@ use rayon::prelude::*;
 use std::alloc::{AllocError, Global};
 use std::thread::Threads;
 
-/// Plays the schedule of a seed, which is let go then.
+/// Plays the schedule of a seed.
 fn play_one<P: Player>(
     alloc: Global,
     player: &P,
@@ -21,7 +21,7 @@ fn play_one<P: Player>(
     ensures { IfOk result (λ summary. summary ≡ P.summary_of player.now (generated seed lines)) }
 {
     let steps = generate(alloc, seed, lines)?;
-    player.play(alloc, steps.as_slice())
+    player.play(alloc, steps)
 }
 
 /// Plays the schedules of so many seeds from this one on, one after another. The summaries stand in

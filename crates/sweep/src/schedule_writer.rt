@@ -1,50 +1,36 @@
 //! Generated schedules as text.
 
-ghost use Rattle.std.specs.Prelude.{◌≡◌, ◌≤◌, ◌++◌, ◌∷◌, [], IfOk, OnOk, OnErr, Err};
+ghost use Rattle.std.specs.Prelude.{◌≡◌, ◌≤◌, IfOk, OnOk, OnErr, Err};
 ghost use Rattle.std.specs.Io.KnownBytes.{Appends};
 ghost use Rattle.harp_types.specs.Streams.{GrewByPart, Rose};
-ghost use Rattle.text_spelling.specs.Steps.{step_text};
 ghost use Rattle.sweep.specs.Lines.{generated};
 ghost use Rattle.sweep.specs.Texts.{schedule_text};
 
-use crate::generator::Generator;
-use crate::schedule::opening;
+use crate::schedule::{Taker, draw};
 use harp_types::{Sink, SinkFault, write_all};
 use std::alloc::{AllocError, Global};
 use text_writer::append_step;
 use trace_types::Step;
 
-/// A step with its line feed.
-fn put_line(alloc: Global, step: &Step, text: &mut Vec<u8>) -> Result<(), AllocError>
-    ensures { OnOk result (text.new.items ≡ text.old.items ++ step_text step.now ++ 10 ∷ []) }
-{
-    append_step(alloc, step, text)?;
-    Ok(text.push(b'\n')?)
-}
+/// The lines of the steps are kept, which are let go.
+impl Taker for Vec<u8> {
+    ghost use Rattle.std.specs.Prelude.{◌≡◌};
+    ghost use Rattle.sweep.specs.Texts.{schedule_text};
 
-/// These steps, each with its line feed.
-fn put_lines(alloc: Global, steps: &[Step], text: &mut Vec<u8>) -> Result<(), AllocError>
-    ensures { OnOk result (text.new.items ≡ text.old.items ++ schedule_text steps.now) }
-{
-    for step in steps {
-        put_line(alloc, step, text)?;
+    ghost has = { λ text steps. text.items ≡ schedule_text steps };
+
+    fn take(&mut self, alloc: Global, step: Step) -> Result<(), AllocError> {
+        append_step(alloc, &step, self)?;
+        Ok(self.push(b'\n')?)
     }
-    Ok(())
 }
 
-/// The text of the schedule of a seed with so many drawn lines. Each step is let go when its line
-/// is written.
+/// The text of the schedule of a seed with so many drawn lines.
 fn text_of(alloc: Global, seed: u64, lines: u32) -> Result<Vec<u8>, AllocError>
     ensures { IfOk result (λ text. text.items ≡ schedule_text (generated seed lines)) }
 {
-    let mut generator = Generator::of(seed);
-    let steps = opening(alloc)?;
     let mut text = Vec::new(alloc);
-    put_lines(alloc, steps.as_slice(), &mut text)?;
-    for _ in 0..lines {
-        let step = generator.next_line(alloc)?;
-        put_line(alloc, &step, &mut text)?;
-    }
+    draw(alloc, seed, lines, &mut text)?;
     Ok(text)
 }
 

@@ -1,5 +1,5 @@
 -- Clocks stay far below their bound.
-use Rattle.std.proofs.Common.{◌≡◌, ℕ, ◌+◌, ◌*◌, ◌<◌, ◌≤◌, ◌^◌, true, arith, subst, sym, refl}
+use Rattle.std.proofs.Common.{◌≡◌, ℕ, ◌+◌, ◌*◌, ◌<◌, ◌≤◌, ◌^◌, true, arith, subst, sym}
 use Rattle.std.proofs.lemmas.Bool.{leb-true, ltb-true}
 use Rattle.harp_types.specs.declared.server.ServerId.TheVariants.{Zero, One, Two}
 use Rattle.trace_types.specs.declared.step.Step.{Step}
@@ -66,18 +66,15 @@ clocks-on clocks number (step.Stop server calls pick) below near = later clocks 
 clocks-on clocks number (step.Noise server bytes) below near = later clocks number below
 clocks-on clocks number (step.Delta millis) below near = later clocks number below
 
--- where a step of a list leads, as a copy of it
-pub line-below : (clocks new : Trio ℕ) (before : ℕ) (s copy : Step) → AreBelow (before + 1) clocks
-    → moves_within s ≡ true → copy ≡ s → new ≡ clocks_after clocks copy
-    → AreBelow (before + 1 + 1) new
-line-below clocks new before s copy below near is after =
-    subst (AreBelow (before + 1 + 1)) (sym after)
-    (subst (λ x. AreBelow (before + 1 + 1) (clocks_after clocks x)) (sym is)
-    (clocks-on clocks (before + 1) s below near))
+-- where a step of a list leads
+pub line-below : (clocks new : Trio ℕ) (before : ℕ) (s : Step) → AreBelow (before + 1) clocks
+    → moves_within s ≡ true → new ≡ clocks_after clocks s → AreBelow (before + 1 + 1) new
+line-below clocks new before s below near after =
+    subst (AreBelow (before + 1 + 1)) (sym after) (clocks-on clocks (before + 1) s below near)
 
-pub line-readings : (clocks : Trio ℕ) (before : ℕ) (s copy : Step) → before < 50000
-    → AreBelow (before + 1) clocks → moves_within s ≡ true → copy ≡ s
-    → AreReadings (clocks_after clocks copy)
-line-readings clocks before s copy within below near is =
-    clocks-near (clocks_after clocks copy) (before + 1 + 1) (omega (arith, within))
-    (line-below clocks (clocks_after clocks copy) before s copy below near is refl)
+pub line-readings : (clocks : Trio ℕ) (before : ℕ) (s : Step) → before < 50000
+    → AreBelow (before + 1) clocks → moves_within s ≡ true
+    → AreReadings (clocks_after clocks s)
+line-readings clocks before s within below near =
+    clocks-near (clocks_after clocks s) (before + 1 + 1) (omega (arith, within))
+    (clocks-on clocks (before + 1) s below near)

@@ -1,8 +1,7 @@
 -- What is still read, from steps of a list to elementary ones.
-use Rattle.std.proofs.Common.{◌≡◌, ℕ, ◌+◌, ◌-◌, ◌<◌, ◌≤◌, arith, true, false, List, [], ◌∷◌, length, drop, get_or, refl, sym, ap, ◌∙◌, Option, Some, None, Ok, Err}
+use Rattle.std.proofs.Common.{◌≡◌, ℕ, ◌+◌, ◌-◌, ◌<◌, ◌≤◌, arith, true, false, List, [], ◌∷◌, refl, sym, ap, ◌∙◌, Option, Some, None, Ok, Err}
 use Rattle.std.specs.Prelude.{nat_lt}
 use Rattle.std.proofs.lemmas.Bool.{ltb-true, false_from_ne_true, lt-ltb}
-use Rattle.std.proofs.lemmas.List.{at_drop_more, at_drop_all}
 use Rattle.harp_types.specs.declared.server.ServerId.{ServerId}
 use Rattle.trace_types.specs.declared.line.LineFault.{LineFault}
 use Rattle.trace_types.specs.declared.line.LineFault.TheVariants as fault
@@ -184,55 +183,57 @@ line-far f all before s rest t stands within far h =
     (given-far (before + 1) s (omega (arith, within)) far) h
 
 -- another step is given
-pub line-near : (f : Spellings) (all : Reading) (before : ℕ) (s copy : Step)
+pub line-near : (f : Spellings) (all : Reading) (before : ℕ) (s : Step)
     (rest : Scene → Reading) (t : Tally) (stands : DiskScene → Type 0) → before < 50000
-    → moves_within s ≡ true → copy ≡ s
+    → moves_within s ≡ true
     → HasCounted f all (with_given (measures_of f) (before + 1) (given_as (before + 1) s) rest) t
     stands
-    → HasCounted f all (with_given (measures_of f) (before + 1) (Ok (Some copy)) rest) t stands
-line-near f all before s copy rest t stands within near is h =
+    → HasCounted f all (with_given (measures_of f) (before + 1) (Ok (Some s)) rest) t stands
+line-near f all before s rest t stands within near h =
     let m = measures_of f in
-    let gives : given_as (before + 1) s ≡ Ok (Some copy) =
-    given-near (before + 1) s (omega (arith, within)) near ∙ ap (λ x. Ok (Some x)) (sym is) in
     counted-as f all (with_given m (before + 1) (given_as (before + 1) s) rest)
-    (with_given m (before + 1) (Ok (Some copy)) rest) t stands h
-    (ap (λ x. with_given m (before + 1) x rest (run m first_scene h.done)) gives)
+    (with_given m (before + 1) (Ok (Some s)) rest) t stands h
+    (ap (λ x. with_given m (before + 1) x rest (run m first_scene h.done))
+    (given-near (before + 1) s (omega (arith, within)) near))
 
 -- ---- steps of a list
 
 -- no step was taken yet
-pub list-first : (f : Spellings) (steps : List Step) (t : Tally) (stands : DiskScene → Type 0)
-    → IsTallyOf [] t → stands first_disk_scene
-    → HasCounted f (steps_read (measures_of f) steps)
-    (steps_read_from (measures_of f) 1 (drop 0 steps)) t stands
+pub list-first : (f : Spellings) (steps left : List Step) (t : Tally)
+    (stands : DiskScene → Type 0) → left ≡ steps → IsTallyOf [] t → stands first_disk_scene
+    → HasCounted f (steps_read (measures_of f) steps) (steps_read_from (measures_of f) 1 left) t
+    stands
 unfolding run run_lines disk_run
-list-first f steps t stands tally here =
-    record { done = []; taken = tt; reading_is = refl; tally = tally; left = here }
+list-first f steps left t stands is tally here = record {
+  done = [];
+  taken = tt;
+  reading_is = ap (λ ss. steps_read_from (measures_of f) 1 ss first_scene) (sym is);
+  tally = tally;
+  left = here;
+}
 
 -- the next step of a list is still read
-pub list-on : (f : Spellings) (all : Reading) (steps : List Step) (i : ℕ) (s : Step) (t : Tally)
-    (stands : DiskScene → Type 0) → i < length steps → s ≡ get_or steps i s
-    → HasCounted f all (steps_read_from (measures_of f) (i + 1) (drop i steps)) t stands
+pub list-on : (f : Spellings) (all : Reading) (i : ℕ) (s : Step) (steps left : List Step)
+    (t : Tally) (stands : DiskScene → Type 0) → steps ≡ s ∷ left
+    → HasCounted f all (steps_read_from (measures_of f) (i + 1) steps) t stands
     → HasCounted f all (with_given (measures_of f) (i + 1) (given_as (i + 1) s)
-    (steps_read_from (measures_of f) (i + 1 + 1) (drop (i + 1) steps))) t stands
+    (steps_read_from (measures_of f) (i + 1 + 1) left)) t stands
 unfolding steps_read_from
-list-on f all steps i s t stands within is h =
+list-on f all i s steps left t stands is h =
     let m = measures_of f in
     let w = run m first_scene h.done in
     counted-as f all _ (with_given m (i + 1) (given_as (i + 1) s)
-    (steps_read_from m (i + 1 + 1) (drop (i + 1) steps))) t stands h
-    (at_drop_more (λ ss. steps_read_from m (i + 1) ss w) steps i s within
-    ∙ ap (λ (x : Step). steps_read_from m (i + 1) (x ∷ drop (i + 1) steps) w) (sym is))
+    (steps_read_from m (i + 1 + 1) left)) t stands h
+    (ap (λ ss. steps_read_from m (i + 1) ss w) is)
 
 -- all steps of a list were taken
-pub list-ends : (f : Spellings) (all : Reading) (steps : List Step) (i : ℕ) (t : Tally)
-    (stands : DiskScene → Type 0) → length steps ≤ i
-    → HasCounted f all (steps_read_from (measures_of f) (i + 1) (drop i steps)) t stands
-    → HasAll f all t
+pub list-ends : (f : Spellings) (all : Reading) (i : ℕ) (steps : List Step) (t : Tally)
+    (stands : DiskScene → Type 0) → steps ≡ []
+    → HasCounted f all (steps_read_from (measures_of f) (i + 1) steps) t stands → HasAll f all t
 unfolding steps_read_from
-list-ends f all steps i t stands past h =
+list-ends f all i steps t stands is h =
     let m = measures_of f in
     let w = run m first_scene h.done in
     has-all f all None t stands
     (counted-as f all _ (λ w. all_read) t stands h
-    (at_drop_all (λ ss. steps_read_from m (i + 1) ss w) steps i past))
+    (ap (λ ss. steps_read_from m (i + 1) ss w) is))

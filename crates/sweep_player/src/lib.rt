@@ -14,7 +14,6 @@
 //!  The words `node` and `group` use these.
 #![tactic(auto)]
 
-mod copies;
 mod player;
 mod playing;
 mod swept_plays;

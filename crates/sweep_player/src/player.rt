@@ -17,7 +17,7 @@ impl Player for GroupPlayer {
 
     ghost summary_of = { λ player steps. summary_of_steps (measures_of spellings) steps };
 
-    fn play(&self, alloc: Global, steps: &[Step]) -> Result<Summary, AllocError> {
+    fn play(&self, alloc: Global, steps: Vec<Step>) -> Result<Summary, AllocError> {
         let mut world = World::new(alloc)?;
         summary_over(alloc, &mut world, steps)
     }

@@ -1,6 +1,6 @@
 //! Playing steps in a world, each as a line of a schedule.
 
-ghost use Rattle.std.specs.Prelude.{◌≡◌, ◌+◌, ℕ, Some, Ok, IfOk, true};
+ghost use Rattle.std.specs.Prelude.{◌≡◌, ◌+◌, ◌<◌, ℕ, Some, Ok, IfOk, true};
 ghost use Rattle.group_trace.specs.DiskCalls.{measures_of};
 ghost use Rattle.group_trace.specs.DiskRun.{first_disk_scene};
 ghost use Rattle.group_trace.specs.Pump.{most_deliveries};
@@ -12,7 +12,6 @@ ghost use Rattle.schedule_play.specs.Stage.{AreReadings, clocks_after};
 ghost use Rattle.sweep_player.specs.OnTheWay.{HasCounted, TurnCounts};
 ghost use Rattle.sweep_player.specs.Reading.{given_as, moves_within, summary_of_steps};
 
-use crate::copies::copy_of;
 use crate::tally::Tally;
 use harp_types::{MOST_LINES, ServerId};
 use schedule_play::Stage;
@@ -142,7 +141,7 @@ fn take_step<W: Stage>(
 fn take_line<W: Stage>(
     alloc: Global,
     before: usize,
-    step: &Step,
+    step: Step,
     world: &mut W,
     lines: &mut Vec<Line>,
     tally: &mut Tally,
@@ -150,36 +149,38 @@ fn take_line<W: Stage>(
     requires { AreBelow (before + 1) (W.clocks world.old) }
     ensures counts { (all : Reading) (rest : Scene → Reading)
         → HasCounted W.spellings all
-        (with_given (measures_of W.spellings) (before + 1) (given_as (before + 1) step.now) rest)
+        (with_given (measures_of W.spellings) (before + 1) (given_as (before + 1) step) rest)
         tally.old (W.stands world.old)
         → IfOk result (TurnCounts W.spellings all rest tally.new (W.stands world.new)) }
     ensures below { result ≡ Ok Turn.GoesOn → AreBelow (before + 1 + 1) (W.clocks world.new) }
+    ensures within { result ≡ Ok Turn.GoesOn → before < 50000 }
 {
     if before >= LINES {
         return Ok(Turn::Refused);
     }
-    if !moves_within(step) {
+    if !moves_within(&step) {
         return Ok(Turn::Refused);
     }
-    take_step(alloc, copy_of(alloc, step)?, world, lines, tally)
+    take_step(alloc, step, world, lines, tally)
 }
 
 /// What the trace of these steps comes to, each played as a line of a schedule, in a world that
-/// stands at the first scene. No line of it is kept.
+/// stands at the first scene. No line of it is kept, and each step is let go once it is taken.
 pub fn summary_over<W: Stage>(
     alloc: Global,
     world: &mut W,
-    steps: &[Step],
+    steps: Vec<Step>,
 ) -> Result<Summary, AllocError>
     requires { W.stands world.old first_disk_scene }
     ensures { IfOk result
-        (λ summary. summary ≡ summary_of_steps (measures_of W.spellings) steps.now) }
+        (λ summary. summary ≡ summary_of_steps (measures_of W.spellings) steps.items) }
 {
     let mut lines = Vec::new(alloc);
     let mut tally = Tally::new();
-    for (before, step) in steps.iter().enumerate() {
+    let mut before = 0;
+    for step in steps {
         match take_line(alloc, before, step, world, &mut lines, &mut tally)? {
-            Turn::GoesOn => {}
+            Turn::GoesOn => before += 1,
             Turn::Refused => return Ok(tally.summary()),
         }
     }
