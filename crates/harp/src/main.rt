@@ -72,7 +72,8 @@ impl<'a, W: Write> Write for SharedOutput<'a, W> {
 struct AnsweredInput<'a, R, W> {
     input: R,
     output: &'a RefCell<W>,
-    latest: &'a RefCell<Latest>,
+    /// None where no refused line is told.
+    latest: Option<&'a RefCell<Latest>>,
     alloc: Global,
 }
 
@@ -83,7 +84,8 @@ impl<'a, R: Read, W: Write> Read for AnsweredInput<'a, R, W> {
             let _ = output.flush();
         }
         let count = self.input.read(piece)?;
-        if let Ok(mut latest) = self.latest.try_borrow_mut()
+        if let Some(latest) = self.latest
+            && let Ok(mut latest) = latest.try_borrow_mut()
             && let Some(read) = piece.get(..count)
         {
             latest.take(self.alloc, read);
@@ -139,6 +141,14 @@ fn failed<F>(disks: &Trio<FolderStore<F>>) -> Option<ServerId> {
     }
 }
 
+/// Whether a line of the input that is refused is told of, as `place` does.
+fn tells_place(words: &[String]) -> bool {
+    match words.first() {
+        Some(name) => name.as_str() == "play" || name.as_str() == "observe",
+        None => false,
+    }
+}
+
 /// The byte, from 0, at which the line that a play refused is no step's any more.
 fn place(latest: &RefCell<Latest>, alloc: Global, words: &[String]) -> Option<usize> {
     let name = words.first()?.as_str();
@@ -162,7 +172,7 @@ where
             source: ReaderSource::new(AnsweredInput {
                 input: rt.reader(),
                 output,
-                latest: &latest,
+                latest: tells_place(words).then_some(&latest),
                 alloc,
             }),
             sink: WriterSink::new(SharedOutput {

@@ -6,8 +6,8 @@ ghost use Rattle.nfs_door.specs.Changes.{attr_meant, call_meant, in_512, is_regu
 use harp_types::{Attr, Call, FIELD_LEFT, Reply, SetAttr, Time};
 use std::alloc::{AllocError, Global};
 
-/// The microseconds of a second.
-const SECOND: u32 = 1_000_000;
+/// The microseconds of a second. Those of a time that is set are fewer, and these stand for now.
+pub(crate) const SECOND: u32 = 1_000_000;
 
 /// The time that is meant; None where it is none.
 fn time_meant(now: Time, time: Time) -> Option<Time>

@@ -4,14 +4,12 @@ ghost use Rattle.std.specs.Prelude.{◌≡◌, IfOk};
 ghost use Rattle.nfs_door.specs.Allowances.{claim_of, enough_for, is_left, is_left_or_now};
 ghost use Rattle.nfs_door.specs.Allowances.{object_of, other_of, sets_as_write};
 
+use crate::changes::SECOND;
 use crate::credential::Caller;
 use crate::groups::Groups;
 use file_tree::{TO_SEARCH, TO_WRITE};
 use harp_types::{Call, FIELD_LEFT, SetAttr, Status, Time};
 use std::alloc::{AllocError, Global};
-
-/// The microseconds that stand for now.
-const NOW: u32 = 1_000_000;
 
 /// What a user may claim for a call that is refused.
 #[derive(Drop)]
@@ -73,7 +71,7 @@ pub(crate) fn is_left(field: u32) -> bool
 fn is_left_or_now(time: Time) -> bool
     ensures { result ≡ is_left_or_now time }
 {
-    is_left(time.seconds) || time.micros == NOW
+    is_left(time.seconds) || time.micros == SECOND
 }
 
 /// Whether a SETATTR sets no more than a write does: the size, and times to now.

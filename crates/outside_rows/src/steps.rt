@@ -45,33 +45,39 @@ fn next_step(alloc: Global, step: &Step, word: &str) -> Result<Option<Step>, All
     }
 }
 
-/// Shows the step after one that makes a call, by the reply of a word, and gives it on.
+/// Shows the step after the last one of these, where that makes a call and the word has a reply to
+/// it, and puts it behind them. Whether there is one.
 fn put_next(
     alloc: Global,
     out: &mut String,
-    step: Step,
+    steps: &mut Vec<Step>,
     word: &str,
-) -> Result<Option<Step>, AllocError> {
-    let next = next_step(alloc, &step, word)?;
-    if let Some(next) = &next {
-        put_step(alloc, out, next)?;
-    }
-    Ok(next)
+) -> Result<bool, AllocError> {
+    let Some(last) = steps.last() else {
+        return Ok(false);
+    };
+    let Some(next) = next_step(alloc, last, word)? else {
+        return Ok(false);
+    };
+    put_step(alloc, out, &next)?;
+    steps.push(next)?;
+    Ok(true)
 }
 
-/// Shows the steps behind a first one, as long as they make calls that words have replies to.
+/// Shows the steps behind a first one, as long as they make calls that words have replies to. They
+/// are kept in a list, since a loop that holds a step itself takes long to prove.
 fn put_others(
     alloc: Global,
     out: &mut String,
     first: Step,
     replies: &str,
 ) -> Result<(), AllocError> {
-    let mut step = first;
+    let mut steps = Vec::new(alloc);
+    steps.push(first)?;
     for word in replies.split(' ') {
-        step = match put_next(alloc, out, step, word)? {
-            Some(next) => next,
-            None => return Ok(()),
-        };
+        if !put_next(alloc, out, &mut steps, word)? {
+            return Ok(());
+        }
     }
     Ok(())
 }

@@ -1,7 +1,7 @@
 -- Turns of a door, one after the other.
 use Rattle.std.proofs.Common.{◌≡◌, ℕ, ◌+◌, ◌-◌, ◌≤◌, List, [], ◌∷◌, ◌++◌, Option, Some, None, Ok, Err, ap, append_assoc, arith, inl, inr, length, length-append, refl, subst, sym, take, ◌∙◌}
 use Rattle.std.proofs.lemmas.List.{append-nil}
-use Rattle.std.specs.Prelude.{◌≢◌}
+use Rattle.std.specs.Prelude.{◌≢◌, IfErr, Result}
 use Rattle.std.specs.Io.KnownBytes.{Appends, Keeps, prepend_known}
 use Rattle.harp_types.specs.declared.cred.Cred.{Cred}
 use Rattle.rpc_door.specs.declared.fault.DoorFault.{DoorFault}
@@ -11,8 +11,7 @@ use Rattle.rpc_door.specs.declared.group.GroupFault.{GroupFault}
 use Rattle.rpc_door.specs.declared.group.GroupFault.TheVariants as group
 use Rattle.rpc_door.specs.Group.{Counts, IsCounted, Tells, TellsMore, Unanswered}
 use Rattle.rpc_door.specs.Marks.{Short, Whole, front}
-use Rattle.rpc_door.specs.Meaning.{meaning_of}
-use Rattle.rpc_door.specs.Serving.{AnswersInPartBy, AnswersOne, AreAnswered, AreRecords, DoesNothing, DoorEnds, GoesOn, HaveServed, HaveServedInPart, IsAnswered, Side, StopsAmid, StopsInAnswer, TurnStops, FaultsStay, Faults, IsCaused, faults, most_records, of_group, side}
+use Rattle.rpc_door.specs.Serving.{AnswersOne, AreAnswered, AreRecords, DoesNothing, DoorEnds, GoesOn, HaveServed, HaveServedInPart, IsAnswered, Side, StopsAmid, StopsInAnswer, TurnStops, FaultsStay, Faults, IsCaused, faults, most_records, of_group, side}
 use Rattle.rpc_door.proofs.Fronts.{front_ends, mark_short}
 
 -- ---- bytes that are written
@@ -72,50 +71,6 @@ amid_at_once bytes held (Some rest) none k = record {
   part = front_ends 999 20000 [] (mark_short 20000 [] (omega arith));
   source_is = refl;
 }
-
--- what the group's fault leaves of a turn
-pub stops_at : {S : Type 0} (cred : Cred) (bytes given more : List ℕ) (number : ℕ) (source w : Option (List ℕ))
-    (old new : Tells S) (u v : Unanswered S) (fault : GroupFault) → front bytes ≡ Whole given more
-    → AnswersInPartBy cred (meaning_of given) old new v fault
-    → TurnStops cred bytes number source (side old u w) (side new v w) (of_group fault)
-stops_at cred bytes given more number source w old new u v group.Failed is a = (
-  record {
-    next = given;
-    rest = more;
-    xid = a.xid;
-    call = a.call;
-    is_next = is;
-    asks = a.asks;
-    left = a.left;
-  },
-  record { told = a.kept; wrote = appends_none w },
-)
-stops_at cred bytes given more number source w old new u v group.Spent is a = (
-  record {
-    next = given;
-    rest = more;
-    xid = a.xid;
-    call = a.call;
-    is_next = is;
-    asks = a.asks;
-    left = a.left;
-  },
-  record { told = a.kept; wrote = appends_none w },
-)
-stops_at cred bytes given more number source w old new u v group.NoMemory is (inl kept) =
-    inl (record { told = kept; wrote = appends_none w })
-stops_at cred bytes given more number source w old new u v group.NoMemory is (inr a) =
-    inr (record {
-      next = given;
-      rest = more;
-      made = a.1.made;
-      answer = a.0;
-      count = 0;
-      is_next = is;
-      answered = a.1.answered;
-      told = a.1.told;
-      wrote = appends_none w;
-    })
 
 -- ---- turns
 
@@ -312,6 +267,11 @@ caused_then a b c (door.BadRecord n) p q = tt
 caused_then a b c door.GroupFailed p q = omega (arith, p.2.0, q)
 caused_then a b c door.GroupSpent p q = omega (arith, p.2.1, q)
 caused_then a b c door.NoMemory p q = tt
+
+pub caused_behind : {A : Type 0} (result : Result A DoorFault) (a b c : Faults) → FaultsStay a b
+    → IfErr result (λ why. IsCaused why b c) → IfErr result (λ why. IsCaused why a c)
+caused_behind (Ok x) a b c p q = tt
+caused_behind (Err why) a b c p q = caused_then a b c why p q
 
 pub caused_by_group : (why : GroupFault) (reads writes : ℕ) (old new : Counts)
     → IsCounted why old new → IsCaused (of_group why) (faults reads writes old) (faults reads writes new)

@@ -67,6 +67,21 @@ impl Held {
         Ok(true)
     }
 
+    /// The bytes at hand.
+    pub fn as_slice(&self) -> &[u8]
+        ensures { result.now ≡ self.now }
+    {
+        &self.bytes[self.at..self.end]
+    }
+
+    /// Passes over so many of the bytes at hand.
+    pub fn pass(&mut self, count: usize)
+        requires { count ≤ length self.old }
+        ensures { self.new ≡ drop count self.old }
+    {
+        self.at += count;
+    }
+
     /// Takes the bytes at hand to the end of others, at most so many. Without memory none is taken.
     pub fn take(&mut self, out: &mut Vec<u8>, most: usize) -> Result<(), AllocError>
         ensures out { OnOk result (out.new.items ≡ out.old.items ++ take most self.old) }

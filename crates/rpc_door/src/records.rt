@@ -1,9 +1,10 @@
 //! The records of a source, one after the other (RFC 1057, section 10).
 
-ghost use Rattle.std.specs.Prelude.{◌≡◌, ◌≤◌, ◌<◌, [], true, false, length, IfOk, OnErr, Ok, Err};
+ghost use Rattle.std.specs.Prelude.{◌≡◌, ◌≤◌, ◌<◌, ◌+◌, [], true, false, length, take, drop, IfOk, IfSome, OnErr, Ok, Err};
+ghost use Rattle.std.specs.Int.{w32, from_be_bytes};
 ghost use Rattle.std.specs.Io.KnownBytes.{IsAtEnd, Keeps};
 ghost use Rattle.harp_types.specs.Streams.{Rose};
-ghost use Rattle.rpc_door.specs.Records.{BreaksOff, EndsInFragment, Finds, GivesKnown, TakesMark, TakesNoMark, TakesPiece, bytes_left};
+ghost use Rattle.rpc_door.specs.Records.{BreaksOff, EndsInFragment, Finds, GivesKnown, StandsWhole, TakesMark, TakesNoMark, TakesPiece, bytes_left};
 
 use crate::fault::ReadFault;
 use crate::held::Held;
@@ -19,6 +20,9 @@ const FRAGMENTS: u32 = 1000;
 
 /// The highest bit of a mark, which its last fragment has.
 const LAST: u32 = 1 << 31;
+
+/// How many bytes a mark has.
+const MARK: usize = 4;
 
 /// What came of a fragment.
 #[derive(Clone, Copy, PartialEq, Eq)]
@@ -53,6 +57,14 @@ pub enum Next {
     Broken,
 }
 
+/// The number that a mark is.
+fn mark_of(bytes: &[u8]) -> u32
+    requires { length bytes.now ≡ 4 }
+    ensures { result ≡ from_be_bytes w32 bytes.now }
+{
+    u32::from_be_bytes([bytes[0], bytes[1], bytes[2], bytes[3]])
+}
+
 /// Takes a mark; None where the source ends before. `room` is room for it.
 fn read_mark<S: Source>(
     held: &mut Held,
@@ -69,13 +81,12 @@ fn read_mark<S: Source>(
     ensures count { S.faults source.old ≤ S.faults source.new }
 {
     room.clear();
-    match held.take_exactly(source, room, 4) {
+    match held.take_exactly(source, room, MARK) {
         Ok(true) => {}
         Ok(false) => return Ok(None),
         Err(fault) => return Err(fault),
     }
-    let mark = room.as_slice();
-    Ok(Some(u32::from_be_bytes([mark[0], mark[1], mark[2], mark[3]])))
+    Ok(Some(mark_of(room.as_slice())))
 }
 
 /// Takes a fragment behind earlier ones of its record.
@@ -145,6 +156,28 @@ fn read_record<S: Source>(
     }
 }
 
+/// How many bytes the record has that stands at the front of these, where it stands there whole
+/// and in one fragment.
+fn whole_size(bytes: &[u8]) -> Option<usize>
+    ensures { IfSome result (λ size. StandsWhole size bytes.now) }
+{
+    if bytes.len() < MARK {
+        return None;
+    }
+    let mark = mark_of(&bytes[..MARK]);
+    if mark < LAST {
+        return None;
+    }
+    let size = (mark % LAST) as usize;
+    if size > LONGEST {
+        return None;
+    }
+    if size > bytes.len() - MARK {
+        return None;
+    }
+    Some(size)
+}
+
 /// A reader of records. It holds one chunk of the source.
 #[derive(Drop)]
 pub struct RecordReader {
@@ -181,6 +214,30 @@ impl RecordReader {
         ensures count { S.faults source.old ≤ S.faults source.new }
     {
         self.held.fill(source)
+    }
+
+    /// How many bytes the next record has, where it lies whole in the chunk, in one fragment.
+    pub fn whole(&self) -> Option<usize>
+        ensures { IfSome result (λ size. StandsWhole size self.now) }
+    {
+        whole_size(self.held.as_slice())
+    }
+
+    /// The next record, which lies whole in the chunk.
+    pub fn record(&self, size: usize) -> &[u8]
+        requires { StandsWhole size self.now }
+        ensures { result.now ≡ take size (drop 4 self.now) }
+    {
+        let at_hand = self.held.as_slice();
+        &at_hand[MARK..MARK + size]
+    }
+
+    /// Passes over the next record, which lies whole in the chunk.
+    pub fn pass(&mut self, size: usize)
+        requires { StandsWhole size self.old }
+        ensures { self.new ≡ drop (4 + size) self.old }
+    {
+        self.held.pass(MARK + size);
     }
 
     /// What comes next; a record is put in `out`, whatever that held. After a fault the first bytes

@@ -1,8 +1,9 @@
 //! Serving the records of a source.
 
-ghost use Rattle.std.specs.Prelude.{◌≡◌, ◌≢◌, ◌≤◌, ◌<◌, ◌++◌, [], ℕ, List, drop, length, Some, IfOk, IfErr, OnOk, MatchResult};
+ghost use Rattle.std.specs.Prelude.{◌≡◌, ◌≢◌, ◌≤◌, ◌<◌, ◌++◌, [], ℕ, List, Option, drop, length, Some, IfOk, IfErr, OnOk, MatchResult};
 ghost use Rattle.rpc_door.specs.Group.{IsCounted, NoneFell};
 ghost use Rattle.rpc_door.specs.Records.{bytes_left};
+ghost use Rattle.rpc_door.specs.Marks.{Whole, front};
 ghost use Rattle.rpc_door.specs.Meaning.{meaning_of};
 ghost use Rattle.rpc_door.specs.Results.{answer_bytes};
 ghost use Rattle.rpc_door.specs.declared.meaning.RpcIn.TheVariants.{Ask};
@@ -27,18 +28,14 @@ const LAST: u32 = 1 << 31;
 /// What stands where a mark is put as soon as the length of its record is known.
 const ROOM: [u8; 4] = [0; 4];
 
-/// Room for a record and its answer, which the next one uses anew.
-#[derive(Drop)]
-struct Room {
-    record: Vec<u8>,
-    sent: Vec<u8>,
-}
-
 /// Where records are read and answered.
 #[derive(Drop)]
 struct Desk {
     reader: RecordReader,
-    room: Room,
+    /// Room for a record that doesn't lie whole where it was read, which the next one uses anew.
+    record: Vec<u8>,
+    /// Room for an answer, which the next one uses anew.
+    sent: Vec<u8>,
 }
 
 impl Desk {
@@ -47,10 +44,8 @@ impl Desk {
     {
         Ok(Desk {
             reader: RecordReader::new(alloc)?,
-            room: Room {
-                record: Vec::new(alloc),
-                sent: Vec::new(alloc),
-            },
+            record: Vec::new(alloc),
+            sent: Vec::new(alloc),
         })
     }
 }
@@ -110,13 +105,13 @@ fn answer_call<G: Group>(
     xid: u32,
     call: &Call,
     group: &mut G,
-    room: &mut Room,
+    out: &mut Vec<u8>,
 ) -> Result<(), GroupFault>
-    requires none { room.old.sent.items ≡ [] }
+    requires none { out.old.items ≡ [] }
     requires runs { G.runs group.old }
     ensures runs { OnOk result (G.runs group.new) }
     ensures ok { OnOk result (MakesBy cred (Ask xid call.now) (G.told group.old)
-        (G.told group.new) room.new.sent.items) }
+        (G.told group.new) out.new.items) }
     ensures err { IfErr result (AnswersInPartBy cred (Ask xid call.now) (G.told group.old)
         (G.told group.new) (G.unanswered group.new)) }
     ensures counted { IfErr result (λ why. IsCounted why (G.counts group.old)
@@ -128,43 +123,81 @@ fn answer_call<G: Group>(
         Ok(reply) => reply,
         Err(fault) => return Err(fault),
     };
-    match send_reply(xid, call, &reply, &mut room.sent) {
+    match send_reply(xid, call, &reply, out) {
         Ok(()) => Ok(()),
         Err(_) => Err(GroupFault::NoMemory),
     }
 }
 
-/// The answer to the record as it is sent, nothing where it means nothing.
+/// The answer to a record as it is sent, nothing where it means nothing.
 fn answer_record<G: Group>(
     alloc: Global,
     cred: Cred,
+    bytes: &[u8],
     group: &mut G,
-    room: &mut Room,
+    out: &mut Vec<u8>,
 ) -> Result<(), GroupFault>
     requires { G.runs group.old }
     ensures runs { OnOk result (G.runs group.new) }
-    ensures ok { OnOk result (MakesBy cred (meaning_of room.old.record.items) (G.told group.old)
-        (G.told group.new) room.new.sent.items) }
-    ensures err { IfErr result (AnswersInPartBy cred (meaning_of room.old.record.items)
+    ensures ok { OnOk result (MakesBy cred (meaning_of bytes.now) (G.told group.old)
+        (G.told group.new) out.new.items) }
+    ensures err { IfErr result (AnswersInPartBy cred (meaning_of bytes.now)
         (G.told group.old) (G.told group.new) (G.unanswered group.new)) }
     ensures counted { IfErr result (λ why. IsCounted why (G.counts group.old)
         (G.counts group.new)) }
     ensures counts { NoneFell (G.counts group.old) (G.counts group.new) }
     ensures on { (o : G.Basis) → G.on group.old o → G.on group.new o }
 {
-    room.sent.clear();
-    match read_rpc(alloc, room.record.as_slice()) {
+    out.clear();
+    match read_rpc(alloc, bytes) {
         Ok(RpcIn::Silent) => Ok(()),
-        Ok(RpcIn::Fixed(fixed)) => match put_sent(&mut room.sent, fixed.as_slice()) {
+        Ok(RpcIn::Fixed(fixed)) => match put_sent(out, fixed.as_slice()) {
             Ok(()) => Ok(()),
             Err(_) => Err(GroupFault::NoMemory),
         },
-        Ok(RpcIn::Ask { xid, call }) => answer_call(alloc, cred, xid, &call, group, room),
+        Ok(RpcIn::Ask { xid, call }) => answer_call(alloc, cred, xid, &call, group, out),
         Err(_) => Err(GroupFault::NoMemory),
     }
 }
 
-/// Reads the record with this number, whose first byte is at hand, and answers it.
+/// Answers a record, and writes the answer. `room` is room for it.
+fn serve_bytes<K: Sink, G: Group>(
+    alloc: Global,
+    cred: Cred,
+    bytes: &[u8],
+    room: &mut Vec<u8>,
+    sink: &mut K,
+    group: &mut G,
+) -> Result<(), DoorFault>
+    requires { G.runs group.old }
+    ensures runs { MatchResult result (λ _. G.runs group.new) (RunsAfter (G.runs group.new)) }
+    ensures ends { (all rest : List ℕ) (left source : Option (List ℕ)) (number : ℕ)
+        → front all ≡ Whole bytes.now rest → left ≡ Some rest
+        → MatchResult result (λ _. AnswersOne cred all left
+        (side (G.told group.old) (G.unanswered group.old) (K.written sink.old))
+        (side (G.told group.new) (G.unanswered group.new) (K.written sink.new)))
+        (TurnStops cred all number source
+        (side (G.told group.old) (G.unanswered group.old) (K.written sink.old))
+        (side (G.told group.new) (G.unanswered group.new) (K.written sink.new))) }
+    ensures cause { (reads : ℕ) → IfErr result (λ why. IsCaused why
+        (faults reads (K.faults sink.old) (G.counts group.old))
+        (faults reads (K.faults sink.new) (G.counts group.new))) }
+    ensures counts { FaultsStay (faults 0 (K.faults sink.old) (G.counts group.old))
+        (faults 0 (K.faults sink.new) (G.counts group.new)) }
+    ensures on { (o : G.Basis) → G.on group.old o → G.on group.new o }
+{
+    match answer_record(alloc, cred, bytes, group, room) {
+        Ok(()) => {}
+        Err(fault) => return Err(of_group(fault)),
+    }
+    match write_all(sink, room.as_slice()) {
+        Ok(()) => Ok(()),
+        Err(fault) => Err(of_sink(fault)),
+    }
+}
+
+/// Reads the record with this number, whose first byte is at hand, and answers it: where it lies,
+/// if it is whole there.
 fn serve_record<S: Source, K: Sink, G: Group>(
     alloc: Global,
     cred: Cred,
@@ -193,19 +226,25 @@ fn serve_record<S: Source, K: Sink, G: Group>(
         (faults (S.faults source.new) (K.faults sink.new) (G.counts group.new)) }
     ensures on { (o : G.Basis) → G.on group.old o → G.on group.new o }
 {
-    match desk.reader.next(source, &mut desk.room.record) {
+    if let Some(size) = desk.reader.whole() {
+        let bytes = desk.reader.record(size);
+        let done = serve_bytes(alloc, cred, bytes, &mut desk.sent, sink, group);
+        desk.reader.pass(size);
+        return done;
+    }
+    match desk.reader.next(source, &mut desk.record) {
         Ok(Next::Record) => {}
         Ok(Next::Broken) => return Err(DoorFault::BadRecord(number)),
         Err(fault) => return Err(of_read(fault)),
     }
-    match answer_record(alloc, cred, group, &mut desk.room) {
-        Ok(()) => {}
-        Err(fault) => return Err(of_group(fault)),
-    }
-    match write_all(sink, desk.room.sent.as_slice()) {
-        Ok(()) => Ok(()),
-        Err(fault) => Err(of_sink(fault)),
-    }
+    serve_bytes(
+        alloc,
+        cred,
+        desk.record.as_slice(),
+        &mut desk.sent,
+        sink,
+        group,
+    )
 }
 
 /// Reads the record with this number and answers it. One past the limit is refused at its first
