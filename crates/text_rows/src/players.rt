@@ -16,7 +16,7 @@ impl Player for Steps {
     ghost summary_of = { λ player steps. record
         { entered = length steps; answered = 0; refused = 0; opened = 0 } };
 
-    fn play(&self, _alloc: Global, steps: &[Step]) -> Result<Summary, AllocError> {
+    fn play(&self, _alloc: Global, steps: Vec<Step>) -> Result<Summary, AllocError> {
         Ok(Summary {
             entered: steps.len() as u64,
             answered: 0,
@@ -71,7 +71,8 @@ impl Player for Kinds {
 
     ghost summary_of = { λ player steps. kinds steps };
 
-    fn play(&self, _alloc: Global, steps: &[Step]) -> Result<Summary, AllocError> {
+    fn play(&self, _alloc: Global, steps: Vec<Step>) -> Result<Summary, AllocError> {
+        let steps = steps.as_slice();
         Ok(Summary {
             entered: Kind::Ask.count(steps),
             answered: Kind::Pump.count(steps),

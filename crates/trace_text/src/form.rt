@@ -1,6 +1,6 @@
 //! The forms of lines, by their names.
 
-ghost use Rattle.std.specs.Prelude.{◌≡◌, ◌≤◌, ◌+◌, length, find, map, codes, IfOk};
+ghost use Rattle.std.specs.Prelude.{◌≡◌, ◌≤◌, ◌+◌, length, find, map, codes, drop, IfOk};
 ghost use Rattle.std.specs.Str.{bytes_eq};
 ghost use Rattle.schedule_text.specs.Fields.{Gives};
 ghost use Rattle.schedule_text.specs.Words.{farthest};
@@ -29,6 +29,7 @@ pub enum LineForm {
 }
 
 impl LineForm {
+    /// The form of this name.
     fn named(word: &[u8]) -> Option<LineForm>
         ensures { result ≡ value_named form_name forms word.now }
     {
@@ -50,6 +51,13 @@ impl LineForm {
         if is_name(word, b"state") {
             return Some(LineForm::State);
         }
+        LineForm::named_behind(word)
+    }
+
+    /// The form of this name among those behind the first six.
+    fn named_behind(word: &[u8]) -> Option<LineForm>
+        ensures { result ≡ value_named form_name (drop 6 forms) word.now }
+    {
         if is_name(word, b"listed") {
             return Some(LineForm::Listed);
         }

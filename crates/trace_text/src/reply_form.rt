@@ -1,6 +1,6 @@
 //! The forms of a reply, the statuses and the ends of pages, by their names.
 
-ghost use Rattle.std.specs.Prelude.{◌≡◌, ◌≤◌, ◌+◌, length, find, map, codes, IfOk};
+ghost use Rattle.std.specs.Prelude.{◌≡◌, ◌≤◌, ◌+◌, length, find, map, codes, drop, IfOk};
 ghost use Rattle.std.specs.Str.{bytes_eq};
 ghost use Rattle.harp_types.specs.Statuses.{statuses};
 ghost use Rattle.text_spelling.specs.Text.{page_end};
@@ -84,6 +84,7 @@ pub fn form_at(line: &[u8], at: usize) -> Result<(ReplyForm, usize), TextFault>
     }
 }
 
+/// The status of this number.
 fn status_named(word: &[u8]) -> Option<Status>
     ensures { result ≡ value_named status_word statuses word.now }
 {
@@ -105,6 +106,13 @@ fn status_named(word: &[u8]) -> Option<Status>
     if is_name(word, b"17") {
         return Some(Status::Exist);
     }
+    status_named_behind(word)
+}
+
+/// The status of this number among those behind the first six.
+fn status_named_behind(word: &[u8]) -> Option<Status>
+    ensures { result ≡ value_named status_word (drop 6 statuses) word.now }
+{
     if is_name(word, b"20") {
         return Some(Status::NotDir);
     }
