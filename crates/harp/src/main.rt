@@ -72,8 +72,7 @@ impl<'a, W: Write> Write for SharedOutput<'a, W> {
 struct AnsweredInput<'a, R, W> {
     input: R,
     output: &'a RefCell<W>,
-    /// None where no refused line is told.
-    latest: Option<&'a RefCell<Latest>>,
+    latest: &'a RefCell<Latest>,
     alloc: Global,
 }
 
@@ -84,8 +83,7 @@ impl<'a, R: Read, W: Write> Read for AnsweredInput<'a, R, W> {
             let _ = output.flush();
         }
         let count = self.input.read(piece)?;
-        if let Some(latest) = self.latest
-            && let Ok(mut latest) = latest.try_borrow_mut()
+        if let Ok(mut latest) = self.latest.try_borrow_mut()
             && let Some(read) = piece.get(..count)
         {
             latest.take(self.alloc, read);
@@ -166,13 +164,13 @@ where
     R::Reader: Drop,
 {
     let alloc = rt.alloc();
-    let latest = RefCell::new(Latest::new(alloc));
+    let latest = RefCell::new(Latest::new(alloc, tells_place(words)));
     let (status, failed) = {
         let mut outside = Outside {
             source: ReaderSource::new(AnsweredInput {
                 input: rt.reader(),
                 output,
-                latest: tells_place(words).then_some(&latest),
+                latest: &latest,
                 alloc,
             }),
             sink: WriterSink::new(SharedOutput {

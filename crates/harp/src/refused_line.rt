@@ -13,6 +13,7 @@ const GRAMMAR: &[u8] = b" grammar\n";
 /// says that a line is out of the grammar.
 #[derive(Drop)]
 pub(crate) struct Latest {
+    is_told: bool,
     read: Vec<u8>,
     is_cut: bool,
     says_grammar: bool,
@@ -41,9 +42,10 @@ fn place_in(alloc: Global, is_observed: bool, line: &[u8]) -> Option<usize> {
 }
 
 impl Latest {
-    /// Nothing was read or written.
-    pub(crate) fn new(alloc: Global) -> Latest {
+    /// Nothing was read or written; `is_told` where a refused line is asked for in the end.
+    pub(crate) fn new(alloc: Global, is_told: bool) -> Latest {
         Latest {
+            is_told,
             read: Vec::new(alloc),
             is_cut: false,
             says_grammar: false,
@@ -64,6 +66,9 @@ impl Latest {
 
     /// A piece was read, since all before it was taken but a part of a line.
     pub(crate) fn take(&mut self, alloc: Global, piece: &[u8]) {
+        if !self.is_told {
+            return;
+        }
         let kept = self.cut(alloc).is_ok() && self.read.extend_from_slice(piece).is_ok();
         if !kept {
             // Without memory nothing is told of a line.
