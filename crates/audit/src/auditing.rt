@@ -15,7 +15,7 @@ ghost use Rattle.audit.specs.Stretches.{AreCounted, AreOthers, ArePrepared, find
 ghost use Rattle.audit.specs.Stretches.{findings_of_whole};
 
 use crate::attributes::{attributes_in, is_directory};
-use crate::entries::{Names, add_names, names_by, together};
+use crate::entries::{Names, names_by, together};
 use crate::flaw::{Finding, Flaw};
 use crate::flaws::first_flaw;
 use crate::objects::{above, at, twice};
@@ -276,39 +276,7 @@ pub fn audit_one(alloc: Global, picture: &Picture) -> Result<Vec<Finding>, Alloc
 // One thread alone audits fewer objects than these: others cost it more than they spare.
 const LEAST: usize = 4096;
 
-/// What the entries of some objects say of each object, counted by two threads: one takes those
-/// before a place.
-fn names_by_two<R: Threads + Sync>(
-    rt: &R,
-    alloc: Global,
-    objects: &[Portrait],
-    some: &[Portrait],
-    place: usize,
-) -> Result<Vec<Names>, AllocError>
-    requires { AreByNumber objects.now }
-    ensures { IfOk result (λ v. AreNamed objects.now (entries_in some.now) v.items) }
-{
-    let (first, others) = some.split_at(place.min(some.len()));
-    let (low, high) = join(
-        rt,
-        || -> Result<Vec<Names>, AllocError>
-            requires { AreByNumber objects.now }
-            ensures { IfOk result
-                (λ v. AreNamed objects.entry.now (entries_in first.entry.now) v.items) }
-        { names_by(alloc, objects, first) },
-        || -> Result<Vec<Names>, AllocError>
-            requires { AreByNumber objects.now }
-            ensures { IfOk result
-                (λ v. AreNamed objects.entry.now (entries_in others.entry.now) v.items) }
-        { names_by(alloc, objects, others) },
-    );
-    let mut names = low?;
-    let more = high?;
-    add_names(&mut names, more.as_slice());
-    Ok(names)
-}
-
-/// What the entries of two parts of the objects say of each, counted by four threads, and the
+/// What the entries of two parts of the objects say of each, counted by two threads, and the
 /// stretches of the objects: the parts are cut where a stretch begins, so that each takes as long.
 fn names_many<R: Threads + Sync>(
     rt: &R,
@@ -319,23 +287,20 @@ fn names_many<R: Threads + Sync>(
     ensures { IfOk result (λ made. AreCounted objects.now made.0.items made.1.items made.2.items) }
 {
     let stretches = stretches_of(alloc, objects, current_num_threads(rt))?;
-    let (front, back) = stretches.as_slice().split_at(stretches.len() / 2);
     let middle = middle_of(stretches.as_slice(), objects.len());
     let (some, others) = objects.split_at(middle);
-    let front_cut = middle_of(front, objects.len());
-    let back_cut = middle_of(back, objects.len()).saturating_sub(middle);
     let (low, high) = join(
         rt,
         || -> Result<Vec<Names>, AllocError>
             requires { AreByNumber objects.now }
             ensures { IfOk result
                 (λ v. AreNamed objects.entry.now (entries_in some.entry.now) v.items) }
-        { names_by_two(rt, alloc, objects, some, front_cut) },
+        { names_by(alloc, objects, some) },
         || -> Result<Vec<Names>, AllocError>
             requires { AreByNumber objects.now }
             ensures { IfOk result
                 (λ v. AreNamed objects.entry.now (entries_in others.entry.now) v.items) }
-        { names_by_two(rt, alloc, objects, others, back_cut) },
+        { names_by(alloc, objects, others) },
     );
     let low = low?;
     let high = high?;

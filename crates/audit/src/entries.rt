@@ -139,16 +139,3 @@ pub(crate) fn together(low: Names, high: Names) -> Names
         held: low.held || high.held,
     }
 }
-
-/// Adds what other entries say of each object.
-pub(crate) fn add_names(names: &mut Vec<Names>, others: &[Names])
-    requires { length names.old.items ≡ length others.now }
-    ensures { (objects : List Portrait) (some more : List (ℕ × ℕ))
-        → AreNamed objects some names.old.items → AreNamed objects more others.now
-        → AreNamed objects (some ++ more) names.new.items }
-{
-    for place in 0..others.len() {
-        let both = together(names[place], others[place]);
-        names[place] = both;
-    }
-}
