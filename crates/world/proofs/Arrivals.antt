@@ -201,7 +201,7 @@ delivered_carried page (x ∷ xs) (suc n) h zero p m e f = h zero p m e f
 delivered_carried page (x ∷ xs) (suc n) h (suc k) p m e f =
     delivered_carried page xs n (λ k. h (suc k)) k p m e f
 
-delivered_bytes : (ps : List Posted) (n : ℕ) → bytes_sent (delivered_at ps n) ≡ bytes_sent ps
+pub delivered_bytes : (ps : List Posted) (n : ℕ) → bytes_sent (delivered_at ps n) ≡ bytes_sent ps
 unfolding delivered_at
 delivered_bytes [] n = refl
 delivered_bytes (x ∷ xs) zero = sum_by-cons bytes_of (arrived x) xs

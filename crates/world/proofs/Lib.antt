@@ -1,25 +1,25 @@
-mod Tables
-mod Moved
-mod Sends
-mod Says
-mod Laws
-mod Books
-mod Servers
-mod Packets
-mod Begun
-mod Scenes
-mod Whole
-mod Silent
-mod Falls
-mod Takes
-mod Turns
-mod TheLaws
-mod Spent
-mod Steps
-mod Crashes
-mod Quiet
-mod Refusals
-mod Arrivals
-mod Hosted
-mod First
-mod Showings
+pub mod Tables
+pub mod Moved
+pub mod Sends
+pub mod Says
+pub mod Laws
+pub mod Books
+pub mod Servers
+pub mod Packets
+pub mod Begun
+pub mod Scenes
+pub mod Whole
+pub mod Silent
+pub mod Falls
+pub mod Takes
+pub mod Turns
+pub mod TheLaws
+pub mod Spent
+pub mod Steps
+pub mod Crashes
+pub mod Quiet
+pub mod Refusals
+pub mod Arrivals
+pub mod Hosted
+pub mod First
+pub mod Showings

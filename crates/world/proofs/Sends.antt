@@ -72,7 +72,7 @@ are_sent page bytes all P has (s ∷ sends) (x ∷ said) e p stand =
     )
 
 -- one of them is one packet
-one_packet : (from : ServerId) (s : Sent) (m : Message Entry) → heard s.message ≡ Some m
+pub one_packet : (from : ServerId) (s : Sent) (m : Message Entry) → heard s.message ≡ Some m
     → packet_of from s ≡ posted from s.to s.message ∷ []
 one_packet from s m e = ap (λ o. elim o [
   | None ↦ []

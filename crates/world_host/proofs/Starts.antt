@@ -10,7 +10,7 @@ use Rattle.world_host.proofs.Marks.{other_mark}
 use Rattle.world_host.proofs.Stops.{now_at}
 use Rattle.world_host.proofs.Wholes.{Holds}
 use Rattle.world_rules.specs.Host.{HostValue, IsHost, IsNodeOf, SavesRecords, disk_of, no_stock}
-use Rattle.world_host.specs.Starts.{HostStarts, start_mark}
+use Rattle.world_host.specs.Starts.{HostStarts, Starts, start_mark}
 use Rattle.world_rules.specs.Steps.{HostBoots}
 use Rattle.group_rules.proofs.Tests.{is_le}
 use Rattle.group_rules.specs.Effects.{booted, first_mark as first_mark_of}
@@ -169,19 +169,19 @@ start_at id now delta n h left old new me disk up gone b saved whole base =
 
 -- ---- the host that started
 
-started : (now delta : ℕ) (saved : List RecordFields) (r : Disk) (old new : HostValue)
-    → new.me ≡ old.me → HostStarts old new now delta
+-- it is a server of the machine, with these records whole
+pub started : (now delta : ℕ) (saved : List RecordFields) (r : Disk) (old new : HostValue)
+    → new.me ≡ old.me → Starts now delta saved old new
     → IfSome (start_mark old delta).saved (SavesRecords saved (disk_of old))
     → HasBase old.me (start_mark old delta) → IsDiskOf (disk_of old) r
     → let s = booted old.me now delta
     (mark_before (id_of old.me) delta (map entry_of saved) (disk_of old).mark) in
     IsHost s (booted_stock s saved) saved r new
-started now delta saved r old new me starts saves base disk =
+started now delta saved r old new me st saves base disk =
     let id = id_of old.me in
     let items = map entry_of saved in
     let mark = start_mark old delta in
     let s = booted old.me now delta (mark_before id delta items (disk_of old).mark) in
-    let st = starts saved (each_whole saved (disk_of old) mark.saved saves) base in
     let has = has_boot_mark delta (disk_of old).mark in
     let marked : (disk_of new).mark ≡ Some st.node.mark = ap (λ (d : ToldDisk). d.mark) st.disk
     ∙ disk_mark id delta (disk_of old) has refl ∙ ap (λ (m : MarkFields). Some m) (sym st.mark) in
@@ -227,7 +227,8 @@ boots now delta old new me starts g saved r h up clock length =
     (booted_stock (booted q t delta (mark_of (g.server q))) saved) saved r new) (sym clock)
     (subst (λ (m : Mark Entry). IsHost (booted q now delta m)
     (booted_stock (booted q now delta m) saved) saved r new) mark
-    (started now delta saved r old new me starts saves base h.disk)))
+    (started now delta saved r old new me (starts saved (each_whole saved (disk_of old)
+    (start_mark old delta).saved saves) base) saves base h.disk)))
 
 -- ---- a new disk
 
@@ -270,7 +271,9 @@ first_host q old new holds me starts =
     (sym mark) (λ two. refl) in
     let disk = subst (λ (d : ToldDisk). IsDiskOf d (empty_stores q)) (sym holds.disk)
     (new_disks_are q) in
-    let host = started 0 first_promise [] (empty_stores q) old new (me ∙ sym holds.me) starts saves
+    let start = starts [] (each_whole [] (disk_of old) (start_mark old first_promise).saved saves)
+    base in
+    let host = started 0 first_promise [] (empty_stores q) old new (me ∙ sym holds.me) start saves
     base disk in
     let same : booted old.me 0 first_promise
     (mark_before id first_promise [] (disk_of old).mark) ≡ first_group.server q =

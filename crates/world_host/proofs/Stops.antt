@@ -99,7 +99,7 @@ mark_at a b e = cc
 pub now_at : (a b : Moments) → Some a ≡ Some b → a.now ≡ b.now
 now_at a b e = let same : a ≡ b = cc in ap (λ (h : Moments). h.now) same
 
-keeps_log : (mark : MarkFields) (calls : List StoreCall) (j : ℕ) (old new : Moments)
+pub keeps_log : (mark : MarkFields) (calls : List StoreCall) (j : ℕ) (old new : Moments)
     → MarkLast calls → (mark.saved ≡ None) ⊎ (length calls ≤ 1) → j < length calls
     → told_after (take j calls) (Some old) ≡ Some new → KeepsLog mark old.now new.now
 unfolding told_after
@@ -141,7 +141,7 @@ then_moment d h =
     let long = length-append h.past (h.now ∷ []) in omega (arith, long)
 
 -- the first calls are as many as they are
-take_long : (xs : List StoreCall) (j n : ℕ) → length (take j xs) ≡ n → take j xs ≡ take n xs
+pub take_long : (xs : List StoreCall) (j n : ℕ) → length (take j xs) ≡ n → take j xs ≡ take n xs
 take_long xs zero n e = ap (λ (k : ℕ). take k xs) (e)
 take_long [] (suc j) n e = none n
   where
