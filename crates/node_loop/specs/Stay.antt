@@ -29,11 +29,13 @@ use Rattle.node_loop.specs.Watch.{Showed, ShowsNew, dropped_after, sight, state_
 -- ---- the save
 
 -- A NODE SAVES ITS LOG and is down, as the rules say of a power failure: where a log is held that
--- the mark hasn't saved, it stands on the disk whole, and else the disk stays
+-- the mark hasn't saved, it stands on the disk whole, and at each moment whole or not at all; else
+-- the disk stays
 pub record Saves (n : NodeValue) (old new : Option Moments) : Type 0 where
   pub rules : (items : List Entry) (clock : ℕ)
       → mark_left n items ≡ mark_of (act n.me clock (server n items) Saving)
   pub saved : saves_log n ≡ true → IsSavedBy n old new
+  pub at_once : saves_log n ≡ true → SavesAtOnce n old new
   pub kept : saves_log n ≡ false → new ≡ old
 
 -- a save in part: at each moment the log stands on the disk whole, or not at all
