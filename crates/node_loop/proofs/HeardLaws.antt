@@ -76,6 +76,7 @@ given_says place now input a c h = record {
     link = h.link;
     sent = h.sent;
     heard = refl;
+    spelled = h.spelled;
   };
 }
 

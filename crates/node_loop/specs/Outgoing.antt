@@ -1,6 +1,6 @@
 -- What goes out of a step of a server: the datagrams that it sends, and what the program that it
 -- runs in hears.
-use Rattle.std.specs.Prelude.{◌≡◌, List, [], ◌∷◌, ◌++◌, Option, Some, None, flat_map, map}
+use Rattle.std.specs.Prelude.{◌≡◌, All, List, [], ◌∷◌, ◌++◌, Option, Some, None, flat_map, map}
 use Rattle.harp_types.specs.declared.peer.Peer.{Peer}
 use Rattle.harp_types.specs.declared.peer.Peer.TheVariants.{Local, Server, Other}
 use Rattle.harp_types.specs.declared.server.ServerId.{ServerId}
@@ -9,7 +9,7 @@ use Rattle.node_outputs.specs.declared.outputs.Answered.{Answered}
 use Rattle.node_outputs.specs.declared.outputs.Outputs.{Outputs}
 use Rattle.node_outputs.specs.declared.outputs.Refused.{Refused}
 use Rattle.node_outputs.specs.declared.outputs.Sent.{Sent}
-use Rattle.wire.specs.Messages.{message_bytes}
+use Rattle.wire.specs.Messages.{MessageFits, message_bytes}
 use Rattle.wire.specs.declared.message.Message.{Message}
 use Rattle.wire.specs.declared.message.Message.TheVariants as message
 use Rattle.node_loop.specs.declared.heard.Heard.{Heard}
@@ -61,6 +61,10 @@ message_sent place s = datagram place (Server s.to) s.message
 abbrev pub datagrams : ServerId → Outputs → List SentDatagram
 datagrams place o = flat_map (answer_sent place) o.answers.items
     ++ flat_map (refusal_sent place) o.refusals.items ++ map (message_sent place) o.sends.items
+
+-- each message to another server has a spelling
+abbrev pub AreSpelled : Outputs → Type 0
+AreSpelled o = All (λ (s : Sent). MessageFits s.message) o.sends.items
 
 abbrev pub heard_answer : Answered → List Heard
 heard_answer a = heard_by a.peer (answer_heard a)

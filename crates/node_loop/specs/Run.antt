@@ -22,7 +22,7 @@ use Rattle.node_loop.specs.declared.turned.TurnEnd.{TurnEnd}
 use Rattle.node_loop.specs.declared.turned.Turned.{Turned}
 use Rattle.node_loop.specs.Chain.{Chain}
 use Rattle.node_loop.specs.Looks.{look_of}
-use Rattle.node_loop.specs.Outgoing.{datagrams, heards}
+use Rattle.node_loop.specs.Outgoing.{AreSpelled, datagrams, heards}
 use Rattle.node_loop.specs.Scene.{AtWork, Scene, Spot, all_places, at_work, sent_after, taken_after, with_all_sent, with_heard, with_spot}
 use Rattle.node_loop.specs.Step.{IsBoot, IsStep}
 use Rattle.node_loop.specs.Turn.{IsTurn, LinkTurns, MayTellAll, is_dropped, readings_of}
@@ -41,13 +41,14 @@ pub record IsBooted (habit : Habit) (place : ServerId) (delta : ℕ) (server : R
 -- ---- one input
 
 -- A node is given an input at a reading of its clock: it takes a step, and what goes out of it is
--- sent and heard, in its order
+-- sent and heard, in its order; what goes to other servers has spellings
 pub record IsGiven (place : ServerId) (now : ℕ) (input : Input) (a b : AtWork) : Type 0 where
   pub outs : Outputs
   pub step : IsStep input now a.node b.node a.disk b.disk outs
   pub link : b.link ≡ with_all_sent (datagrams place outs) a.link
   pub sent : b.sent ≡ sent_after (datagrams place outs) a.sent
   pub heard : b.heard ≡ a.heard ++ heards outs
+  pub spelled : AreSpelled outs
 
 -- ---- one turn of a place
 

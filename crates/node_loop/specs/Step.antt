@@ -1,5 +1,5 @@
 -- A node's boot, and its steps.
-use Rattle.std.specs.Prelude.{◌≡◌, ◌⊎◌, ℕ, false, List, [], Option, Some}
+use Rattle.std.specs.Prelude.{◌≡◌, ◌⊎◌, ℕ, false, List, [], Option, None, Some}
 use Rattle.event_record.specs.declared.record.RecordFields.{RecordFields}
 use Rattle.file_tree.specs.Book.{Entry}
 use Rattle.group_rules.specs.Effects.{booted}
@@ -10,7 +10,7 @@ use Rattle.node.specs.Boot.{HasBase, HoldSaved, HoldWhole, after_boot, boot_mark
 use Rattle.node.specs.Input.{FillsInput, input_of}
 use Rattle.node.specs.Node.{IsServer, NodeValue, server}
 use Rattle.node.specs.Serving.{entry_size}
-use Rattle.node.specs.Step.{StepsWhole}
+use Rattle.node.specs.Step.{ListsFor, StepsWhole}
 use Rattle.node.specs.Stock.{stock}
 use Rattle.node.specs.Stored.{LeavesBy, disk_by, mark_by}
 use Rattle.node.specs.Taking.{stepped}
@@ -46,13 +46,15 @@ abbrev pub FailsBoot : ServerId → (delta : ℕ) → (old new : Option Moments)
 FailsBoot me delta old new = (new ≡ old) ⊎ (new ≡ after_boot me delta old)
 
 -- A node takes a step at a reading of its clock: it does what the rules of the group say of what it
--- is given, its outputs are just what they say, and so are its mark and its disk. Where the rules
--- read the tree, its disk can tell it
+-- is given, its outputs are just what they say, and so are its mark and its disk; and it stays a
+-- server of theirs. Where the rules read the tree, its disk can tell it
 pub record IsStep (input : Input) (now : ℕ) (n m : NodeValue) (old new : Option Moments)
     (outs : Outputs) : Type 0 where
   pub steps : (items list : List Entry) → FillsInput list n now old input
       → StepsWhole now list items input
       (stepped entry_size n.me now list (server n items) (input_of input)) n m outs
+  pub listing : ListsFor input n old None outs.listing
+  pub is_server : IsServer m
   pub me_stays : m.me ≡ n.me
   pub mark : (size : List Entry → Entry → ℕ) (list : List Entry) → m.mark
       ≡ mark_by n (stepped size n.me now list n.plain (input_of input)) (input_of input)

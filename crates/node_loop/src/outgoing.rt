@@ -1,7 +1,8 @@
 //! What goes out of a step.
 
-ghost use Rattle.std.specs.Prelude.{◌≡◌, ◌++◌, ◌∷◌, [], flat_map, map, IfOk, OnOk};
-ghost use Rattle.node_loop.specs.Outgoing.{answer_sent, datagram, datagrams, heard_answer, heard_by};
+ghost use Rattle.std.specs.Prelude.{◌≡◌, ◌++◌, ◌∷◌, [], All, flat_map, map, IfOk, OnOk};
+ghost use Rattle.wire.specs.Messages.{MessageFits};
+ghost use Rattle.node_loop.specs.Outgoing.{AreSpelled, answer_sent, datagram, datagrams, heard_answer, heard_by};
 ghost use Rattle.node_loop.specs.Outgoing.{heard_refusal, heards, message_sent, refusal_sent, sent_to};
 
 use crate::heard::Heard;
@@ -19,7 +20,8 @@ fn datagram(
     to: Peer,
     message: &Message,
 ) -> Result<SentDatagram, AllocError>
-    ensures { IfOk result (λ d. d ≡ datagram place to message.now) }
+    ensures made { IfOk result (λ d. d ≡ datagram place to message.now) }
+    ensures fits { OnOk result (MessageFits message.now) }
 {
     let bytes = encode(alloc, message)?;
     Ok(SentDatagram { place, to, bytes })
@@ -33,7 +35,8 @@ fn put(
     message: Message,
     out: &mut Vec<SentDatagram>,
 ) -> Result<(), AllocError>
-    ensures { OnOk result (out.new.items ≡ out.old.items ++ datagram place to message ∷ []) }
+    ensures out { OnOk result (out.new.items ≡ out.old.items ++ datagram place to message ∷ []) }
+    ensures fits { OnOk result (MessageFits message) }
 {
     let datagram = datagram(alloc, place, to, &message)?;
     out.push(datagram)?;
@@ -109,8 +112,9 @@ fn put_messages(
     sends: Vec<Sent>,
     out: &mut Vec<SentDatagram>,
 ) -> Result<(), AllocError>
-    ensures { OnOk result (out.new.items ≡ out.old.items
+    ensures sent { OnOk result (out.new.items ≡ out.old.items
         ++ map (message_sent place) sends.items) }
+    ensures fit { OnOk result (All (λ s. MessageFits s.message) sends.items) }
 {
     for sent in sends {
         put(alloc, place, Peer::Server(sent.to), sent.message, out)?;
@@ -128,6 +132,7 @@ pub fn datagrams_of(
 ) -> Result<Vec<SentDatagram>, AllocError>
     ensures sent { IfOk result (λ out. out.items ≡ datagrams place outs) }
     ensures heard { OnOk result (heard.new.items ≡ heard.old.items ++ heards outs) }
+    ensures spelled { OnOk result (AreSpelled outs) }
 {
     let Outputs {
         answers,

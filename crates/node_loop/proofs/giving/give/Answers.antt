@@ -15,6 +15,8 @@ returns-in_ok-datagrams-in-Ok-clause-given g c =
       outs = c.in-Ok.outs;
       step = record {
         steps = c.in-Ok.ensures.steps;
+        listing = c.in-Ok.ensures.listing;
+        is_server = c.in-Ok.ensures.is_server;
         me_stays = c.in-Ok.ensures.me;
         mark = c.in-Ok.ensures.mark;
         written = c.in-Ok.ensures.written;
@@ -23,6 +25,7 @@ returns-in_ok-datagrams-in-Ok-clause-given g c =
       sent = ap (λ (n : Counts). n.sent) counts
           ∙ ap (λ ds. sent_after ds c.args.ledger.now.counts.sent) out.sent;
       heard = out.heard;
+      spelled = out.spelled;
     }) c.send_all.ensures.all c.send_all.ensures.counts
 
 pub returns-in_ok-datagrams-in-Ok-clause-part : goal.returns-in_ok-datagrams-in-Ok-clause-part
@@ -34,6 +37,8 @@ returns-in_ok-datagrams-in-Ok-clause-part g c =
       outs = c.in-Ok.outs;
       step = record {
         steps = c.in-Ok.ensures.steps;
+        listing = c.in-Ok.ensures.listing;
+        is_server = c.in-Ok.ensures.is_server;
         me_stays = c.in-Ok.ensures.me;
         mark = c.in-Ok.ensures.mark;
         written = c.in-Ok.ensures.written;
@@ -48,6 +53,8 @@ returns-in_err-datagrams-in-Ok-clause-part g c =
       outs = c.in-Ok.outs;
       step = record {
         steps = c.in-Ok.ensures.steps;
+        listing = c.in-Ok.ensures.listing;
+        is_server = c.in-Ok.ensures.is_server;
         me_stays = c.in-Ok.ensures.me;
         mark = c.in-Ok.ensures.mark;
         written = c.in-Ok.ensures.written;

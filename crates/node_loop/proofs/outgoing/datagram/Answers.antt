@@ -6,4 +6,7 @@ pub returns : goal.returns
 returns c =
     let made : List ℕ → SentDatagram =
     λ bs. record { place = c.args.place; to = c.args.to; bytes = bs } in
-    ap made c.in_ok-bytes.ensures.spelled
+    record {
+      made = ap made c.in_ok-bytes.ensures.spelled;
+      fits = c.in_ok-bytes.ensures.fits;
+    }
