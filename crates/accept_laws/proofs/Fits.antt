@@ -9,6 +9,7 @@ use Rattle.line_reader.specs.Lines.{lines_of}
 use Rattle.group_trace.specs.Run.{run_lines}
 use Rattle.group_trace.specs.Scene.{first_scene}
 use Rattle.trace_laws.proofs.RightRuns.{run_right}
+use Rattle.trace_laws.proofs.RunLaws.{can_follow}
 use Rattle.schedule_play.specs.Reading.{reading}
 use Rattle.schedule_play.specs.Trace.{last_line, last_of}
 use Rattle.schedule_play.proofs.TakenLaws.{reading_taken}
@@ -33,7 +34,8 @@ traces_fit m b text short =
     let taken = reading_taken m 1 (lines_of text) first_scene in
     let told = read.few in
     let lines = run_lines m first_scene r.steps in
-    let book = ap (λ (es : List Entry). length es) (run_right m r.steps taken).book in
+    let follow = can_follow m first_scene r.steps taken in
+    let book = ap (λ (es : List Entry). length es) (run_right m r.steps follow).book in
     let few = books_few m b r.steps taken read.fit (omega (arith, told)) in
     all-append LineIn lines (last_of m r ∷ [])
     (runs_fit m b r.steps taken read.fit (omega (arith, told))) (

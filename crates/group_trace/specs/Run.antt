@@ -14,7 +14,7 @@ use Rattle.trace_types.specs.declared.step.Step.TheVariants as step
 use Rattle.trace_types.specs.declared.line.Line.TheVariants as line
 use Rattle.group_trace.specs.Scene.{Measures, Scene}
 use Rattle.group_trace.specs.Calls.{moves_of}
-use Rattle.group_trace.specs.Refusals.{refusal}
+use Rattle.group_trace.specs.Refusals.{own_refusal, refusal}
 
 -- ---- one step
 
@@ -158,6 +158,12 @@ abbrev pub AreTaken : Measures → Scene → List Step → Type 0
 AreTaken m w [] = Unit {0}
 AreTaken m w (s ∷ ss) = (refusal m w s ≡ None) × (is_elementary s ≡ true)
     × AreTaken m (next m w s) ss
+
+-- only a full net may refuse a step, and each is elementary
+abbrev pub CanFollow : Measures → Scene → List Step → Type 0
+CanFollow m w [] = Unit {0}
+CanFollow m w (s ∷ ss) = (own_refusal m w.group s ≡ None) × (is_elementary s ≡ true)
+    × CanFollow m (next m w s) ss
 
 -- what steps leave, one after the other
 unfoldable pub run : Measures → Scene → List Step → Scene

@@ -14,9 +14,10 @@ use Rattle.trace_claims.specs.Trace.{Trace, entries}
 use Rattle.trace_claims.proofs.Places.{entries-append}
 use Rattle.group_safety.specs.Laws.{Whole}
 use Rattle.group_trace.specs.Run.{step_lines}
-use Rattle.group_trace.specs.Scene.{Measures, Scene}
+use Rattle.group_trace.specs.Scene.{Measures, Scene, first_scene}
 use Rattle.trace_laws.specs.Laws.{RunIsRight}
 use Rattle.trace_laws.proofs.RightRuns.{run_right}
+use Rattle.trace_laws.proofs.RunLaws.{can_follow}
 use Rattle.observer.specs.Laws.{IsNoOlder}
 use Rattle.observed_text.specs.declared.step.Act.TheVariants as act
 use Rattle.observed_text.specs.declared.step.ObservedStep.{ObservedStep}
@@ -62,7 +63,8 @@ led_on m w before s h r e = record {
 run_of : (m : Measures) (w : ObservedScene) (before : ObservedTrace) (h : IsLed m w before)
     → RunIsRight m (played_steps h.done)
 run_of m w before h =
-    run_right m (played_steps h.done) (taken_played m first_observed h.done h.taken)
+    run_right m (played_steps h.done) (can_follow m first_scene (played_steps h.done)
+    (taken_played m first_observed h.done h.taken))
 
 is_whole : (m : Measures) (w : ObservedScene) (before : ObservedTrace) → IsLed m w before
     → Whole w.scene.group

@@ -11,6 +11,7 @@ use Rattle.group_trace.specs.Scene.{Measures, first_scene}
 use Rattle.line_reader.specs.Lines.{lines_of}
 use Rattle.trace_laws.specs.Laws.{RunIsRight}
 use Rattle.trace_laws.proofs.RightRuns.{run_right}
+use Rattle.trace_laws.proofs.RunLaws.{can_follow}
 use Rattle.schedule_play.specs.Trace.{last_line}
 use Rattle.observe_laws.specs.Peeks.{ArePeeked, IsObservedRightly, IsPeekedIn}
 use Rattle.observe_laws.specs.Reading.{observed_reading}
@@ -44,8 +45,8 @@ played m text = played_steps (observed_reading m text).steps
 
 run_of : (m : Measures) (text : List ℕ) → RunIsRight m (played m text)
 run_of m text =
-    run_right m (played m text)
-    (taken_played m first_observed (observed_reading m text).steps (taken m text))
+    run_right m (played m text) (can_follow m first_scene (played m text)
+    (taken_played m first_observed (observed_reading m text).steps (taken m text)))
 
 -- what is left of the trace is that of the schedule's steps
 trace_is : (m : Measures) (text : List ℕ) → traced (observed_trace m text)

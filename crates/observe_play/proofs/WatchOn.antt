@@ -28,6 +28,7 @@ use Rattle.shown.specs.Truth.{IsShownOf}
 use Rattle.trace_claims.proofs.Places.{entries-append}
 use Rattle.trace_claims.specs.Trace.{Trace, entries}
 use Rattle.trace_laws.proofs.RightRuns.{run_right}
+use Rattle.trace_laws.proofs.RunLaws.{can_follow}
 use Rattle.trace_types.specs.declared.step.Step.{Step}
 
 -- ---- with more updates
@@ -60,7 +61,8 @@ updates-append xs ys =
 updates_are : (m : Measures) (done : List Step) → AreTaken m first_scene done
     → updates (entries (run_lines m first_scene done)) ≡ (run m first_scene done).group.committed
 updates_are m done t =
-    let right = run_right m done t in ap updates right.book ∙ right.whole.books.updates
+    let right = run_right m done (can_follow m first_scene done t) in
+    ap updates right.book ∙ right.whole.books.updates
 
 -- a step adds to them at their end
 committed_more : (m : Measures) (done : List Step) (s : Step) → AreTaken m first_scene done

@@ -6,6 +6,7 @@ use Rattle.group_trace.specs.Scene.{Measures, Scene, first_scene}
 use Rattle.group_trace.specs.DiskCalls.{Spellings, measures_of}
 use Rattle.group_trace.specs.DiskRun.{DiskScene, disk_next, disk_run, first_disk_scene}
 use Rattle.schedule_play.specs.Stage.{IsReached}
+use Rattle.trace_laws.proofs.RunLaws.{can_follow}
 
 pub run-append : (m : Measures) (w : Scene) (done later : List Step)
     → run m w (done ++ later) ≡ run m (run m w done) later
@@ -48,4 +49,8 @@ disk_scene f ss = same_scene f first_disk_scene ss
 -- steps that are taken lead to where they lead
 pub reached : (f : Spellings) (ss : List Step) → AreTaken (measures_of f) first_scene ss
     → IsReached f (disk_run f first_disk_scene ss)
-reached f ss taken = record { steps = ss; taken = taken; leads = refl }
+reached f ss taken = record {
+  steps = ss;
+  taken = can_follow (measures_of f) first_scene ss taken;
+  leads = refl;
+}

@@ -6,7 +6,7 @@ use Rattle.trace_claims.specs.Trace.{AtEachPlace, AtPlacesAfter, Ends, Trace, en
 use Rattle.trace_claims.proofs.Places.{entries-append, places-append, steps-append}
 use Rattle.file_tree.specs.Book.{Entry}
 use Rattle.group_rules.specs.State.{Group}
-use Rattle.group_trace.specs.Run.{AreTaken, run_lines}
+use Rattle.group_trace.specs.Run.{AreTaken, CanFollow, run_lines}
 use Rattle.group_trace.specs.Scene.{Measures, first_scene}
 use Rattle.group_trace.specs.DiskCalls.{Spellings, measures_of}
 use Rattle.line_reader.specs.Lines.{lines_of}
@@ -14,6 +14,7 @@ use Rattle.trace_laws.specs.FirstParts.{FirstPartsAreRight}
 use Rattle.trace_laws.specs.Laws.{RunIsRight, StandsInGroup}
 use Rattle.trace_laws.proofs.FirstParts.{first_parts_right}
 use Rattle.trace_laws.proofs.RightRuns.{run_right}
+use Rattle.trace_laws.proofs.RunLaws.{can_follow}
 use Rattle.trace_laws.specs.DiskLaws.{DiskRunIsRight}
 use Rattle.trace_laws.proofs.DiskRuns.{disk_runs_right}
 use Rattle.schedule_play.specs.Reading.{reading}
@@ -42,8 +43,11 @@ enters_none entered (Some x) = refl
 pub taken : (m : Measures) (text : List ℕ) → AreTaken m first_scene (reading m text).steps
 taken m text = reading_taken m 1 (lines_of text) first_scene
 
+follow : (m : Measures) (text : List ℕ) → CanFollow m first_scene (reading m text).steps
+follow m text = can_follow m first_scene (reading m text).steps (taken m text)
+
 run_of : (m : Measures) (text : List ℕ) → RunIsRight m (reading m text).steps
-run_of m text = run_right m (reading m text).steps (taken m text)
+run_of m text = run_right m (reading m text).steps (follow m text)
 
 pub right : (m : Measures) (text : List ℕ) → IsRight (trace_of m text)
 right m text =
@@ -85,7 +89,7 @@ views m text =
     (last_stands g lines (length (entries lines)) r.refused)
 
 pub disks : (f : Spellings) (text : List ℕ) → DiskRunIsRight f (reading (measures_of f) text).steps
-disks f text = disk_runs_right f (reading (measures_of f) text).steps (taken (measures_of f) text)
+disks f text = disk_runs_right f (reading (measures_of f) text).steps (follow (measures_of f) text)
 
 pub parts : (m : Measures) (text : List ℕ) → FirstPartsAreRight m (reading m text).steps
-parts m text = first_parts_right m (reading m text).steps (taken m text)
+parts m text = first_parts_right m (reading m text).steps (follow m text)

@@ -9,17 +9,17 @@ use Rattle.trace_types.specs.declared.step.Step.TheVariants as step
 use Rattle.group_rules.specs.Names.{place_of}
 use Rattle.group_rules.specs.Places.{Trio, with_at}
 use Rattle.group_trace.specs.Refusals.{refusal}
-use Rattle.group_trace.specs.Run.{AreTaken, step_lines}
+use Rattle.group_trace.specs.Run.{CanFollow, step_lines}
 use Rattle.group_trace.specs.Scene.{first_scene}
 use Rattle.group_trace.specs.DiskCalls.{Spellings, measures_of}
 use Rattle.group_trace.specs.DiskRun.{DiskScene, disk_next, disk_run, first_disk_scene}
 use Rattle.schedule_play.specs.declared.refusal.Refusal.{Refusal}
 use Rattle.schedule_play.specs.declared.refusal.Refusal.TheVariants as refusals
 
--- steps that are taken lead from the first scene to this one
+-- steps that only a full net may refuse lead from the first scene to this one
 pub record IsReached (f : Spellings) (w : DiskScene) : Type 0 where
   pub steps : List Step
-  pub taken : AreTaken (measures_of f) first_scene steps
+  pub taken : CanFollow (measures_of f) first_scene steps
   pub leads : disk_run f first_disk_scene steps ≡ w
 
 -- A step was taken in a scene: it isn't refused there, these are its lines behind its event line,

@@ -14,7 +14,7 @@ use std::alloc::Global;
 use trace_types::{Line, Step};
 
 /// A world in which steps are taken. Its clauses hold of each scene at which it stands and to which
-/// steps that are taken lead; after want of memory it may stand at none.
+/// steps lead that only a full net may refuse; after want of memory it may stand at none.
 pub trait Stage {
     // How its servers spell records and messages.
     ghost spellings: { Spellings };

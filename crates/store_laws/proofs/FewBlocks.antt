@@ -32,7 +32,7 @@ use Rattle.group_safety.proofs.Disks.{disks_begin, first_disks}
 use Rattle.group_safety.proofs.Moving.{at_self}
 use Rattle.group_safety.proofs.Safe.{first_whole}
 use Rattle.group_safety.specs.Disks.{Disks, disks_begun, empty_disks}
-use Rattle.group_trace.specs.Run.{AreTaken}
+use Rattle.group_trace.specs.Run.{CanFollow}
 use Rattle.harp_cells.specs.Effect.{Cells, after, changed, is_cell}
 use Rattle.harp_cells.specs.declared.cell.Cell.TheVariants as cell
 use Rattle.harp_cells.specs.declared.change.Change.{Change}
@@ -44,7 +44,6 @@ use Rattle.store_laws.specs.Laws.{RunsHaveFewBlocks}
 use Rattle.store_laws.proofs.Blocks.{few_read}
 use Rattle.trace_laws.proofs.MoveKinds.{each-append}
 use Rattle.trace_laws.proofs.StepKinds.{tail_base}
-use Rattle.trace_laws.proofs.Turns.{own_none}
 use Rattle.harp_types.specs.declared.pick.Pick.{Pick}
 use Rattle.harp_types.specs.declared.pick.Pick.TheVariants as pick
 use Rattle.trace_types.specs.declared.step.Step.{Step}
@@ -53,12 +52,12 @@ use Rattle.trace_types.specs.declared.step.Step.TheVariants as step
 -- ---- data servers
 
 run_stands : (f : Spellings) (ss : List Step) (w : DiskScene) → Stands w.scene.group w.disks
-    → AreTaken (measures_of f) w.scene ss
+    → CanFollow (measures_of f) w.scene ss
     → Stands (disk_run f w ss).scene.group (disk_run f w ss).disks
 unfolding disk_run
 run_stands f [] w h t = h
 run_stands f (s ∷ ss) w h t = run_stands f ss (disk_next f w s)
-    (step_stands f w h s (own_none _ _ t.0) t.1) t.2
+    (step_stands f w h s t.0 t.1) t.2
 
 -- after the first calls of a step its disk is still between its mark and what is committed
 data_few : (f : Spellings) (g : Group Entry) (stores : Stores) → Stands g stores → (q : Place)

@@ -14,7 +14,7 @@ use Rattle.group_rules.specs.Moves.{Saving}
 use Rattle.group_rules.specs.Places.{Place}
 use Rattle.group_rules.specs.State.{Group, Server}
 use Rattle.group_rules.specs.Step.{Input, saves}
-use Rattle.group_trace.specs.Run.{AreTaken}
+use Rattle.group_trace.specs.Run.{CanFollow}
 use Rattle.group_trace.specs.Scene.{first_scene}
 use Rattle.harp_cells.specs.declared.change.Change.{Change}
 use Rattle.harp_store.specs.Disk.{AfterPart, Disk as ToldDisk, MayHaveMade, Moments, Now, after_changes, after_step, changed_by_all, moment, reads as told_reads, synced_whole, then_disk, with_mark}
@@ -99,7 +99,7 @@ StepsFollow = (f : Spellings) (g : Group Entry) (stop : Option ℕ) (pick : Pick
 
 -- in every run each disk has few blocks, and has them after any first calls of a step
 abbrev pub RunsHaveFewBlocks : Type 0
-RunsHaveFewBlocks = (f : Spellings) (ss : List Step) → AreTaken (measures_of f) first_scene ss
+RunsHaveFewBlocks = (f : Spellings) (ss : List Step) → CanFollow (measures_of f) first_scene ss
     → (q : Place) (i : Input)
     → HaveFewBlocks (calls_at f (disk_run f first_disk_scene ss).scene.group q i)
     ((disk_run f first_disk_scene ss).disks q)

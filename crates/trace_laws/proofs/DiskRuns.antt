@@ -8,10 +8,9 @@ use Rattle.group_safety.proofs.Lawful.{bases_on_both_disks, every_later_view, re
 use Rattle.group_safety.proofs.Safe.{first_whole}
 use Rattle.trace_laws.proofs.Blocks.{few_blocks}
 use Rattle.trace_laws.proofs.StoreRuns.{are_fuzzy, first_stores, read_exactly}
-use Rattle.group_trace.specs.Run.{AreTaken, run}
+use Rattle.group_trace.specs.Run.{CanFollow, run}
 use Rattle.group_trace.specs.Scene.{first_scene}
 use Rattle.trace_laws.proofs.RightRuns.{run_right}
-use Rattle.trace_laws.proofs.Turns.{own_none}
 use Rattle.group_trace.specs.DiskCalls.{Spellings, measures_of}
 use Rattle.trace_laws.specs.DiskLaws.{DiskIsRight, DiskRunIsRight}
 use Rattle.group_trace.specs.DiskRun.{DiskScene, disk_next, disk_run, first_disk_scene}
@@ -25,12 +24,12 @@ same_scene f [] w = refl
 same_scene f (s ∷ ss) w = same_scene f ss (disk_next f w s)
 
 run_stands : (f : Spellings) (ss : List Step) (w : DiskScene) → Stands w.scene.group w.disks
-    → AreTaken (measures_of f) w.scene ss
+    → CanFollow (measures_of f) w.scene ss
     → Stands (disk_run f w ss).scene.group (disk_run f w ss).disks
 unfolding disk_run
 run_stands f [] w h t = h
 run_stands f (s ∷ ss) w h t = run_stands f ss (disk_next f w s)
-    (step_stands f w h s (own_none _ _ t.0) t.1) t.2
+    (step_stands f w h s t.0 t.1) t.2
 
 disk_right : (w : DiskScene) → Stands w.scene.group w.disks → (q : Place) → is_p2 q ≡ false
     → DiskIsRight w q
@@ -45,7 +44,7 @@ disk_right w h q p =
       at_cp_live = exact.at_cp_live;
     }
 
-pub disk_runs_right : (f : Spellings) (ss : List Step) → AreTaken (measures_of f) first_scene ss
+pub disk_runs_right : (f : Spellings) (ss : List Step) → CanFollow (measures_of f) first_scene ss
     → DiskRunIsRight f ss
 disk_runs_right f ss t =
     let stands = run_stands f ss first_disk_scene

@@ -15,7 +15,7 @@ use Rattle.trace_claims.specs.Trace.{AtPlacesAfter, AtPlacesAmid, HasStep, Trace
 use Rattle.trace_claims.proofs.Places.{entries-append}
 use Rattle.file_tree.specs.Book.{Entry, IsBook, MayFollowAll}
 use Rattle.trace_laws.specs.FirstParts.{FirstPartsAreRight}
-use Rattle.group_trace.specs.Run.{AreTaken, run_lines}
+use Rattle.group_trace.specs.Run.{CanFollow, run_lines}
 use Rattle.group_trace.specs.Scene.{Measures, first_scene}
 use Rattle.trace_laws.proofs.LeaderLaws.{acknowledged_step, exclusive_step, own_step, promise_step}
 use Rattle.trace_laws.proofs.RightRuns.{first_stands}
@@ -104,7 +104,7 @@ follow_first : (earlier xs ys : List Entry) → MayFollowAll earlier (xs ++ ys)
 follow_first earlier [] ys h = tt
 follow_first earlier (x ∷ xs) ys h = (h.0, follow_first (earlier ++ x ∷ []) xs ys h.1)
 
-pub first_parts_right : (m : Measures) (ss : List Step) → AreTaken m first_scene ss
+pub first_parts_right : (m : Measures) (ss : List Step) → CanFollow m first_scene ss
     → FirstPartsAreRight m ss
 first_parts_right m ss t part rest is =
     let lines = run_lines m first_scene ss in

@@ -16,14 +16,14 @@ use Rattle.group_rules.specs.Step.{Input}
 use Rattle.group_safety.specs.Laws.{Whole}
 use Rattle.group_safety.specs.Words.{In}
 use Rattle.group_safety.proofs.Lawful.{every_later_view}
-use Rattle.group_trace.specs.Refusals.{refusal}
-use Rattle.group_trace.specs.Run.{AreTaken, group_after, is_elementary, next, run, run_lines, step_lines}
+use Rattle.group_trace.specs.Refusals.{own_refusal}
+use Rattle.group_trace.specs.Run.{CanFollow, group_after, is_elementary, next, run, run_lines, step_lines}
 use Rattle.group_trace.specs.Scene.{Measures, Scene}
 use Rattle.trace_laws.specs.Laws.{StandsInGroup, StandsInViews}
 use Rattle.trace_laws.proofs.Keeping.{turn_group, turn_lines}
 use Rattle.trace_laws.proofs.LeaderLaws.{answers_update, up_of_answer}
 use Rattle.trace_laws.proofs.ListLaws.{take_agree}
-use Rattle.trace_laws.proofs.RunLaws.{step_has, step_stands, taken}
+use Rattle.trace_laws.proofs.RunLaws.{step_has, step_stands}
 use Rattle.trace_laws.proofs.Standing.{Stands}
 use Rattle.trace_laws.proofs.StepLaws.{IsNoAnswer, answered_step, given_now, its_state, up_to_answers}
 use Rattle.trace_laws.proofs.Answering.{Answering, AnswersUpdates, answered_places, kind_answers, milds_silent, reading, silent_answers, updating}
@@ -107,12 +107,12 @@ stands_step end w before g h s q i ms t has =
 
 -- a step keeps what was answered
 answers_stay : (m : Measures) (before : Trace) (w : Scene) → Stands before w.group → (s : Step)
-    → refusal m w s ≡ None → is_elementary s ≡ true → (a : Answered Entry)
+    → own_refusal m w.group s ≡ None → is_elementary s ≡ true → (a : Answered Entry)
     → In w.group.answered a → In (group_after m w s).answered a
 answers_stay m before w h s r e a x = (step_has m before w h s r e a x).0
 
 run_answers : (m : Measures) (ss : List Step) (before : Trace) (w : Scene) → Stands before w.group
-    → AreTaken m w ss → (a : Answered Entry) → In w.group.answered a
+    → CanFollow m w ss → (a : Answered Entry) → In w.group.answered a
     → In (run m w ss).group.answered a
 unfolding run
 run_answers m [] before w h t a x = x
@@ -121,7 +121,7 @@ run_answers m (s ∷ ss) before w h t a x =
     t.2 a (answers_stay m before w h s t.0 t.1 a x)
 
 pub run_views : (end : Group Entry) → Whole end → (m : Measures) (ss : List Step) (before : Trace)
-    (w : Scene) → Stands before w.group → AreTaken m w ss
+    (w : Scene) → Stands before w.group → CanFollow m w ss
     → ((a : Answered Entry) → In (run m w ss).group.answered a → In end.answered a)
     → AtPlacesAfter (StandsInGroup end) before (run_lines m w ss)
 unfolding run_lines run
@@ -132,7 +132,7 @@ run_views end k m (s ∷ ss) before w h t has =
     places-append (StandsInGroup end) before (step_lines m w s) (run_lines m (next m w s) ss)
     (take_step (λ g' ls. ((a : Answered Entry) → In g'.answered a → In end.answered a)
     → AtPlacesAfter (StandsInGroup end) before (line.Event s ∷ ls)) m w h.whole s
-    (taken m w s t.0) t.1 (λ g' k' same has'. (tt, tt))
+    t.0 t.1 (λ g' k' same has'. (tt, tt))
     (λ q i ms t' has'. stands_step end k before w.group h s q i ms t' has')
     (λ a x. has a (run_answers m ss b (next m w s) stood t.2 a x)))
     (run_views end k m ss b (next m w s) stood t.2 has)

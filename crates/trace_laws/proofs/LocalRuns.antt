@@ -15,13 +15,13 @@ use Rattle.group_rules.specs.Names.{id_of}
 use Rattle.group_rules.specs.Places.{Zero, One, Two, Place, all_of}
 use Rattle.group_rules.specs.State.{Group, Server}
 use Rattle.group_rules.specs.Step.{Input, first_group}
-use Rattle.group_trace.specs.Refusals.{refusal}
-use Rattle.group_trace.specs.Run.{AreTaken, group_after, is_elementary, next, run_lines, step_lines}
+use Rattle.group_trace.specs.Refusals.{own_refusal}
+use Rattle.group_trace.specs.Run.{CanFollow, group_after, is_elementary, next, run_lines, step_lines}
 use Rattle.group_trace.specs.Scene.{Measures, Scene, first_scene}
 use Rattle.trace_laws.proofs.Keeping.{turn_lines, turn_stands}
 use Rattle.trace_laws.proofs.KeptRecords.{kept}
 use Rattle.trace_laws.proofs.RecordLaws.{Counted, kept_after, packets_step, sent_after}
-use Rattle.trace_laws.proofs.RunLaws.{step_stands, taken}
+use Rattle.trace_laws.proofs.RunLaws.{step_stands}
 use Rattle.trace_laws.proofs.Standing.{Stands}
 use Rattle.trace_laws.proofs.StateRecords.{records_step}
 use Rattle.trace_laws.proofs.Turns.{Turned, take_step}
@@ -40,10 +40,10 @@ quiet_counted before g g' s c servers packets = record {
 }
 
 step_counted : (m : Measures) (before : Trace) (w : Scene) → Stands before w.group
-    → Counted before w.group → (s : Step) → refusal m w s ≡ None → is_elementary s ≡ true
+    → Counted before w.group → (s : Step) → own_refusal m w.group s ≡ None → is_elementary s ≡ true
     → Counted (before ++ step_lines m w s) (group_after m w s)
 step_counted m before w h c s r e =
-    take_step (λ g' ls. Counted (before ++ line.Event s ∷ ls) g') m w h.whole s (taken m w s r) e
+    take_step (λ g' ls. Counted (before ++ line.Event s ∷ ls) g') m w h.whole s r e
     (λ g' k same. quiet_counted before w.group g' s c same.server same.packets)
     (λ q i ms t. record {
       sent = sent_after before w.group c s q ms;
@@ -58,14 +58,14 @@ CountedLaw P = (before : Trace) (g : Group Entry) → Stands before g → Counte
 
 run_counted : (P : Trace → Line → Type 0) → ((before : Trace) (s : Step) → P before (line.Event s))
     → CountedLaw P → (m : Measures) (ss : List Step) (before : Trace) (w : Scene)
-    → Stands before w.group → Counted before w.group → AreTaken m w ss
+    → Stands before w.group → Counted before w.group → CanFollow m w ss
     → AtPlacesAfter P before (run_lines m w ss)
 unfolding run_lines
 run_counted P event law m [] before w h c t = tt
 run_counted P event law m (s ∷ ss) before w h c t =
     places-append P before (step_lines m w s) (run_lines m (next m w s) ss)
     (take_step (λ g' ls. AtPlacesAfter P before (line.Event s ∷ ls)) m w h.whole s
-    (taken m w s t.0) t.1 (λ g' k same. (event before s, tt))
+    t.0 t.1 (λ g' k same. (event before s, tt))
     (λ q i ms t. law before w.group h c s q i ms t))
     (run_counted P event law m ss (before ++ step_lines m w s) (next m w s)
     (step_stands m before w h s t.0 t.1) (step_counted m before w h c s t.0 t.1) t.2)
@@ -81,11 +81,11 @@ first_counted = record { sent = refl; kept = none_kept }
 
 -- of a run from the first group on
 pub run_packets : (m : Measures) (ss : List Step) → Stands [] first_group
-    → AreTaken m first_scene ss → AtPlacesAfter IsNextPacket [] (run_lines m first_scene ss)
+    → CanFollow m first_scene ss → AtPlacesAfter IsNextPacket [] (run_lines m first_scene ss)
 run_packets m ss h t =
     run_counted IsNextPacket (λ b s. tt) packets_step m ss [] first_scene h first_counted t
 
 pub run_records : (m : Measures) (ss : List Step) → Stands [] first_group
-    → AreTaken m first_scene ss → AtPlacesAfter AddsRecords [] (run_lines m first_scene ss)
+    → CanFollow m first_scene ss → AtPlacesAfter AddsRecords [] (run_lines m first_scene ss)
 run_records m ss h t =
     run_counted AddsRecords (λ b s. tt) records_step m ss [] first_scene h first_counted t

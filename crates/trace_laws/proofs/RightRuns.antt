@@ -22,7 +22,7 @@ use Rattle.group_rules.specs.Step.{first_group}
 use Rattle.group_safety.specs.Words.{In, IsActive}
 use Rattle.group_safety.proofs.Safe.{first_whole}
 use Rattle.trace_laws.specs.Laws.{RunIsRight}
-use Rattle.group_trace.specs.Run.{AreTaken, run, run_lines}
+use Rattle.group_trace.specs.Run.{CanFollow, run, run_lines}
 use Rattle.group_trace.specs.Scene.{Measures, first_scene}
 use Rattle.group_trace.specs.Shown.{shown_of}
 use Rattle.trace_laws.proofs.LaterLaws.{HaveBoth}
@@ -124,7 +124,7 @@ last_line before entered (line.End k) ends = record {
 }
 last_line before entered l ends = absurd ends
 
-pub run_right : (m : Measures) (ss : List Step) → AreTaken m first_scene ss → RunIsRight m ss
+pub run_right : (m : Measures) (ss : List Step) → CanFollow m first_scene ss → RunIsRight m ss
 run_right m ss t =
     let lines = run_lines m first_scene ss in
     let h = run_stands m ss [] first_scene first_stands t in

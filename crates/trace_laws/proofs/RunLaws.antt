@@ -17,8 +17,8 @@ use Rattle.group_rules.specs.State.{Answered, Group}
 use Rattle.group_rules.specs.Step.{Input}
 use Rattle.group_safety.specs.Words.{In}
 use Rattle.group_trace.specs.Lines.{entered_lines, lines_of_moves, listing_of}
-use Rattle.group_trace.specs.Refusals.{net_refusal, own_refusal, refusal}
-use Rattle.group_trace.specs.Run.{AreTaken, group_after, is_elementary, lines_where, moved_in, next, run, run_lines, step_lines, turn, Turn}
+use Rattle.group_trace.specs.Refusals.{net_refusal, own_refusal}
+use Rattle.group_trace.specs.Run.{AreTaken, CanFollow, group_after, is_elementary, lines_where, moved_in, next, run, run_lines, step_lines, turn, Turn}
 use Rattle.group_trace.specs.Scene.{Measures, Scene}
 use Rattle.group_trace.specs.Shown.{shown_of}
 use Rattle.trace_laws.proofs.AtOnceLaw.{delivered_at_once}
@@ -30,16 +30,20 @@ use Rattle.trace_laws.proofs.Listings.{EndsListing}
 use Rattle.trace_laws.proofs.Standing.{Stands, behind_book, behind_said, moves_begin, said-listing}
 use Rattle.trace_laws.proofs.Turns.{Turned, own_none, take_step}
 
-pub taken : (m : Measures) (w : Scene) (s : Step) → refusal m w s ≡ None
-    → own_refusal m w.group s ≡
-    None
-taken m w s r = own_none (own_refusal m w.group s) (net_refusal w s) r
+-- steps that are taken can follow each other, whatever was sent
+pub can_follow : (m : Measures) (w : Scene) (ss : List Step) → AreTaken m w ss → CanFollow m w ss
+can_follow m w [] t = tt
+can_follow m w (s ∷ ss) t = (
+  own_none (own_refusal m w.group s) (net_refusal w s) t.0,
+  t.1,
+  can_follow m (next m w s) ss t.2,
+)
 
 pub step_stands : (m : Measures) (before : Trace) (w : Scene) → Stands before w.group → (s : Step)
-    → refusal m w s ≡ None → is_elementary s ≡ true
+    → own_refusal m w.group s ≡ None → is_elementary s ≡ true
     → Stands (before ++ step_lines m w s) (group_after m w s)
 step_stands m before w h s r e = take_step (λ g' ls. Stands (before ++ line.Event s
-    ∷ ls) g') m w h.whole s (taken m w s r) e
+    ∷ ls) g') m w h.whole s r e
     (λ g' k same. quiet_stands before w.group g' s h k same)
     (λ q i ms t. turn_stands before w.group h s q i ms t)
 
@@ -52,9 +56,10 @@ TurnLaw P = (before : Trace) (g : Group Entry) → Stands before g
 step_places : (P : Trace → Line → Type 0) → ((before : Trace) (s : Step) → P before (line.Event s))
     → TurnLaw P
     → (m : Measures) (before : Trace) (w : Scene) → Stands before w.group → (s : Step)
-    → refusal m w s ≡ None → is_elementary s ≡ true → AtPlacesAfter P before (step_lines m w s)
+    → own_refusal m w.group s ≡ None → is_elementary s ≡ true
+    → AtPlacesAfter P before (step_lines m w s)
 step_places P event law m before w h s r e =
-    take_step (λ g' ls. AtPlacesAfter P before (line.Event s ∷ ls)) m w h.whole s (taken m w s r) e
+    take_step (λ g' ls. AtPlacesAfter P before (line.Event s ∷ ls)) m w h.whole s r e
     (λ g' k same. (event before s, tt)) (λ q i ms t. law before w.group h s q i ms t)
 
 -- a step's lines begin no other step, and none is a last one
@@ -83,7 +88,7 @@ step_begins : (m : Measures) (w : Scene) (s : Step) → steps (step_lines m w s)
 step_begins m w s = ap (λ ss. s ∷ ss) (where_begin w.group (turn m w s) s)
 
 pub run_stands : (m : Measures) (ss : List Step) (before : Trace) (w : Scene)
-    → Stands before w.group → AreTaken m w ss
+    → Stands before w.group → CanFollow m w ss
     → Stands (before ++ run_lines m w ss) (run m w ss).group
 unfolding run_lines run
 run_stands m [] before w h t = subst (λ b. Stands b w.group) (sym (append-nil before)) h
@@ -96,7 +101,7 @@ run_stands m (s ∷ ss) before w h t =
 pub run_places : (P : Trace → Line → Type 0) → ((before : Trace) (s : Step)
     → P before (line.Event s)) → TurnLaw P
     → (m : Measures) (ss : List Step) (before : Trace) (w : Scene) → Stands before w.group
-    → AreTaken m w ss → AtPlacesAfter P before (run_lines m w ss)
+    → CanFollow m w ss → AtPlacesAfter P before (run_lines m w ss)
 unfolding run_lines
 run_places P event law m [] before w h t = tt
 run_places P event law m (s ∷ ss) before w h t =
@@ -178,7 +183,7 @@ unfolding run_lines
 run_none P m before w tail h = subst (λ b. AtPlacesAmid P b tail) (append-nil before) h
 
 pub run_at_once : (m : Measures) (ss : List Step) (before : Trace) (w : Scene) (tail : Trace)
-    → Stands before w.group → AreTaken m w ss → answers_in_step tail ≡ []
+    → Stands before w.group → CanFollow m w ss → answers_in_step tail ≡ []
     → AtPlacesAmid AnswersAtOnce (before ++ run_lines m w ss) tail
     → AtPlacesAmid AnswersAtOnce before (run_lines m w ss ++ tail)
 run_at_once m [] before w tail h t e k = run_none AnswersAtOnce m before w tail k
@@ -198,10 +203,11 @@ run_at_once m (s ∷ ss) before w tail h t e k =
 
 -- a step that is taken keeps what was answered, and its lines show it
 pub step_has : (m : Measures) (before : Trace) (w : Scene) → Stands before w.group → (s : Step)
-    → refusal m w s ≡ None → is_elementary s ≡ true → (a : Answered Entry) → In w.group.answered a
+    → own_refusal m w.group s ≡ None → is_elementary s ≡ true → (a : Answered Entry)
+    → In w.group.answered a
     → In (group_after m w s).answered a × HaveBoth a (step_lines m w s)
 step_has m before w h s r e a x = take_step (λ g' ls. In g'.answered a × HaveBoth a (line.Event s
-    ∷ ls)) m w h.whole s (taken m w s r) e
+    ∷ ls)) m w h.whole s r e
     (λ g' k same. (subst (λ l. In l a) (sym same.answered) x, ((tt, tt), tt)))
     (λ q i ms t. let stays = answered_stays w.group q ms a x in (
       stays,
@@ -209,7 +215,7 @@ step_has m before w h s r e a x = take_step (λ g' ls. In g'.answered a × HaveB
     ))
 
 run_has : (m : Measures) (ss : List Step) (before : Trace) (w : Scene) → Stands before w.group
-    → AreTaken m w ss → (a : Answered Entry) → In w.group.answered a
+    → CanFollow m w ss → (a : Answered Entry) → In w.group.answered a
     → HaveBoth a (run_lines m w ss)
 unfolding run_lines
 run_has m [] before w h t a x = tt
@@ -219,19 +225,19 @@ run_has m (s ∷ ss) before w h t a x =
     ++ step_lines m w s) (next m w s) (step_stands m before w h s t.0 t.1) t.2 a one.0)
 
 step_survives : (m : Measures) (before : Trace) (w : Scene) → Stands before w.group → (s : Step)
-    → refusal m w s ≡ None → is_elementary s ≡ true → (rest : Trace)
+    → own_refusal m w.group s ≡ None → is_elementary s ≡ true → (rest : Trace)
     → RestHas (group_after m w s) rest
     → AtPlacesAmid SurvivesLater (before ++ step_lines m w s) rest
     → AtPlacesAmid SurvivesLater before (step_lines m w s ++ rest)
 step_survives m before w h s r e rest = take_step (λ g' ls. RestHas g' rest
     → AtPlacesAmid SurvivesLater (before ++ line.Event s ∷ ls) rest
     → AtPlacesAmid SurvivesLater before (line.Event s ∷ (ls ++ rest))) m w h.whole s
-    (taken m w s r) e
+    r e
     (λ g' k same has j. (tt, j))
     (λ q i ms t has j. survives_step before w.group h s q i ms t rest has j)
 
 pub run_survives : (m : Measures) (ss : List Step) (before : Trace) (w : Scene) (tail : Trace)
-    → Stands before w.group → AreTaken m w ss → ((a : Answered Entry) → HaveBoth a tail)
+    → Stands before w.group → CanFollow m w ss → ((a : Answered Entry) → HaveBoth a tail)
     → AtPlacesAmid SurvivesLater (before ++ run_lines m w ss) tail
     → AtPlacesAmid SurvivesLater before (run_lines m w ss ++ tail)
 run_survives m [] before w tail h t has k = run_none SurvivesLater m before w tail k
@@ -252,16 +258,16 @@ ends_listing m [] w tail e = e
 ends_listing m (s ∷ ss) w tail e = refl
 
 step_lists : (m : Measures) (before : Trace) (w : Scene) → Stands before w.group → (s : Step)
-    → refusal m w s ≡ None → is_elementary s ≡ true → (rest : Trace) → EndsListing rest
+    → own_refusal m w.group s ≡ None → is_elementary s ≡ true → (rest : Trace) → EndsListing rest
     → AtPlacesAmid ListsTree (before ++ step_lines m w s) rest
     → AtPlacesAmid ListsTree before (step_lines m w s ++ rest)
 step_lists m before w h s r e rest ends = take_step (λ g' ls. AtPlacesAmid ListsTree (before
     ++ line.Event s ∷ ls) rest → AtPlacesAmid ListsTree before (line.Event s ∷ (ls ++ rest))) m w
-    h.whole s (taken m w s r) e
+    h.whole s r e
     (λ g' k same j. (tt, j)) (λ q i ms t j. lists_step before w.group h s q i ms t rest ends j)
 
 pub run_lists : (m : Measures) (ss : List Step) (before : Trace) (w : Scene) (tail : Trace)
-    → Stands before w.group → AreTaken m w ss → EndsListing tail
+    → Stands before w.group → CanFollow m w ss → EndsListing tail
     → AtPlacesAmid ListsTree (before ++ run_lines m w ss) tail
     → AtPlacesAmid ListsTree before (run_lines m w ss ++ tail)
 run_lists m [] before w tail h t ends k = run_none ListsTree m before w tail k

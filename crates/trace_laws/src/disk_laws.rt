@@ -4,7 +4,7 @@ ghost use Rattle.std.specs.Prelude.{List};
 ghost use Rattle.trace_types.specs.declared.step.Step.{Step};
 ghost use Rattle.group_rules.specs.Step.{first_group};
 ghost use Rattle.group_safety.specs.Disks.{empty_disks};
-ghost use Rattle.group_trace.specs.Run.{AreTaken};
+ghost use Rattle.group_trace.specs.Run.{CanFollow};
 ghost use Rattle.group_trace.specs.Scene.{first_scene};
 ghost use Rattle.group_trace.specs.DiskCalls.{Spellings, measures_of};
 ghost use Rattle.trace_laws.specs.DiskLaws.{CallsAreCounted, DiskRunIsRight, PicksAreParts, PicksKeep};
@@ -12,14 +12,15 @@ ghost use Rattle.trace_laws.specs.StoreLaws.{ServersReadExactly, StoresAreFuzzy,
 ghost use Rattle.trace_laws.specs.Stores.{StoresOk};
 ghost use Rattle.group_trace.specs.DiskRun.{empty_stores};
 
-/// Every run from the first group, whatever the bytes of records and messages: its lines are a
-/// right trace, and each data server's disk is fuzzy between the LB of its mark and some number of
-/// the book's updates, whatever steps are cut and whatever crashes keep. That number is within the
-/// log where the server holds one, and within CP where it is settled. The log of a data server over
-/// its disk gives each cell exactly, and every base is on both disks.
+/// Every run from the first group, whatever the bytes of records and messages, and however many
+/// were sent: its lines are a right trace, and each data server's disk is fuzzy between the LB of
+/// its mark and some number of the book's updates, whatever steps are cut and whatever crashes
+/// keep. That number is within the log where the server holds one, and within CP where it is
+/// settled. The log of a data server over its disk gives each cell exactly, and every base is on
+/// both disks.
 pub fn every_disk_run()
     ensures right { (spellings : Spellings) (ss : List Step)
-        → AreTaken (measures_of spellings) first_scene ss → DiskRunIsRight spellings ss }
+        → CanFollow (measures_of spellings) first_scene ss → DiskRunIsRight spellings ss }
 {}
 
 /// The calls that a stop counts are those that a step makes, and a crash by a pick leaves what a

@@ -25,7 +25,7 @@ use Rattle.group_safety.proofs.Safe.{first_whole, good_of}
 use Rattle.group_safety.specs.Disks.{empty_disks}
 use Rattle.group_safety.specs.Laws.{Whole}
 use Rattle.group_safety.specs.Words.{IsActive}
-use Rattle.group_trace.specs.Run.{AreTaken}
+use Rattle.group_trace.specs.Run.{CanFollow}
 use Rattle.harp_store.specs.Disk.{Disk as ToldDisk, reads as told_reads}
 use Rattle.world_laws.specs.HostLaws.{HostsCanFail, HostsCanTake, ReachedAreWhole}
 use Rattle.world_rules.specs.Host.{IsNodeOf, Runs, disk_of, told_now}
@@ -46,7 +46,6 @@ use Rattle.store_laws.proofs.FewBlocks.{runs_have_few_blocks}
 use Rattle.store_laws.specs.Calls.{HaveFewBlocks, IsChangeOf}
 use Rattle.store_laws.specs.Steps.{applied_by}
 use Rattle.store_laws.specs.Told.{IsDiskOf, OneForOne}
-use Rattle.trace_laws.proofs.Turns.{own_none}
 use Rattle.trace_types.specs.declared.step.Step.{Step}
 use Rattle.tree_log.specs.Applying.{changes_by}
 use Rattle.tree_log.specs.Reading.{HoldsTree, IsOfList}
@@ -54,12 +53,12 @@ use Rattle.tree_log.specs.Reading.{HoldsTree, IsOfList}
 -- ---- scenes to which steps lead
 
 run_stands : (ss : List Step) (w : DiskScene) → Stands w.scene.group w.disks
-    → AreTaken (measures_of spellings) w.scene ss
+    → CanFollow (measures_of spellings) w.scene ss
     → Stands (disk_run spellings w ss).scene.group (disk_run spellings w ss).disks
 unfolding disk_run
 run_stands [] w h t = h
 run_stands (s ∷ ss) w h t = run_stands ss (disk_next spellings w s)
-    (step_stands spellings w h s (own_none _ _ t.0) t.1) t.2
+    (step_stands spellings w h s t.0 t.1) t.2
 
 reached_stands : (w : DiskScene) → IsReached spellings w → Stands w.scene.group w.disks
 reached_stands w r = subst (λ (w : DiskScene). Stands w.scene.group w.disks) r.leads

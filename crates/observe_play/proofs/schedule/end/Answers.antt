@@ -3,8 +3,9 @@ use Rattle.std.specs.Prelude.{Err}
 use Rattle.trace_claims.specs.Trace.{Trace, entries}
 use Rattle.group_trace.specs.DiskCalls.{Spellings, measures_of}
 use Rattle.group_trace.specs.DiskRun.{DiskScene}
-use Rattle.group_trace.specs.Scene.{Scene}
+use Rattle.group_trace.specs.Scene.{Scene, first_scene}
 use Rattle.trace_laws.proofs.RightRuns.{run_right}
+use Rattle.trace_laws.proofs.RunLaws.{can_follow}
 use Rattle.schedule_play.specs.Stage.{IsReached}
 use Rattle.observe_laws.specs.Reading.{ObservedReading}
 use Rattle.observe_laws.specs.Run.{played_steps}
@@ -24,9 +25,10 @@ told-entered : (f : Spellings) (told : ℕ) (stands : DiskScene → Type 0) (all
     → entered_by (measures_of f) h.done ≡ told
 told-entered f told stands all rest before mid x h tells =
     let m = measures_of f in
-    let taken = taken_played m first_observed h.done h.taken in
+    let follow = can_follow m first_scene (played_steps h.done)
+    (taken_played m first_observed h.done h.taken) in
     ap (λ (t : Trace). length (entries t)) (lines_played m first_observed h.done)
-    ∙ ap length (run_right m (played_steps h.done) taken).book
+    ∙ ap length (run_right m (played_steps h.done) follow).book
     ∙ sym (ap (λ (w : Scene). length w.group.book)
     (scene_there f h.done ∙ scene_played m first_observed h.done))
     ∙ sym (tells (disks_after f h.done) (reached_there f h.done h.taken) h.left)

@@ -6,6 +6,7 @@ use Rattle.group_trace.specs.DiskRun.{DiskScene, disk_run, first_disk_scene}
 use Rattle.group_trace.specs.Run.{run_lines}
 use Rattle.group_trace.specs.Scene.{Scene, first_scene}
 use Rattle.trace_laws.proofs.RightRuns.{run_right}
+use Rattle.trace_laws.proofs.RunLaws.{can_follow}
 use Rattle.schedule_play.specs.OnTheWay.{HasCome}
 use Rattle.schedule_play.specs.Reading.{Reading}
 use Rattle.schedule_play.specs.Stage.{IsReached}
@@ -20,7 +21,8 @@ told-entered : (f : Spellings) (told : ℕ) (stands : DiskScene → Type 0) (all
     → ((w : DiskScene) → IsReached f w → stands w → told ≡ length w.scene.group.book)
     → length (entries (run_lines (measures_of f) first_scene h.done)) ≡ told
 told-entered f told stands all rest before mid h tells =
-    ap length (run_right (measures_of f) h.done h.taken).book
+    let follow = can_follow (measures_of f) first_scene h.done h.taken in
+    ap length (run_right (measures_of f) h.done follow).book
     ∙ sym (ap (λ (w : Scene). length w.group.book) (disk_scene f h.done))
     ∙ sym (tells (disk_run f first_disk_scene h.done) (reached f h.done h.taken) h.left)
 
