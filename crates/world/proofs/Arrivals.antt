@@ -24,7 +24,6 @@ use Rattle.world_lines.specs.Posted.{Posted, arrived, bytes_of, bytes_sent, deli
 use Rattle.world_lines.specs.declared.packet.Packet.{Packet as Opened}
 use Rattle.world_lines.proofs.Machine.{as_many_stand, delivered_stand, opened_is}
 use Rattle.world_laws.specs.Stocks.{Carries}
-use Rattle.trace_laws.proofs.Turns.{own_none}
 use Rattle.trace_types.specs.declared.line.Line.{Line}
 use Rattle.trace_types.specs.declared.line.Line.TheVariants as line
 use Rattle.trace_types.specs.declared.line.LineFault.TheVariants as fault
@@ -261,9 +260,8 @@ delivery_taken old mid new n p before lines first opened arrives is w reached wo
     let t = turn (measures_of spellings) w.scene s in
     let leaves = arrives w n reached world opened in
     let less : n < length w.scene.group.packets =
-    is_lt n (length w.scene.group.packets) (is_sent _ (own_none _ _ none)) in
+    is_lt n (length w.scene.group.packets) (is_sent _ none) in
     record {
-      not_refused = none;
       lines_are = ap (λ ls. line.Event s ∷ ls)
           (leaves.lines ∙ ap (λ b. b ++ lines_where w.scene.group t []) first);
       left = subst (λ x. IsWorld (disk_next spellings w s) x) (sym is)

@@ -17,7 +17,6 @@ use Rattle.world_rules.specs.Spellings.{spellings}
 use Rattle.world_rules.specs.Steps.{Falls, HostBoots, HostFalls}
 use Rattle.node.specs.Stock.{Stock}
 use Rattle.world_laws.proofs.StockSteps.{falls_are_right}
-use Rattle.trace_laws.proofs.Turns.{own_none}
 use Rattle.trace_types.specs.declared.line.Line.{Line}
 use Rattle.trace_types.specs.declared.line.Line.TheVariants as line
 use Rattle.trace_types.specs.declared.line.LineFault.TheVariants as fault
@@ -63,7 +62,6 @@ crash_taken l old new server pick h before now none_yet lines by first shown me 
     (fallen l w reached old stands server up disks (others_stay w None pick q (Does Crash)) h
     (me ∙ own.me) (subst (λ d. Falls (g.server q) own.saved d h) (sym there) fell))) in
     record {
-      not_refused = none;
       lines_are = ap (λ ls. line.Event s ∷ ls)
           (said ∙ ap (λ none. none ++ state_lines q before now) first
           ∙ shown_rightly [] w q (turn_moves w None q (Does Crash)) before now (shown w stands)
@@ -98,7 +96,7 @@ boot_taken l old new server h before now none_yet lines first shown me booting i
     let own = stands.servers server in
     let s = step.Boot server in
     let m : Move Entry = Booting g.delta in
-    let down : (g.server q).up ≡ false = is_down (g.server q).up (own_none _ _ none) in
+    let down : (g.server q).up ≡ false = is_down (g.server q).up none in
     let host = subst (λ (k : Stock). IsHost (g.server q) k own.saved (w.disks q)
     (value_of old.hosts server)) (own.rests down) own.host in
     let booted = boots_at q (value_of old.hosts server) h (value_of old.clocks server) old.delta
@@ -108,7 +106,6 @@ boot_taken l old new server h before now none_yet lines first shown me booting i
     subst (λ x. IsWorld (scene_after w q (m ∷ []) w.disks) x) (sym is)
     (boots l w reached old stands server down h (me ∙ own.me) booted) in
     record {
-      not_refused = none;
       lines_are = ap (λ ls. line.Event s ∷ ls)
           (said ∙ ap (λ none. none ++ state_lines q before now) first
           ∙ shown_rightly [] w q (m ∷ []) before now (shown w stands)

@@ -2,12 +2,10 @@
 use Rattle.std.proofs.Common.{◌≡◌, ℕ, ◌+◌, Bool, true, false, List, [], ◌∷◌, None, Some, refl, sym, ap, ◌∙◌, subst, arith, if◌then◌else◌}
 use Rattle.group_trace.specs.DiskCalls.{measures_of}
 use Rattle.group_trace.specs.DiskRun.{DiskScene, disk_next}
-use Rattle.schedule_play.specs.Stage.{IsTaken}
 use Rattle.group_rules.specs.Limits.{delta_tests}
 use Rattle.group_rules.specs.Names.{place_of}
 use Rattle.group_rules.specs.Places.{Place, all_of, at}
 use Rattle.group_safety.proofs.Moving.{at_self}
-use Rattle.group_trace.specs.Refusals.{refusal}
 use Rattle.group_trace.specs.Run.{step_lines, with_delta}
 use Rattle.harp_types.specs.Trio.{value_of, with_value}
 use Rattle.harp_types.specs.declared.server.ServerId.{ServerId}
@@ -21,7 +19,7 @@ use Rattle.harp_types.specs.declared.pick.Pick.{Pick}
 use Rattle.trace_types.specs.declared.step.Step.{Step}
 use Rattle.trace_types.specs.declared.step.Step.TheVariants as step
 use Rattle.world.specs.Clocks.{delta_after, later}
-use Rattle.world.specs.Steps.{Takes}
+use Rattle.world.specs.Steps.{Leads, Takes}
 use Rattle.world.specs.World.{IsWorld, WorldValue}
 use Rattle.world.proofs.Servers.{server_kept}
 use Rattle.world.proofs.Tables.{at_other, each_value}
@@ -56,23 +54,17 @@ clocked_stands w x clock delta clocks world same =
       book = record { entries = world.book.entries; updates = world.book.updates };
     }
 
-taken_so : (w : DiskScene) (s : Step) (new : WorldValue)
-    → refusal (measures_of spellings) w.scene s ≡ None
+leads_so : (w : DiskScene) (s : Step) (new : WorldValue)
     → IsWorld (disk_next spellings w s) new
-    → step_lines (measures_of spellings) w.scene s ≡ line.Event s ∷ []
-    → IsTaken spellings w s [] (λ v. IsWorld v new)
-taken_so w s new none left says = record {
-  not_refused = none;
-  lines_are = sym says;
-  left = left;
-}
+    → step_lines (measures_of spellings) w.scene s ≡ line.Event s ∷ [] → Leads w s [] new
+leads_so w s new left says = record { lines_are = sym says; left = left }
 
 -- ---- noise
 
 pub noise_taken : (old : WorldValue) (server : ServerId) (bytes : List ℕ)
     → Takes old old (step.Noise server bytes) []
 noise_taken old server bytes w reached world none =
-    taken_so w (step.Noise server bytes) old none
+    leads_so w (step.Noise server bytes) old
     (subst (λ (d : ℕ). IsWorld (clocked w w.scene.group.clock d) old) world.delta
     (clocked_stands w old w.scene.group.clock old.delta old.clocks world world.clocks)) refl
 
@@ -93,7 +85,7 @@ pub clock_taken : (old new : WorldValue) (server : ServerId) (reading : ℕ)
 clock_taken old new server reading is w reached world none =
     let clock = at w.scene.group.clock (place_of server) reading in
     let clocks = with_value old.clocks server reading in
-    taken_so w (step.Clock server reading) new none
+    leads_so w (step.Clock server reading) new
     (subst (λ x. IsWorld (clocked w clock w.scene.group.delta) x) (sym is)
     (subst (λ (d : ℕ). IsWorld (clocked w clock d) (record old { clocks = clocks })) world.delta
     (clocked_stands w old clock old.delta clocks world
@@ -112,7 +104,7 @@ pub advance_taken : (old new : WorldValue) (millis : ℕ)
 advance_taken old new millis is w reached world none =
     let clock = λ (q : Place). w.scene.group.clock q + millis in
     let clocks = later old.clocks millis in
-    taken_so w (step.Advance millis) new none
+    leads_so w (step.Advance millis) new
     (subst (λ x. IsWorld (clocked w clock w.scene.group.delta) x) (sym is)
     (subst (λ (d : ℕ). IsWorld (clocked w clock d) (record old { clocks = clocks })) world.delta
     (clocked_stands w old clock old.delta clocks world
@@ -143,7 +135,7 @@ pub delta_taken : (old new : WorldValue) (millis : ℕ)
     → new ≡ record old { delta = delta_after old.delta millis }
     → Takes old new (step.Delta millis) []
 delta_taken old new millis is w reached world none =
-    taken_so w (step.Delta millis) new none
+    leads_so w (step.Delta millis) new
     (subst (λ x. IsWorld (disk_next spellings w (step.Delta millis)) x) (sym is)
     (delta_right w old millis world)) refl
 
@@ -155,7 +147,7 @@ pub stop_taken : (old new : WorldValue) (server : ServerId) (calls : ℕ) (pick 
 stop_taken old new server calls pick stop is stops w reached world none =
     let q = place_of server in
     let w' = disk_next spellings w (step.Stop server calls pick) in
-    taken_so w (step.Stop server calls pick) new none
+    leads_so w (step.Stop server calls pick) new
     (subst (λ x. IsWorld w' x) (sym is) (record {
       servers = λ y. server_kept w w' y (value_of old.hosts y) (λ k has. has)
           (λ records has. has) refl refl (world.servers y);

@@ -4,7 +4,7 @@ use Rattle.file_tree.specs.Book.{Entry, tree_after}
 use Rattle.world_lines.specs.Given.{listing_shown}
 use Rattle.group_trace.specs.DiskCalls.{measures_of}
 use Rattle.group_trace.specs.DiskRun.{DiskScene, disk_next, is_whole}
-use Rattle.schedule_play.specs.Stage.{IsReached}
+use Rattle.schedule_play.specs.Stage.{IsReached, IsTaken}
 use Rattle.group_rules.proofs.Tests.{le_is}
 use Rattle.group_rules.specs.Disk.{settled_tests}
 use Rattle.group_rules.specs.Names.{id_of, place_of}
@@ -45,9 +45,9 @@ use Rattle.world.proofs.Tables.{id_there}
 -- a server that isn't refused as down is up
 pub up_of : (w : DiskScene) (s : Step) (server : ServerId)
     → own_refusal (measures_of spellings) w.scene.group s ≡ where_down w.scene.group server
-    → refusal (measures_of spellings) w.scene s ≡ None
+    → own_refusal (measures_of spellings) w.scene.group s ≡ None
     → (w.scene.group.server (place_of server)).up ≡ true
-up_of w s server same none = is_up w.scene.group server (sym same ∙ own_none _ _ none)
+up_of w s server same none = is_up w.scene.group server (sym same ∙ none)
 
 pub deed_begins : (w : DiskScene) (x : WorldValue) (q : Place) (given : Input) (d : Deed)
     → IsReached spellings w → IsWorld w x → (w.scene.group.server q).up ≡ true
@@ -59,6 +59,15 @@ deed_begins w x q given d reached stands up begins goes = record {
   begins = begins;
   rightly = goes;
 }
+
+-- a step that is taken, and isn't refused
+pub taken_there : (old new : WorldValue) (s : Step) (lines : List Line) → Takes old new s lines
+    → (w : DiskScene) → IsReached spellings w → IsWorld w old
+    → refusal (measures_of spellings) w.scene s ≡ None
+    → IsTaken spellings w s lines (λ v. IsWorld v new)
+taken_there old new s lines takes w reached stands none =
+    let leads = takes w reached stands (own_none _ _ none) in
+    record { not_refused = none; lines_are = leads.lines_are; left = leads.left }
 
 -- A STEP with a deed is taken by its server's turn
 pub deed_taken : (s : Step) (server : ServerId) (given : Input) (d : Deed) (old new : WorldValue)
@@ -77,7 +86,6 @@ deed_taken s server given d old new before lines listing first turns begins goes
     let t = turns w (Does d) (deed_begins w old q given d reached stands
     (up_of w s server (same w) none) begins goes) in
     record {
-      not_refused = none;
       lines_are = ap (λ ls. line.Event s ∷ ls)
           (t.lines ∙ ap (λ b. b ++ turn_lines w (w.scene.armed q) q (Does d)) first)
           ∙ sym (says w);
@@ -146,7 +154,6 @@ list_taken server old new before ran lines listing first turns shown w reached s
     ap (listing_shown server) (t.listed (lists_whole w q)) ∙ listed_rightly g server in
     let says = turn_lines w (w.scene.armed q) q (Does ListTree) in
     record {
-      not_refused = none;
       lines_are = ap (λ ls. line.Event (step.List server) ∷ ls)
           (shown ∙ ap (λ ls. ls ++ listing_shown server listing) t.lines
           ∙ ap (λ b. (b ++ says) ++ listing_shown server listing) first
@@ -176,7 +183,6 @@ power_taken s server most pick stop old new before lines first fails stops same 
     let q = place_of server in
     let t = fails w most pick reached stands (up_of w s server (same w) none) stops in
     record {
-      not_refused = none;
       lines_are = ap (λ ls. line.Event s ∷ ls)
           (t.lines ∙ ap (λ b. b ++ turn_lines w most q (Does Power)) first) ∙ sym (says w);
       left = subst (λ v. IsWorld v new) (sym (leads w)) t.left;
