@@ -1,6 +1,7 @@
 -- A step of the world, the answers in its lines, and where a door has come then.
-use Rattle.std.proofs.Common.{◌≡◌, ◌≢◌, ℕ, true, List, [], ◌∷◌, ◌++◌, append-nil, append_assoc, refl, sym, ap, ◌∙◌, subst, Option, Some, None}
+use Rattle.std.proofs.Common.{◌≡◌, ◌≢◌, ℕ, true, List, [], ◌∷◌, ◌++◌, append-nil, append_assoc, reverse, option_to_list, refl, sym, ap, ◌∙◌, subst, Option, Some, None}
 use Rattle.std.specs.Prelude.{IfSome}
+use Rattle.std.proofs.lemmas.List.{reverse-append}
 use Rattle.harp_types.specs.declared.reply.Reply.{Reply}
 use Rattle.harp_types.specs.declared.server.ServerId.{ServerId}
 use Rattle.trace_types.specs.declared.line.Line.{Line}
@@ -86,24 +87,18 @@ no_answers = refl
 pub answers-none : (before : List (ℕ × Reply)) → before ≡ before ++ answers_in []
 answers-none before = sym (append-nil before) ∙ ap (λ found. before ++ found) (sym no_answers)
 
--- with one line more, that is an answer
-pub answers-one : (before : List (ℕ × Reply)) (ls : List Line) (l : Line) (o : Option (ℕ × Reply))
-    → as_list o ≡ answers_in (l ∷ []) → (x : ℕ × Reply) → o ≡ Some x
-    → (before ++ answers_in ls) ++ x ∷ [] ≡ before ++ answers_in (ls ++ l ∷ [])
-answers-one before ls l o are x is =
-    ap (λ found. (before ++ answers_in ls) ++ found) (sym (ap as_list is) ∙ are)
-    ∙ append_assoc before (answers_in ls) (answers_in (l ∷ []))
-    ∙ ap (λ found. before ++ found) (sym (answers-append ls (l ∷ [])))
-
--- and with one that is none
-pub answers-same : (before : List (ℕ × Reply)) (ls : List Line) (l : Line) (o : Option (ℕ × Reply))
-    → as_list o ≡ answers_in (l ∷ []) → o ≡ None
-    → before ++ answers_in ls ≡ before ++ answers_in (ls ++ l ∷ [])
-answers-same before ls l o are is =
-    ap (λ found. before ++ found)
-    (sym (append-nil (answers_in ls))
-    ∙ ap (λ found. answers_in ls ++ found) (sym (ap as_list is) ∙ are)
-    ∙ sym (answers-append ls (l ∷ [])))
+-- the last of the lines that are left, which lie the other way round, is the next one
+pub answers-left : (heard : List (ℕ × Reply)) (lines left : List Line) (popped : Option Line)
+    (l : Line) (o : Option (ℕ × Reply))
+    → lines ≡ left ++ option_to_list popped → popped ≡ Some l → as_list o ≡ answers_in (l ∷ [])
+    → (heard ++ as_list o) ++ answers_in (reverse left) ≡ heard ++ answers_in (reverse lines)
+answers-left heard lines left popped l o are is found =
+    append_assoc heard (as_list o) (answers_in (reverse left))
+    ∙ ap (λ xs. heard ++ (xs ++ answers_in (reverse left))) found
+    ∙ ap (λ xs. heard ++ xs) (sym (one-answer l (reverse left)))
+    ∙ ap (λ xs. heard ++ answers_in xs) (sym (reverse-append left (l ∷ [])))
+    ∙ ap (λ xs. heard ++ answers_in (reverse xs))
+    (sym (are ∙ ap (λ (p : Option Line). left ++ option_to_list p) is))
 
 -- the event line answers nothing
 pub answers-behind : (s : Step) (ls : List Line) → answers_in (line.Event s ∷ ls) ≡ answers_in ls

@@ -1,7 +1,10 @@
 -- The steps that a step stands for, as they are still read.
-use Rattle.std.proofs.Common.{append-nil, subst, ◌++◌, ◌≡◌, ℕ, zero, suc, ◌+◌, ◌-◌, ◌<◌, ◌≤◌, true, List, [], ◌∷◌, refl, sym, ap, ◌∙◌, Option, Some, None, arith}
+use Rattle.std.proofs.Common.{append-nil, subst, ◌++◌, ◌≡◌, ℕ, zero, suc, ◌+◌, ◌-◌, ◌<◌, ◌≤◌, ◌%◌, ◌==◌, if◌then◌else◌, false, true, List, [], ◌∷◌, refl, sym, ap, ◌∙◌, Option, Some, None, arith}
 use Rattle.harp_types.specs.declared.reply.Reply.{Reply}
 use Rattle.harp_types.specs.declared.server.ServerId.{ServerId}
+use Rattle.harp_types.specs.declared.server.ServerId.TheVariants as server
+use Rattle.harp_types.specs.declared.call.Call.{Call}
+use Rattle.harp_types.specs.declared.cred.Cred.{Cred}
 use Rattle.trace_types.specs.declared.step.Step.{Step}
 use Rattle.trace_types.specs.declared.step.Step.TheVariants as step
 use Rattle.group_trace.specs.Pump.{deliveries, due, most_deliveries, spelled_out}
@@ -16,7 +19,7 @@ use Rattle.schedule_play.proofs.Runs.{disk_scene, reached}
 use Rattle.group_rules.specs.Places.{Place, Trio, Zero, One, Two, get}
 use Rattle.schedule_play.specs.Stage.{AreReadings, clocks_after}
 use Rattle.door_play.specs.OnTheWay.{AreReadable, HasHeard, clocks_behind, taken_then}
-use Rattle.door_play.specs.Steps.{opening}
+use Rattle.door_play.specs.Steps.{cut, opening, steps_of_call, upkeep}
 use Rattle.door_play.proofs.Hears.{hears}
 
 -- ---- one step
@@ -213,6 +216,31 @@ asks-steps f all made steps rest before heard stands is none h =
     (sym (ap (λ xs. before ++ xs) none ∙ append-nil before))
     (subst (λ ss. HasHeard f all (taken_then (measures_of f) ss rest) before stands) (sym is) h)
 
+-- nothing more is heard yet
+pub unheard : (f : Spellings) (all : Reading) (rest : Scene → Reading)
+    (before heard : List (ℕ × Reply)) (stands : DiskScene → Type 0) → heard ≡ []
+    → HasHeard f all rest before stands → HasHeard f all rest (before ++ heard) stands
+unheard f all rest before heard stands none h =
+    subst (λ answers. HasHeard f all rest answers stands)
+    (sym (ap (λ xs. before ++ xs) none ∙ append-nil before)) h
+
+-- what stands behind a call and its deliveries
+abbrev pub behind : ℕ → List Step
+behind number = if number % 64 == 0 then upkeep else []
+
+-- the call that is asked is the cut one
+pub call-asked : (f : Spellings) (all : Reading) (cred : Cred) (number : ℕ)
+    (call copied asked : Call) (rest : Scene → Reading) (before : List (ℕ × Reply))
+    (stands : DiskScene → Type 0) → asked ≡ cut copied → copied ≡ call
+    → HasHeard f all (taken_then (measures_of f) (steps_of_call cred number call) rest) before
+    stands
+    → HasHeard f all (taken_then (measures_of f)
+    (step.Ask server.Zero 0 number cred asked ∷ step.Pump None ∷ behind number) rest) before stands
+call-asked f all cred number call copied asked rest before stands is same h =
+    subst (λ ss. HasHeard f all (taken_then (measures_of f) ss rest) before stands)
+    (sym (ap (λ (c : Call). step.Ask server.Zero 0 number cred c ∷ step.Pump None ∷ behind number)
+    (is ∙ ap cut same))) h
+
 -- what they read behind the last step
 pub readable-last : (clocks : Trio ℕ) (ss : List Step) → AreReadable clocks ss
     → AreReadings (clocks_behind clocks ss)
@@ -232,3 +260,7 @@ readable-first clocks are =
     let then_ : AreReadings (clocks_after clocks (step.Advance 2050)) =
     (omega (arith, zero_th), omega (arith, one_th), omega (arith, two_th)) in
     (now, (now, (now, (then_, (then_, then_)))))
+
+-- no upkeep stands behind most calls
+pub upkeep-not : (n : ℕ) → (n % 64 == 0) ≡ false → (if n % 64 == 0 then upkeep else []) ≡ []
+upkeep-not n is = rw is refl

@@ -1,5 +1,5 @@
 -- What a played group tells, before a call and behind it.
-use Rattle.std.proofs.Common.{◌≡◌, ℕ, ◌+◌, true, List, [], ◌∷◌, ◌++◌, append-nil, length, length-append, map, refl, sym, ap, ◌∙◌, subst, Some, None, arith}
+use Rattle.std.proofs.Common.{◌≡◌, ℕ, ◌+◌, false, true, List, [], ◌∷◌, ◌++◌, append-nil, length, length-append, map, refl, sym, ap, ◌∙◌, subst, Some, None, arith}
 use Rattle.std.specs.List.{AllByRecursion}
 use Rattle.std.proofs.lemmas.List.{append_cancel_left, length-map, map-append}
 use Rattle.harp_types.specs.declared.call.Call.{Call}
@@ -266,3 +266,17 @@ last_of cred made x h = by made h.creds
     by : (made : List Exchange) → AllByRecursion (λ y. y.cred ≡ cred) (made ++ x ∷ []) → x.cred ≡ cred
     by [] all = all.0
     by (y ∷ made) all = by made all.1
+
+-- a group that goes on no more has answered what it had answered
+pub tells-same : (f : Spellings) (next now : ℕ) (opens : Type 0) (here there : DiskScene → Type 0)
+    (start : Cred) (before : List Exchange) → now ≡ next → HasTold f next opens here start before
+    → HasTold f now (false ≡ true) there start (before ++ [])
+tells-same f next now opens here there start before same told =
+    subst (λ xs. HasTold f now (false ≡ true) there start xs) (sym (append-nil before))
+    (λ bytes of_.
+    let t = told bytes of_ in
+    record {
+      answered = t.answered;
+      next_is = same ∙ t.next_is;
+      left = λ (on : false ≡ true). absurd cc;
+    })

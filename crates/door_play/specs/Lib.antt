@@ -4,3 +4,4 @@ pub mod Played
 pub mod Laws
 pub mod OnTheWay
 pub mod Told
+pub mod Playing

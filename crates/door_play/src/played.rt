@@ -1,6 +1,6 @@
 //! The group of a door, in a world in memory.
 
-ghost use Rattle.std.specs.Prelude.{◌≡◌, ◌≤◌, ◌++◌, ◌∷◌, [], ℕ, List, IfOk, IfSome, MatchResult, Err, Some, false, true, ⊤};
+ghost use Rattle.std.specs.Prelude.{◌≡◌, ◌≤◌, ◌++◌, ◌∷◌, [], ℕ, List, IfOk, IfSome, MatchResult, OnOk, Err, Some, false, true, ⊤};
 ghost use Rattle.harp_types.specs.Streams.{Rose};
 ghost use Rattle.harp_types.specs.declared.cred.Cred.{Cred as By};
 ghost use Rattle.harp_types.specs.declared.reply.Reply.{Reply as Told};
@@ -16,47 +16,71 @@ ghost use Rattle.door_play.specs.Steps.{steps_of_call};
 ghost use Rattle.door_play.specs.OnTheWay.{HasHeard, StopGives, taken_then};
 ghost use Rattle.door_play.specs.Told.{GivesUp, HasTold};
 
-use crate::asking::{opening_steps, steps_of_call};
+use crate::asking::{is_upkept, opening_steps, upkeep_steps};
+use crate::cutting::cut;
 use crate::laws::{one_call_more, played_calls, replies_fit};
-use crate::stepping::{Stop, play_steps};
+use crate::stepping::{Ear, Stop, play_call, play_steps};
 use harp_types::{Call, Cred, Reply};
 use rpc_door::{Group, GroupFault, is_reply_to};
 use schedule_play::Stage;
 use std::alloc::Global;
+use std::marker::Model;
 
-/// Asks a call with a number, delivers all that it leads to, and gives the answers that came.
+/// The room that was kept, or a new one, with nothing heard yet.
+fn emptied(alloc: Global, kept: Option<Ear>) -> Ear
+    ensures { result.heard.items ≡ [] }
+{
+    match kept {
+        Some(kept) => {
+            let mut ear = kept;
+            ear.heard.clear();
+            ear
+        }
+        None => Ear::new(alloc),
+    }
+}
+
+/// Asks a call with a number, delivers all that it leads to, and hears the answers that came.
 fn ask<W: Stage>(
     alloc: Global,
     cred: Cred,
     number: u64,
     call: &Call,
     world: &mut W,
-) -> Result<Vec<(u64, Reply)>, Stop>
+    ear: &mut Ear,
+) -> Result<(), Stop>
     requires { AreReadings (W.clocks world.old) }
     ensures ends { (all : Reading) (before : List (ℕ × Told))
         → HasHeard W.spellings all (taken_then (measures_of W.spellings)
-        (steps_of_call cred number call.now) (λ w. all_read)) before (W.stands world.old)
+        (steps_of_call cred number call.now) (λ w. all_read)) (before ++ ear.old.heard.items)
+        (W.stands world.old)
         → MatchResult result
-        (λ heard. HasHeard W.spellings all (λ w. all_read) (before ++ heard.items)
+        (λ _. HasHeard W.spellings all (λ w. all_read) (before ++ ear.new.heard.items)
         (W.stands world.new))
         (StopGives W.spellings all (W.stands world.new)) }
-    ensures clocks { IfOk result (λ _. W.clocks world.new ≡ W.clocks world.old) }
+    ensures clocks { OnOk result (W.clocks world.new ≡ W.clocks world.old) }
 {
-    let steps = steps_of_call(alloc, cred, number, call)?;
-    let mut heard = Vec::new(alloc);
-    match play_steps(alloc, steps, world, &mut heard) {
-        Ok(()) => Ok(heard),
+    let call = cut(call.copy(alloc)?);
+    match play_call(alloc, cred, number, call, world, ear) {
+        Ok(()) => {}
+        Err(stop) => return Err(stop),
+    }
+    if !is_upkept(number) {
+        return Ok(());
+    }
+    let steps = upkeep_steps(alloc)?;
+    match play_steps(alloc, steps, world, ear) {
+        Ok(()) => Ok(()),
         Err(stop) => Err(stop),
     }
 }
 
 /// The reply that was heard last, where it is one to this call.
-fn last_reply(heard: Vec<(u64, Reply)>, call: &Call) -> Option<Reply>
+fn last_reply(heard: &mut Vec<(u64, Reply)>, call: &Call) -> Option<Reply>
     ensures form { IfSome result (λ reply. is_reply_to call.now reply ≡ true) }
-    ensures one { (number : ℕ) (reply : Told) → heard.items ≡ (number, reply) ∷ []
+    ensures one { (number : ℕ) (reply : Told) → heard.old.items ≡ (number, reply) ∷ []
         → is_reply_to call.now reply ≡ true → result ≡ Some reply }
 {
-    let mut heard = heard;
     let (_, reply) = heard.pop()?;
     if is_reply_to(call, &reply) {
         Some(reply)
@@ -65,7 +89,8 @@ fn last_reply(heard: Vec<(u64, Reply)>, call: &Call) -> Option<Reply>
     }
 }
 
-/// A group that is played in a world, and answers the calls of one user and group.
+/// A group that is played in a world, and answers the calls of one user and group. Contracts see
+/// all of it but the room.
 #[derive(Drop)]
 pub struct PlayedGroup<W> {
     world: W,
@@ -74,6 +99,21 @@ pub struct PlayedGroup<W> {
     faults: u64,
     /// Whether its view is open and it answered all calls so far.
     is_open: bool,
+    /// Room for what a call leads to, which the next one uses anew.
+    ear: Option<Ear>,
+}
+
+impl<W> Model for PlayedGroup<W> {
+    ghost use Rattle.door_play.specs.Playing.{Playing};
+
+    ghost Value = { Playing W };
+
+    ghost view = { λ g. record {
+      world = g.world;
+      next = g.next;
+      faults = g.faults;
+      is_open = g.is_open;
+    } };
 }
 
 impl<W: Stage> PlayedGroup<W> {
@@ -86,6 +126,7 @@ impl<W: Stage> PlayedGroup<W> {
             next: 1,
             faults: 0,
             is_open: false,
+            ear: None,
         }
     }
 
@@ -107,8 +148,8 @@ impl<W: Stage> PlayedGroup<W> {
         let Ok(steps) = opening_steps(alloc) else {
             return Err(GroupFault::NoMemory);
         };
-        let mut heard = Vec::new(alloc);
-        match play_steps(alloc, steps, &mut self.world, &mut heard) {
+        let mut ear = Ear::new(alloc);
+        match play_steps(alloc, steps, &mut self.world, &mut ear) {
             Ok(()) => {
                 self.next = 1;
                 self.is_open = true;
@@ -161,20 +202,24 @@ impl<W: Stage> Group for PlayedGroup<W> {
         played_calls();
         one_call_more();
         replies_fit();
-        match ask(alloc, cred, self.next, call, &mut self.world) {
-            Ok(heard) => match last_reply(heard, call) {
-                Some(reply) => {
-                    self.next = self.next.saturating_add(1);
-                    Ok(reply)
-                }
-                // Each call that is asked is answered, so this doesn't come.
-                None => Err(self.fail()),
-            },
-            Err(Stop::Refused) => Err(self.fail()),
+        let mut ear = emptied(alloc, self.ear.take());
+        match ask(alloc, cred, self.next, call, &mut self.world, &mut ear) {
+            Ok(()) => {}
+            Err(Stop::Refused) => return Err(self.fail()),
             Err(Stop::NoMemory) => {
                 self.is_open = false;
-                Err(GroupFault::NoMemory)
+                return Err(GroupFault::NoMemory);
             }
+        }
+        let last = last_reply(&mut ear.heard, call);
+        self.ear = Some(ear);
+        match last {
+            Some(reply) => {
+                self.next = self.next.saturating_add(1);
+                Ok(reply)
+            }
+            // Each call that is asked is answered, so this doesn't come.
+            None => Err(self.fail()),
         }
     }
 }

@@ -23,9 +23,9 @@ loop-step-preserved g c =
     let told = c.in-Ok.ensures.clocks in
     record {
       heard = λ all rest before h. c.in-Ok.ensures.ends all (taken_then m left rest) before
-          (first-read f all c.in-Some.step left rest (before ++ c.loop-step.heard.items)
+          (first-read f all c.in-Some.step left rest (before ++ c.loop-step.ear.heard.items)
           (g.W.Stage.stands c.loop-step.world)
-          (subst (λ ss. HasHeard f all (taken_then m ss rest) (before ++ c.loop-step.heard.items)
+          (subst (λ ss. HasHeard f all (taken_then m ss rest) (before ++ c.loop-step.ear.heard.items)
           (g.W.Stage.stands c.loop-step.world)) are
           (c.loop-step.invariant.heard all rest before h)));
       readable = subst (λ t. AreReadable t left) (sym told)
@@ -42,9 +42,9 @@ returns-in-Err-clause-ends g c = λ all rest before h.
     let m = measures_of f in
     let left = c.next.new.self.rest.items in
     c.in-Err.ensures.ends all (taken_then m left rest) before
-    (first-read f all c.in-Some.step left rest (before ++ c.loop-step.heard.items)
+    (first-read f all c.in-Some.step left rest (before ++ c.loop-step.ear.heard.items)
     (g.W.Stage.stands c.loop-step.world)
-    (subst (λ ss. HasHeard f all (taken_then m ss rest) (before ++ c.loop-step.heard.items)
+    (subst (λ ss. HasHeard f all (taken_then m ss rest) (before ++ c.loop-step.ear.heard.items)
     (g.W.Stage.stands c.loop-step.world)) c.in-Some.ensures.steps.0
     (c.loop-step.invariant.heard all rest before h)))
 
@@ -60,6 +60,6 @@ returns-clause-ends g c = λ all rest before h.
     let none = append_cancel_left c.loop-step.yielded left []
     (sym c.loop-step.invariant.left ∙ sym (sym (map-id c.loop-step.yielded) ∙ all_.0)
     ∙ sym (append-nil c.loop-step.yielded)) in
-    all-read f all rest (before ++ c.loop-step.heard.items) (g.W.Stage.stands c.loop-step.world)
-    (subst (λ ss. HasHeard f all (taken_then m ss rest) (before ++ c.loop-step.heard.items)
+    all-read f all rest (before ++ c.loop-step.ear.heard.items) (g.W.Stage.stands c.loop-step.world)
+    (subst (λ ss. HasHeard f all (taken_then m ss rest) (before ++ c.loop-step.ear.heard.items)
     (g.W.Stage.stands c.loop-step.world)) none (c.loop-step.invariant.heard all rest before h))

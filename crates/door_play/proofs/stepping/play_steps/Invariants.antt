@@ -12,10 +12,10 @@ invariant-loop-step g l = record {
   heard : (all : Reading) (rest : Scene → Reading) (before : List (ℕ × Reply))
       → HasHeard g.W.Stage.spellings all
       (taken_then (measures_of g.W.Stage.spellings) l.fn.steps.items rest)
-      (before ++ l.fn.heard.items) (g.W.Stage.stands l.fn.world)
+      (before ++ l.fn.ear.heard.items) (g.W.Stage.stands l.fn.world)
       → HasHeard g.W.Stage.spellings all
       (taken_then (measures_of g.W.Stage.spellings) l.step-iterator.rest.items rest)
-      (before ++ l.heard.items) (g.W.Stage.stands l.world);
+      (before ++ l.ear.heard.items) (g.W.Stage.stands l.world);
   readable : AreReadable (g.W.Stage.clocks l.world) l.step-iterator.rest.items;
   clocks : clocks_behind (g.W.Stage.clocks l.world) l.step-iterator.rest.items
       ≡ clocks_behind (g.W.Stage.clocks l.fn.world) l.fn.steps.items;

@@ -14,9 +14,9 @@ invariant-loop g l = record {
   heard : (all : Reading) (rest : Scene → Reading) (before : List (ℕ × Reply))
       → HasHeard g.W.Stage.spellings all
       (with_pump (measures_of g.W.Stage.spellings) 0 most_deliveries l.among rest)
-      (before ++ l.fn.heard.items) (g.W.Stage.stands l.fn.world)
+      (before ++ l.fn.ear.heard.items) (g.W.Stage.stands l.fn.world)
       → HasHeard g.W.Stage.spellings all
       (with_pump (measures_of g.W.Stage.spellings) 0 (most_deliveries - l.counter) l.among rest)
-      (before ++ l.heard.items) (g.W.Stage.stands l.world);
+      (before ++ l.ear.heard.items) (g.W.Stage.stands l.world);
   clocks : g.W.Stage.clocks l.world ≡ g.W.Stage.clocks l.fn.world;
 }
