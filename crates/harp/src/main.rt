@@ -28,8 +28,9 @@ use std::{env, io, mem};
 use store_folder::FolderStore;
 use world::World;
 
-/// The most bytes of output that stand in memory before they are written.
-const PIECE: usize = 1 << 16;
+/// The most bytes of output that stand in memory before they are written. A longer piece, as the
+/// answer to a full read, is written from where it stands.
+const PIECE: usize = 1 << 13;
 
 /// The words behind the program's name.
 fn words<R: Env + AllocGlobal>(rt: &R) -> io::Result<Vec<String>> {
