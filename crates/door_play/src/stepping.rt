@@ -87,7 +87,8 @@ fn keep_answers(lines: &mut Vec<Line>, heard: &mut Vec<(u64, Reply)>) -> Result<
 }
 
 /// Takes a step of one server, of the clocks or of the group's delta, and keeps the answers in its
-/// lines.
+/// lines. It goes into its callers, since a step is large, and each call that hands it on moves it.
+#[inline(always)]
 fn take<W: Stage>(alloc: Global, step: Step, world: &mut W, ear: &mut Ear) -> Result<(), Stop>
     requires elementary { is_elementary step ≡ true }
     requires readings { AreReadings (clocks_after (W.clocks world.old) step) }

@@ -121,6 +121,7 @@ impl LineReader {
 
     /// The next line of the text that is left. After a fault the text left is as before. When the source fails, each
     /// line was given that came whole.
+    #[inline(always)]
     pub fn next<S: Source>(&mut self, alloc: Global, source: &mut S) -> Result<Next, ReadFault>
         ensures ok { IfOk result (λ next. GivesKnown (text_left self.old (S.left source.old)) (text_left self.new (S.left source.new)) next) }
         ensures short { IfOk result IsShort }

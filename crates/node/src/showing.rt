@@ -21,6 +21,7 @@ use volatile_log::ActiveLog;
 
 impl Node {
     /// The server's state line. A lost server shows its LB for each number, one without a log 0.
+    #[inline(always)]
     pub fn state_line(&self) -> StateLine
         requires { self.now.halted ≡ false }
         ensures { (items : List Entry) → result ≡ state_of (server self.now items) }

@@ -101,6 +101,7 @@ impl Outputs {
     }
 
     /// A message is sent.
+    #[inline(always)]
     pub fn send(&mut self, to: ServerId, message: Message) -> Result<(), AllocError>
         ensures said { OnOk result (said self.new ≡ record (said self.old) {
           sends = (said self.old).sends ++ (place_of to, heard message) ∷ [];
@@ -140,6 +141,7 @@ impl Outputs {
     }
 
     /// An ask is answered.
+    #[inline(always)]
     pub fn answer(&mut self, answer: Answered) -> Result<(), AllocError>
         ensures said { OnOk result (said self.new ≡ record (said self.old) {
           answers = (said self.old).answers ++ answer ∷ [];
@@ -151,6 +153,7 @@ impl Outputs {
     }
 
     /// An update is committed.
+    #[inline(always)]
     pub fn commit(&mut self, entry: BookEntry) -> Result<(), AllocError>
         ensures said { OnOk result (said self.new ≡ record (said self.old) {
           committed = (said self.old).committed ++ entered entry ∷ [];

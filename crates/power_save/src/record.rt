@@ -126,6 +126,7 @@ fn seen_record(
 
 /// The record that a cell has, None where it has none. It is that of the index, if it was seen
 /// before.
+#[inline(always)]
 fn record_in(
     alloc: Global,
     value: &Option<SharedValue>,
@@ -152,6 +153,7 @@ fn record_in(
 }
 
 /// The record of an index that a cell has, None where it hasn't one of this index.
+#[inline(always)]
 pub(crate) fn record_of(
     alloc: Global,
     value: &Option<SharedValue>,

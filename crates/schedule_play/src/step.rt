@@ -26,7 +26,9 @@ use trace_types::{Line, Step};
 const MOST_DELIVERIES: u64 = 1 << 40;
 
 /// Takes a step of one server, of the clocks or of the group's delta, and writes its lines. The
-/// text was begun with its event line.
+/// text was begun with its event line. It goes into its callers, since a step is large, and each
+/// call that hands it on moves it.
+#[inline(always)]
 fn take_elementary<W: Stage, K: Sink>(
     alloc: Global,
     number: u64,

@@ -69,8 +69,10 @@ fn untold_call_at(alloc: Global, line: &[u8], at: usize) -> Result<((Cred, Call)
     Ok(((SUPERUSER, call), at))
 }
 
-/// A call and the credential that is told before it, or the superuser's own.
+/// A call and the credential that is told before it, or the superuser's own. A call is large, and
+/// each call of a function that gives it moves it.
 #[tactic(auto, unfolding(crate::specs::Reading::asked_at))]
+#[inline(always)]
 pub fn asked_at(alloc: Global, line: &[u8], at: usize) -> Result<((Cred, Call), usize), TextFault>
     requires { at ≤ length line.now }
     ensures { Gives (λ x. x) result (asked_at line.now at) }
@@ -84,6 +86,7 @@ pub fn asked_at(alloc: Global, line: &[u8], at: usize) -> Result<((Cred, Call), 
 
 /// An ask behind its name.
 #[tactic(auto, unfolding(crate::specs::Reading::form_at))]
+#[inline(always)]
 pub fn ask_at(alloc: Global, line: &[u8], at: usize) -> Result<(Step, usize), TextFault>
     ensures { Gives (λ x. x) result (form_at forms.Ask line.now at) }
 {

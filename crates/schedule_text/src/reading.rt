@@ -14,8 +14,9 @@ use crate::step::form_at;
 use std::alloc::Global;
 use trace_types::Step;
 
-/// A step from a place on, and the end.
+/// A step from a place on, and the end. It is moved by each call of a function that gives it.
 #[tactic(auto, unfolding(crate::specs::Reading::step_at))]
+#[inline(always)]
 pub fn step_at(alloc: Global, line: &[u8], at: usize) -> Result<Step, TextFault>
     requires { at ≤ length line.now }
     ensures { Gives (λ x. x) result (step_at line.now at) }
@@ -50,6 +51,7 @@ fn meaning_of(alloc: Global, line: &[u8]) -> Result<Option<Step>, TextFault>
 /// The step of a line of a schedule, without its line end. None is an empty line or a comment.
 ///
 /// Every other line that is no step is Grammar, with the first place at which no step goes on.
+#[inline(always)]
 pub fn read_step(alloc: Global, line: &[u8]) -> Result<Option<Step>, TextFault>
     // A line means one thing, and that is answered unless memory runs out.
     ensures exact { Gives (λ x. x) result (meaning_of line.now) }

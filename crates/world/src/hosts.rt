@@ -47,6 +47,7 @@ impl World {
 
     /// A step of a server's host by its clock. Its outputs come where none are yet, and the result
     /// tells whether it gave them.
+    #[inline(always)]
     pub(crate) fn step_host(
         &mut self,
         alloc: Global,

@@ -11,6 +11,7 @@ use trace_types::{Line, Step};
 
 impl World {
     /// Takes a step that isn't refused.
+    #[inline(always)]
     pub(crate) fn take(
         &mut self,
         alloc: Global,

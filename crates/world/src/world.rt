@@ -80,6 +80,7 @@ impl Stage for World {
 
     /// Takes a step, and gives its lines behind its event line. A step that is refused changes
     /// nothing. After want of memory the world may be anything.
+    #[inline(always)]
     fn step(&mut self, alloc: Global, step: Step, lines: &mut Vec<Line>) -> Result<(), Refusal> {
         if let Some(refusal) = self.refusal(alloc, &step) {
             return Err(refusal);

@@ -105,7 +105,9 @@ impl Host {
 
     /// A step of the server, which is up, at this reading of its clock. Its outputs come where none
     /// are yet, and the result tells whether it gave them. Where a stop comes, nothing is given:
-    /// the server falls, and its disk is what the stop's pick leaves.
+    /// the server falls, and its disk is what the stop's pick leaves. It goes into its callers: an
+    /// input is large, and each call that hands it on moves it.
+    #[inline(always)]
     pub fn take(
         &mut self,
         alloc: Global,

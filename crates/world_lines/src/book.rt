@@ -182,6 +182,7 @@ impl Book {
     }
 
     /// Enters a call, with its line, which has an equal one.
+    #[inline(always)]
     fn enter(
         &mut self,
         alloc: Global,

@@ -14,6 +14,7 @@ use tree_listing::Listing;
 
 /// The line of a server's state, where it isn't the one before. A server that is down has none.
 #[tactic(auto, unfolding(group_rules::specs::Shown::same_state))]
+#[inline(always)]
 pub fn show_state(
     server: ServerId,
     before: &Option<StateLine>,
