@@ -1,6 +1,6 @@
 -- What a whole step brings to a server's mark and disk, from what its rule does.
-use Rattle.std.proofs.Common.{◌≡◌, ℕ, List, Option, None, Some, Result, Ok, Err, refl, ap, ◌∙◌, inl, inr}
-use Rattle.std.specs.Prelude.{OnOk, option_map}
+use Rattle.std.proofs.Common.{◌≡◌, ℕ, false, List, Option, None, Some, Result, Ok, Err, refl, ap, sym, subst, ◌∙◌, inl, inr}
+use Rattle.std.specs.Prelude.{OnErr, OnOk, is_some, option_map}
 use Rattle.cell_cache.specs.Entries.{AreOf, Entries}
 use Rattle.file_tree.specs.Book.{Entry}
 use Rattle.group_rules.specs.Moves.{Move}
@@ -11,9 +11,13 @@ use Rattle.harp_store.specs.Disk.{Moments, cells_told}
 use Rattle.harp_store.specs.Mark.{MarkFields}
 use Rattle.node.specs.Cached.{IsCachedAs}
 use Rattle.node.specs.Disk.{MayLeave, disk_after, marked_by}
+use Rattle.node.specs.Input.{input_of}
 use Rattle.node.specs.Node.{NodeValue}
+use Rattle.node.specs.Outcomes.{Brings}
 use Rattle.node.specs.Stored.{LeavesBy, changes_made, disk_by, mark_by}
 use Rattle.node.specs.Taking.{ruled, stepped}
+use Rattle.node.specs.declared.fault.NodeFault.{NodeFault}
+use Rattle.node.specs.declared.input.Input.{Input as Given}
 use Rattle.node.proofs.Cached.{disk_cells, stays_cached}
 use Rattle.node.proofs.Marks.{disk_as, mark_as, part_as}
 use Rattle.node.proofs.Stepped.{step_alike}
@@ -152,3 +156,33 @@ none_left n ms (Some (Does Suspect)) told = inl refl
 none_left n ms (Some (Does Power)) told = inl refl
 none_left n ms (Some (Does Crash)) told = inl refl
 none_left n ms (Some (Comes from m)) told = inl refl
+
+pub none_marked : (n : NodeValue) (ms : List (Move Entry)) (o : Option Input)
+    → is_some o ≡ false → n.mark ≡ mark_by n ms o
+none_marked n ms None none = refl
+none_marked n ms (Some i) none = cc
+
+pub none_written : (n : NodeValue) (ms : List (Move Entry)) (o : Option Input)
+    (told : Option Moments) → is_some o ≡ false → told ≡ disk_by n ms o told
+none_written n ms None told none = refl
+none_written n ms (Some i) told none = cc
+
+-- ---- what a call brings, by what is given
+
+pub ok_all : {P : Type 0} (r : Result (Unit {0}) NodeFault) → P → OnOk r P
+ok_all (Ok x) p = p
+ok_all (Err why) p = tt
+
+pub err_all : {P : Type 0} (r : Result (Unit {0}) NodeFault) → P → OnErr r P
+err_all (Ok x) p = tt
+err_all (Err why) p = p
+
+pub brings_so : (r : Result (Unit {0}) NodeFault) (clock : ℕ) (n new : NodeValue)
+    (disk left : Option Moments) (i j : Given) → i ≡ j
+    → Brings r (λ size list. ruled size n.me clock list n.plain (input_of j)) (input_of j) n new
+    disk left
+    → Brings r (λ size list. ruled size n.me clock list n.plain (input_of i)) (input_of i) n new
+    disk left
+brings_so r clock n new disk left i j is h = subst (λ (x : Given). Brings r
+    (λ size list. ruled size n.me clock list n.plain (input_of x)) (input_of x) n new disk left)
+    (sym is) h

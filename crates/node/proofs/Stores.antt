@@ -18,7 +18,7 @@ use Rattle.harp_store.specs.Mark.{MarkFields}
 use Rattle.node.proofs.Saying.{and_nothing, makes_so, unsaid}
 use Rattle.node.specs.Active.{is_active}
 use Rattle.node.specs.Node.{NodeValue, server, value}
-use Rattle.node.specs.State.{Fits, mode_in}
+use Rattle.node.specs.State.{Fits, is_gone, mode_in}
 use Rattle.node.specs.Stored.{changes_made, flushes, log_in, log_of, stores, with_log}
 use Rattle.node.specs.declared.state.State.{State}
 use Rattle.node.specs.declared.state.State.TheVariants as state
@@ -346,3 +346,28 @@ pub ap_is : (me : ServerId) (mark : MarkFields) (horizon : HorizonValue) (served
 ap_is me mark horizon served duty s n of h fits =
     ap (λ (g : LogValue). g.ap) (log_is me mark horizon served duty s
     (stores_active me mark horizon served duty s n of h) fits)
+
+-- ---- a server with another log goes on
+
+alive : (s : State) → is_active s ≡ true → is_gone s ≡ false
+alive state.Gone h = cc
+alive (state.Rests kept) h = refl
+alive (state.Joined kept joining) h = refl
+alive (state.Pulls kept joining plan staged) h = refl
+alive (state.Leads l plan) h = refl
+alive (state.Follows f plan) h = refl
+
+pub alive_with : (s t : State) (log : LogValue) (k : Entries) → is_active s ≡ true
+    → t ≡ with_log s log k → is_gone t ≡ false
+alive_with s t log k active is = alive t (ap is_active is ∙ active_with s log k ∙ active)
+
+-- ---- the mark of a flush
+
+pub lower_is : (me : ServerId) (mark : MarkFields) (horizon : HorizonValue) (served : ℕ)
+    (duty : Task) (s : State) (n : NodeValue) → value me mark horizon served duty s ≡ n
+    → flushes n ≡ true → Fits (place_of me) mark s
+    → lower (log_in s).ap mark ≡ lower n.plain.ap n.mark
+lower_is me mark horizon served duty s n of h fits =
+    ap (λ (k : ℕ). lower k mark)
+    (sym (ap_is me mark horizon served duty s n of (flushes_stores n h) fits))
+    ∙ ap (λ (x : NodeValue). lower x.plain.ap x.mark) of

@@ -1,5 +1,5 @@
 -- What a boot makes of a disk, and what the server is then.
-use Rattle.std.specs.Prelude.{◌≡◌, ◌⊎◌, ℕ, ◌+◌, Bool, true, false, List, [], length, Option, None, Some, IfSome, max, nat_le, if◌then◌else◌}
+use Rattle.std.specs.Prelude.{◌≡◌, ◌⊎◌, ◌<◌, ◌^◌, ℕ, ◌+◌, Bool, true, false, List, [], length, OnErr, OnOk, Option, Result, None, Some, IfSome, max, nat_le, if◌then◌else◌}
 use Rattle.event_record.specs.declared.record.RecordFields.{RecordFields}
 use Rattle.file_tree.specs.Book.{Entry}
 use Rattle.group_rules.specs.Effects.{booted, first_mark as first_mark_of}
@@ -9,10 +9,13 @@ use Rattle.group_rules.specs.Places.{Place, is_p2}
 use Rattle.group_rules.specs.State.{Mark, Server, longest_of}
 use Rattle.harp_types.specs.declared.server.ServerId.{ServerId}
 use Rattle.harp_cells.specs.Effect.{Cells}
-use Rattle.harp_store.specs.Disk.{Disk, Moments, after_step, with_mark}
+use Rattle.harp_store.specs.Disk.{AtEachMoment, Disk, Moments, after_step, with_mark}
 use Rattle.harp_store.specs.Mark.{MarkFields, first_mark}
-use Rattle.node.specs.Node.{mark_with, saved_with}
+use Rattle.idle_log.specs.Kept.{IsPlaced, lb_in}
+use Rattle.idle_log.specs.declared.kept.Kept.{Kept}
+use Rattle.node.specs.Node.{IsServer, NodeValue, mark_with, saved_with}
 use Rattle.node.specs.Stock.{Stock}
+use Rattle.node.specs.declared.fault.NodeFault.{NodeFault}
 use Rattle.power_save.specs.Entries.{HoldEntries}
 use Rattle.power_save.specs.Saved.{HoldRecords}
 
@@ -78,3 +81,28 @@ booted_without q clock delta m = record (booted q clock delta (record m { saved 
 -- the mark of server 2 has LB at the base of its saved log, as it writes it always
 abbrev pub HasBase : Place → MarkFields → Type 0
 HasBase q mark = is_p2 q ≡ true → IfSome mark.saved (λ v. v.base ≡ mark.lb)
+
+-- what a server holds after it read this mark stands at its place, and the mark has its LB, but for
+-- server 2, whose mark is lowered to it
+pub record IsFound (q : Place) (mark : MarkFields) (k : Kept) : Type 0 where
+  pub placed : IsPlaced q k
+  pub bound : lb_in mark.lb k < 2 ^ 62
+  pub lb : HasBase q mark → lb_in mark.lb k ≡ mark.lb
+
+-- A SERVER THAT HAS JUST BOOTED is up, and neither does anybody wait for it nor does it keep cells
+-- in memory
+pub record IsFresh (place : ServerId) (n : NodeValue) : Type 0 where
+  pub me : n.me ≡ place_of place
+  pub is_server : IsServer n
+  pub up : n.halted ≡ false
+  pub peers : n.peers ≡ []
+  pub cached : n.cached ≡ []
+
+-- THE DISK OF A BOOT has the mark that it goes on from, or, after an error, that one or the one of
+-- before; and so at each moment, with the cells of before
+pub record WritesBoot {A : Type 0} (result : Result A NodeFault) (me : ServerId) (delta : ℕ)
+    (old new : Option Moments) : Type 0 where
+  pub written : OnOk result (new ≡ after_boot me delta old)
+  pub part : OnErr result ((new ≡ old) ⊎ (new ≡ after_boot me delta old))
+  pub moments : (h : Moments) → old ≡ Some h
+      → AtEachMoment (IsOldOrBooted me delta h.now) old new

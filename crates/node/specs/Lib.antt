@@ -18,4 +18,5 @@ pub mod Asking
 pub mod Stock
 pub mod Wants
 pub mod Handles
+pub mod Outcomes
 pub mod Showing

@@ -14,8 +14,9 @@ ghost use Rattle.harp_store.specs.Disk.{Moments, Now, cells_told};
 ghost use Rattle.harp_store.specs.declared.store.StoreFault.TheVariants.{Failed};
 ghost use Rattle.node.specs.Active.{is_active};
 ghost use Rattle.node.specs.Node.{server};
+ghost use Rattle.node.specs.Outcomes.{Applies, FailsOnce, Runs};
 ghost use Rattle.node.specs.State.{cached_in};
-ghost use Rattle.node.specs.Stored.{changes_made, log_in, log_of, stores, with_log};
+ghost use Rattle.node.specs.Stored.{log_in, log_of, stores, with_log};
 ghost use Rattle.node_outputs.specs.Makes.{Makes};
 ghost use Rattle.node_outputs.specs.declared.outputs.Outputs.{Outputs};
 ghost use Rattle.tree_log.specs.Applying.{applied_by, changes_by};
@@ -46,32 +47,21 @@ impl Node {
             → let s = server self.old items in
             Makes self.old.me clock (apply self.old.me s most) [] s (server self.new items)
             outs outs) }
-        ensures me { self.new.me ≡ self.old.me }
         ensures stock { OnOk result (stock self.new ≡ stock self.old) }
-        ensures mark { self.new.mark ≡ self.old.mark }
-        ensures up { OnOk result (self.new.halted ≡ false) }
-        ensures done { OnOk result (D.told store.new
-            ≡ after_changes (changes_made most self.old) (D.told store.old)) }
-        ensures part { AfterPart (changes_made most self.old) (D.told store.old)
+        ensures applies { Applies result most self.old self.new (D.told store.old)
             (D.told store.new) }
         ensures fuzzy { (history : History) (lb m : ℕ) (h : Moments) → stores self.old ≡ true
             → D.told store.old ≡ Some h → AllSetOnce history
             → AreRecordsOf history self.old.plain.base (changes_in self.old.records)
-            → IsFuzzyDisk history lb self.old.plain.ap m h.now → StaysFuzzy history lb
-            self.old.plain.ap (applied_by most (log_of self.old)) m h (D.told store.new) }
-        ensures reached { (history : History) (lb m : ℕ) (h : Moments) → stores self.old ≡ true
-            → D.told store.old ≡ Some h → AllSetOnce history
-            → AreRecordsOf history self.old.plain.base (changes_in self.old.records)
-            → IsFuzzyDisk history lb self.old.plain.ap m h.now → OnOk result (Now
-            (IsFuzzyTo history lb (applied_by most (log_of self.old)) m) (D.told store.new)) }
+            → IsFuzzyDisk history lb self.old.plain.ap m h.now
+            → let upto = applied_by most (log_of self.old) in
+            StaysFuzzy history lb self.old.plain.ap upto m h (D.told store.new)
+            × OnOk result (Now (IsFuzzyTo history lb upto m) (D.told store.new)) }
         ensures tree { OnOk result ((list : List Entry) (upto : ℕ) → self.old.plain.cp ≤ upto
             → HoldsTree list upto (log_of self.old) (D.told store.old)
             → HoldsTree list upto (log_of self.new) (D.told store.new)) }
-        ensures cached { OnOk result (AreOf (cells_told (D.told store.new)) self.new.cached) }
-        ensures running { result ≡ Err NodeFault.Halted → ⊥ }
-        ensures rose { result ≡ Err NodeFault.StoreFailed → Rose (D.faults store.old)
-            (D.faults store.new) }
-        ensures count { D.faults store.old ≤ D.faults store.new }
+        ensures runs { OnOk result (Runs self.new (D.told store.new)) }
+        ensures faults { FailsOnce result (D.faults store.old) (D.faults store.new) }
     {
         if !self.stores() {
             return Ok(());

@@ -1,15 +1,15 @@
 //! Asks of clients. After an error the server is halted.
 
-ghost use Rattle.std.specs.Prelude.{◌≡◌, ◌<◌, ◌≤◌, ◌^◌, ◌++◌, ◌∷◌, [], List, Err, OnOk, false, option_map, true};
+ghost use Rattle.std.specs.Prelude.{◌≡◌, ◌<◌, ◌^◌, ◌++◌, ◌∷◌, [], List, OnOk, false, option_map, true};
 ghost use Rattle.cell_cache.specs.Entries.{AreOf};
 ghost use Rattle.file_tree.specs.Book.{Entry};
 ghost use Rattle.group_rules.specs.Ask.{hint_of, on_ask};
 ghost use Rattle.group_rules.specs.Names.{id_of, place_of};
 ghost use Rattle.group_rules.specs.Shown.{cause_of};
-ghost use Rattle.harp_types.specs.Streams.{Rose};
 ghost use Rattle.harp_store.specs.Disk.{cells_told};
 ghost use Rattle.node.specs.Asking.{Asked, cause_away, reads_tree};
 ghost use Rattle.node.specs.Node.{server};
+ghost use Rattle.node.specs.Outcomes.{FailsOnce, Keeps, Runs};
 ghost use Rattle.node.specs.State.{role_of};
 ghost use Rattle.node.specs.Stored.{log_of};
 ghost use Rattle.node_outputs.specs.Records.{records_sent};
@@ -48,15 +48,9 @@ impl Node {
             asker.number asker.cred call.now) asker.peer items self.old self.new
             outs.old outs.new) }
         ensures pulled { OnOk result (self.new.pulled ≡ self.old.pulled) }
-        ensures me { self.new.me ≡ self.old.me }
-        ensures mark { self.new.mark ≡ self.old.mark }
-        ensures up { OnOk result (self.new.halted ≡ false) }
-        ensures cached { OnOk result (AreOf (cells_told (D.told store.new)) self.new.cached) }
-        ensures kept { D.told store.new ≡ D.told store.old }
-        ensures running { result ≡ Err NodeFault.Halted → ⊥ }
-        ensures rose { result ≡ Err NodeFault.StoreFailed → Rose (D.faults store.old)
-            (D.faults store.new) }
-        ensures count { D.faults store.old ≤ D.faults store.new }
+        ensures keeps { Keeps self.old self.new (D.told store.old) (D.told store.new) }
+        ensures runs { OnOk result (Runs self.new (D.told store.new)) }
+        ensures faults { FailsOnce result (D.faults store.old) (D.faults store.new) }
     {
         let State::Leads(leader, _) = &mut self.state else {
             turn_away(self.me, self.mark.role(), asker, outs)?;

@@ -1,19 +1,19 @@
 //! Booting a server from its disk.
 
-ghost use Rattle.std.specs.Prelude.{◌≡◌, ◌⊎◌, ◌<◌, ◌≤◌, ◌^◌, [], List, ℕ, Err, IfOk, None, OnErr, OnOk, Option, Some, false, if◌then◌else◌};
+ghost use Rattle.std.specs.Prelude.{◌≡◌, ◌⊎◌, ◌<◌, ◌≤◌, ◌^◌, [], List, ℕ, IfOk, None, OnErr, OnOk, Some, if◌then◌else◌};
 ghost use Rattle.event_record.specs.declared.record.RecordFields.{RecordFields};
 ghost use Rattle.file_tree.specs.Book.{Entry};
 ghost use Rattle.group_rules.specs.Effects.{booted, rested};
 ghost use Rattle.group_rules.specs.Limits.{is_log};
 ghost use Rattle.group_rules.specs.Names.{place_of};
 ghost use Rattle.group_rules.specs.State.{longest_of};
-ghost use Rattle.harp_types.specs.Streams.{Rose};
 ghost use Rattle.harp_cells.specs.Effect.{Cells};
-ghost use Rattle.harp_store.specs.Disk.{AtEachMoment, Moments, cells_told, reads};
+ghost use Rattle.harp_store.specs.Disk.{Moments, cells_told, reads};
 ghost use Rattle.idle_log.specs.Boots.{rests};
-ghost use Rattle.idle_log.specs.Kept.{IsPlaced, held_in, lb_in, log_in};
-ghost use Rattle.node.specs.Boot.{HasBase, HoldSaved, HoldWhole, IsOldOrBooted, after_boot, boot_mark, booted_stock, booted_without, has_boot_mark, is_within, mark_before};
-ghost use Rattle.node.specs.Node.{IsServer, mark_with, server};
+ghost use Rattle.idle_log.specs.Kept.{held_in, lb_in, log_in};
+ghost use Rattle.node.specs.Boot.{HasBase, HoldSaved, HoldWhole, IsFound, IsFresh, WritesBoot, after_boot, boot_mark, booted_stock, booted_without, has_boot_mark, is_within, mark_before};
+ghost use Rattle.node.specs.Node.{mark_with, server};
+ghost use Rattle.node.specs.Outcomes.{FailsOnce};
 ghost use Rattle.node.specs.Stock.{stock};
 ghost use Rattle.power_save.specs.Saved.{IsNotSaved};
 
@@ -54,24 +54,12 @@ impl Node {
         ensures records { (h : Moments) (saved : List RecordFields) → D.told store.old ≡ Some h
             → HoldWhole (reads h.now) (boot_mark me delta h.now.mark) saved
             → IfOk result (λ n. stock n ≡ booted_stock n.plain saved) }
-        ensures me { IfOk result (λ n. n.me ≡ place_of me) }
-        ensures is_server { IfOk result (λ n. IsServer n) }
-        ensures up { IfOk result (λ n. n.halted ≡ false) }
-        ensures peers { IfOk result (λ n. n.peers ≡ []) }
-        ensures cached { IfOk result (λ n. n.cached ≡ []) }
+        ensures fresh { IfOk result (IsFresh me) }
         ensures mark { (h : Moments) → D.told store.old ≡ Some h
             → HasBase (place_of me) (boot_mark me delta h.now.mark)
             → IfOk result (λ n. n.mark ≡ boot_mark me delta h.now.mark) }
-        ensures written { OnOk result (D.told store.new
-            ≡ after_boot me delta (D.told store.old)) }
-        ensures part { OnErr result ((D.told store.new ≡ D.told store.old)
-            ⊎ (D.told store.new ≡ after_boot me delta (D.told store.old))) }
-        ensures moments { (h : Moments) → D.told store.old ≡ Some h
-            → AtEachMoment (IsOldOrBooted me delta h.now) (D.told store.old) (D.told store.new) }
-        ensures running { result ≡ Err NodeFault.Halted → ⊥ }
-        ensures rose { result ≡ Err NodeFault.StoreFailed → Rose (D.faults store.old)
-            (D.faults store.new) }
-        ensures count { D.faults store.old ≤ D.faults store.new }
+        ensures disk { WritesBoot result me delta (D.told store.old) (D.told store.new) }
+        ensures faults { FailsOnce result (D.faults store.old) (D.faults store.new) }
     {
         let mark = first_write::<D>(alloc, me, delta, store)?;
         let kept = found::<D>(alloc, me, &mark, store, seen)?;
@@ -94,10 +82,7 @@ fn first_write<D: Store>(
         ≡ after_boot me delta (D.told store.old)) }
     ensures part { OnErr result ((D.told store.new ≡ D.told store.old)
         ⊎ (D.told store.new ≡ after_boot me delta (D.told store.old))) }
-    ensures running { result ≡ Err NodeFault.Halted → ⊥ }
-    ensures rose { result ≡ Err NodeFault.StoreFailed → Rose (D.faults store.old)
-        (D.faults store.new) }
-    ensures count { D.faults store.old ≤ D.faults store.new }
+    ensures faults { FailsOnce result (D.faults store.old) (D.faults store.new) }
 {
     let old = store.read_mark(alloc)?;
     let mark = boot_mark(me, delta, &old);
@@ -170,15 +155,9 @@ fn found<D: Store>(
     ensures records { (cells : Cells) (saved : List RecordFields)
         → cells_told (D.told store.old) ≡ Some cells → HoldWhole cells mark.now saved
         → IfOk result (λ k. (log_in k).records ≡ (if is_log (held_in k) then saved else [])) }
-    ensures placed { IfOk result (λ k. IsPlaced (place_of me) k) }
-    ensures bound { IfOk result (λ k. lb_in mark.now.lb k < 2 ^ 62) }
-    ensures lb { HasBase (place_of me) mark.now
-        → IfOk result (λ k. lb_in mark.now.lb k ≡ mark.now.lb) }
+    ensures fits { IfOk result (IsFound (place_of me) mark.now) }
     ensures kept { D.told store.new ≡ D.told store.old }
-    ensures running { result ≡ Err NodeFault.Halted → ⊥ }
-    ensures rose { result ≡ Err NodeFault.StoreFailed → Rose (D.faults store.old)
-        (D.faults store.new) }
-    ensures count { D.faults store.old ≤ D.faults store.new }
+    ensures faults { FailsOnce result (D.faults store.old) (D.faults store.new) }
 {
     if !can_have(me, mark.role()) {
         return Ok(Kept::unloaded(me, mark.role(), mark.lb()));

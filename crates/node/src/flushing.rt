@@ -13,8 +13,9 @@ ghost use Rattle.harp_store.specs.Disk.{AtEachMoment, Moments, cells_told};
 ghost use Rattle.harp_store.specs.declared.store.StoreFault.TheVariants.{Failed};
 ghost use Rattle.node.specs.Active.{is_active};
 ghost use Rattle.node.specs.Node.{server};
+ghost use Rattle.node.specs.Outcomes.{FailsOnce, Flushes, Runs};
 ghost use Rattle.node.specs.State.{cached_in};
-ghost use Rattle.node.specs.Stored.{LeavesFlush, disk_flushed, flushes, log_in, log_of, mark_flushed, with_log};
+ghost use Rattle.node.specs.Stored.{flushes, log_in, log_of, with_log};
 ghost use Rattle.node_outputs.specs.Makes.{Makes};
 ghost use Rattle.node_outputs.specs.declared.outputs.Outputs.{Outputs};
 ghost use Rattle.tree_log.specs.Reading.{HoldsTree};
@@ -37,12 +38,8 @@ impl Node {
             → let s = server self.old items in
             Makes self.old.me clock (flush self.old.me s) [] s (server self.new items)
             outs outs) }
-        ensures me { self.new.me ≡ self.old.me }
         ensures stock { OnOk result (stock self.new ≡ stock self.old) }
-        ensures mark { OnOk result (self.new.mark ≡ mark_flushed self.old) }
-        ensures up { OnOk result (self.new.halted ≡ false) }
-        ensures done { OnOk result (D.told store.new ≡ disk_flushed self.old (D.told store.old)) }
-        ensures part { LeavesFlush self.old (D.told store.old) (D.told store.new) }
+        ensures writes { Flushes result self.old self.new (D.told store.old) (D.told store.new) }
         ensures fuzzy { (history : History) (m : ℕ) (h : Moments) → flushes self.old ≡ true
             → D.told store.old ≡ Some h → h.now.mark ≡ Some self.old.mark
             → IsFuzzyDisk history self.old.mark.lb self.old.plain.ap m h.now
@@ -51,11 +48,8 @@ impl Node {
         ensures tree { OnOk result ((list : List Entry) (upto : ℕ)
             → HoldsTree list upto (log_of self.old) (D.told store.old)
             → HoldsTree list upto (log_of self.new) (D.told store.new)) }
-        ensures cached { OnOk result (AreOf (cells_told (D.told store.new)) self.new.cached) }
-        ensures running { result ≡ Err NodeFault.Halted → ⊥ }
-        ensures rose { result ≡ Err NodeFault.StoreFailed → Rose (D.faults store.old)
-            (D.faults store.new) }
-        ensures count { D.faults store.old ≤ D.faults store.new }
+        ensures runs { OnOk result (Runs self.new (D.told store.new)) }
+        ensures faults { FailsOnce result (D.faults store.old) (D.faults store.new) }
     {
         if !self.flushes() {
             return Ok(());

@@ -7,10 +7,9 @@ ghost use Rattle.group_rules.specs.Effects.{joined_server, report_of};
 ghost use Rattle.group_rules.specs.Joining.{suspect};
 ghost use Rattle.group_rules.specs.Names.{number_of_view};
 ghost use Rattle.harp_store.specs.Disk.{MayHaveMade, after_step, with_mark};
-ghost use Rattle.harp_types.specs.Streams.{Rose};
-ghost use Rattle.node.specs.Cached.{IsCachedAs};
 ghost use Rattle.node.specs.Disk.{MayLeave, disk_after, marked_by, promising};
 ghost use Rattle.node.specs.Node.{server};
+ghost use Rattle.node.specs.Outcomes.{FailsOnce, StaysUp, StaysUpBare};
 ghost use Rattle.node.specs.State.{CollectsStill, duty_of};
 ghost use Rattle.node_outputs.specs.Makes.{Makes};
 ghost use Rattle.group_rules.specs.State.{Log};
@@ -63,20 +62,15 @@ impl Node {
         requires duty { CollectsStill duty }
         ensures state { OnOk result ((items : List Entry) → server self.new items
             ≡ joined_server (server self.old items) (number_of_view view) (duty_of duty)) }
-        ensures me { self.new.me ≡ self.old.me }
         ensures stock { OnOk result (stock self.new
             ≡ record (stock self.old) { pulled = []; waits = [] }) }
-        ensures cached { OnOk result (self.new.cached ≡ []) }
+        ensures stays { StaysUpBare result self.old self.new }
         ensures mark { OnOk result (self.new.mark ≡ promising self.old.mark view) }
-        ensures up { OnOk result (self.new.halted ≡ false) }
         ensures written { OnOk result (D.told store.new
             ≡ after_step (with_mark (promising self.old.mark view)) (D.told store.old)) }
         ensures part { OnErr result (MayHaveMade (with_mark (promising self.old.mark view))
             (D.told store.old) (D.told store.new)) }
-        ensures running { result ≡ Err NodeFault.Halted → ⊥ }
-        ensures rose { result ≡ Err NodeFault.StoreFailed → Rose (D.faults store.old)
-            (D.faults store.new) }
-        ensures count { D.faults store.old ≤ D.faults store.new }
+        ensures faults { FailsOnce result (D.faults store.old) (D.faults store.new) }
     {
         let told = self.report();
         let mark = promised_mark(self.mark, view);
@@ -101,23 +95,18 @@ impl Node {
             → let s = server self.old items in
             Makes self.old.me clock (suspect self.old.me s) [] s (server self.new items)
             outs.old outs.new) }
-        ensures me { self.new.me ≡ self.old.me }
         ensures stock { OnOk result ((items : List Entry) → let s = server self.old items in
             Stocks [] self.old.me s
             (suspect self.old.me s)
             (stock self.old) (stock self.new)) }
         ensures mark { OnOk result (self.new.mark ≡ marked_by self.old.mark
             (suspect self.old.me self.old.plain)) }
-        ensures cached { OnOk result (IsCachedAs self.old.cached self.new.cached) }
-        ensures up { OnOk result (self.new.halted ≡ false) }
+        ensures stays { StaysUp result self.old self.new }
         ensures written { OnOk result (D.told store.new
             ≡ disk_after (suspect self.old.me self.old.plain) self.new.mark (D.told store.old)) }
         ensures part { OnErr result (let ms = suspect self.old.me self.old.plain in
             MayLeave ms (marked_by self.old.mark ms) (D.told store.old) (D.told store.new)) }
-        ensures running { result ≡ Err NodeFault.Halted → ⊥ }
-        ensures rose { result ≡ Err NodeFault.StoreFailed → Rose (D.faults store.old)
-            (D.faults store.new) }
-        ensures count { D.faults store.old ≤ D.faults store.new }
+        ensures faults { FailsOnce result (D.faults store.old) (D.faults store.new) }
     {
         let Some(view) = next_view(self.mark.promised(), self.me) else {
             return Ok(());

@@ -3,27 +3,28 @@
 //! # What is proved
 //!
 //! One server as a server of the group's machine, over any store. Its public calls are `boot`,
-//! `step`, `step_into`, `show`, `power`, `state_line` and `is_halted`. A step is of a tick, a
-//! suspicion, a server's message, a client's ask, an apply, a flush or a listing; `step_into` fills
-//! outputs that are lent, none as yet. A power failure takes the server with it.
+//! `step_into`, `show`, `power`, `state_line` and `is_halted`. A step is of a tick, a suspicion, a
+//! server's message, a client's ask, an apply, a flush or a listing; it fills outputs that are
+//! lent, none as yet. A power failure takes the server with it.
 //!
 //! - `boot` is the machine's boot of the mark on the disk (`boots`, `lost`): the first mark on a
 //!   disk that has none, else the mark with its longest promise raised, written only where it
 //!   changes (`written`, `mark`). At each moment the disk has the old mark or the new one, and no
 //!   cell changes (`moments`). The records of its log are just those of the saved log that the disk
 //!   has, with their changes, where it holds a log then (`records`).
-//! - `step` is the machine's whole step of what the server is given, from the test of misfits to
-//!   the test of opening and the base's move at its end, and its outputs are just what the step's
-//!   moves say (`steps`, `machine`). By the same moves it is said which records its log has, with
-//!   their changes, which ones it has pulled, and who waits for a commit (`whole`); and each record
-//!   that it sends stands in its log, or is the one that it appends (`sent`). A settled data server
-//!   lists the tree at CP, where it can be read, and another server lists nothing (`listing`). An
-//!   apply makes the changes of its records on the disk, a flush syncs it and writes the mark with
-//!   LB = AP, and what else is given at most writes the mark, once (`written`, `mark`); after an
-//!   error the disk is as a first part of these calls leaves it (`part`). The cells that the server
-//!   keeps in memory are those of its store (`cached`). A client's message in place of a server's
-//!   changes nothing. Of a Fetch `steps` is said where the log is of the list, and where what is
-//!   served is within the log; of an ask, where the tree can be read if it is read (`FillsInput`).
+//! - `step_into` is the machine's whole step of what the server is given, from the test of misfits
+//!   to the test of opening and the base's move at its end, and its outputs are just what the moves
+//!   of the step say (`steps`, `machine`). By the same moves it is said which records its log has,
+//!   with their changes, which ones it has pulled, and who waits for a commit (`whole`); and each
+//!   record that it sends stands in its log, or is the one that it appends (`sent`). A settled data
+//!   server lists the tree at CP, where it can be read, and another server lists nothing
+//!   (`listing`). An apply makes the changes of its records on the disk, a flush syncs it and
+//!   writes the mark with LB = AP, and what else is given at most writes the mark, once (`written`,
+//!   `mark`); after an error the disk is as a first part of these calls leaves it (`part`). The
+//!   cells that the server keeps in memory are those of its store (`cached`). A client's message in
+//!   place of a server's changes nothing. Of a Fetch `steps` is said where the log is of the list,
+//!   and where what is served is within the log; of an ask, where the tree can be read if it is
+//!   read (`FillsInput`).
 //! - `show` answers who keeps a copy of the tree, by what it wants (`shown`): a cell, at a settled
 //!   data server, with just the value that the log's records up to CP make of it over the store;
 //!   and records, at a server that holds a log, the committed ones from an index on, as many as a
@@ -44,12 +45,13 @@
 //!   needs the tree only where it is read (`asked`); a server that doesn't lead refuses with the
 //!   leader of its accepted view. `apply` and `flush` say exactly what they make of the disk
 //!   (`done`), what an error leaves of that (`part`), and that the tree can still be read (`tree`);
-//!   `list` lists the tree at CP (`listing`). `step` doesn't hand on that the tree can still be
-//!   read.
-//! - After any error of `step` or `show` the server is halted, and every later one is Halted and
-//!   changes nothing; Halted comes exactly then. StoreFailed comes only where the store's count of faults
-//!   rose. Not pinned: how wide the ring of a saved log in the mark is after a step; that want of
-//!   memory isn't told of a fault of the disk, which only tests show.
+//!   `list` lists the tree at CP (`listing`). `step_into` doesn't hand on that the tree can still
+//!   be read.
+//! - After any error of `step_into` or `show` the server is halted, and every later one is Halted
+//!   and changes nothing; Halted comes exactly then (`halts`). StoreFailed comes only where the
+//!   store's count of faults rose (`faults`). Not pinned: how wide the ring of a saved log in the
+//!   mark is after a step; that want of memory isn't told of a fault of the disk, which only tests
+//!   show.
 #![tactic(auto)]
 
 mod accepting;

@@ -9,8 +9,9 @@ ghost use Rattle.harp_types.specs.Streams.{Rose};
 ghost use Rattle.harp_store.specs.Disk.{cells_told};
 ghost use Rattle.node.specs.Active.{is_active};
 ghost use Rattle.node.specs.Node.{server};
+ghost use Rattle.node.specs.Outcomes.{FailsOnce, Keeps, Runs, TellsTree};
 ghost use Rattle.node.specs.State.{cached_in};
-ghost use Rattle.node.specs.Stored.{log_in, log_of, stores, with_log};
+ghost use Rattle.node.specs.Stored.{log_in, with_log};
 ghost use Rattle.node_outputs.specs.Makes.{Makes};
 ghost use Rattle.node_outputs.specs.Records.{records_sent};
 ghost use Rattle.node_outputs.specs.Said.{said};
@@ -40,21 +41,11 @@ impl Node {
             → let s = server self.old items in
             Makes self.old.me clock (list_tree self.old.me s) [] s (server self.new items)
             outs.old outs.new) }
-        ensures listing { OnOk result ((list : List Entry) → stores self.old ≡ true
-            → HoldsTree list self.old.plain.cp (log_of self.old) (D.told store.old)
-            → outs.new.listing ≡ Some (listing_at self.old.plain.cp list)) }
-        ensures silent { stores self.old ≡ false → outs.new ≡ outs.old }
-        ensures me { self.new.me ≡ self.old.me }
+        ensures tells { TellsTree result self.old (D.told store.old) outs.old outs.new }
         ensures stock { OnOk result (stock self.new ≡ stock self.old) }
-        ensures mark { self.new.mark ≡ self.old.mark }
-        ensures up { OnOk result (self.new.halted ≡ false) }
-        ensures records { records_sent outs.new ≡ records_sent outs.old }
-        ensures cached { OnOk result (AreOf (cells_told (D.told store.new)) self.new.cached) }
-        ensures kept { D.told store.new ≡ D.told store.old }
-        ensures running { result ≡ Err NodeFault.Halted → ⊥ }
-        ensures rose { result ≡ Err NodeFault.StoreFailed → Rose (D.faults store.old)
-            (D.faults store.new) }
-        ensures count { D.faults store.old ≤ D.faults store.new }
+        ensures keeps { Keeps self.old self.new (D.told store.old) (D.told store.new) }
+        ensures runs { OnOk result (Runs self.new (D.told store.new)) }
+        ensures faults { FailsOnce result (D.faults store.old) (D.faults store.new) }
     {
         if !self.stores() {
             return Ok(());

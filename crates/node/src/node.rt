@@ -3,6 +3,7 @@
 ghost use Rattle.std.specs.Prelude.{◌≡◌, [], List, false, true};
 ghost use Rattle.file_tree.specs.Book.{Entry};
 ghost use Rattle.group_rules.specs.Names.{place_of};
+ghost use Rattle.node.specs.Boot.{IsFresh};
 ghost use Rattle.node.specs.Node.{IsServer, rested_with, server};
 ghost use Rattle.node.specs.State.{IsKept};
 ghost use Rattle.node.specs.Stock.{stock, stock_kept};
@@ -44,14 +45,10 @@ impl Node {
     /// list of updates, whose LB is the mark's, and with its promises of before.
     pub fn resting(me: ServerId, mark: Mark, horizon: Horizon, kept: Kept) -> Node
         requires { IsKept (place_of me) mark kept }
-        ensures me { result.me ≡ place_of me }
-        ensures up { result.halted ≡ false }
+        ensures fresh { IsFresh me result }
         ensures mark { result.mark ≡ mark }
-        ensures peers { result.peers ≡ [] }
-        ensures cached { result.cached ≡ [] }
         ensures server { (items : List Entry) → server result items
             ≡ rested_with items mark horizon kept }
-        ensures is_server { IsServer result }
         ensures stock { stock result ≡ stock_kept kept [] }
     {
         Node {

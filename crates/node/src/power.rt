@@ -4,9 +4,9 @@ ghost use Rattle.std.specs.Prelude.{◌≡◌, ◌↔◌, ◌≤◌, List, ℕ, 
 ghost use Rattle.file_tree.specs.Book.{Entry};
 ghost use Rattle.group_rules.specs.Moves.{Saving, act};
 ghost use Rattle.group_rules.specs.State.{mark_of};
-ghost use Rattle.harp_types.specs.Streams.{Rose};
 ghost use Rattle.harp_store.specs.Disk.{AtEachMoment, Moments, Now, after_changes, after_step, synced_whole, with_mark};
 ghost use Rattle.node.specs.Node.{server};
+ghost use Rattle.node.specs.Outcomes.{CountsFaults, FailsOnce};
 ghost use Rattle.node.specs.Power.{IsSavedBy, SavesAtOnce, mark_left, saves_log};
 ghost use Rattle.power_save.specs.Entries.{HasSaved, saved_entries};
 ghost use Rattle.power_save.specs.Saved.{IsUnsaved, IsUnsavedOrSaved, SavesInPart, puts_of, saved_mark};
@@ -35,9 +35,7 @@ impl Node {
         ensures kept { saves_log self ≡ false → D.told store.new ≡ D.told store.old }
         ensures halted { (result ≡ Err NodeFault.Halted) ↔ (self.halted ≡ true) }
         ensures still { self.halted ≡ true → D.told store.new ≡ D.told store.old }
-        ensures rose { result ≡ Err NodeFault.StoreFailed → Rose (D.faults store.old)
-            (D.faults store.new) }
-        ensures count { D.faults store.old ≤ D.faults store.new }
+        ensures faults { CountsFaults result (D.faults store.old) (D.faults store.new) }
     {
         if self.is_halted() {
             return Err(NodeFault::Halted);
@@ -71,10 +69,7 @@ fn save_log<D: Store>(
     ensures moments { (h : Moments) → D.told store.old ≡ Some h → IsUnsaved h.now.mark
         → AtEachMoment (IsUnsavedOrSaved log.now) (D.told store.old) (D.told store.new) }
     ensures numbered { AreNumberedAfter log.now.base log.now.records }
-    ensures running { result ≡ Err NodeFault.Halted → ⊥ }
-    ensures rose { result ≡ Err NodeFault.StoreFailed → Rose (D.faults store.old)
-        (D.faults store.new) }
-    ensures count { D.faults store.old ≤ D.faults store.new }
+    ensures faults { FailsOnce result (D.faults store.old) (D.faults store.new) }
 {
     let _ = log.base();
     let mut marked = mark;

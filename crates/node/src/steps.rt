@@ -1,20 +1,19 @@
 //! The steps of a server.
 
-ghost use Rattle.std.specs.Prelude.{◌≡◌, ◌↔◌, ◌<◌, ◌≤◌, ◌^◌, ◌++◌, [], List, ℕ, Err, IfOk, None, OnErr, OnOk, false, true};
+ghost use Rattle.std.specs.Prelude.{◌≡◌, ◌<◌, ◌^◌, ◌++◌, [], List, ℕ, None, OnOk, false};
 ghost use Rattle.cell_cache.specs.Entries.{AreOf};
 ghost use Rattle.event_record.specs.declared.record.RecordFields.{RecordFields};
 ghost use Rattle.file_tree.specs.Book.{Entry};
 ghost use Rattle.group_rules.specs.Moves.{acts};
 ghost use Rattle.group_rules.specs.Open.{rebase};
-ghost use Rattle.harp_types.specs.Streams.{Rose};
 ghost use Rattle.harp_store.specs.Disk.{cells_told};
 ghost use Rattle.idle_log.specs.Gives.{StandIn};
 ghost use Rattle.node.specs.Input.{FillsInput, FillsSized, came, input_of, peers_of};
 ghost use Rattle.node.specs.Node.{IsServer, server};
+ghost use Rattle.node.specs.Outcomes.{Brings, CountsFaults, FailsOnce, Halts, Runs};
 ghost use Rattle.node.specs.Serving.{entry_size};
 ghost use Rattle.node.specs.Step.{ListsFor, StepsWhole};
 ghost use Rattle.node.specs.Stock.{Stocks, stock, stock_after};
-ghost use Rattle.node.specs.Stored.{LeavesBy, disk_by, mark_by};
 ghost use Rattle.node.specs.Taking.{ruled, stepped};
 ghost use Rattle.node_outputs.specs.Makes.{Makes};
 ghost use Rattle.node_outputs.specs.Records.{records_sent};
@@ -31,57 +30,10 @@ use std::alloc::Global;
 
 impl Node {
     /// A step of the server, at this reading of its clock, which is below 2^62: it does what the
-    /// rules of the group say of what it is given, and its outputs are just what the rules say. A
-    /// client's message in place of a server's changes nothing. The cells that the server keeps in
-    /// memory are those of its store. After an error the server is halted, and then each step is
-    /// Halted; its disk has a part of what the step makes of it.
-    pub fn step<D: Store>(
-        &mut self,
-        alloc: Global,
-        input: Input,
-        now: u64,
-        store: &mut D,
-    ) -> Result<Outputs, NodeFault>
-        requires cached { AreOf (cells_told (D.told store.old)) self.old.cached }
-        requires now { now < 2 ^ 62 }
-        ensures steps { IfOk result (λ outs. (items list : List Entry)
-            → FillsInput list self.old now (D.told store.old) input
-            → StepsWhole now list items input
-            (stepped entry_size self.old.me now list (server self.old items) (input_of input))
-            self.old self.new outs) }
-        ensures listing { IfOk result (λ outs. ListsFor input self.old (D.told store.old) None
-            outs.listing) }
-        ensures me { self.new.me ≡ self.old.me }
-        ensures is_server { OnOk result (IsServer self.new) }
-        ensures cached { AreOf (cells_told (D.told store.new)) self.new.cached }
-        ensures mark { OnOk result ((size : List Entry → Entry → ℕ) (list : List Entry)
-            → self.new.mark ≡ mark_by self.old
-            (stepped size self.old.me now list self.old.plain (input_of input)) (input_of input)) }
-        ensures halted { (result ≡ Err NodeFault.Halted) ↔ (self.old.halted ≡ true) }
-        ensures still { self.old.halted ≡ true → (self.new ≡ self.old)
-            × (D.told store.new ≡ D.told store.old) }
-        ensures up { OnOk result (self.new.halted ≡ false) }
-        ensures fails { OnErr result (self.new.halted ≡ true) }
-        ensures written { OnOk result ((size : List Entry → Entry → ℕ) (list : List Entry)
-            → D.told store.new ≡ disk_by self.old
-            (stepped size self.old.me now list self.old.plain (input_of input)) (input_of input)
-            (D.told store.old)) }
-        ensures part { OnErr result ((size : List Entry → Entry → ℕ) (list : List Entry)
-            → LeavesBy self.old
-            (stepped size self.old.me now list self.old.plain (input_of input)) (input_of input)
-            (D.told store.old) (D.told store.new)) }
-        ensures rose { result ≡ Err NodeFault.StoreFailed → Rose (D.faults store.old)
-            (D.faults store.new) }
-        ensures count { D.faults store.old ≤ D.faults store.new }
-    {
-        let mut outs = Outputs::new(alloc);
-        match self.step_into(alloc, input, now, store, &mut outs) {
-            Ok(()) => Ok(outs),
-            Err(fault) => Err(fault),
-        }
-    }
-
-    /// The same step, which gives its outputs where none are yet.
+    /// rules of the group say of what it is given, and its outputs, which come where none are yet,
+    /// are just what the rules say. A client's message in place of a server's changes nothing. The
+    /// cells that the server keeps in memory are those of its store. After an error the server is
+    /// halted, and then each step is Halted; its disk has a part of what the step makes of it.
     pub fn step_into<D: Store>(
         &mut self,
         alloc: Global,
@@ -100,28 +52,13 @@ impl Node {
             self.old self.new outs.new) }
         ensures listing { OnOk result (ListsFor input self.old (D.told store.old) None
             outs.new.listing) }
-        ensures me { self.new.me ≡ self.old.me }
         ensures is_server { OnOk result (IsServer self.new) }
         ensures cached { AreOf (cells_told (D.told store.new)) self.new.cached }
-        ensures mark { OnOk result ((size : List Entry → Entry → ℕ) (list : List Entry)
-            → self.new.mark ≡ mark_by self.old
-            (stepped size self.old.me now list self.old.plain (input_of input)) (input_of input)) }
-        ensures halted { (result ≡ Err NodeFault.Halted) ↔ (self.old.halted ≡ true) }
-        ensures still { self.old.halted ≡ true → (self.new ≡ self.old)
-            × (D.told store.new ≡ D.told store.old) }
-        ensures up { OnOk result (self.new.halted ≡ false) }
-        ensures fails { OnErr result (self.new.halted ≡ true) }
-        ensures written { OnOk result ((size : List Entry → Entry → ℕ) (list : List Entry)
-            → D.told store.new ≡ disk_by self.old
-            (stepped size self.old.me now list self.old.plain (input_of input)) (input_of input)
-            (D.told store.old)) }
-        ensures part { OnErr result ((size : List Entry → Entry → ℕ) (list : List Entry)
-            → LeavesBy self.old
-            (stepped size self.old.me now list self.old.plain (input_of input)) (input_of input)
-            (D.told store.old) (D.told store.new)) }
-        ensures rose { result ≡ Err NodeFault.StoreFailed → Rose (D.faults store.old)
-            (D.faults store.new) }
-        ensures count { D.faults store.old ≤ D.faults store.new }
+        ensures halts { Halts result self.old self.new (D.told store.old) (D.told store.new) }
+        ensures brings { Brings result
+            (λ size list. stepped size self.old.me now list self.old.plain (input_of input))
+            (input_of input) self.old self.new (D.told store.old) (D.told store.new) }
+        ensures faults { CountsFaults result (D.faults store.old) (D.faults store.new) }
     {
         if self.is_halted() {
             return Err(NodeFault::Halted);
@@ -171,24 +108,11 @@ impl Node {
             (records_sent outs.new)) }
         ensures listing { OnOk result (ListsFor input self.old (D.told store.old)
             outs.old.listing outs.new.listing) }
-        ensures me { self.new.me ≡ self.old.me }
-        ensures cached { OnOk result (AreOf (cells_told (D.told store.new)) self.new.cached) }
-        ensures mark { OnOk result ((size : List Entry → Entry → ℕ) (list : List Entry)
-            → self.new.mark ≡ mark_by self.old
-            (ruled size self.old.me now list self.old.plain (input_of input)) (input_of input)) }
-        ensures up { OnOk result (self.new.halted ≡ false) }
-        ensures written { OnOk result ((size : List Entry → Entry → ℕ) (list : List Entry)
-            → D.told store.new ≡ disk_by self.old
-            (ruled size self.old.me now list self.old.plain (input_of input)) (input_of input)
-            (D.told store.old)) }
-        ensures part { OnErr result ((size : List Entry → Entry → ℕ) (list : List Entry)
-            → LeavesBy self.old
-            (ruled size self.old.me now list self.old.plain (input_of input)) (input_of input)
-            (D.told store.old) (D.told store.new)) }
-        ensures running { result ≡ Err NodeFault.Halted → ⊥ }
-        ensures rose { result ≡ Err NodeFault.StoreFailed → Rose (D.faults store.old)
-            (D.faults store.new) }
-        ensures count { D.faults store.old ≤ D.faults store.new }
+        ensures runs { OnOk result (Runs self.new (D.told store.new)) }
+        ensures brings { Brings result
+            (λ size list. ruled size self.old.me now list self.old.plain (input_of input))
+            (input_of input) self.old self.new (D.told store.old) (D.told store.new) }
+        ensures faults { FailsOnce result (D.faults store.old) (D.faults store.new) }
     {
         match input {
             Input::Tick => {

@@ -15,6 +15,7 @@ use harp_store::Store;
 use harp_types::ServerId;
 use node::{Input, Node, NodeFault};
 use node_link::{Link, SentDatagram};
+use node_outputs::Outputs;
 use std::alloc::Global;
 
 /// Sends datagrams, one after the other.
@@ -76,8 +77,9 @@ pub fn give<L: Link, D: Store>(
         → Rose (D.faults store.old) (D.faults store.new) }
     ensures disk_count { D.faults store.old ≤ D.faults store.new }
 {
-    match node.step(alloc, input, now, store) {
-        Ok(outs) => {
+    let mut outs = Outputs::new(alloc);
+    match node.step_into(alloc, input, now, store, &mut outs) {
+        Ok(()) => {
             let datagrams = datagrams_of(alloc, me, outs, &mut ledger.heard)?;
             send_all(alloc, datagrams, link, &mut ledger.counts)
         }

@@ -15,7 +15,7 @@
 //! what is counted is right up to 2^64 - 1. An error leaves disks, link and clock as a front of
 //! that does, and a part of the next step, turn or boot (`cut`); so nothing of a step is sent where
 //! its disk fails. A failed disk or link is told only where its count rose. What a step makes of
-//! the tree has `Node::step`'s premise, at each step.
+//! the tree has `Node::step_into`'s premise, at each step.
 //!
 //! `Three` is the loop of three in parts, by the same definitions: `start` boots them (`boots`),
 //! `turn` is a turn of each (`turns`), and `ask` gives the server of a place a call at a reading of

@@ -60,7 +60,8 @@ impl Server {
         if now >= 1 << 62 {
             return Ok(None);
         }
-        let outs = node.step::<Disk>(alloc, input, now, &mut self.disk)?;
+        let mut outs = Outputs::new(alloc);
+        node.step_into::<Disk>(alloc, input, now, &mut self.disk, &mut outs)?;
         Ok(Some(outs))
     }
 

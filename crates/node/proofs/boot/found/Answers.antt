@@ -50,13 +50,6 @@ same_lb g c =
     (same_role_of mark.role c.role-then-not-can_have.result c.role-then-not-can_have.ensures)
     (sym c.lb.ensures.value) refl)
 
-pub returns-then-not-can_have-clause-bound : goal.returns-then-not-can_have-clause-bound
-returns-then-not-can_have-clause-bound g c =
-    subst (λ (n : ℕ). n < 2 ^ 62) (sym (same_lb g c)) c.lb.ensures.bound
-
-pub returns-then-not-can_have-clause-lb : goal.returns-then-not-can_have-clause-lb
-returns-then-not-can_have-clause-lb g c = λ at. same_lb g c
-
 -- ---- a log that the disk hasn't whole
 
 pub returns-in-Err-NotSaved-clause-boots : goal.returns-in-Err-NotSaved-clause-boots
@@ -95,13 +88,6 @@ still_lb g c =
     (same_role_of mark.role c.role-in-Err-NotSaved.result c.role-in-Err-NotSaved.ensures)
     (sym c.lb-in-Err-NotSaved.ensures.value) refl)
 
-pub returns-in-Err-NotSaved-clause-bound : goal.returns-in-Err-NotSaved-clause-bound
-returns-in-Err-NotSaved-clause-bound g c =
-    subst (λ (n : ℕ). n < 2 ^ 62) (sym (still_lb g c)) c.lb-in-Err-NotSaved.ensures.bound
-
-pub returns-in-Err-NotSaved-clause-lb : goal.returns-in-Err-NotSaved-clause-lb
-returns-in-Err-NotSaved-clause-lb g c = λ at. still_lb g c
-
 -- ---- a log that is loaded
 
 can : (g : given.Over) (c : goal.After-loaded g)
@@ -118,18 +104,31 @@ rests_so g c = c.loaded.ensures.boots 0 0
     (can g c) c.in-Ok.ensures.numbers.synced c.in-Ok.ensures.numbers.applied
     (was_saved c.in-Ok.log c.args.mark.now c.in-Ok.ensures.numbers)
 
-pub returns-in-Ok-clause-bound : goal.returns-in-Ok-clause-bound
-returns-in-Ok-clause-bound g c =
-    loaded_below (place_of c.args.me) c.args.mark.now c.in-Ok.log c.loaded.result
-    c.in-Ok.ensures.order
-    (can g c) c.in-Ok.ensures.numbers (rests_so g c)
-
-pub returns-in-Ok-clause-lb : goal.returns-in-Ok-clause-lb
-returns-in-Ok-clause-lb g c = λ at.
-    loaded_at (place_of c.args.me) c.args.mark.now c.in-Ok.log c.loaded.result c.in-Ok.ensures.order
-    (can g c) c.in-Ok.ensures.numbers at (rests_so g c)
-
 pub returns-in-Ok-clause-records : goal.returns-in-Ok-clause-records
 returns-in-Ok-clause-records g c = λ cells saved told held.
     loaded_whole cells c.args.mark.now c.in-Ok.log saved c.loaded.result c.in-Ok.ensures.numbers
     (c.in-Ok.ensures.records cells told) held c.loaded.ensures.held c.loaded.ensures.records
+
+pub returns-then-not-can_have-clause-fits : goal.returns-then-not-can_have-clause-fits
+returns-then-not-can_have-clause-fits g c = record {
+  placed = c.unloaded.ensures.placed;
+  bound = subst (λ (n : ℕ). n < 2 ^ 62) (sym (same_lb g c)) c.lb.ensures.bound;
+  lb = λ at. same_lb g c;
+}
+
+pub returns-in-Err-NotSaved-clause-fits : goal.returns-in-Err-NotSaved-clause-fits
+returns-in-Err-NotSaved-clause-fits g c = record {
+  placed = c.unloaded-in-Err-NotSaved.ensures.placed;
+  bound = subst (λ (n : ℕ). n < 2 ^ 62) (sym (still_lb g c)) c.lb-in-Err-NotSaved.ensures.bound;
+  lb = λ at. still_lb g c;
+}
+
+pub returns-in-Ok-clause-fits : goal.returns-in-Ok-clause-fits
+returns-in-Ok-clause-fits g c = record {
+  placed = c.loaded.ensures.placed;
+  bound = loaded_below (place_of c.args.me) c.args.mark.now c.in-Ok.log c.loaded.result
+      c.in-Ok.ensures.order
+      (can g c) c.in-Ok.ensures.numbers (rests_so g c);
+  lb = λ at. loaded_at (place_of c.args.me) c.args.mark.now c.in-Ok.log c.loaded.result
+      c.in-Ok.ensures.order (can g c) c.in-Ok.ensures.numbers at (rests_so g c);
+}

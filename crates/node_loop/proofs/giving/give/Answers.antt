@@ -7,19 +7,19 @@ use Rattle.node_loop.proofs.Fronts.{sent-none}
 use Rattle.node_loop.proofs.Results.{on_err, on_err-one, on_ok-both}
 use Rattle.node_loop.proofs.giving.give.Goals as goal
 
-pub returns-in_ok-datagrams-in-Ok-clause-given : goal.returns-in_ok-datagrams-in-Ok-clause-given
-returns-in_ok-datagrams-in-Ok-clause-given g c =
+pub returns-in-Ok-clause-given : goal.returns-in-Ok-clause-given
+returns-in-Ok-clause-given g c =
     let old = g.L.Link.told c.args.link.now in
     let out = c.in_ok-datagrams-in-Ok.ensures in
     on_ok-both c.send_all.result (λ all counts. record {
-      outs = c.in-Ok.outs;
+      outs = c.step_into.new.outs;
       step = record {
         steps = c.in-Ok.ensures.steps;
         listing = c.in-Ok.ensures.listing;
         is_server = c.in-Ok.ensures.is_server;
-        me_stays = c.in-Ok.ensures.me;
-        mark = c.in-Ok.ensures.mark;
-        written = c.in-Ok.ensures.written;
+        me_stays = c.in-Ok.ensures.brings.me;
+        mark = c.in-Ok.ensures.brings.mark;
+        written = c.in-Ok.ensures.brings.written;
       };
       link = all ∙ ap (λ ds. with_all_sent ds old) out.sent;
       sent = ap (λ (n : Counts). n.sent) counts
@@ -28,20 +28,20 @@ returns-in_ok-datagrams-in-Ok-clause-given g c =
       spelled = out.spelled;
     }) c.send_all.ensures.all c.send_all.ensures.counts
 
-pub returns-in_ok-datagrams-in-Ok-clause-part : goal.returns-in_ok-datagrams-in-Ok-clause-part
-returns-in_ok-datagrams-in-Ok-clause-part g c =
+pub returns-in-Ok-clause-part : goal.returns-in-Ok-clause-part
+returns-in-Ok-clause-part g c =
     let old = g.L.Link.told c.args.link.now in
     let new = g.L.Link.told c.send_all.new.link in
     on_err-one c.send_all.result (λ part. inr (record {
-      node = c.step.new.self;
-      outs = c.in-Ok.outs;
+      node = c.step_into.new.self;
+      outs = c.step_into.new.outs;
       step = record {
         steps = c.in-Ok.ensures.steps;
         listing = c.in-Ok.ensures.listing;
         is_server = c.in-Ok.ensures.is_server;
-        me_stays = c.in-Ok.ensures.me;
-        mark = c.in-Ok.ensures.mark;
-        written = c.in-Ok.ensures.written;
+        me_stays = c.in-Ok.ensures.brings.me;
+        mark = c.in-Ok.ensures.brings.mark;
+        written = c.in-Ok.ensures.brings.written;
       };
       sends = subst (λ ds. SendsInPart ds old new) c.in_ok-datagrams-in-Ok.ensures.sent part;
     })) c.send_all.ensures.part
@@ -49,19 +49,19 @@ returns-in_ok-datagrams-in-Ok-clause-part g c =
 pub returns-in_err-datagrams-in-Ok-clause-part : goal.returns-in_err-datagrams-in-Ok-clause-part
 returns-in_err-datagrams-in-Ok-clause-part g c =
     on_err c.from_residual.result (inr (record {
-      node = c.step.new.self;
-      outs = c.in-Ok.outs;
+      node = c.step_into.new.self;
+      outs = c.step_into.new.outs;
       step = record {
         steps = c.in-Ok.ensures.steps;
         listing = c.in-Ok.ensures.listing;
         is_server = c.in-Ok.ensures.is_server;
-        me_stays = c.in-Ok.ensures.me;
-        mark = c.in-Ok.ensures.mark;
-        written = c.in-Ok.ensures.written;
+        me_stays = c.in-Ok.ensures.brings.me;
+        mark = c.in-Ok.ensures.brings.mark;
+        written = c.in-Ok.ensures.brings.written;
       };
       sends = record {
         front = [];
-        rest = datagrams c.args.me c.in-Ok.outs;
+        rest = datagrams c.args.me c.step_into.new.outs;
         parts = refl;
         sent = sent-none (g.L.Link.told c.args.link.now);
       };

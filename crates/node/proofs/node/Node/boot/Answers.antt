@@ -1,5 +1,6 @@
-use Rattle.std.proofs.Common.{◌≡◌, [], Some, subst, sym, ◌∙◌}
+use Rattle.std.proofs.Common.{◌≡◌, [], Some, arith, subst, sym, ◌∙◌}
 use Rattle.harp_store.specs.Disk.{cells_told, reads}
+use Rattle.node.proofs.Faults.{once_as, once_done, once_later}
 use Rattle.node.proofs.Booting.{booted_whole, boots_as, cells_stay, lost_as, rests_from}
 use Rattle.node.specs.Boot.{HoldWhole}
 use Rattle.harp_store.specs.Mark.{MarkFields}
@@ -46,3 +47,20 @@ returns-clause-records g c = λ h saved told whole.
     (c.in_ok-kept.ensures.records cells saved there
     (subst (λ (m : MarkFields). HoldWhole cells m saved) (sym (c.in_ok-mark.ensures.mark h told))
     whole))
+
+pub returns-clause-fresh : goal.returns-clause-fresh
+returns-clause-fresh g c = c.resting.ensures.fresh
+
+pub returns-clause-faults : goal.returns-clause-faults
+returns-clause-faults g c = once_done _ _ _
+    (omega (arith, c.first_write.ensures.faults.count, c.found.ensures.faults.count))
+
+pub returns-in_err-kept-clause-faults : goal.returns-in_err-kept-clause-faults
+returns-in_err-kept-clause-faults g c = once_later _ _ _ _ c.first_write.ensures.faults.count
+    (once_as c.from_residual-in_err-kept.result c.in_err-kept.field-0.0 c.found.result _ _
+    c.from_residual-in_err-kept.ensures.1 c.in_err-kept.was c.found.ensures.faults)
+
+pub returns-in_err-mark-clause-faults : goal.returns-in_err-mark-clause-faults
+returns-in_err-mark-clause-faults g c = once_as c.from_residual.result c.in_err-mark.field-0.0
+    c.first_write.result _ _ c.from_residual.ensures.1 c.in_err-mark.was
+    c.first_write.ensures.faults

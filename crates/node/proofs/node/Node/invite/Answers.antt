@@ -28,11 +28,11 @@ returns-in_err-join-clause-handles g c clock =
     (invited clock now from v (sym c.is_new.ensures ∙ c.if-is_new.true))
     (fails_then clock (joins v NoDuty) (tells from v) now c.join.new.self disk left faults risen why
     (joined_fails c.join.result c.args.view NoDuty now c.join.new.self disk left faults risen why
-    c.in_err-join.was c.join.ensures.me c.in_err-join.ensures.part c.join.ensures.running
-    c.join.ensures.rose) (tells_quiet from v)))
+    c.in_err-join.was c.join.ensures.stays.me c.in_err-join.ensures.part
+    c.join.ensures.faults.running c.join.ensures.faults.rose) (tells_quiet from v)))
 
 pub returns-in_err-join-clause-count : goal.returns-in_err-join-clause-count
-returns-in_err-join-clause-count g c = c.join.ensures.count
+returns-in_err-join-clause-count g c = c.join.ensures.faults.count
 
 pub returns-in_err-send-clause-handles : goal.returns-in_err-send-clause-handles
 returns-in_err-send-clause-handles g c clock =
@@ -40,7 +40,7 @@ returns-in_err-send-clause-handles g c clock =
     let from = place_of c.args.from in
     let v = number_of_view c.args.view in
     fails_memory c.from_residual-in_err-send.result _ _ _ _ _ _ _ _ _ _ _ _ _
-    c.from_residual-in_err-send.ensures.1 c.join.ensures.me
+    c.from_residual-in_err-send.ensures.1 c.join.ensures.stays.me
     (part_so now.mark _ _ (g.D.Store.told c.args.store.now) (g.D.Store.told c.join.new.store)
     (invited clock now from v (sym c.is_new.ensures ∙ c.if-is_new.true) now.plain.saved)
     (part_then_more ⊤ clock (joins v NoDuty) (tells from v) [] [] now c.join.new.self
@@ -48,12 +48,12 @@ returns-in_err-send-clause-handles g c clock =
     (g.D.Store.told c.join.new.store) (joined_acts clock c.args.view NoDuty c.args.self.now
     c.join.new.self c.args.outs.now
     (g.D.Store.told c.args.store.now) (g.D.Store.told c.join.new.store)
-    c.in_ok-join.ensures.state c.join.ensures.me c.in_ok-join.ensures.up
-    c.in_ok-join.ensures.stock c.in_ok-join.ensures.cached c.in_ok-join.ensures.mark
+    c.in_ok-join.ensures.state c.join.ensures.stays.me c.in_ok-join.ensures.stays.up
+    c.in_ok-join.ensures.stock c.in_ok-join.ensures.stays.cached c.in_ok-join.ensures.mark
     c.in_ok-join.ensures.written) (tells_quiet from v)))
 
 pub returns-in_err-send-clause-count : goal.returns-in_err-send-clause-count
-returns-in_err-send-clause-count g c = c.join.ensures.count
+returns-in_err-send-clause-count g c = c.join.ensures.faults.count
 
 pub returns-then-is_new-clause-handles : goal.returns-then-is_new-clause-handles
 returns-then-is_new-clause-handles g c clock =
@@ -72,15 +72,15 @@ returns-then-is_new-clause-handles g c clock =
     c.args.outs.now c.send.new.self disk left left (joined_acts clock c.args.view NoDuty
     c.args.self.now c.join.new.self c.args.outs.now
     (g.D.Store.told c.args.store.now) (g.D.Store.told c.join.new.store)
-    c.in_ok-join.ensures.state c.join.ensures.me c.in_ok-join.ensures.up
-    c.in_ok-join.ensures.stock c.in_ok-join.ensures.cached c.in_ok-join.ensures.mark
+    c.in_ok-join.ensures.state c.join.ensures.stays.me c.in_ok-join.ensures.stays.up
+    c.in_ok-join.ensures.stock c.in_ok-join.ensures.stays.cached c.in_ok-join.ensures.mark
     c.in_ok-join.ensures.written)
     (telling_acts clock mid from v (report c.report-info.result) _ c.args.outs.now
-    c.send.new.self left c.in_ok-join.ensures.up c.join_message.ensures reported
+    c.send.new.self left c.in_ok-join.ensures.stays.up c.join_message.ensures reported
     c.in_ok-send.ensures.said) (tells_quiet from v))
 
 pub returns-then-is_new-clause-count : goal.returns-then-is_new-clause-count
-returns-then-is_new-clause-count g c = c.join.ensures.count
+returns-then-is_new-clause-count g c = c.join.ensures.faults.count
 
 pub returns-in_err-send-in-Some-clause-handles : goal.returns-in_err-send-in-Some-clause-handles
 returns-in_err-send-in-Some-clause-handles g c clock =

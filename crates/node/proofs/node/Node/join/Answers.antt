@@ -9,7 +9,7 @@ use Rattle.node.specs.State.{Fits, IsKept, heard_of}
 use Rattle.node.specs.declared.state.Joining.{Joining}
 use Rattle.node.specs.declared.state.State.{State}
 use Rattle.std.proofs.lemmas.Result.{IfOk-from_err}
-use Rattle.node.proofs.Faults.{not_failed, store_halted, store_rose}
+use Rattle.node.proofs.Faults.{once_done, once_stored}
 use Rattle.node.specs.Node.{NodeValue}
 use Rattle.node.proofs.node.Node.join.Goals as goal
 
@@ -49,59 +49,39 @@ pub returns-in_err-write_mark-clause-stock : goal.returns-in_err-write_mark-clau
 returns-in_err-write_mark-clause-stock g c = IfOk-from_err c.from_residual.result _
     c.from_residual.ensures.0
 
-pub returns-in_err-write_mark-clause-cached : goal.returns-in_err-write_mark-clause-cached
-returns-in_err-write_mark-clause-cached g c = IfOk-from_err c.from_residual.result _
-    c.from_residual.ensures.0
-
 pub returns-in_err-write_mark-clause-mark : goal.returns-in_err-write_mark-clause-mark
 returns-in_err-write_mark-clause-mark g c = IfOk-from_err c.from_residual.result _
-    c.from_residual.ensures.0
-
-pub returns-in_err-write_mark-clause-up : goal.returns-in_err-write_mark-clause-up
-returns-in_err-write_mark-clause-up g c = IfOk-from_err c.from_residual.result _
     c.from_residual.ensures.0
 
 pub returns-in_err-write_mark-clause-written : goal.returns-in_err-write_mark-clause-written
 returns-in_err-write_mark-clause-written g c = IfOk-from_err c.from_residual.result _
     c.from_residual.ensures.0
 
-pub returns-in_err-write_mark-clause-me : goal.returns-in_err-write_mark-clause-me
-returns-in_err-write_mark-clause-me g c = refl
-
-pub returns-in_err-write_mark-clause-running : goal.returns-in_err-write_mark-clause-running
-returns-in_err-write_mark-clause-running g c = store_halted c.from_residual.result
-    c.in_err-write_mark.field-0.0
-    c.from_residual.ensures.1
-
-pub returns-in_err-write_mark-clause-rose : goal.returns-in_err-write_mark-clause-rose
-returns-in_err-write_mark-clause-rose g c = store_rose _ c.from_residual.result
-    c.in_err-write_mark.field-0.0 c.write_mark.result
-    c.from_residual.ensures.1 c.in_err-write_mark.was c.write_mark.ensures.rose
-
-pub returns-in_err-write_mark-clause-count : goal.returns-in_err-write_mark-clause-count
-returns-in_err-write_mark-clause-count g c = c.write_mark.ensures.count
-
-pub returns-clause-me : goal.returns-clause-me
-returns-clause-me g c = ap (λ (n : NodeValue). n.me) c.self.view_is
-
-pub returns-clause-cached : goal.returns-clause-cached
-returns-clause-cached g c = refl
-
 pub returns-clause-mark : goal.returns-clause-mark
 returns-clause-mark g c = c.promised_mark-mark.ensures
     ∙ ap (λ (n : NodeValue). promising n.mark c.args.view) c.self.view_is
 
-pub returns-clause-up : goal.returns-clause-up
-returns-clause-up g c = refl
-
 pub returns-clause-part : goal.returns-clause-part
 returns-clause-part g c = tt
 
-pub returns-clause-running : goal.returns-clause-running
-returns-clause-running g c = not_failed _ _ _
+pub returns-in_err-write_mark-clause-stays : goal.returns-in_err-write_mark-clause-stays
+returns-in_err-write_mark-clause-stays g c = record {
+  me = refl;
+  up = IfOk-from_err c.from_residual.result _ c.from_residual.ensures.0;
+  cached = IfOk-from_err c.from_residual.result _ c.from_residual.ensures.0;
+}
 
-pub returns-clause-rose : goal.returns-clause-rose
-returns-clause-rose g c = not_failed _ _ _
+pub returns-in_err-write_mark-clause-faults : goal.returns-in_err-write_mark-clause-faults
+returns-in_err-write_mark-clause-faults g c = once_stored c.from_residual.result
+    c.in_err-write_mark.field-0.0 c.write_mark.result _ _ c.from_residual.ensures.1
+    c.in_err-write_mark.was c.write_mark.ensures.rose c.write_mark.ensures.count
 
-pub returns-clause-count : goal.returns-clause-count
-returns-clause-count g c = c.write_mark.ensures.count
+pub returns-clause-stays : goal.returns-clause-stays
+returns-clause-stays g c = record {
+  me = ap (λ (n : NodeValue). n.me) c.self.view_is;
+  up = refl;
+  cached = refl;
+}
+
+pub returns-clause-faults : goal.returns-clause-faults
+returns-clause-faults g c = once_done _ _ _ c.write_mark.ensures.count

@@ -37,3 +37,9 @@ returns-in-Some-clause-moments g c up saves =
           c.save_log.ensures.part;
       moments = c.save_log.ensures.moments;
     }
+
+pub returns-in-Some-clause-faults : goal.returns-in-Some-clause-faults
+returns-in-Some-clause-faults g c = record {
+  rose = c.save_log.ensures.faults.rose;
+  count = c.save_log.ensures.faults.count;
+}

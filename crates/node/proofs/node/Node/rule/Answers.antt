@@ -1,20 +1,23 @@
-use Rattle.std.proofs.Common.{◌≡◌, [], inl, refl, subst, sym, ap, ◌++◌, ◌∙◌}
-use Rattle.std.proofs.lemmas.Result.{on_err_weaker, on_ok_weaker}
+use Rattle.std.proofs.Common.{◌≡◌, [], inl, le_refl, refl, subst, sym, ap, ◌++◌, ◌∙◌}
+use Rattle.std.proofs.lemmas.Result.{IfOk-from_err, on_err_weaker, on_ok_weaker}
+use Rattle.harp_store.specs.Mark.{MarkFields}
 use Rattle.group_rules.specs.Joining.{suspect}
 use Rattle.group_rules.specs.Names.{place_of}
 use Rattle.group_rules.specs.Tick.{tick}
-use Rattle.node.proofs.Brought.{both_ok, came_disk, came_mark, came_part, marks_cached}
+use Rattle.node.proofs.Brought.{both_ok, brings_so, came_disk, came_mark, came_part, err_all, marks_cached, none_left, ok_all}
 use Rattle.node.proofs.Cached.{stays_cached}
 use Rattle.node.proofs.Calls.{any_peers}
+use Rattle.node.proofs.Faults.{once_done, once_memory}
 use Rattle.node.proofs.Handled.{err_each, me_of, ok_each, ok_of, rose_of, runs_on}
 use Rattle.node.proofs.Marks.{alike_none, disk_as, mark_as}
 use Rattle.node.proofs.Stepped.{mute_tick, tick_unmarked}
-use Rattle.node.specs.Disk.{marked_by}
+use Rattle.node.specs.Disk.{disk_after, marked_by}
 use Rattle.node.specs.Input.{FillsSized, input_of, peers_of, came}
 use Rattle.node.specs.Node.{server}
 use Rattle.node.specs.Stored.{LeavesBy, disk_by, mark_by}
 use Rattle.node.specs.Taking.{input_in, ruled}
 use Rattle.node.specs.declared.input.Input.{Input}
+use Rattle.node.specs.declared.input.Input.TheVariants as input
 use Rattle.node_outputs.specs.Makes.{Makes}
 use Rattle.node_outputs.specs.Messages.{heard}
 use Rattle.group_rules.specs.Disk.{apply, flush, list_tree}
@@ -39,86 +42,6 @@ returns-in_ok-tick-in-Tick-clause-makes g c items size list fills =
     (peers_of n x) s new c.args.outs.now c.tick.new.outs) (sym c.in-Tick.is)
     (any_peers n.me c.args.now (tick n.me c.args.now s) n.peers s new c.args.outs.now
     c.tick.new.outs (mute_tick n.me c.args.now s) (c.in_ok-tick-in-Tick.ensures.makes items))
-
-pub returns-in_ok-tick-in-Tick-clause-mark : goal.returns-in_ok-tick-in-Tick-clause-mark
-returns-in_ok-tick-in-Tick-clause-mark g c size list =
-    let n = c.args.self.now in
-    subst (λ (x : Input). c.tick.new.self.mark ≡ mark_by n
-    (ruled size n.me c.args.now list n.plain (input_of x)) (input_of x)) (sym c.in-Tick.is)
-    (mark_as (tick n.me c.args.now n.plain) [] n.mark c.tick.new.self.mark
-    (alike_none (tick n.me c.args.now n.plain) (tick_unmarked n.me c.args.now n.plain))
-    c.tick.ensures.mark)
-
-pub returns-in_ok-tick-in-Tick-clause-written : goal.returns-in_ok-tick-in-Tick-clause-written
-returns-in_ok-tick-in-Tick-clause-written g c size list =
-    let n = c.args.self.now in
-    let told = g.D.Store.told c.args.store.now in
-    subst (λ (x : Input). told ≡ disk_by n
-    (ruled size n.me c.args.now list n.plain (input_of x)) (input_of x) told) (sym c.in-Tick.is)
-    (disk_as (tick n.me c.args.now n.plain) []
-    (marked_by n.mark (tick n.me c.args.now n.plain))
-    (marked_by n.mark (tick n.me c.args.now n.plain)) told told
-    (alike_none (tick n.me c.args.now n.plain) (tick_unmarked n.me c.args.now n.plain)) refl refl)
-
-pub returns-in_ok-tick-in-Tick-clause-cached : goal.returns-in_ok-tick-in-Tick-clause-cached
-returns-in_ok-tick-in-Tick-clause-cached g c =
-    let told = g.D.Store.told c.args.store.now in
-    stays_cached c.args.self.now.cached c.tick.new.self.cached told told
-    (inl c.in_ok-tick-in-Tick.ensures.cached) refl c.requires.cached
-
-pub returns-in-Suspect-clause-cached : goal.returns-in-Suspect-clause-cached
-returns-in-Suspect-clause-cached g c =
-    let n = c.args.self.now in
-    both_ok c.suspicion.result
-    (λ kept written. marks_cached (suspect n.me n.plain) c.suspicion.new.self.mark
-    c.args.self.now.cached
-    c.suspicion.new.self.cached (g.D.Store.told c.args.store.now)
-    (g.D.Store.told c.suspicion.new.store) c.requires.cached kept written)
-    c.suspicion.ensures.cached c.suspicion.ensures.written
-
-pub returns-in-Message-clause-cached : goal.returns-in-Message-clause-cached
-returns-in-Message-clause-cached g c =
-    let n = c.args.self.now in
-    ok_of _ c.take_message.result (c.take_message.ensures.handles (λ before e. 0) [])
-    (λ h. marks_cached (ruled (λ before e. 0) n.me c.args.now [] n.plain
-    (input_in c.in-Message.from c.in-Message.message)) c.take_message.new.self.mark n.cached
-    c.take_message.new.self.cached (g.D.Store.told c.args.store.now)
-    (g.D.Store.told c.take_message.new.store) c.requires.cached h.cached h.written)
-
-pub returns-in-Message-clause-mark : goal.returns-in-Message-clause-mark
-returns-in-Message-clause-mark g c =
-    let n = c.args.self.now in
-    on_ok_weaker c.take_message.result
-    (λ marks size list. subst (λ (x : Input). c.take_message.new.self.mark ≡ mark_by n
-    (ruled size n.me c.args.now list n.plain (input_of x)) (input_of x)) (sym c.in-Message.is)
-    (came_mark size c.args.now list n (place_of c.in-Message.from) (heard c.in-Message.message)
-    c.take_message.new.self.mark (marks size list).mark))
-    (ok_each _ _ c.take_message.result c.take_message.ensures.handles)
-
-pub returns-in-Message-clause-written : goal.returns-in-Message-clause-written
-returns-in-Message-clause-written g c =
-    let n = c.args.self.now in
-    let told = g.D.Store.told c.args.store.now in
-    let left = g.D.Store.told c.take_message.new.store in
-    on_ok_weaker c.take_message.result
-    (λ h size list. subst (λ (x : Input). left ≡ disk_by n
-    (ruled size n.me c.args.now list n.plain (input_of x)) (input_of x) told) (sym c.in-Message.is)
-    (came_disk size c.args.now list n (place_of c.in-Message.from) (heard c.in-Message.message)
-    c.take_message.new.self.mark told left (h size list).mark (h size list).written))
-    (ok_each _ _ c.take_message.result c.take_message.ensures.handles)
-
-pub returns-in-Message-clause-part : goal.returns-in-Message-clause-part
-returns-in-Message-clause-part g c =
-    let n = c.args.self.now in
-    let told = g.D.Store.told c.args.store.now in
-    let left = g.D.Store.told c.take_message.new.store in
-    on_err_weaker c.take_message.result
-    (λ leaves size list. subst (λ (x : Input). LeavesBy n
-    (ruled size n.me c.args.now list n.plain (input_of x)) (input_of x) told left)
-    (sym c.in-Message.is)
-    (came_part size c.args.now list n (place_of c.in-Message.from) (heard c.in-Message.message)
-    told left (leaves size list)))
-    (err_each _ c.take_message.result c.take_message.ensures.handles (λ size list why h. h.part))
 
 pub returns-in-Ask-clause-makes : goal.returns-in-Ask-clause-makes
 returns-in-Ask-clause-makes g c =
@@ -288,7 +211,7 @@ returns-in-Flush-clause-sent g c = on_ok_weaker c.flush.result
 pub returns-in-List-clause-sent : goal.returns-in-List-clause-sent
 returns-in-List-clause-sent g c = on_ok_weaker c.list.result
     (λ same items size list fills fresh none. stand_none _ (records_sent c.list.new.outs)
-    (c.list.ensures.records ∙ none))
+    (c.list.ensures.tells.records ∙ none))
     c.list.ensures.stock
 
 -- ---- the listing
@@ -302,9 +225,9 @@ returns-in-List-clause-listing g c =
     c.list.new.outs.listing) (sym c.in-List.is)
     (record {
       settled = h;
-      other = λ no. ap (λ (o : Outputs). o.listing) (c.list.ensures.silent no);
+      other = λ no. ap (λ (o : Outputs). o.listing) (c.list.ensures.tells.silent no);
     }))
-    c.list.ensures.listing
+    c.list.ensures.tells.listing
 
 -- ---- a message, but for its mark and disk
 
@@ -320,22 +243,201 @@ returns-in-Message-clause-makes g c =
     c.args.now (g.D.Store.told c.args.store.now) x) c.in-Message.is fills) items))
     (ok_each _ _ c.take_message.result c.take_message.ensures.handles)
 
-pub returns-in-Message-clause-me : goal.returns-in-Message-clause-me
-returns-in-Message-clause-me g c = me_of c.take_message.result _ _ _ _ _ _ _ _ _ _ _ _ _
-    (c.take_message.ensures.handles (λ before e. 0) [])
+-- ---- whether the server goes on, with its mark, its disk and the store's faults
 
-pub returns-in-Message-clause-up : goal.returns-in-Message-clause-up
-returns-in-Message-clause-up g c = ok_of _ c.take_message.result (c.take_message.ensures.handles
-    (λ before e. 0) [])
-    (λ h. h.up)
+pub returns-in_ok-tick-in-Tick-clause-brings : goal.returns-in_ok-tick-in-Tick-clause-brings
+returns-in_ok-tick-in-Tick-clause-brings g c =
+    let n = c.args.self.now in
+    let told = g.D.Store.told c.args.store.now in
+    let ms = tick n.me c.args.now n.plain in
+    let same = alike_none ms (tick_unmarked n.me c.args.now n.plain) in
+    brings_so _ c.args.now n c.tick.new.self told told c.args.input input.Tick c.in-Tick.is
+    (record {
+      me = c.tick.ensures.me;
+      mark = λ size list. mark_as ms [] n.mark c.tick.new.self.mark same c.tick.ensures.mark;
+      written = λ size list. disk_as ms [] (marked_by n.mark ms) (marked_by n.mark ms) told told
+          same refl refl;
+      part = tt;
+    })
 
-pub returns-in-Message-clause-running : goal.returns-in-Message-clause-running
-returns-in-Message-clause-running g c = runs_on _ c.take_message.result
-    (c.take_message.ensures.handles (λ before e. 0) []) (λ why h. h.running)
+pub returns-in_ok-tick-in-Tick-clause-runs : goal.returns-in_ok-tick-in-Tick-clause-runs
+returns-in_ok-tick-in-Tick-clause-runs g c =
+    let told = g.D.Store.told c.args.store.now in record {
+      up = c.in_ok-tick-in-Tick.ensures.up;
+      cached = stays_cached c.args.self.now.cached c.tick.new.self.cached told told
+          (inl c.in_ok-tick-in-Tick.ensures.cached) refl c.requires.cached;
+    }
 
-pub returns-in-Message-clause-rose : goal.returns-in-Message-clause-rose
-returns-in-Message-clause-rose g c = rose_of _ c.take_message.result
-    (c.take_message.ensures.handles (λ before e. 0) []) (λ why h. h.rose)
+pub returns-in_ok-tick-in-Tick-clause-faults : goal.returns-in_ok-tick-in-Tick-clause-faults
+returns-in_ok-tick-in-Tick-clause-faults g c = once_done _ _ _ (le_refl _)
 
-pub returns-in-Message-clause-count : goal.returns-in-Message-clause-count
-returns-in-Message-clause-count g c = c.take_message.ensures.count
+pub returns-in_err-tick-in-Tick-clause-brings : goal.returns-in_err-tick-in-Tick-clause-brings
+returns-in_err-tick-in-Tick-clause-brings g c =
+    let n = c.args.self.now in
+    let r = c.from_residual.result in record {
+      me = c.tick.ensures.me;
+      mark = IfOk-from_err r _ c.from_residual.ensures.0;
+      written = IfOk-from_err r _ c.from_residual.ensures.0;
+      part = err_all r (λ size list. none_left n (ruled size n.me c.args.now list n.plain
+          (input_of c.args.input)) (input_of c.args.input) (g.D.Store.told c.args.store.now));
+    }
+
+pub returns-in_err-tick-in-Tick-clause-runs : goal.returns-in_err-tick-in-Tick-clause-runs
+returns-in_err-tick-in-Tick-clause-runs g c = IfOk-from_err c.from_residual.result _
+    c.from_residual.ensures.0
+
+pub returns-in_err-tick-in-Tick-clause-faults : goal.returns-in_err-tick-in-Tick-clause-faults
+returns-in_err-tick-in-Tick-clause-faults g c = once_memory _ _ _
+    c.from_residual.ensures.1 (le_refl _)
+
+pub returns-in-Suspect-clause-brings : goal.returns-in-Suspect-clause-brings
+returns-in-Suspect-clause-brings g c =
+    let n = c.args.self.now in
+    let r = c.suspicion.result in
+    let told = g.D.Store.told c.args.store.now in
+    brings_so r c.args.now n c.suspicion.new.self told (g.D.Store.told c.suspicion.new.store)
+    c.args.input input.Suspect c.in-Suspect.is (record {
+      me = c.suspicion.ensures.stays.me;
+      mark = on_ok_weaker r (λ mark size list. mark) c.suspicion.ensures.mark;
+      written = both_ok r (λ mark written size list. written ∙ ap (λ (k : MarkFields). disk_after
+          (suspect n.me n.plain) k told) mark) c.suspicion.ensures.mark
+          c.suspicion.ensures.written;
+      part = on_err_weaker r (λ part size list. part) c.suspicion.ensures.part;
+    })
+
+pub returns-in-Suspect-clause-runs : goal.returns-in-Suspect-clause-runs
+returns-in-Suspect-clause-runs g c =
+    let n = c.args.self.now in
+    both_ok c.suspicion.result (λ up cached. record { up = up; cached = cached })
+    c.suspicion.ensures.stays.up (both_ok c.suspicion.result
+    (λ kept written. marks_cached (suspect n.me n.plain) c.suspicion.new.self.mark n.cached
+    c.suspicion.new.self.cached (g.D.Store.told c.args.store.now)
+    (g.D.Store.told c.suspicion.new.store) c.requires.cached kept written)
+    c.suspicion.ensures.stays.cached c.suspicion.ensures.written)
+
+pub returns-in-Suspect-clause-faults : goal.returns-in-Suspect-clause-faults
+returns-in-Suspect-clause-faults g c = c.suspicion.ensures.faults
+
+pub returns-in-Message-clause-brings : goal.returns-in-Message-clause-brings
+returns-in-Message-clause-brings g c =
+    let n = c.args.self.now in
+    let told = g.D.Store.told c.args.store.now in
+    let left = g.D.Store.told c.take_message.new.store in
+    let from = place_of c.in-Message.from in
+    let message = heard c.in-Message.message in
+    let all = c.take_message.ensures.handles in record {
+      me = me_of c.take_message.result _ _ _ _ _ _ _ _ _ _ _ _ _
+          (c.take_message.ensures.handles (λ before e. 0) []);
+      mark = on_ok_weaker c.take_message.result
+          (λ marks size list. subst (λ (x : Input). c.take_message.new.self.mark ≡ mark_by n
+          (ruled size n.me c.args.now list n.plain (input_of x)) (input_of x)) (sym c.in-Message.is)
+          (came_mark size c.args.now list n from message c.take_message.new.self.mark
+          (marks size list).mark)) (ok_each _ _ c.take_message.result all);
+      written = on_ok_weaker c.take_message.result
+          (λ h size list. subst (λ (x : Input). left ≡ disk_by n
+          (ruled size n.me c.args.now list n.plain (input_of x)) (input_of x) told)
+          (sym c.in-Message.is)
+          (came_disk size c.args.now list n from message c.take_message.new.self.mark told left
+          (h size list).mark (h size list).written)) (ok_each _ _ c.take_message.result all);
+      part = on_err_weaker c.take_message.result
+          (λ leaves size list. subst (λ (x : Input). LeavesBy n
+          (ruled size n.me c.args.now list n.plain (input_of x)) (input_of x) told left)
+          (sym c.in-Message.is)
+          (came_part size c.args.now list n from message told left (leaves size list)))
+          (err_each _ c.take_message.result all (λ size list why h. h.part));
+    }
+
+pub returns-in-Message-clause-runs : goal.returns-in-Message-clause-runs
+returns-in-Message-clause-runs g c =
+    let n = c.args.self.now in
+    ok_of _ c.take_message.result (c.take_message.ensures.handles (λ before e. 0) [])
+    (λ h. record {
+      up = h.up;
+      cached = marks_cached (ruled (λ before e. 0) n.me c.args.now [] n.plain
+          (input_in c.in-Message.from c.in-Message.message)) c.take_message.new.self.mark n.cached
+          c.take_message.new.self.cached (g.D.Store.told c.args.store.now)
+          (g.D.Store.told c.take_message.new.store) c.requires.cached h.cached h.written;
+    })
+
+pub returns-in-Message-clause-faults : goal.returns-in-Message-clause-faults
+returns-in-Message-clause-faults g c = record {
+  running = runs_on _ c.take_message.result
+      (c.take_message.ensures.handles (λ before e. 0) []) (λ why h. h.running);
+  rose = rose_of _ c.take_message.result
+      (c.take_message.ensures.handles (λ before e. 0) []) (λ why h. h.rose);
+  count = c.take_message.ensures.count;
+}
+
+pub returns-in-Ask-clause-brings : goal.returns-in-Ask-clause-brings
+returns-in-Ask-clause-brings g c =
+    let n = c.args.self.now in
+    let r = c.ask.result in
+    brings_so r c.args.now n c.ask.new.self (g.D.Store.told c.args.store.now)
+    (g.D.Store.told c.ask.new.store) c.args.input (input.Ask c.in-Ask.peer c.in-Ask.client
+    c.in-Ask.number c.in-Ask.cred c.in-Ask.call) c.in-Ask.is (record {
+      me = c.ask.ensures.keeps.me;
+      mark = ok_all r (λ size list. c.ask.ensures.keeps.mark);
+      written = ok_all r (λ size list. c.ask.ensures.keeps.kept);
+      part = err_all r (λ size list. c.ask.ensures.keeps.kept);
+    })
+
+pub returns-in-Ask-clause-runs : goal.returns-in-Ask-clause-runs
+returns-in-Ask-clause-runs g c = c.ask.ensures.runs
+
+pub returns-in-Ask-clause-faults : goal.returns-in-Ask-clause-faults
+returns-in-Ask-clause-faults g c = c.ask.ensures.faults
+
+pub returns-in-List-clause-brings : goal.returns-in-List-clause-brings
+returns-in-List-clause-brings g c =
+    let n = c.args.self.now in
+    let r = c.list.result in
+    brings_so r c.args.now n c.list.new.self (g.D.Store.told c.args.store.now)
+    (g.D.Store.told c.list.new.store) c.args.input input.List c.in-List.is (record {
+      me = c.list.ensures.keeps.me;
+      mark = ok_all r (λ size list. c.list.ensures.keeps.mark);
+      written = ok_all r (λ size list. c.list.ensures.keeps.kept);
+      part = err_all r (λ size list. c.list.ensures.keeps.kept);
+    })
+
+pub returns-in-List-clause-runs : goal.returns-in-List-clause-runs
+returns-in-List-clause-runs g c = c.list.ensures.runs
+
+pub returns-in-List-clause-faults : goal.returns-in-List-clause-faults
+returns-in-List-clause-faults g c = c.list.ensures.faults
+
+pub returns-in-Apply-clause-brings : goal.returns-in-Apply-clause-brings
+returns-in-Apply-clause-brings g c =
+    let n = c.args.self.now in
+    let r = c.apply.result in
+    brings_so r c.args.now n c.apply.new.self (g.D.Store.told c.args.store.now)
+    (g.D.Store.told c.apply.new.store) c.args.input (input.Apply c.in-Apply.most) c.in-Apply.is
+    (record {
+      me = c.apply.ensures.applies.me;
+      mark = ok_all r (λ size list. c.apply.ensures.applies.mark);
+      written = on_ok_weaker r (λ done size list. done) c.apply.ensures.applies.done;
+      part = err_all r (λ size list. c.apply.ensures.applies.part);
+    })
+
+pub returns-in-Apply-clause-runs : goal.returns-in-Apply-clause-runs
+returns-in-Apply-clause-runs g c = c.apply.ensures.runs
+
+pub returns-in-Apply-clause-faults : goal.returns-in-Apply-clause-faults
+returns-in-Apply-clause-faults g c = c.apply.ensures.faults
+
+pub returns-in-Flush-clause-brings : goal.returns-in-Flush-clause-brings
+returns-in-Flush-clause-brings g c =
+    let n = c.args.self.now in
+    let r = c.flush.result in
+    brings_so r c.args.now n c.flush.new.self (g.D.Store.told c.args.store.now)
+    (g.D.Store.told c.flush.new.store) c.args.input input.Flush c.in-Flush.is (record {
+      me = c.flush.ensures.writes.me;
+      mark = on_ok_weaker r (λ mark size list. mark) c.flush.ensures.writes.mark;
+      written = on_ok_weaker r (λ done size list. done) c.flush.ensures.writes.done;
+      part = err_all r (λ size list. c.flush.ensures.writes.part);
+    })
+
+pub returns-in-Flush-clause-runs : goal.returns-in-Flush-clause-runs
+returns-in-Flush-clause-runs g c = c.flush.ensures.runs
+
+pub returns-in-Flush-clause-faults : goal.returns-in-Flush-clause-faults
+returns-in-Flush-clause-faults g c = c.flush.ensures.faults

@@ -18,7 +18,7 @@ step_into-stepped-requires-clause-cached c =
 
 pub keep-requires : goal.keep-requires
 keep-requires c = record {
-  up = c.in-Ok.ensures.up;
+  up = c.in-Ok.ensures.halts.up;
   served = c.in-Ok.ensures.is_server;
   cached = subst (λ (m : Moments). AreOf (Some (reads m.now)) c.step_into-stepped.new.self.cached)
       (sym c.settle.ensures) c.step_into-stepped.ensures.cached;
@@ -49,8 +49,8 @@ returns-in-Ok-clause-takes c =
     c.deref_mut.ensures.value (record {
       steps = c.in-Ok.ensures.steps;
       listing = c.in-Ok.ensures.listing;
-      me = c.step_into-stepped.ensures.me;
+      me = c.step_into-stepped.ensures.brings.me;
       served = c.in-Ok.ensures.is_server;
-      mark = c.in-Ok.ensures.mark;
-      written = c.in-Ok.ensures.written;
+      mark = c.in-Ok.ensures.brings.mark;
+      written = c.in-Ok.ensures.brings.written;
     })) g most pick i k saved r h)

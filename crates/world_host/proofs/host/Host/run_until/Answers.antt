@@ -53,8 +53,8 @@ returns-then-stopped-clause-takes c =
     (subst (λ (m : NodeValue). TellsDisk c.args.now c.args.input m
     (Some (told c.stop_disk-disk.result)) (Some (told c.step_into-stepped.new.store)))
     c.deref_mut.ensures.value
-    (either_way c.step_into-stepped.result c.step_into-stepped.ensures.written
-    c.step_into-stepped.ensures.part))
+    (either_way c.step_into-stepped.result c.step_into-stepped.ensures.brings.written
+    c.step_into-stepped.ensures.brings.part))
     g most pick i k saved r h)
 
 pub keep-requires : goal.keep-requires
@@ -62,7 +62,7 @@ keep-requires c =
     let s = c.step_into-stepped.new.store in
     let on = sym c.put_back-stopped.ensures.came ∙ c.if-stopped.false in
     record {
-      up = c.in-Ok.ensures.up;
+      up = c.in-Ok.ensures.halts.up;
       served = c.in-Ok.ensures.is_server;
       cached = subst (λ (d : Disk). AreOf (Some (reads d)) c.step_into-stepped.new.self.cached)
           (ap (λ (m : Moments). m.now) (on_told s on)
@@ -102,8 +102,8 @@ returns-in-Ok-clause-takes c =
     c.deref_mut.ensures.value (record {
       steps = c.in-Ok.ensures.steps;
       listing = c.in-Ok.ensures.listing;
-      me = c.step_into-stepped.ensures.me;
+      me = c.step_into-stepped.ensures.brings.me;
       served = c.in-Ok.ensures.is_server;
-      mark = c.in-Ok.ensures.mark;
-      written = c.in-Ok.ensures.written;
+      mark = c.in-Ok.ensures.brings.mark;
+      written = c.in-Ok.ensures.brings.written;
     })) g most pick i k saved r h)

@@ -18,8 +18,8 @@ returns-in_ok-new-in-Ok-clause-starts c =
     (ap disk_of c.keep.ensures ∙ ap (λ (m : Moments). m.now) c.settle.ensures) (record {
       boots = λ items held. c.in-Ok.ensures.boots h items refl held;
       records = λ saved held. c.in-Ok.ensures.records h saved refl held;
-      me = c.in-Ok.ensures.me;
-      served = c.in-Ok.ensures.is_server;
+      me = c.in-Ok.ensures.fresh.me;
+      served = c.in-Ok.ensures.fresh.is_server;
       mark = λ base. c.in-Ok.ensures.mark h refl base;
-      written = c.in-Ok.ensures.written;
+      written = c.in-Ok.ensures.disk.written;
     })
