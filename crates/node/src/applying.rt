@@ -2,19 +2,17 @@
 
 ghost use Rattle.node.specs.Stock.{stock};
 ghost use Rattle.std.specs.Prelude.{◌≡◌, ◌≤◌, [], List, ℕ, Err, OnErr, OnOk, Some, false, true};
-ghost use Rattle.applier.specs.Applied.{AfterPart, after_changes};
 ghost use Rattle.applier.specs.Fuzzy.{IsFuzzyTo, StaysFuzzy};
 ghost use Rattle.cell_cache.specs.Entries.{AreOf};
 ghost use Rattle.file_tree.specs.Book.{Entry};
 ghost use Rattle.fuzzy_cells.specs.History.{AllSetOnce, History};
 ghost use Rattle.applier.specs.FuzzyDisk.{AreRecordsOf, IsFuzzyDisk};
 ghost use Rattle.group_rules.specs.Disk.{apply};
-ghost use Rattle.harp_types.specs.Streams.{Rose};
 ghost use Rattle.harp_store.specs.Disk.{Moments, Now, cells_told};
 ghost use Rattle.harp_store.specs.declared.store.StoreFault.TheVariants.{Failed};
 ghost use Rattle.node.specs.Active.{is_active};
 ghost use Rattle.node.specs.Node.{server};
-ghost use Rattle.node.specs.Outcomes.{Applies, FailsOnce, Runs};
+ghost use Rattle.node.specs.Outcomes.{Applies, CountsFaults, FailsOnce, MakesChanges, Runs};
 ghost use Rattle.node.specs.State.{cached_in};
 ghost use Rattle.node.specs.Stored.{log_in, log_of, stores, with_log};
 ghost use Rattle.node_outputs.specs.Makes.{Makes};
@@ -94,26 +92,20 @@ fn apply_log<D: Store>(
         (cached_in state.new)) }
     ensures still { OnErr result (state.new
         ≡ with_log state.old (log_in state.old) (cached_in state.new)) }
-    ensures done { OnOk result (D.told store.new
-        ≡ after_changes (changes_by most (log_in state.old)) (D.told store.old)) }
-    ensures part { AfterPart (changes_by most (log_in state.old)) (D.told store.old)
-        (D.told store.new) }
+    ensures changes { MakesChanges result (changes_by most (log_in state.old))
+        (D.told store.old) (D.told store.new) }
     ensures fuzzy { let log = log_in state.old in (history : History) (lb m : ℕ) (h : Moments)
         → D.told store.old ≡ Some h → AllSetOnce history
         → AreRecordsOf history log.base (changes_in log.records)
         → IsFuzzyDisk history lb log.ap m h.now
-        → StaysFuzzy history lb log.ap (applied_by most log) m h (D.told store.new) }
-    ensures reached { let log = log_in state.old in (history : History) (lb m : ℕ) (h : Moments)
-        → D.told store.old ≡ Some h → AllSetOnce history
-        → AreRecordsOf history log.base (changes_in log.records)
-        → IsFuzzyDisk history lb log.ap m h.now
-        → OnOk result (Now (IsFuzzyTo history lb (applied_by most log) m) (D.told store.new)) }
+        → StaysFuzzy history lb log.ap (applied_by most log) m h (D.told store.new)
+        × OnOk result (Now (IsFuzzyTo history lb (applied_by most log) m) (D.told store.new)) }
     ensures tree { (list : List Entry) (upto : ℕ) → (log_in state.old).cp ≤ upto
         → HoldsTree list upto (log_in state.old) (D.told store.old)
         → HoldsTree list upto (log_in state.new) (D.told store.new) }
     ensures cached { AreOf (cells_told (D.told store.new)) (cached_in state.new) }
-    ensures rose { result ≡ Err Failed → Rose (D.faults store.old) (D.faults store.new) }
-    ensures count { D.faults store.old ≤ D.faults store.new }
+    ensures faults { CountsFaults (result ≡ Err Failed) (D.faults store.old)
+        (D.faults store.new) }
 {
     match state {
         State::Leads(leader, _) => leader.apply(alloc, most, store),

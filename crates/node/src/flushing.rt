@@ -1,25 +1,23 @@
 //! How a server makes its store durable. After an error the server is halted.
 
 ghost use Rattle.node.specs.Stock.{stock};
-ghost use Rattle.std.specs.Prelude.{◌≡◌, ◌≤◌, [], List, ℕ, Err, OnErr, OnOk, Some, false, true};
-ghost use Rattle.applier.specs.Applied.{FlushesInPart, IsOldOrSynced, flushed, lower};
+ghost use Rattle.std.specs.Prelude.{◌≡◌, [], List, ℕ, Err, OnOk, Some, false, true};
+ghost use Rattle.applier.specs.Applied.{FlushesAtOnce, lower};
 ghost use Rattle.cell_cache.specs.Entries.{AreOf};
 ghost use Rattle.file_tree.specs.Book.{Entry};
 ghost use Rattle.fuzzy_cells.specs.History.{History};
 ghost use Rattle.applier.specs.FuzzyDisk.{IsFuzzyByMark, IsFuzzyDisk};
 ghost use Rattle.group_rules.specs.Disk.{flush};
-ghost use Rattle.harp_types.specs.Streams.{Rose};
 ghost use Rattle.harp_store.specs.Disk.{AtEachMoment, Moments, cells_told};
 ghost use Rattle.harp_store.specs.declared.store.StoreFault.TheVariants.{Failed};
 ghost use Rattle.node.specs.Active.{is_active};
 ghost use Rattle.node.specs.Node.{server};
-ghost use Rattle.node.specs.Outcomes.{FailsOnce, Flushes, Runs};
+ghost use Rattle.node.specs.Outcomes.{CountsFaults, FailsOnce, Flushes, Lowers, Runs, SyncsUnder};
 ghost use Rattle.node.specs.State.{cached_in};
-ghost use Rattle.node.specs.Stored.{flushes, log_in, log_of, with_log};
+ghost use Rattle.node.specs.Stored.{flushes, log_in, log_of};
 ghost use Rattle.node_outputs.specs.Makes.{Makes};
 ghost use Rattle.node_outputs.specs.declared.outputs.Outputs.{Outputs};
 ghost use Rattle.tree_log.specs.Reading.{HoldsTree};
-ghost use Rattle.volatile_log.specs.Log.{lowered_to};
 
 use crate::fault::NodeFault;
 use crate::node::Node;
@@ -87,30 +85,21 @@ fn flush_log<D: Store>(
 ) -> Result<(), StoreFault>
     requires active { is_active state.old ≡ true }
     requires cached { AreOf (cells_told (D.told store.old)) (cached_in state.old) }
-    ensures log { OnOk result (let log = log_in state.old in
-        state.new ≡ with_log state.old (lowered_to log log.ap) (cached_in state.new)) }
-    ensures still { OnErr result (state.new
-        ≡ with_log state.old (log_in state.old) (cached_in state.new)) }
-    ensures done { OnOk result (D.told store.new
-        ≡ flushed (lower (log_in state.old).ap mark.old) (D.told store.old)) }
-    ensures mark { OnOk result (mark.new ≡ lower (log_in state.old).ap mark.old) }
-    ensures kept { OnErr result (mark.new ≡ mark.old) }
-    ensures part { FlushesInPart (lower (log_in state.old).ap mark.old) (D.told store.old)
+    ensures lowers { Lowers result state.old state.new mark.old mark.new }
+    ensures writes { SyncsUnder result (lower (log_in state.old).ap mark.old) (D.told store.old)
         (D.told store.new) }
-    ensures moments { (h : Moments) → D.told store.old ≡ Some h
-        → AtEachMoment (IsOldOrSynced h.now.mark) (D.told store.old) (D.told store.new) }
+    ensures at_once { FlushesAtOnce (D.told store.old) (D.told store.new) }
     ensures fuzzy { (history : History) (m : ℕ) (h : Moments) → D.told store.old ≡ Some h
         → h.now.mark ≡ Some mark.old
         → IsFuzzyDisk history mark.old.lb (log_in state.old).ap m h.now
         → AtEachMoment (IsFuzzyByMark history (log_in state.old).ap m) (D.told store.old)
         (D.told store.new) }
-    ensures cells { cells_told (D.told store.new) ≡ cells_told (D.told store.old) }
     ensures tree { (list : List Entry) (upto : ℕ)
         → HoldsTree list upto (log_in state.old) (D.told store.old)
         → HoldsTree list upto (log_in state.new) (D.told store.new) }
     ensures cached { AreOf (cells_told (D.told store.new)) (cached_in state.new) }
-    ensures rose { result ≡ Err Failed → Rose (D.faults store.old) (D.faults store.new) }
-    ensures count { D.faults store.old ≤ D.faults store.new }
+    ensures faults { CountsFaults (result ≡ Err Failed) (D.faults store.old)
+        (D.faults store.new) }
 {
     match state {
         State::Leads(leader, _) => leader.flush(alloc, mark, store),

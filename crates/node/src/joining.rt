@@ -1,7 +1,7 @@
 //! Suspicion, invitations and joins.
 
 ghost use Rattle.node.specs.Stock.{Stocks, stock};
-ghost use Rattle.std.specs.Prelude.{◌≡◌, ◌++◌, ◌∷◌, [], ◌==◌, ◌≤◌, List, None, Some, false, nat_lt, option_map, true, ℕ, Err, IfSome, OnErr, OnOk, if◌then◌else◌};
+ghost use Rattle.std.specs.Prelude.{◌≡◌, [], List, None, Some, false, nat_lt, true, ℕ, OnErr, OnOk};
 ghost use Rattle.file_tree.specs.Book.{Entry};
 ghost use Rattle.group_rules.specs.Effects.{joined_server, report_of};
 ghost use Rattle.group_rules.specs.Joining.{suspect};

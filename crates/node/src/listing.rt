@@ -1,17 +1,16 @@
 //! The listing of a server's tree. After an error the server is halted.
 
 ghost use Rattle.node.specs.Stock.{stock};
-ghost use Rattle.std.specs.Prelude.{◌≡◌, ◌≤◌, [], List, ℕ, Err, OnOk, Some, false, true};
+ghost use Rattle.std.specs.Prelude.{◌≡◌, [], List, ℕ, Err, OnOk, Some, false, true};
 ghost use Rattle.cell_cache.specs.Entries.{AreOf};
 ghost use Rattle.file_tree.specs.Book.{Entry};
 ghost use Rattle.group_rules.specs.Disk.{list_tree};
-ghost use Rattle.harp_types.specs.Streams.{Rose};
 ghost use Rattle.harp_store.specs.Disk.{cells_told};
 ghost use Rattle.node.specs.Active.{is_active};
 ghost use Rattle.node.specs.Node.{server};
-ghost use Rattle.node.specs.Outcomes.{FailsOnce, Keeps, Runs, TellsTree};
+ghost use Rattle.node.specs.Outcomes.{CountsFaults, FailsOnce, Keeps, OnlyReads, Runs, TellsTree};
 ghost use Rattle.node.specs.State.{cached_in};
-ghost use Rattle.node.specs.Stored.{log_in, with_log};
+ghost use Rattle.node.specs.Stored.{log_in};
 ghost use Rattle.node_outputs.specs.Makes.{Makes};
 ghost use Rattle.node_outputs.specs.Records.{records_sent};
 ghost use Rattle.node_outputs.specs.Said.{said};
@@ -71,12 +70,9 @@ fn list_log<D: Store>(
       listed = Some (log_in state.old).cp;
     }) }
     ensures records { records_sent outs.new ≡ records_sent outs.old }
-    ensures same { state.new ≡ with_log state.old (log_in state.old) (cached_in state.new) }
-    ensures cached { AreOf (cells_told (D.told store.new)) (cached_in state.new) }
-    ensures kept { D.told store.new ≡ D.told store.old }
-    ensures rose { result ≡ Err CellFault.StoreFailed
-        → Rose (D.faults store.old) (D.faults store.new) }
-    ensures count { D.faults store.old ≤ D.faults store.new }
+    ensures reads { OnlyReads state.old state.new (D.told store.old) (D.told store.new) }
+    ensures faults { CountsFaults (result ≡ Err CellFault.StoreFailed) (D.faults store.old)
+        (D.faults store.new) }
 {
     match state {
         State::Leads(leader, _) => leader.list(alloc, store, outs),

@@ -1,6 +1,6 @@
 //! A server's power failure.
 
-ghost use Rattle.std.specs.Prelude.{◌≡◌, ◌↔◌, ◌≤◌, List, ℕ, Err, None, OnOk, Some, false, true};
+ghost use Rattle.std.specs.Prelude.{◌≡◌, ◌↔◌, List, ℕ, Err, None, OnOk, Some, false, true};
 ghost use Rattle.file_tree.specs.Book.{Entry};
 ghost use Rattle.group_rules.specs.Moves.{Saving, act};
 ghost use Rattle.group_rules.specs.State.{mark_of};
@@ -35,7 +35,8 @@ impl Node {
         ensures kept { saves_log self ≡ false → D.told store.new ≡ D.told store.old }
         ensures halted { (result ≡ Err NodeFault.Halted) ↔ (self.halted ≡ true) }
         ensures still { self.halted ≡ true → D.told store.new ≡ D.told store.old }
-        ensures faults { CountsFaults result (D.faults store.old) (D.faults store.new) }
+        ensures faults { CountsFaults (result ≡ Err NodeFault.StoreFailed) (D.faults store.old)
+            (D.faults store.new) }
     {
         if self.is_halted() {
             return Err(NodeFault::Halted);

@@ -1,6 +1,6 @@
 //! The steps of a server.
 
-ghost use Rattle.std.specs.Prelude.{◌≡◌, ◌<◌, ◌^◌, ◌++◌, [], List, ℕ, None, OnOk, false};
+ghost use Rattle.std.specs.Prelude.{◌≡◌, ◌<◌, ◌^◌, ◌++◌, [], List, ℕ, Err, None, OnOk, false};
 ghost use Rattle.cell_cache.specs.Entries.{AreOf};
 ghost use Rattle.event_record.specs.declared.record.RecordFields.{RecordFields};
 ghost use Rattle.file_tree.specs.Book.{Entry};
@@ -58,7 +58,8 @@ impl Node {
         ensures brings { Brings result
             (λ size list. stepped size self.old.me now list self.old.plain (input_of input))
             (input_of input) self.old self.new (D.told store.old) (D.told store.new) }
-        ensures faults { CountsFaults result (D.faults store.old) (D.faults store.new) }
+        ensures faults { CountsFaults (result ≡ Err NodeFault.StoreFailed) (D.faults store.old)
+            (D.faults store.new) }
     {
         if self.is_halted() {
             return Err(NodeFault::Halted);

@@ -1,10 +1,10 @@
-use Rattle.std.proofs.Common.{◌≡◌, ◌≤◌, ℕ, List, Some, le_refl, refl, subst, sym, true≢false, ◌∙◌, ap}
+use Rattle.std.proofs.Common.{◌≤◌, List, le_refl, refl, subst, sym, true≢false, ◌∙◌, ap}
 use Rattle.std.proofs.lemmas.Result.{IfOk-from_err}
+use Rattle.std.specs.Prelude.{OnOk}
 use Rattle.applier.specs.Fuzzy.{IsFuzzyTo, StaysFuzzy}
-use Rattle.fuzzy_cells.specs.History.{AllSetOnce, History}
 use Rattle.applier.specs.FuzzyDisk.{AreRecordsOf, IsFuzzyDisk}
 use Rattle.harp_cells.specs.declared.change.Change.{Change}
-use Rattle.harp_store.specs.Disk.{AfterPart, Moments, Now, after_changes, cells_told}
+use Rattle.harp_store.specs.Disk.{AfterPart, Now, after_changes, cells_told}
 use Rattle.node.proofs.Asks.{cached_at}
 use Rattle.node.proofs.Faults.{once_done, once_stored}
 use Rattle.node.proofs.Stores.{alive_with, applied_made, changes_at, log_at, log_with, no_changes, none_done, none_part, store_fits, stores_active}
@@ -102,43 +102,29 @@ returns-then-not-stores-clause-fuzzy g c history lb m h st =
     absurd (true≢false (sym st ∙ sym c.stores.ensures ∙ c.if-not-stores.true))
 
 pub returns-in_err-apply_log-clause-fuzzy : goal.returns-in_err-apply_log-clause-fuzzy
-returns-in_err-apply_log-clause-fuzzy g c history lb m h st told once records
-    fuzzy =
-    let n = c.self.inside in (
-      subst (λ (x : LogValue). (history : History) (lb m : ℕ) (h : Moments)
-          → g.D.Store.told c.args.store.now ≡ Some h → AllSetOnce history
-          → AreRecordsOf history x.base (changes_in x.records)
+returns-in_err-apply_log-clause-fuzzy g c history lb m h st told once records fuzzy =
+    let n = c.self.inside in
+    let left = g.D.Store.told c.apply_log.new.store in (
+      (subst (λ (x : LogValue). AreRecordsOf history x.base (changes_in x.records)
           → IsFuzzyDisk history lb x.ap m h.now
-          → StaysFuzzy history lb x.ap (applied_by c.args.most x) m h
-          (g.D.Store.told c.apply_log.new.store))
+          → let upto = applied_by c.args.most x in StaysFuzzy history lb x.ap upto m h left
+          × OnOk c.apply_log.result (Now (IsFuzzyTo history lb upto m) left))
           (sym (log_at n.me n.mark n.horizon n.served n.duty n.state c.args.self.now
-          c.self.view_is st c.self.invariant.1)) c.apply_log.ensures.fuzzy history lb m h told once
-          records fuzzy,
+          c.self.view_is st c.self.invariant.1))
+          (c.apply_log.ensures.fuzzy history lb m h told once) records fuzzy).0,
       IfOk-from_err c.from_residual.result _ c.from_residual.ensures.0,
     )
 
 pub returns-clause-fuzzy : goal.returns-clause-fuzzy
-returns-clause-fuzzy g c history lb m h st told once records fuzzy =
-    let n = c.self.inside in (
-      subst (λ (x : LogValue). (history : History) (lb m : ℕ) (h : Moments)
-          → g.D.Store.told c.args.store.now ≡ Some h → AllSetOnce history
-          → AreRecordsOf history x.base (changes_in x.records)
-          → IsFuzzyDisk history lb x.ap m h.now
-          → StaysFuzzy history lb x.ap (applied_by c.args.most x) m h
-          (g.D.Store.told c.apply_log.new.store))
-          (sym (log_at n.me n.mark n.horizon n.served n.duty n.state c.args.self.now
-          c.self.view_is st c.self.invariant.1)) c.apply_log.ensures.fuzzy history lb m h told once
-          records fuzzy,
-      subst (λ (x : LogValue). (history : History) (lb m : ℕ) (h : Moments)
-          → g.D.Store.told c.args.store.now ≡ Some h → AllSetOnce history
-          → AreRecordsOf history x.base (changes_in x.records)
-          → IsFuzzyDisk history lb x.ap m h.now
-          → Now (IsFuzzyTo history lb (applied_by c.args.most x) m)
-          (g.D.Store.told c.apply_log.new.store))
-          (sym (log_at n.me n.mark n.horizon n.served n.duty n.state c.args.self.now
-          c.self.view_is st c.self.invariant.1)) c.in_ok-apply_log.ensures.reached history lb m h
-          told once records fuzzy,
-    )
+returns-clause-fuzzy g c history lb m h st told once =
+    let n = c.self.inside in
+    let left = g.D.Store.told c.apply_log.new.store in
+    subst (λ (x : LogValue). AreRecordsOf history x.base (changes_in x.records)
+    → IsFuzzyDisk history lb x.ap m h.now
+    → let upto = applied_by c.args.most x in StaysFuzzy history lb x.ap upto m h left
+    × Now (IsFuzzyTo history lb upto m) left)
+    (sym (log_at n.me n.mark n.horizon n.served n.duty n.state c.args.self.now c.self.view_is st
+    c.self.invariant.1)) (c.in_ok-apply_log.ensures.fuzzy history lb m h told once)
 
 pub returns-in_err-apply_log-clause-applies : goal.returns-in_err-apply_log-clause-applies
 returns-in_err-apply_log-clause-applies g c =
@@ -150,7 +136,7 @@ returns-in_err-apply_log-clause-applies g c =
       mark = ap (λ (n : NodeValue). n.mark) c.self.view_is;
       done = IfOk-from_err c.from_residual.result _ c.from_residual.ensures.0;
       part = subst (λ (xs : List Change). AfterPart xs told
-          (g.D.Store.told c.apply_log.new.store)) (sym same) c.apply_log.ensures.part;
+          (g.D.Store.told c.apply_log.new.store)) (sym same) c.apply_log.ensures.changes.part;
     }
 
 pub returns-clause-applies : goal.returns-clause-applies
@@ -161,10 +147,10 @@ returns-clause-applies g c =
     c.self.view_is (sym c.stores.ensures ∙ c.if-not-stores.false) c.self.invariant.1 in record {
       me = ap (λ (n : NodeValue). n.me) c.self.view_is;
       mark = ap (λ (n : NodeValue). n.mark) c.self.view_is;
-      done = c.in_ok-apply_log.ensures.done
+      done = c.in_ok-apply_log.ensures.changes.done
           ∙ ap (λ (xs : List Change). after_changes xs told) (sym same);
       part = subst (λ (xs : List Change). AfterPart xs told
-          (g.D.Store.told c.apply_log.new.store)) (sym same) c.apply_log.ensures.part;
+          (g.D.Store.told c.apply_log.new.store)) (sym same) c.apply_log.ensures.changes.part;
     }
 
 pub returns-in_err-apply_log-clause-runs : goal.returns-in_err-apply_log-clause-runs
@@ -174,7 +160,7 @@ returns-in_err-apply_log-clause-runs g c = IfOk-from_err c.from_residual.result 
 pub returns-in_err-apply_log-clause-faults : goal.returns-in_err-apply_log-clause-faults
 returns-in_err-apply_log-clause-faults g c = once_stored c.from_residual.result
     c.in_err-apply_log.field-0.0 c.apply_log.result _ _ c.from_residual.ensures.1
-    c.in_err-apply_log.was c.apply_log.ensures.rose c.apply_log.ensures.count
+    c.in_err-apply_log.was c.apply_log.ensures.faults.rose c.apply_log.ensures.faults.count
 
 pub returns-clause-runs : goal.returns-clause-runs
 returns-clause-runs g c =
@@ -188,4 +174,4 @@ returns-clause-runs g c =
     }
 
 pub returns-clause-faults : goal.returns-clause-faults
-returns-clause-faults g c = once_done _ _ _ c.apply_log.ensures.count
+returns-clause-faults g c = once_done _ _ _ c.apply_log.ensures.faults.count

@@ -52,7 +52,8 @@ invariant_of-self-2 g c =
           c.flush_log.new.state c.args.self.now (lowered_to log log.ap)
           (cached_in c.flush_log.new.state) c.self.view_is
           (flushes_stores c.args.self.now (sym c.flushes.ensures ∙ c.if-not-flushes.false))
-          c.self.invariant.1 c.in_ok-flush_log.ensures.log c.in_ok-flush_log.ensures.mark,
+          c.self.invariant.1 c.in_ok-flush_log.ensures.lowers.log
+          c.in_ok-flush_log.ensures.lowers.mark,
     )
 
 pub returns-clause-fuzzy : goal.returns-clause-fuzzy
@@ -74,7 +75,7 @@ pub returns-clause-stock : goal.returns-clause-stock
 returns-clause-stock g c =
     let n = c.self.inside in
     let log = log_in n.state in
-    ap stock_in c.in_ok-flush_log.ensures.log
+    ap stock_in c.in_ok-flush_log.ensures.lowers.log
     ∙ logged_stock n.state (lowered_to log log.ap)
     (cached_in c.flush_log.new.state) refl ∙ ap stock c.self.view_is
 
@@ -126,7 +127,7 @@ returns-in_err-flush_log-clause-writes g c =
       part = inr (
         due,
         subst (λ (m : MarkFields). FlushesInPart m told
-            (g.D.Store.told c.flush_log.new.store)) low c.flush_log.ensures.part,
+            (g.D.Store.told c.flush_log.new.store)) low c.flush_log.ensures.writes.part,
       );
     }
 
@@ -137,7 +138,7 @@ returns-in_err-flush_log-clause-runs g c = IfOk-from_err c.from_residual.result 
 pub returns-in_err-flush_log-clause-faults : goal.returns-in_err-flush_log-clause-faults
 returns-in_err-flush_log-clause-faults g c = once_stored c.from_residual.result
     c.in_err-flush_log.field-0.0 c.flush_log.result _ _ c.from_residual.ensures.1
-    c.in_err-flush_log.was c.flush_log.ensures.rose c.flush_log.ensures.count
+    c.in_err-flush_log.was c.flush_log.ensures.faults.rose c.flush_log.ensures.faults.count
 
 pub returns-clause-writes : goal.returns-clause-writes
 returns-clause-writes g c =
@@ -148,15 +149,15 @@ returns-clause-writes g c =
     c.self.view_is due c.self.invariant.1 in
     let now = c.args.self.now in record {
       me = ap (λ (n : NodeValue). n.me) c.self.view_is;
-      mark = c.in_ok-flush_log.ensures.mark ∙ low
+      mark = c.in_ok-flush_log.ensures.lowers.mark ∙ low
           ∙ sym (if_is (flushes now) (lower now.plain.ap now.mark) now.mark due);
-      done = c.in_ok-flush_log.ensures.done
+      done = c.in_ok-flush_log.ensures.writes.done
           ∙ ap (λ (m : MarkFields). flushed m told) low
           ∙ sym (if_is (flushes now) (flushed (lower now.plain.ap now.mark) told) told due);
       part = inr (
         due,
         subst (λ (m : MarkFields). FlushesInPart m told
-            (g.D.Store.told c.flush_log.new.store)) low c.flush_log.ensures.part,
+            (g.D.Store.told c.flush_log.new.store)) low c.flush_log.ensures.writes.part,
       );
     }
 
@@ -167,9 +168,9 @@ returns-clause-runs g c =
       up = alive_with n.state c.flush_log.new.state (lowered_to log log.ap)
           (cached_in c.flush_log.new.state) (stores_active n.me n.mark n.horizon n.served n.duty
           n.state c.args.self.now c.self.view_is (flushes_stores c.args.self.now
-          (sym c.flushes.ensures ∙ c.if-not-flushes.false))) c.in_ok-flush_log.ensures.log;
+          (sym c.flushes.ensures ∙ c.if-not-flushes.false))) c.in_ok-flush_log.ensures.lowers.log;
       cached = c.flush_log.ensures.cached;
     }
 
 pub returns-clause-faults : goal.returns-clause-faults
-returns-clause-faults g c = once_done _ _ _ c.flush_log.ensures.count
+returns-clause-faults g c = once_done _ _ _ c.flush_log.ensures.faults.count

@@ -30,7 +30,7 @@ pub returns-clause-stock : goal.returns-clause-stock
 returns-clause-stock g c =
     let n = c.self.inside in
     let log = log_in n.state in
-    ap stock_in c.list_log.ensures.same
+    ap stock_in c.list_log.ensures.reads.same
     ∙ logged_stock n.state (log)
     (cached_in c.list_log.new.state) refl ∙ ap stock c.self.view_is
 
@@ -65,7 +65,7 @@ pub returns-in_err-list_log-clause-keeps : goal.returns-in_err-list_log-clause-k
 returns-in_err-list_log-clause-keeps g c = record {
   me = ap (λ (n : NodeValue). n.me) c.self.view_is;
   mark = ap (λ (n : NodeValue). n.mark) c.self.view_is;
-  kept = c.list_log.ensures.kept;
+  kept = c.list_log.ensures.reads.kept;
 }
 
 pub returns-clause-tells : goal.returns-clause-tells
@@ -84,7 +84,7 @@ pub returns-clause-keeps : goal.returns-clause-keeps
 returns-clause-keeps g c = record {
   me = ap (λ (n : NodeValue). n.me) c.self.view_is;
   mark = ap (λ (n : NodeValue). n.mark) c.self.view_is;
-  kept = c.list_log.ensures.kept;
+  kept = c.list_log.ensures.reads.kept;
 }
 
 pub returns-in_err-list_log-clause-runs : goal.returns-in_err-list_log-clause-runs
@@ -94,7 +94,7 @@ returns-in_err-list_log-clause-runs g c = IfOk-from_err c.from_residual.result _
 pub returns-in_err-list_log-clause-faults : goal.returns-in_err-list_log-clause-faults
 returns-in_err-list_log-clause-faults g c = once_read c.from_residual.result
     c.in_err-list_log.field-0.0 c.list_log.result _ _ c.from_residual.ensures.1
-    c.in_err-list_log.was c.list_log.ensures.rose c.list_log.ensures.count
+    c.in_err-list_log.was c.list_log.ensures.faults.rose c.list_log.ensures.faults.count
 
 pub returns-clause-runs : goal.returns-clause-runs
 returns-clause-runs g c =
@@ -102,9 +102,9 @@ returns-clause-runs g c =
       up = alive_with n.state c.list_log.new.state (log_in n.state)
           (cached_in c.list_log.new.state) (stores_active n.me n.mark n.horizon n.served n.duty
           n.state c.args.self.now c.self.view_is (sym c.stores.ensures ∙ c.if-not-stores.false))
-          c.list_log.ensures.same;
-      cached = c.list_log.ensures.cached;
+          c.list_log.ensures.reads.same;
+      cached = c.list_log.ensures.reads.cached;
     }
 
 pub returns-clause-faults : goal.returns-clause-faults
-returns-clause-faults g c = once_done _ _ _ c.list_log.ensures.count
+returns-clause-faults g c = once_done _ _ _ c.list_log.ensures.faults.count
