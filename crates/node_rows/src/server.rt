@@ -73,13 +73,13 @@ impl Server {
         now: u64,
     ) -> Result<Result<Vec<Line>, NodeFault>, AllocError> {
         let mut lines = Vec::new(alloc);
-        let outs = match self.step(alloc, input, now) {
+        let mut outs = match self.step(alloc, input, now) {
             Ok(Some(outs)) => outs,
             Ok(None) => return Ok(Ok(lines)),
             Err(fault) => return Ok(Err(fault)),
         };
         let (book, packets) = (&mut self.book, &mut self.packets);
-        let listing = give(alloc, self.me, outs, book, packets, &mut lines)?;
+        let listing = give(alloc, self.me, &mut outs, book, packets, &mut lines)?;
         if let Some(listing) = listing {
             show_listing(alloc, self.me, Some(listing), &mut lines)?;
         }

@@ -5,6 +5,7 @@ ghost use Rattle.group_trace.specs.DiskRun.{first_disk_scene};
 ghost use Rattle.world.specs.World.{IsWorld};
 
 use harp_types::{ServerId, Trio};
+use node_outputs::Outputs;
 use promise::Delta;
 use schedule_play::{Refusal, Stage};
 use std::alloc::{AllocError, Global};
@@ -14,7 +15,8 @@ use world_host::{Host, Stop};
 use world_lines::{Book, Packets};
 
 /// Three servers, their clocks in milliseconds, the length of the promises of servers that boot
-/// later, the packets that were sent, the book, and the stops that are armed.
+/// later, the packets that were sent, the book, and the stops that are armed. Contracts see all of
+/// it but the room.
 #[derive(Drop)]
 pub struct World {
     pub(crate) hosts: Trio<Host>,
@@ -23,6 +25,8 @@ pub struct World {
     pub(crate) packets: Packets,
     pub(crate) book: Book,
     pub(crate) stops: Trio<Option<Stop>>,
+    /// Room for what a server's step gives, which the next one uses anew.
+    pub(crate) outs: Option<Box<Outputs>>,
 }
 
 impl Model for World {
@@ -64,6 +68,7 @@ impl World {
                 one: None,
                 two: None,
             },
+            outs: None,
         })
     }
 }

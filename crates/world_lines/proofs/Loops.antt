@@ -1,7 +1,12 @@
 -- Loops that go over a list and add to what was made.
-use Rattle.std.proofs.Common.{◌≡◌, ℕ, zero, suc, arith, ◌+◌, ◌<◌, ◌≤◌, List, [], ◌∷◌, ◌++◌}
+use Rattle.std.proofs.Common.{◌≡◌, ℕ, zero, suc, arith, ◌+◌, ◌-◌, ◌<◌, ◌≤◌, List, [], ◌∷◌, ◌++◌}
 use Rattle.std.proofs.Common.{append_assoc, append-nil, length, drop, get_or, refl, sym, ap, ◌∙◌}
-use Rattle.std.proofs.lemmas.List.{at_drop_more, at_drop_all}
+use Rattle.std.proofs.Common.{subst}
+use Rattle.std.specs.Prelude.{slice_range}
+use Rattle.std.specs.Vec.Iter.{drain_items, drain_steps}
+use Rattle.std.proofs.lemmas.Iterator.{YieldsList}
+use Rattle.std.proofs.lemmas.Iterator.Consumers.{YieldsList-from_shown}
+use Rattle.std.proofs.lemmas.List.{at_drop_more, at_drop_all, take_all}
 
 -- What the elements make from a count on, one after the other; `next` is the count behind one
 pub record Makes (X L : Type 0) : Type 0 where
@@ -88,3 +93,17 @@ grown m h first made n k xs x e is =
 pub begun : {X L : Type 0} (m : Makes X L) → IsMade m → (first : List L) (n : ℕ)
     → first ≡ first ++ m.all n []
 begun m h first n = sym (ap (λ ys. first ++ ys) (h.none n) ∙ append-nil first)
+
+-- ---- loops that drain a vector
+
+-- all of a vector is drained
+pub whole_range : {X : Type 0} (xs : List X) (n : ℕ) → n ≡ length xs → slice_range xs 0 n ≡ xs
+whole_range xs n is = take_all (n - 0) xs (omega (arith, is))
+
+-- what is drained comes in its order
+pub drained : {X Z : Type 0} {s : _} (xs : List X) → drain_items {X = X} {Z = Z} s ≡ xs
+    → YieldsList (drain_steps {X = X} {Z = Z}) (λ y. y) s xs
+drained {X} {Z} {s} xs is =
+    subst (λ (ys : List X). YieldsList (drain_steps {X = X} {Z = Z}) (λ y. y) s ys) is
+    (YieldsList-from_shown (drain_steps {X = X} {Z = Z}) (λ y. y) drain_items
+    (λ a b h. ap length h.0) (λ a x b h. h.0) s)

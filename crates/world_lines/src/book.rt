@@ -55,18 +55,18 @@ impl Book {
         self.entries.as_slice()
     }
 
-    /// Enters the updates that aren't in the book, with their lines.
+    /// Enters the updates that aren't in the book, with their lines. They are taken out.
     pub(crate) fn enter_updates(
         &mut self,
         alloc: Global,
-        updates: Vec<BookEntry>,
+        updates: &mut Vec<BookEntry>,
         lines: &mut Vec<Line>,
     ) -> Result<(), AllocError>
         ensures book { OnOk result (self.new ≡ with_updates self.old
-            (new_updates self.old.updates (map entered updates.items))) }
+            (new_updates self.old.updates (map entered updates.old.items))) }
         ensures lines { OnOk result (lines.new.items ≡ lines.old.items
             ++ entered_lines (length self.old.entries)
-            (new_updates self.old.updates (map entered updates.items))) }
+            (new_updates self.old.updates (map entered updates.old.items))) }
     {
         if updates.is_empty() {
             return Ok(());
@@ -78,17 +78,17 @@ impl Book {
     fn enter_each(
         &mut self,
         alloc: Global,
-        updates: Vec<BookEntry>,
+        updates: &mut Vec<BookEntry>,
         lines: &mut Vec<Line>,
     ) -> Result<(), AllocError>
         ensures book { OnOk result (self.new ≡ with_updates self.old
-            (new_updates self.old.updates (map entered updates.items))) }
+            (new_updates self.old.updates (map entered updates.old.items))) }
         ensures lines { OnOk result (lines.new.items ≡ lines.old.items
             ++ entered_lines (length self.old.entries)
-            (new_updates self.old.updates (map entered updates.items))) }
+            (new_updates self.old.updates (map entered updates.old.items))) }
     {
         let _ = &self.updates;
-        for update in updates {
+        for update in updates.drain(..) {
             self.enter_update(alloc, update, lines)?;
         }
         Ok(())

@@ -27,16 +27,16 @@ fn show_answer(server: ServerId, answer: Answered, lines: &mut Vec<Line>) -> Res
     Ok(())
 }
 
-/// The lines of the answers.
+/// The lines of the answers, which are taken out.
 fn show_answers(
     server: ServerId,
-    answers: Vec<Answered>,
+    answers: &mut Vec<Answered>,
     lines: &mut Vec<Line>,
 ) -> Result<(), AllocError>
     ensures { OnOk result (lines.new.items ≡ lines.old.items
-        ++ answered_lines server answers.items) }
+        ++ answered_lines server answers.old.items) }
 {
-    for answer in answers {
+    for answer in answers.drain(..) {
         show_answer(server, answer, lines)?;
     }
     Ok(())
@@ -93,44 +93,44 @@ fn post(
     Ok(())
 }
 
-/// The messages go among the packets, with their lines.
+/// The messages are taken out and go among the packets, with their lines.
 fn post_all(
     from: ServerId,
-    sends: Vec<Sent>,
+    sends: &mut Vec<Sent>,
     packets: &mut Packets,
     lines: &mut Vec<Line>,
 ) -> Result<(), AllocError>
-    ensures packets { OnOk result (packets.new ≡ packets.old ++ packets_of from sends.items) }
+    ensures packets { OnOk result (packets.new ≡ packets.old ++ packets_of from sends.old.items) }
     ensures lines { OnOk result (lines.new.items ≡ lines.old.items
-        ++ sent_lines from (length packets.old) sends.items) }
+        ++ sent_lines from (length packets.old) sends.old.items) }
 {
-    for send in sends {
+    for send in sends.drain(..) {
         post(from, send, packets, lines)?;
     }
     Ok(())
 }
 
-/// Puts a server's outputs into the book, among the packets and into lines, in the order of a
-/// trace, and gives back the tree that it listed.
+/// Puts a server's outputs, which are taken out, into the book, among the packets and into lines,
+/// in the order of a trace, and gives back the tree that it listed.
 pub fn give(
     alloc: Global,
     server: ServerId,
-    outs: Outputs,
+    outs: &mut Outputs,
     book: &mut Book,
     packets: &mut Packets,
     lines: &mut Vec<Line>,
 ) -> Result<Option<Listing>, AllocError>
-    ensures book { OnOk result (book.new ≡ book_given book.old outs) }
+    ensures book { OnOk result (book.new ≡ book_given book.old outs.old) }
     ensures packets { OnOk result (packets.new ≡ packets.old
-        ++ packets_of server outs.sends.items) }
+        ++ packets_of server outs.old.sends.items) }
     ensures lines { OnOk result (lines.new.items ≡ lines.old.items
-        ++ lines_given server book.old (length packets.old) outs) }
-    ensures listed { IfOk result (λ listing. listing ≡ outs.listing) }
+        ++ lines_given server book.old (length packets.old) outs.old) }
+    ensures listed { IfOk result (λ listing. listing ≡ outs.old.listing) }
 {
-    book.enter_updates(alloc, outs.committed, lines)?;
+    book.enter_updates(alloc, &mut outs.committed, lines)?;
     book.enter_reads(alloc, outs.answers.as_slice(), lines)?;
-    show_answers(server, outs.answers, lines)?;
+    show_answers(server, &mut outs.answers, lines)?;
     show_refusals(server, outs.refusals.as_slice(), lines)?;
-    post_all(server, outs.sends, packets, lines)?;
-    Ok(outs.listing)
+    post_all(server, &mut outs.sends, packets, lines)?;
+    Ok(outs.listing.take())
 }

@@ -10,7 +10,7 @@ use Rattle.world_lines.proofs.given.give.Goals as goal
 
 pub returns-clause-lines : goal.returns-clause-lines
 returns-clause-lines c =
-    let o = c.args.outs in
+    let o = c.args.outs.now in
     let b = c.args.book.now in
     let n = length b.entries in
     let us = new_updates b.updates (map entered o.committed.items) in

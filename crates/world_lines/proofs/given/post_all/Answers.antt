@@ -1,10 +1,9 @@
 use Rattle.std.proofs.Common.{rules, ◌≡◌, ◌++◌, List, ap, length, refl, sym, ◌∙◌}
-use Rattle.std.proofs.lemmas.Iterator.Adapters.{YieldsList-from_vec}
 use Rattle.std.proofs.lemmas.Iterator.Consumers.{YieldsList-end}
 use Rattle.std.proofs.lemmas.List.{length-append, map-id}
 use Rattle.node_outputs.specs.declared.outputs.Sent.{Sent}
 use Rattle.world_lines.specs.Given.{packets_of, sent_lines}
-use Rattle.world_lines.proofs.Loops.{begun, grown, reached}
+use Rattle.world_lines.proofs.Loops.{begun, drained, grown, reached, whole_range}
 use Rattle.world_lines.proofs.Made.{makes_packets, makes_send_lines, packets_made, packets_reached, send_lines_made, uncounted}
 use Rattle.world_lines.proofs.given.post_all.Goals as goal
 
@@ -37,8 +36,8 @@ loop-send-preserved c =
 pub returns-clause-packets : goal.returns-clause-packets
 returns-clause-packets c =
     let l = c.loop-send in
-    let all = YieldsList-end (YieldsList-from_vec {s = c.into_iter-send-iterator.result}
-    c.args.sends.items (search rules) (search rules))
+    let all = YieldsList-end (drained {s = c.into_iter-send-iterator.result}
+    c.args.sends.now.items (search (rules, whole_range)))
     l.yielded l.send-iterator l.yielded_by c.next.result
     c.next.new.self c.in-None.is c.next.ensures.steps in
     l.invariant.packets ∙ ap (λ (xs : List Sent). c.args.packets.now
@@ -47,8 +46,8 @@ returns-clause-packets c =
 pub returns-clause-lines : goal.returns-clause-lines
 returns-clause-lines c =
     let l = c.loop-send in
-    let all = YieldsList-end (YieldsList-from_vec {s = c.into_iter-send-iterator.result}
-    c.args.sends.items (search rules) (search rules))
+    let all = YieldsList-end (drained {s = c.into_iter-send-iterator.result}
+    c.args.sends.now.items (search (rules, whole_range)))
     l.yielded l.send-iterator l.yielded_by c.next.result
     c.next.new.self c.in-None.is c.next.ensures.steps in
     l.invariant.lines ∙ ap (λ (xs : List Sent). c.args.lines.now.items

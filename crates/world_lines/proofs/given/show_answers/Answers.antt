@@ -1,10 +1,9 @@
 use Rattle.std.proofs.Common.{rules, ◌++◌, List, ap, refl, sym, ◌∙◌}
-use Rattle.std.proofs.lemmas.Iterator.Adapters.{YieldsList-from_vec}
 use Rattle.std.proofs.lemmas.Iterator.Consumers.{YieldsList-end}
 use Rattle.std.proofs.lemmas.List.{map-id}
 use Rattle.node_outputs.specs.declared.outputs.Answered.{Answered}
 use Rattle.world_lines.specs.Given.{answered_lines}
-use Rattle.world_lines.proofs.Loops.{begun, grown}
+use Rattle.world_lines.proofs.Loops.{begun, drained, grown, whole_range}
 use Rattle.world_lines.proofs.Made.{answer_lines_made, makes_answer_lines, uncounted}
 use Rattle.world_lines.proofs.given.show_answers.Goals as goal
 
@@ -23,8 +22,8 @@ loop-answer-preserved c =
 pub returns : goal.returns
 returns c =
     let l = c.loop-answer in
-    let all = YieldsList-end (YieldsList-from_vec {s = c.into_iter-answer-iterator.result}
-    c.args.answers.items (search rules) (search rules))
+    let all = YieldsList-end (drained {s = c.into_iter-answer-iterator.result}
+    c.args.answers.now.items (search (rules, whole_range)))
     l.yielded l.answer-iterator l.yielded_by c.next.result
     c.next.new.self c.in-None.is c.next.ensures.steps in
     l.invariant ∙ ap (λ (xs : List Answered). c.args.lines.now.items

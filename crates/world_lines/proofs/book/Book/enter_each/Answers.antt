@@ -1,12 +1,11 @@
 use Rattle.std.proofs.Common.{rules, ◌≡◌, ◌∷◌, ◌+◌, ◌++◌, ◌∙◌, [], List, ap, arith, length, map, sym}
-use Rattle.std.proofs.lemmas.Iterator.Adapters.{YieldsList-from_vec}
 use Rattle.std.proofs.lemmas.Iterator.Consumers.{YieldsList-end}
 use Rattle.std.proofs.lemmas.List.{length-append, map-id}
 use Rattle.harp_types.specs.declared.book.BookEntry.{BookEntry}
 use Rattle.group_trace.specs.Lines.{entered_lines}
 use Rattle.node_outputs.specs.Said.{entered}
 use Rattle.world_lines.specs.Book.{BookValue, new_updates, with_updates}
-use Rattle.world_lines.proofs.Loops.{begun, grown, reached}
+use Rattle.world_lines.proofs.Loops.{begun, drained, grown, reached, whole_range}
 use Rattle.world_lines.proofs.Made.{counted_more, lines_more, makes_updates, no_lines, no_updates, updates_made, updates_reached}
 use Rattle.world_lines.proofs.book.Book.enter_each.Goals as goal
 
@@ -48,11 +47,11 @@ pub returns-clause-book : goal.returns-clause-book
 returns-clause-book c =
     let l = c.loop-update in
     let b = c.args.self.now in
-    let all = YieldsList-end (YieldsList-from_vec {s = c.into_iter-update-iterator.result}
-    c.args.updates.items (search rules) (search rules))
+    let all = YieldsList-end (drained {s = c.into_iter-update-iterator.result}
+    c.args.updates.now.items (search (rules, whole_range)))
     l.yielded l.update-iterator l.yielded_by c.next.result
     c.next.new.self c.in-None.is c.next.ensures.steps in
-    let are : l.yielded ≡ c.args.updates.items = sym (map-id l.yielded) ∙ all.0 in
+    let are : l.yielded ≡ c.args.updates.now.items = sym (map-id l.yielded) ∙ all.0 in
     ap (λ es. record { entries = es; updates = l.self.updates }) l.invariant.entries
     ∙ ap (λ n. record {
       entries = b.entries ++ new_updates b.updates (map entered l.yielded);
@@ -64,8 +63,8 @@ pub returns-clause-lines : goal.returns-clause-lines
 returns-clause-lines c =
     let l = c.loop-update in
     let b = c.args.self.now in
-    let all = YieldsList-end (YieldsList-from_vec {s = c.into_iter-update-iterator.result}
-    c.args.updates.items (search rules) (search rules))
+    let all = YieldsList-end (drained {s = c.into_iter-update-iterator.result}
+    c.args.updates.now.items (search (rules, whole_range)))
     l.yielded l.update-iterator l.yielded_by c.next.result
     c.next.new.self c.in-None.is c.next.ensures.steps in
     l.invariant.lines

@@ -3,10 +3,10 @@ use Rattle.world_lines.proofs.Made.{none_come, none_shown}
 use Rattle.world_lines.proofs.book.Book.enter_updates.Goals as goal
 
 pub returns-then-is_empty-clause-book : goal.returns-then-is_empty-clause-book
-returns-then-is_empty-clause-book c = none_come c.args.self.now c.args.updates.items
+returns-then-is_empty-clause-book c = none_come c.args.self.now c.args.updates.now.items
     (grind (arith, c.is_empty.ensures, c.if-is_empty.true))
 
 pub returns-then-is_empty-clause-lines : goal.returns-then-is_empty-clause-lines
 returns-then-is_empty-clause-lines c = none_shown c.args.lines.now.items
-    (length c.args.self.now.entries) c.args.self.now.updates c.args.updates.items
+    (length c.args.self.now.entries) c.args.self.now.updates c.args.updates.now.items
     (grind (arith, c.is_empty.ensures, c.if-is_empty.true))
