@@ -1,7 +1,7 @@
 -- A step of the world, the answers in its lines, and where a door has come then.
-use Rattle.std.proofs.Common.{◌≡◌, ◌≢◌, ℕ, true, List, [], ◌∷◌, ◌++◌, append-nil, append_assoc, reverse, option_to_list, refl, sym, ap, ◌∙◌, subst, Option, Some, None}
+use Rattle.std.proofs.Common.{◌≡◌, ◌≢◌, ℕ, ◌+◌, ◌<◌, ◌≤◌, true, List, [], ◌∷◌, ◌++◌, append-nil, append_assoc, arith, drop, get_or, length, set, refl, sym, ap, ◌∙◌, subst, Option, Some, None}
 use Rattle.std.specs.Prelude.{IfSome}
-use Rattle.std.proofs.lemmas.List.{reverse-append}
+use Rattle.std.proofs.lemmas.List.{at_drop_all, drop-set-lt, drop_more}
 use Rattle.harp_types.specs.declared.reply.Reply.{Reply}
 use Rattle.harp_types.specs.declared.server.ServerId.{ServerId}
 use Rattle.trace_types.specs.declared.line.Line.{Line}
@@ -20,7 +20,7 @@ use Rattle.schedule_play.specs.Stage.{IsReached, IsRefused, IsTaken, fault_of}
 use Rattle.schedule_play.proofs.Runs.{disk_more, disk_scene, reached, run-append, run_lines-append}
 use Rattle.schedule_play.proofs.TakenLaws.{taken-more}
 use Rattle.door_play.specs.Replies.{answers_in}
-use Rattle.door_play.specs.OnTheWay.{HasHeard, HasStopped, as_list}
+use Rattle.door_play.specs.OnTheWay.{HasHeard, HasStopped}
 
 -- ---- answers
 
@@ -87,18 +87,26 @@ no_answers = refl
 pub answers-none : (before : List (ℕ × Reply)) → before ≡ before ++ answers_in []
 answers-none before = sym (append-nil before) ∙ ap (λ found. before ++ found) (sym no_answers)
 
--- the last of the lines that are left, which lie the other way round, is the next one
-pub answers-left : (heard : List (ℕ × Reply)) (lines left : List Line) (popped : Option Line)
-    (l : Line) (o : Option (ℕ × Reply))
-    → lines ≡ left ++ option_to_list popped → popped ≡ Some l → as_list o ≡ answers_in (l ∷ [])
-    → (heard ++ as_list o) ++ answers_in (reverse left) ≡ heard ++ answers_in (reverse lines)
-answers-left heard lines left popped l o are is found =
-    append_assoc heard (as_list o) (answers_in (reverse left))
-    ∙ ap (λ xs. heard ++ (xs ++ answers_in (reverse left))) found
-    ∙ ap (λ xs. heard ++ xs) (sym (one-answer l (reverse left)))
-    ∙ ap (λ xs. heard ++ answers_in xs) (sym (reverse-append left (l ∷ [])))
-    ∙ ap (λ xs. heard ++ answers_in (reverse xs))
-    (sym (are ∙ ap (λ (p : Option Line). left ++ option_to_list p) is))
+-- the answer that a line is comes before those of the lines behind it, whatever the line is then
+pub answers-next : (heard found : List (ℕ × Reply)) (lines : List Line) (i : ℕ) (l new : Line)
+    → i < length lines → l ≡ get_or lines i l → found ≡ heard ++ answers_in (l ∷ [])
+    → found ++ answers_in (drop (i + 1) (set lines i new)) ≡ heard ++ answers_in (drop i lines)
+answers-next heard found lines i l new lt at is =
+    let left = drop (i + 1) lines in
+    ap (λ (ls : List Line). found ++ answers_in ls)
+    (drop-set-lt (i + 1) lines i new (omega arith))
+    ∙ ap (λ (xs : List (ℕ × Reply)). xs ++ answers_in left) is
+    ∙ append_assoc heard (answers_in (l ∷ [])) (answers_in left)
+    ∙ ap (λ (xs : List (ℕ × Reply)). heard ++ xs) (sym (one-answer l left))
+    ∙ ap (λ (x : Line). heard ++ answers_in (x ∷ left)) at
+    ∙ ap (λ (ls : List Line). heard ++ answers_in ls) (sym (drop_more lines i l lt))
+
+-- no line is left
+pub answers-all : (heard : List (ℕ × Reply)) (lines : List Line) (i : ℕ) → length lines ≤ i
+    → heard ≡ heard ++ answers_in (drop i lines)
+answers-all heard lines i all =
+    answers-none heard
+    ∙ sym (at_drop_all (λ (ls : List Line). heard ++ answers_in ls) lines i all)
 
 -- the event line answers nothing
 pub answers-behind : (s : Step) (ls : List Line) → answers_in (line.Event s ∷ ls) ≡ answers_in ls

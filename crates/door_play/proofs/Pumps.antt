@@ -189,6 +189,17 @@ pub first-read : (f : Spellings) (all : Reading) (s : Step) (ss : List Step)
 unfolding taken_then
 first-read f all s ss rest answers stands h = hears f all _ _ answers stands h refl
 
+-- the first of some steps, which is of one server, of the clocks or of the group's delta, is read
+pub alone-read : (f : Spellings) (all : Reading) (s : Step) (ss : List Step)
+    (rest : Scene → Reading) (answers : List (ℕ × Reply)) (stands : DiskScene → Type 0)
+    → is_elementary s ≡ true
+    → HasHeard f all (taken_then (measures_of f) (s ∷ ss) rest) answers stands
+    → HasHeard f all (with_step (measures_of f) 0 s (taken_then (measures_of f) ss rest)) answers
+    stands
+alone-read f all s ss rest answers stands e h =
+    one-read f all s (taken_then (measures_of f) ss rest) answers stands e
+    (first-read f all s ss rest answers stands h)
+
 -- no steps are left
 pub all-read : (f : Spellings) (all : Reading) (rest : Scene → Reading)
     (answers : List (ℕ × Reply)) (stands : DiskScene → Type 0)

@@ -1,5 +1,5 @@
 -- Where a door stands on its way through the steps that are played.
-use Rattle.std.specs.Prelude.{◌≡◌, ℕ, List, [], ◌∷◌, Option, Some, None}
+use Rattle.std.specs.Prelude.{◌≡◌, ℕ, List, [], ◌∷◌, Some}
 use Rattle.harp_types.specs.declared.reply.Reply.{Reply}
 use Rattle.trace_types.specs.declared.line.LineFault.{LineFault}
 use Rattle.trace_types.specs.declared.step.Step.{Step}
@@ -40,11 +40,6 @@ StopGives f all stands NoMemory = Unit {0}
 unfoldable pub taken_then : Measures → List Step → (Scene → Reading) → Scene → Reading
 taken_then m [] rest w = rest w
 taken_then m (s ∷ ss) rest w = with_steps m 0 (spelled_out m w s) (taken_then m ss rest) w
-
--- what there is, as a list
-abbrev pub as_list : {A : Type 0} → Option A → List A
-as_list None = []
-as_list (Some x) = x ∷ []
 
 -- ---- clocks
 

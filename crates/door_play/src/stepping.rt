@@ -13,11 +13,12 @@ ghost use Rattle.schedule_play.specs.OnTheWay.{with_pump};
 ghost use Rattle.schedule_play.specs.Reading.{Reading, with_step, with_steps};
 ghost use Rattle.schedule_play.specs.Stage.{AreReadings, clocks_after};
 ghost use Rattle.door_play.specs.Replies.{answers_in};
-ghost use Rattle.door_play.specs.OnTheWay.{AreReadable, HasHeard, StopGives, as_list, clocks_behind, taken_then};
+ghost use Rattle.door_play.specs.OnTheWay.{AreReadable, HasHeard, StopGives, clocks_behind, taken_then};
 
 use harp_types::{Call, Cred, Reply, ServerId};
 use schedule_play::Stage;
 use std::alloc::{AllocError, Global};
+use std::mem;
 use trace_types::{Line, Step};
 
 /// More deliveries than any pump needs.
@@ -41,16 +42,6 @@ impl From<AllocError> for Stop {
     }
 }
 
-/// The answer that a line is, with its call's number.
-fn answer_in(line: Line) -> Option<(u64, Reply)>
-    ensures { as_list result ≡ answers_in (line ∷ []) }
-{
-    match line {
-        Line::Answered { number, reply, .. } => Some((number, reply)),
-        _ => None,
-    }
-}
-
 /// What was heard of a world, and the room that the lines of each step are put in anew.
 #[derive(Drop)]
 pub struct Ear {
@@ -71,17 +62,23 @@ impl Ear {
     }
 }
 
-/// Takes lines out of their room, and keeps the answers that stand in them, each with its call's
-/// number.
-fn keep_answers(lines: &mut Vec<Line>, heard: &mut Vec<(u64, Reply)>) -> Result<(), AllocError>
-    ensures { OnOk result (heard.new.items ≡ heard.old.items ++ answers_in lines.old.items) }
+/// Keeps the answer that a line is, with its call's number. Its reply is taken out of the line.
+fn keep_answer(line: &mut Line, heard: &mut Vec<(u64, Reply)>) -> Result<(), AllocError>
+    ensures { OnOk result (heard.new.items ≡ heard.old.items ++ answers_in (line.old ∷ [])) }
 {
-    // The first one is to be the last, where they are taken.
-    lines.reverse();
-    while let Some(line) = lines.pop() {
-        if let Some(answer) = answer_in(line) {
-            heard.push(answer)?;
-        }
+    let Line::Answered { number, reply, .. } = line else {
+        return Ok(());
+    };
+    heard.push((*number, mem::replace(reply, Reply::Done)))?;
+    Ok(())
+}
+
+/// Keeps the answers that stand in lines, each with its call's number.
+fn keep_answers(lines: &mut [Line], heard: &mut Vec<(u64, Reply)>) -> Result<(), AllocError>
+    ensures { OnOk result (heard.new.items ≡ heard.old.items ++ answers_in lines.old) }
+{
+    for line in lines.iter_mut() {
+        keep_answer(line, heard)?;
     }
     Ok(())
 }
@@ -103,7 +100,7 @@ fn take<W: Stage>(alloc: Global, step: Step, world: &mut W, ear: &mut Ear) -> Re
 {
     ear.lines.clear();
     match world.step(alloc, step, &mut ear.lines) {
-        Ok(()) => Ok(keep_answers(&mut ear.lines, &mut ear.heard)?),
+        Ok(()) => Ok(keep_answers(ear.lines.as_mut_slice(), &mut ear.heard)?),
         Err(refusal) => match refusal.fault() {
             Some(_) => Err(Stop::Refused),
             None => Err(Stop::NoMemory),
@@ -189,7 +186,7 @@ pub fn play_call<W: Stage>(
         cred,
         call,
     };
-    match play_step(alloc, asked, world, ear) {
+    match take(alloc, asked, world, ear) {
         Ok(()) => {}
         Err(stop) => return Err(stop),
     }

@@ -11,7 +11,8 @@ returns-in_ok-keep_answers-in-Ok-clause-ends g c = λ all rest before h.
     let lines = c.step.new.lines.items in
     subst (λ answers. HasHeard f all rest answers there)
     (append_assoc before c.args.ear.now.heard.items (answers_in lines)
-    ∙ ap (λ found. before ++ found) (sym c.in_ok-keep_answers-in-Ok.ensures))
+    ∙ ap (λ found. before ++ found) (sym (c.in_ok-keep_answers-in-Ok.ensures
+    ∙ ap (λ ls. c.args.ear.now.heard.items ++ answers_in ls) c.as_mut_slice.ensures.value)))
     (hears-on f all rest (before ++ c.args.ear.now.heard.items) (g.W.Stage.stands c.args.world.now)
     there c.args.step lines c.requires.elementary h c.in-Ok.ensures.ok)
 
