@@ -77,6 +77,11 @@ impl Node {
         store.write_mark(alloc, &mark)?;
         self.mark = mark;
         self.duty = duty;
+        // What a server keeps that has joined before stays where it is.
+        if let State::Joined(_, joining) = &mut self.state {
+            *joining = first_joining(told);
+            return Ok(());
+        }
         let kept = mem::replace(&mut self.state, State::Gone).into_kept();
         self.state = State::Joined(kept, first_joining(told));
         Ok(())

@@ -27,8 +27,8 @@ heard_none Zero = refl
 heard_none One = refl
 heard_none Two = refl
 
-pub invariant_of-self : goal.invariant_of-self
-invariant_of-self g c = (
+pub invariant_of-self-2 : goal.invariant_of-self-2
+invariant_of-self-2 g c = (
   c.requires.duty,
   (
     kept_on (place_of c.self.inside.me) c.self.inside.mark c.promised_mark-mark.result c.args.view
@@ -37,7 +37,7 @@ invariant_of-self g c = (
         (subst (λ (s : State). Fits (place_of c.self.inside.me) c.self.inside.mark s)
         (sym c.replace.ensures.value) c.self.invariant.1)),
     ap (λ (j : Joining). get (heard_of j.formed) (place_of c.self.inside.me))
-        c.first_joining.ensures ∙ heard_none (place_of c.self.inside.me),
+        c.first_joining-2.ensures ∙ heard_none (place_of c.self.inside.me),
   ),
 )
 
@@ -85,3 +85,35 @@ returns-clause-stays g c = record {
 
 pub returns-clause-faults : goal.returns-clause-faults
 returns-clause-faults g c = once_done _ _ _ c.write_mark.ensures.count
+
+-- a server that joined before keeps what it kept
+pub invariant_of-self : goal.invariant_of-self
+invariant_of-self g c =
+    let n = c.self.inside in (
+      c.requires.duty,
+      (
+        kept_on (place_of n.me) n.mark c.promised_mark-mark.result c.args.view c.in-Joined.field-0
+            c.promised_mark-mark.ensures
+            (subst (λ (s : State). Fits (place_of n.me) n.mark s) c.in-Joined.is
+            c.self.invariant.1).0,
+        ap (λ (j : Joining). get (heard_of j.formed) (place_of n.me)) c.first_joining.ensures
+            ∙ heard_none (place_of n.me),
+      ),
+    )
+
+pub returns-in-Joined-clause-mark : goal.returns-in-Joined-clause-mark
+returns-in-Joined-clause-mark g c = c.promised_mark-mark.ensures
+    ∙ ap (λ (n : NodeValue). promising n.mark c.args.view) c.self.view_is
+
+pub returns-in-Joined-clause-part : goal.returns-in-Joined-clause-part
+returns-in-Joined-clause-part g c = tt
+
+pub returns-in-Joined-clause-stays : goal.returns-in-Joined-clause-stays
+returns-in-Joined-clause-stays g c = record {
+  me = ap (λ (n : NodeValue). n.me) c.self.view_is;
+  up = refl;
+  cached = refl;
+}
+
+pub returns-in-Joined-clause-faults : goal.returns-in-Joined-clause-faults
+returns-in-Joined-clause-faults g c = once_done _ _ _ c.write_mark.ensures.count
