@@ -1,22 +1,29 @@
 -- Texts that are made of lines.
 use Rattle.std.proofs.Common.{◌≡◌, ℕ, ◌+◌, ◌<◌, ◌≤◌, List, [], ◌∷◌, ◌++◌, length, drop, get_or, refl, sym, ap, ◌∙◌, append_assoc, arith}
 use Rattle.std.proofs.lemmas.List.{at_drop_more, at_drop_all, append-nil}
-use Rattle.std.proofs.lemmas.Grind.{flat_map-append}
 use Rattle.trace_types.specs.declared.step.Step.{Step}
 use Rattle.text_spelling.specs.Steps.{step_text}
 use Rattle.sweep.specs.declared.summary.Summary.{Summary}
 use Rattle.sweep.specs.Texts.{schedule_text, run_text, runs_text}
 
--- one more step is written
-pub one_more : (text before after : List ℕ) (step : Step) (steps : List Step)
-    → text ≡ before ++ step_text step → after ≡ text ++ 10 ∷ [] → before ≡ schedule_text steps
-    → after ≡ schedule_text (steps ++ step ∷ [])
+-- the line of the next step goes from what is left to what is written
+pub step-written : (before after all : List ℕ) (step : Step) (steps left : List Step)
+    → steps ≡ step ∷ left → after ≡ before ++ step_text step ++ 10 ∷ []
+    → before ++ schedule_text steps ≡ all → after ++ schedule_text left ≡ all
 unfolding schedule_text
-one_more text before after step steps spelled ended was =
-    ended ∙ ap (λ s. s ++ 10 ∷ []) spelled ∙ append_assoc before (step_text step) (10 ∷ [])
-    ∙ ap (λ s. s ++ (step_text step ++ 10 ∷ [])) was
-    ∙ ap (λ s. schedule_text steps ++ s) (sym (append-nil (step_text step ++ 10 ∷ [])))
-    ∙ sym (flat_map-append (λ s. step_text s ++ 10 ∷ []) steps (step ∷ []))
+step-written before after all step steps left is ended h =
+    let rest = schedule_text left in
+    let next : schedule_text steps ≡ step_text step ++ 10 ∷ rest =
+    ap schedule_text is ∙ append_assoc (step_text step) (10 ∷ []) rest in
+    ap (λ s. s ++ rest) ended ∙ append_assoc (before ++ step_text step) (10 ∷ []) rest
+    ∙ append_assoc before (step_text step) (10 ∷ rest) ∙ ap (λ s. before ++ s) (sym next) ∙ h
+
+-- all steps are written
+pub steps-written : (before all : List ℕ) (steps : List Step) → steps ≡ []
+    → before ++ schedule_text steps ≡ all → before ≡ all
+unfolding schedule_text
+steps-written before all steps none h =
+    sym (append-nil before) ∙ ap (λ ss. before ++ schedule_text ss) (sym none) ∙ h
 
 runs_text-cons : (seed : ℕ) (summary : Summary) (all : List Summary)
     → runs_text seed (summary ∷ all) ≡ run_text seed summary ++ 10 ∷ runs_text (seed + 1) all

@@ -1,5 +1,5 @@
 -- The schedule of a seed: the lines that open a view, and then lines that are drawn.
-use Rattle.std.specs.Prelude.{ℕ, zero, suc, ◌+◌, ◌≤◌, ◌==◌, ◌&&◌, not, Bool, true, false, List, [], ◌∷◌, ◌++◌, slice_index, slice_set, nat_lt, Some, None, if◌then◌else◌}
+use Rattle.std.specs.Prelude.{ℕ, zero, suc, ◌+◌, ◌≤◌, ◌==◌, ◌&&◌, not, Bool, true, false, List, [], ◌∷◌, ◌++◌, slice_index, slice_set, nat_lt, Option, Some, None, if◌then◌else◌, ◌≡◌}
 use Rattle.harp_types.specs.Trio.{value_of, with_value}
 use Rattle.harp_types.specs.declared.cred.Cred.{Cred}
 use Rattle.harp_types.specs.declared.server.ServerId.{ServerId}
@@ -152,3 +152,9 @@ opening =
 -- the schedule of a seed
 unfoldable pub generated : ℕ → ℕ → List Step
 generated seed lines = opening ++ drawn_lines lines (generator_of seed)
+
+-- the first of the steps that are left is given, and the others are left then; none is given just
+-- where none is left
+abbrev pub IsNext : Option Step → List Step → List Step → Type 0
+IsNext None left after = (left ≡ []) × (after ≡ [])
+IsNext (Some step) left after = left ≡ step ∷ after

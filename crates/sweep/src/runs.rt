@@ -5,7 +5,7 @@ ghost use Rattle.sweep.specs.Lines.{generated};
 ghost use Rattle.sweep.specs.Runs.{summaries};
 
 use crate::player::Player;
-use crate::schedule::generate;
+use crate::schedule::Schedule;
 use crate::summary::Summary;
 use rayon::prelude::*;
 use std::alloc::{AllocError, Global};
@@ -20,8 +20,7 @@ fn play_one<P: Player>(
 ) -> Result<Summary, AllocError>
     ensures { IfOk result (λ summary. summary ≡ P.summary_of player.now (generated seed lines)) }
 {
-    let steps = generate(alloc, seed, lines)?;
-    player.play(alloc, steps)
+    player.play(alloc, Schedule::of(seed, lines))
 }
 
 /// Plays the schedules of so many seeds from this one on, one after another. The summaries stand in

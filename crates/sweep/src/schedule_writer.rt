@@ -1,28 +1,24 @@
 //! Generated schedules as text.
 
-ghost use Rattle.std.specs.Prelude.{◌≡◌, ◌≤◌, IfOk, OnOk, OnErr, Err};
+ghost use Rattle.std.specs.Prelude.{◌≡◌, ◌≤◌, ◌++◌, ◌∷◌, [], IfOk, OnOk, OnErr, Err};
 ghost use Rattle.std.specs.Io.KnownBytes.{Appends};
 ghost use Rattle.harp_types.specs.Streams.{GrewByPart, Rose};
+ghost use Rattle.text_spelling.specs.Steps.{step_text};
 ghost use Rattle.sweep.specs.Lines.{generated};
 ghost use Rattle.sweep.specs.Texts.{schedule_text};
 
-use crate::schedule::{Taker, draw};
+use crate::schedule::Schedule;
 use harp_types::{Sink, SinkFault, write_all};
 use std::alloc::{AllocError, Global};
 use text_writer::append_step;
 use trace_types::Step;
 
-/// The lines of the steps are kept, which are let go.
-impl Taker for Vec<u8> {
-    ghost use Rattle.std.specs.Prelude.{◌≡◌};
-    ghost use Rattle.sweep.specs.Texts.{schedule_text};
-
-    ghost has = { λ text steps. text.items ≡ schedule_text steps };
-
-    fn take(&mut self, alloc: Global, step: Step) -> Result<(), AllocError> {
-        append_step(alloc, &step, self)?;
-        Ok(self.push(b'\n')?)
-    }
+/// Appends the line of a step, which is let go.
+fn append_line(alloc: Global, step: Step, text: &mut Vec<u8>) -> Result<(), AllocError>
+    ensures { OnOk result (text.new.items ≡ text.old.items ++ step_text step ++ 10 ∷ []) }
+{
+    append_step(alloc, &step, text)?;
+    Ok(text.push(b'\n')?)
 }
 
 /// The text of the schedule of a seed with so many drawn lines.
@@ -30,7 +26,10 @@ fn text_of(alloc: Global, seed: u64, lines: u32) -> Result<Vec<u8>, AllocError>
     ensures { IfOk result (λ text. text.items ≡ schedule_text (generated seed lines)) }
 {
     let mut text = Vec::new(alloc);
-    draw(alloc, seed, lines, &mut text)?;
+    let mut steps = Schedule::of(seed, lines);
+    while let Some(step) = steps.next(alloc)? {
+        append_line(alloc, step, &mut text)?;
+    }
     Ok(text)
 }
 

@@ -2,11 +2,10 @@
 
 use crate::playing::summary_over;
 use std::alloc::{AllocError, Global};
-use sweep::{Player, Summary};
-use trace_types::Step;
+use sweep::{Player, Schedule, Summary};
 use world::World;
 
-/// Plays each list of steps in a new world of three servers.
+/// Plays each schedule in a new world of three servers.
 #[derive(Clone, Copy, PartialEq, Eq)]
 pub struct GroupPlayer;
 
@@ -17,7 +16,7 @@ impl Player for GroupPlayer {
 
     ghost summary_of = { λ player steps. summary_of_steps (measures_of spellings) steps };
 
-    fn play(&self, alloc: Global, steps: Vec<Step>) -> Result<Summary, AllocError> {
+    fn play(&self, alloc: Global, steps: Schedule) -> Result<Summary, AllocError> {
         let mut world = World::new(alloc)?;
         summary_over(alloc, &mut world, steps)
     }

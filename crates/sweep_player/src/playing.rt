@@ -16,7 +16,7 @@ use crate::tally::Tally;
 use harp_types::{MOST_LINES, ServerId};
 use schedule_play::Stage;
 use std::alloc::{AllocError, Global};
-use sweep::Summary;
+use sweep::{Schedule, Summary};
 use trace_types::{Line, Step};
 
 /// The most lines of a schedule, as a count of steps.
@@ -165,20 +165,21 @@ fn take_line<W: Stage>(
 }
 
 /// What the trace of these steps comes to, each played as a line of a schedule, in a world that
-/// stands at the first scene. No line of it is kept, and each step is let go once it is taken.
+/// stands at the first scene. No step and no line of it is kept: each step is taken as soon as it is
+/// there, and let go.
 pub fn summary_over<W: Stage>(
     alloc: Global,
     world: &mut W,
-    steps: Vec<Step>,
+    mut steps: Schedule,
 ) -> Result<Summary, AllocError>
     requires { W.stands world.old first_disk_scene }
     ensures { IfOk result
-        (λ summary. summary ≡ summary_of_steps (measures_of W.spellings) steps.items) }
+        (λ summary. summary ≡ summary_of_steps (measures_of W.spellings) steps) }
 {
     let mut lines = Vec::new(alloc);
     let mut tally = Tally::new();
     let mut before = 0;
-    for step in steps {
+    while let Some(step) = steps.next(alloc)? {
         match take_line(alloc, before, step, world, &mut lines, &mut tally)? {
             Turn::GoesOn => before += 1,
             Turn::Refused => return Ok(tally.summary()),

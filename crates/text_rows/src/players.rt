@@ -1,11 +1,22 @@
 //! Players that count steps.
 
-ghost use Rattle.std.specs.Prelude.{◌≡◌, ◌≤◌};
+ghost use Rattle.std.specs.Prelude.{◌≡◌, ◌≤◌, IfOk};
 ghost use Rattle.text_rows.specs.Players.{one_if, count_of};
 
 use std::alloc::{AllocError, Global};
-use sweep::{Player, Summary};
+use sweep::{Player, Schedule, Summary};
 use trace_types::Step;
+
+/// The steps of a schedule as a list.
+fn list_of(alloc: Global, mut steps: Schedule) -> Result<Vec<Step>, AllocError>
+    ensures { IfOk result (λ list. list.items ≡ steps) }
+{
+    let mut list = Vec::new(alloc);
+    while let Some(step) = steps.next(alloc)? {
+        list.push(step)?;
+    }
+    Ok(list)
+}
 
 /// Counts all steps, as entered.
 pub(crate) struct Steps;
@@ -16,7 +27,8 @@ impl Player for Steps {
     ghost summary_of = { λ player steps. record
         { entered = length steps; answered = 0; refused = 0; opened = 0 } };
 
-    fn play(&self, _alloc: Global, steps: Vec<Step>) -> Result<Summary, AllocError> {
+    fn play(&self, alloc: Global, steps: Schedule) -> Result<Summary, AllocError> {
+        let steps = list_of(alloc, steps)?;
         Ok(Summary {
             entered: steps.len() as u64,
             answered: 0,
@@ -71,7 +83,8 @@ impl Player for Kinds {
 
     ghost summary_of = { λ player steps. kinds steps };
 
-    fn play(&self, _alloc: Global, steps: Vec<Step>) -> Result<Summary, AllocError> {
+    fn play(&self, alloc: Global, steps: Schedule) -> Result<Summary, AllocError> {
+        let steps = list_of(alloc, steps)?;
         let steps = steps.as_slice();
         Ok(Summary {
             entered: Kind::Ask.count(steps),
