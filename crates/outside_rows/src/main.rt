@@ -1,6 +1,6 @@
-//! Doors and observers, which are outside of a group. Each row of standard input is tried, and what
-//! came of it is written. Bytes are in hexadecimal, a dash for none; CALL and REPLY are spelled as
-//! in the group's own messages. A row begins with
+//! Doors, which are outside of a group. Each row of standard input is tried, and what came of it is
+//! written. Bytes are in hexadecimal, a dash for none; CALL and REPLY are spelled as in the group's
+//! own messages. A row begins with
 //!
 //! - `read HEX`: a record, of which is written what it means: `silent`, `fixed HEX` with the
 //!   answer, or `ask XID CALL`;
@@ -24,26 +24,9 @@
 //!   each step is written what came of it: `dial`, and `send:N:HEX`, `receive:N`, `leave:N` are
 //!   client N's; `seat:S` and `take:S` wait for somebody and for something at seat S, `nobody:S`
 //!   and `look:S` don't; `give:S:HEX` and `close:S` are the connection's there.
-//! - `observe ROW`: ROW is played on a group and an observer of it. It is written behind `> `, and
-//!   then what came of it.
-//!
-//! A ROW is empty, or begins with
-//!
-//! - `#`: it says what follows;
-//! - `new`: from here on no update is committed, the clock reads 0, and the observer has no copy;
-//! - `clock 0 T` or `ask 0 CLIENT NUMBER CALL`, as in a schedule: the group commits the update;
-//! - `drop N`: the group drops its first N records;
-//! - `copy`: the observer begins a new copy;
-//! - `want`: the group shows what the observer wants, as `shown M` with what it is, M from 0 on, or
-//!   `unshown`;
-//! - `take M`: what was shown as M reaches the observer. Where its top changes comes
-//!   `observer TOP`;
-//! - `drain K`: up to K times `want`, and `take` of what came;
-//! - `peek CALL`: what the observer answers, as `peeked TOP REPLY`, or `blind`.
 #![tactic(auto)]
 
 mod group;
-mod observing;
 mod rows;
 mod steps;
 mod stream;
@@ -51,7 +34,6 @@ mod streams;
 mod tcp;
 mod words;
 
-use crate::observing::{Table, observe};
 use crate::rows::{put_answer, put_meaning};
 use crate::steps::put_steps;
 use crate::stream::Stream;
@@ -83,11 +65,8 @@ fn outcome(
 }
 
 /// Tries a row.
-fn try_row(rt: HostRuntime, stream: &mut Stream, table: &mut Table, row: &str) -> io::Result<()> {
+fn try_row(rt: HostRuntime, stream: &mut Stream, row: &str) -> io::Result<()> {
     let (word, rest) = row.split_once(' ').unwrap_or((row, ""));
-    if word == "observe" {
-        return observe(rt, table, rest);
-    }
     let text = outcome(rt, stream, word, rest)?;
     print!(rt; "{text}")
 }
@@ -95,9 +74,8 @@ fn try_row(rt: HostRuntime, stream: &mut Stream, table: &mut Table, row: &str) -
 fn main(rt: HostRuntime) -> io::Result<()> {
     let alloc = rt.alloc();
     let mut stream = Stream::new(alloc);
-    let mut table = Table::new(alloc);
     for line in BufReader::new(alloc, rt.reader())?.lines(alloc) {
-        try_row(rt, &mut stream, &mut table, line?.as_str())?;
+        try_row(rt, &mut stream, line?.as_str())?;
     }
     Ok(())
 }

@@ -1,5 +1,0 @@
-use Rattle.std.proofs.Common.{◌≡◌}
-use Rattle.log_rows.proofs.walks.fetched_by.Given as goal
-
-abbrev pub invariant-loop-place : goal.invariant-loop-place
-invariant-loop-place g l = g.U.CellRead.left l.cells ≡ g.U.CellRead.left l.fn.cells
