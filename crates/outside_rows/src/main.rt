@@ -1,81 +1,69 @@
-//! Doors, which are outside of a group. Each row of standard input is tried, and what came of it is
-//! written. Bytes are in hexadecimal, a dash for none; CALL and REPLY are spelled as in the group's
-//! own messages. A row begins with
+//! Tries what a group and its programs get from outside and give there: texts, sweeps, folders,
+//! links, clocks and doors. Each row of standard input is tried, and what came of it is written.
+//! Bytes are in hexadecimal, a dash for none. A row begins with
 //!
-//! - `read HEX`: a record, of which is written what it means: `silent`, `fixed HEX` with the
-//!   answer, or `ask XID CALL`;
-//! - `write XID CALL REPLY`: a call and its reply, of which the answer is written;
-//! - `steps WHO HEX REPLY..`: a record of a client of a file system in use, at 1000 seconds and 5
-//!   microseconds, and the replies to its calls. WHO makes all calls, `UID:GID` or a dash for none.
-//!   Of each step is written `silent`, `answer HEX` or `call UID GID CALL`;
-//! - `input N HEX`: so many times, these are the next bytes of an input;
-//! - `reply REPLY`: the next reply of a group, which fails where it has none that the call can get;
-//! - `group N WHY`: its call with this number, from 1, is given up (`spent`), has no memory
-//!   (`memory`), or fails (`failed`);
-//! - `source N`, `sink N`: the call with this number, from 1, fails;
-//! - `serve UID GID NAME`: the input is served for a user and a group. The name and how it ended
-//!   are written, who asked the group which calls, and what was written to the sink;
-//! - `from KIND N HEX`: a source of these bytes, of which four reads of two bytes are written. In
-//!   `memory` its call N fails; a `reader` of std gives them; a `broken` one fails always;
-//! - `into KIND N HEX`: a sink that is given nothing, and then each of these bytes. In `memory` its
-//!   call N fails, and what was written is told; a `writer` of std takes them; a `broken` one takes
-//!   nothing;
-//! - `tcp STEP..`: connections over TCP, and clients 0, 1, .. in this program. Of
-//!   each step is written what came of it: `dial`, and `send:N:HEX`, `receive:N`, `leave:N` are
-//!   client N's; `seat:S` and `take:S` wait for somebody and for something at seat S, `nobody:S`
-//!   and `look:S` don't; `give:S:HEX` and `close:S` are the connection's there.
+//! - `message HEX`, `line HEX`, `step HEX` or `observed HEX`: a message of the group and its
+//!   clients, a line of a trace, of a schedule or of an observed one. Of its bytes is written `ok`,
+//!   or where they are at fault. What was read of them is spelled again, and `other` is written where
+//!   these aren't the same bytes;
+//! - `sweep ROW`: a schedule that is made, or a sweep;
+//! - `folder ROW`: a store over a folder, files, a link or a clock;
+//! - any other word: a door, and sources and sinks.
+//!
+//! The modules have the rows.
 #![tactic(auto)]
 
-mod group;
-mod rows;
-mod steps;
-mod stream;
-mod streams;
-mod tcp;
-mod words;
+mod digits;
+mod door;
+mod folder;
+mod text;
 
-use crate::rows::{put_answer, put_meaning};
-use crate::steps::put_steps;
-use crate::stream::Stream;
-use crate::streams::{put_sink, put_source};
-use crate::tcp::put_tcp;
+use crate::door::Stream;
+use crate::folder::{Player, Seconds};
+use harp_types::WriterSink;
 use std::alloc::AllocError;
 use std::io::{self, BufRead, BufReader};
 
-/// What came of a row with this word: lines, or nothing.
-fn outcome(
-    rt: HostRuntime,
-    stream: &mut Stream,
-    word: &str,
-    rest: &str,
-) -> Result<String, AllocError> {
-    let alloc = rt.alloc();
-    let mut out = String::new(alloc);
-    match word {
-        "read" => put_meaning(alloc, &mut out, rest)?,
-        "write" => put_answer(alloc, &mut out, rest)?,
-        "serve" => stream.serve(alloc, &mut out, rest)?,
-        "steps" => put_steps(alloc, &mut out, rest)?,
-        "from" => put_source(alloc, &mut out, rest)?,
-        "into" => put_sink(alloc, &mut out, rest)?,
-        "tcp" => put_tcp(rt, alloc, &mut out, rest)?,
-        _ => stream.take(alloc, word, rest)?,
-    }
-    Ok(out)
+/// Writes what came of a row, and an end.
+fn write(rt: HostRuntime, came: Result<String, AllocError>, end: &str) -> io::Result<()> {
+    let text = came?;
+    print!(rt; "{text}{end}")
 }
 
-/// Tries a row.
-fn try_row(rt: HostRuntime, stream: &mut Stream, row: &str) -> io::Result<()> {
-    let (word, rest) = row.split_once(' ').unwrap_or((row, ""));
-    let text = outcome(rt, stream, word, rest)?;
-    print!(rt; "{text}")
+/// Tries a row, other than of a sweep.
+fn play(
+    rt: HostRuntime,
+    stream: &mut Stream,
+    player: &mut Player<'_>,
+    line: &str,
+) -> io::Result<()> {
+    let alloc = rt.alloc();
+    let (word, row) = line.split_once(' ').unwrap_or((line, ""));
+    match word {
+        "message" => write(rt, text::described_message(alloc, row), "\n"),
+        "line" => write(rt, text::described_line(alloc, row), "\n"),
+        "step" => write(rt, text::described_step(alloc, row), "\n"),
+        "observed" => write(rt, text::described_observed(alloc, row), "\n"),
+        "folder" => folder::play(rt, player, row),
+        _ => write(rt, door::outcome(rt, stream, word, row), ""),
+    }
 }
 
 fn main(rt: HostRuntime) -> io::Result<()> {
     let alloc = rt.alloc();
+    let seconds = Seconds::new();
+    let mut player = Player::new(rt, &seconds)?;
     let mut stream = Stream::new(alloc);
+    let mut sink = WriterSink::new(io::writer(&rt));
     for line in BufReader::new(alloc, rt.reader())?.lines(alloc) {
-        try_row(rt, &mut stream, line?.as_str())?;
+        let line = line?;
+        let Some(row) = line.strip_prefix("sweep ") else {
+            play(rt, &mut stream, &mut player, line.as_str())?;
+            continue;
+        };
+        if !text::write_row(&rt, alloc, row, &mut sink)? {
+            println!(rt; "refused")?;
+        }
     }
     Ok(())
 }

@@ -1,9 +1,0 @@
--- what was counted, and what is left
-use Rattle.std.proofs.Common.{◌≡◌, ◌≤◌, ◌+◌, drop}
-use Rattle.text_rows.specs.Players.{count_of}
-use Rattle.text_rows.proofs.players.Kind.count.Given as goal
-
-abbrev pub invariant-loop-step : goal.invariant-loop-step
-invariant-loop-step l =
-    (l.count + count_of l.self (drop l.step-index l.steps) ≡ count_of l.self l.steps)
-    × (l.count ≤ l.step-index)
