@@ -7,8 +7,7 @@ ghost use Rattle.harp_cells.specs.Effect.{Cells, Reads, after, is_cell, sets};
 ghost use Rattle.harp_cells.specs.declared.change.Change.TheVariants as change;
 ghost use Rattle.cell_cache.specs.Entries.{AreOf, AreUpTo, IsUpTo, IsUsed, has_entry, left_by, newest_of};
 
-use harp_cells::{Cell, Change, Value};
-use harp_store::SharedValue;
+use harp_cells::{Cell, Change, SharedValue, Value};
 use lru::LruCache;
 use std::alloc::{AllocError, Global};
 use std::marker::Model;

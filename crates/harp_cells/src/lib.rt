@@ -17,6 +17,8 @@
 //!   The bytes of a saved record aren't looked into. `fields` reads and writes cells and changes
 //!   too.
 //! - `Change::sets` says whether a change sets a cell, to a value or to none.
+//! - `SharedValue` is a value that its copies share; contracts see it as the value. `share` gives
+//!   an equal one.
 //! - The trait `CellRead` says of a reader what its cells are, what was found, and what reads leave
 //!   as it is, such as which value it was lent (`left`). `MemCells`, `overlay::At` and
 //!   `cell_cache::Cached` meet it; the two logs of `volatile_log` that have records meet
@@ -33,6 +35,7 @@ pub mod fields;
 mod laws;
 mod memory;
 mod reads;
+mod shared;
 mod value;
 
 pub use bounds::{Moment, NonEmpty, OtherKind};
@@ -43,4 +46,5 @@ pub use codec_writing::write_value;
 pub use laws::cell_laws;
 pub use memory::MemCells;
 pub use reads::{CellFault, CellRead, ChangeLog};
+pub use shared::SharedValue;
 pub use value::{Inode, LONGEST_OLD_RECORD, LONGEST_RECORD, UnformedInode, Value};

@@ -25,8 +25,6 @@
 //!   a failed call may have been. So what is told after a run of calls says how many of them
 //!   passed, and whether the stop cut the run. `lift` gives the store with all that passed, and
 //!   `crash` what the pick keeps of it. The call that failed is in neither.
-//! - `SharedValue` is a value that its copies share; contracts see it as the value. `share` gives
-//!   an equal one.
 //! - `Mark` and `Saved` keep their bounds: no view accepted above the promised one, indices below
 //!   2^62, a ring of 16,384 or 32,768, and a longest promise of 500 to 100,000 milliseconds where
 //!   there is one. `Mark::first` is the first mark of a server's disk.
@@ -46,7 +44,6 @@ mod layers;
 mod mark;
 mod mem_store;
 mod memory;
-mod shared;
 mod sound;
 mod spares;
 mod stopping;
@@ -61,6 +58,5 @@ pub use laws::{change_laws, moment_laws, order_laws};
 pub use layers::Unsynced;
 pub use mark::{LONGEST_PROMISE, Mark, OLD_RING, RING, SHORTEST_PROMISE, Saved};
 pub use mem_store::MemStore;
-pub use shared::SharedValue;
 pub use store::{Store, StoreFault};
 pub use stores::{SoundStore, StoppingStore};

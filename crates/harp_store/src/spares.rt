@@ -2,8 +2,7 @@
 
 ghost use Rattle.std.specs.Prelude.{◌≡◌, ◌⊎◌, ◌++◌, ◌∷◌, [], None, IfOk, IfSome};
 
-use crate::shared::SharedValue;
-use harp_cells::Value;
+use harp_cells::{SharedValue, Value};
 use std::alloc::{AllocError, Global};
 
 /// Boxes of values that nothing holds any more, for the values that come. Small blocks that are

@@ -9,10 +9,9 @@ ghost use Rattle.harp_store.specs.Values.{stands, stored, told};
 
 use crate::attempt::Attempt;
 use crate::mark::Mark;
-use crate::shared::SharedValue;
 use crate::store::{Store, StoreFault};
 use crate::stores::{SoundStore, StoppingStore};
-use harp_cells::{Cell, Value};
+use harp_cells::{Cell, SharedValue, Value};
 use harp_types::Pick;
 use std::alloc::Global;
 

@@ -7,8 +7,7 @@ ghost use Rattle.harp_cells.specs.declared.change.Change.TheVariants.{EraseFrom}
 ghost use Rattle.harp_store.specs.Disk.{Disk, Moments, with_value, without_from, synced_whole, with_mark, after_step, MayHaveMade, cells_told, ReadsMark};
 
 use crate::mark::Mark;
-use crate::shared::SharedValue;
-use harp_cells::{Cell, Value};
+use harp_cells::{Cell, SharedValue, Value};
 use std::alloc::{AllocError, Global};
 
 /// Why a call of a store gave nothing.

@@ -10,8 +10,7 @@ use crate::seen::SeenRecords;
 use event_record::fields::{USUAL_RECORD, put_item};
 use event_record::{Record, read_item, read_old_item};
 use harp_base::FieldFault;
-use harp_cells::{NonEmpty, Value};
-use harp_store::SharedValue;
+use harp_cells::{NonEmpty, SharedValue, Value};
 use std::alloc::{AllocError, Global};
 use std::rc::Rc;
 

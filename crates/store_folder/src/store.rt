@@ -13,8 +13,8 @@ use crate::files::SystemFiles;
 use crate::journal::Journal;
 use crate::unsynced::Unsynced;
 use crate::{folder, syncing};
-use harp_cells::{Cell, Value};
-use harp_store::{Mark, SharedValue, Store, StoreFault};
+use harp_cells::{Cell, SharedValue, Value};
+use harp_store::{Mark, Store, StoreFault};
 use std::alloc::{AllocError, Global};
 
 /// A store over a folder of files, which `attach` names and makes.

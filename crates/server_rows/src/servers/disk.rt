@@ -2,8 +2,8 @@
 
 ghost use Rattle.std.specs.Prelude.{None};
 
-use harp_cells::{Cell, Value};
-use harp_store::{Mark, MemStore, SharedValue, Store, StoreFault};
+use harp_cells::{Cell, SharedValue, Value};
+use harp_store::{Mark, MemStore, Store, StoreFault};
 use std::alloc::Global;
 
 /// A store in memory that tells nothing of its cells, so that a server over it needs no proof of

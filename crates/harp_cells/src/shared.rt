@@ -2,7 +2,7 @@
 
 ghost use Rattle.std.specs.Prelude.{◌≡◌, IfOk};
 
-use harp_cells::Value;
+use crate::value::Value;
 use std::alloc::{AllocError, Global};
 use std::marker::Model;
 use std::rc::Rc;
@@ -55,7 +55,7 @@ impl SharedValue {
     }
 
     /// Whether the value has one owner, and is of a kind that is small outside its box too.
-    pub(crate) fn is_spare(&self) -> bool {
+    pub fn is_spare(&self) -> bool {
         let boxed = matches!(
             self.get(),
             Value::Meta { .. } | Value::Object { .. } | Value::Client { .. }
@@ -64,11 +64,7 @@ impl SharedValue {
     }
 
     /// An equal value, in the same box where it has no other owner.
-    pub(crate) fn refilled(
-        mut self,
-        alloc: Global,
-        value: &Value,
-    ) -> Result<SharedValue, AllocError>
+    pub fn refilled(mut self, alloc: Global, value: &Value) -> Result<SharedValue, AllocError>
         ensures { IfOk result (λ shared. shared ≡ value.now) }
     {
         match Rc::get_mut(&mut self.value) {
