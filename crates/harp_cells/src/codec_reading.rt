@@ -347,7 +347,7 @@ fn put_change(alloc: Global, bytes: &[u8], at: usize) -> Result<(Change, usize),
 {
     let (cell, at) = cell_at(bytes, at)?;
     let (value, at) = value_at(alloc, bytes, at)?;
-    Ok((Change::Put { cell, value }, at))
+    Ok((Change::put(alloc, cell, value)?, at))
 }
 
 #[tactic(auto, unfolding(crate::specs::CellBytes::change_fields_at))]

@@ -142,7 +142,7 @@ fn put_change_fields(out: &mut Vec<u8>, change: &Change) -> Result<(), AllocErro
     match change {
         Change::Put { cell, value } => {
             put_cell(out, *cell)?;
-            put_value(out, value)
+            put_value(out, value.get())
         }
         Change::Erase { cell } => put_cell(out, *cell),
         Change::EraseFrom { object, first } => {

@@ -106,7 +106,7 @@ impl MemCells {
         ensures fetched { self.new.fetched ≡ self.old.fetched }
     {
         match change {
-            Change::Put { cell, value } => self.put(*cell, value.copy(alloc)?)?,
+            Change::Put { cell, value } => self.put(*cell, value.get().copy(alloc)?)?,
             Change::Erase { cell } => self.erase(*cell),
             Change::EraseFrom { object, first } => self.erase_from(*object, *first),
         }
