@@ -115,12 +115,10 @@ pub fn keep(
     ensures { IfOk result (λ c. c ≡ change.Put (cell.Client client)
         (value.Client number index reply.now)) }
 {
-    Ok(Change::Put {
-        cell: Cell::Client { client },
-        value: Value::Client {
-            number,
-            index,
-            reply: reply.copy(alloc)?,
-        },
-    })
+    let value = Value::Client {
+        number,
+        index,
+        reply: reply.copy(alloc)?,
+    };
+    Change::put(alloc, Cell::Client { client }, value)
 }

@@ -5,6 +5,7 @@ ghost use Rattle.harp_types.specs.Limits.{block_size};
 ghost use Rattle.inode_blocks.specs.Changes.{put};
 
 use harp_cells::{Cell, CellFault, Change, NonEmpty, Value};
+use std::alloc::Global;
 
 /// Appends a change. Where memory runs out, the changes are as before.
 pub fn append(changes: &mut Vec<Change>, change: Change) -> Result<(), CellFault>
@@ -20,6 +21,7 @@ pub fn append(changes: &mut Vec<Change>, change: Change) -> Result<(), CellFault
 
 /// Appends a Put of a block with these bytes.
 pub fn append_put(
+    alloc: Global,
     changes: &mut Vec<Change>,
     object: u32,
     block: u32,
@@ -32,11 +34,11 @@ pub fn append_put(
     ensures err { OnErr result (changes.new.items ≡ changes.old.items) }
     ensures cause { OnErr result (result ≡ Err CellFault.NoMemory) }
 {
-    let change = Change::Put {
-        cell: Cell::Block { object, block },
-        value: Value::Block {
-            bytes: NonEmpty::new(bytes),
-        },
+    let value = Value::Block {
+        bytes: NonEmpty::new(bytes),
     };
-    append(changes, change)
+    match Change::put(alloc, Cell::Block { object, block }, value) {
+        Ok(change) => append(changes, change),
+        Err(_) => Err(CellFault::NoMemory),
+    }
 }

@@ -47,6 +47,7 @@ fn kept_part<R: CellRead>(
 
 /// Appends a Put of what is kept of a block.
 fn append_kept(
+    alloc: Global,
     changes: &mut Vec<Change>,
     object: u32,
     block: u32,
@@ -60,7 +61,7 @@ fn append_kept(
     ensures cause { OnErr result (result ≡ Err CellFault.NoMemory) }
 {
     match kept {
-        Some(bytes) => append_put(changes, object, block, bytes),
+        Some(bytes) => append_put(alloc, changes, object, block, bytes),
         None => Ok(()),
     }
 }
@@ -119,7 +120,7 @@ pub fn cut_to<R: CellRead>(
         return Ok(());
     }
     let kept = kept_part(alloc, cells, object, wanted)?;
-    append_kept(changes, object, wanted / BLOCK_SIZE, kept)?;
+    append_kept(alloc, changes, object, wanted / BLOCK_SIZE, kept)?;
     append_erasure(changes, object, size, wanted)?;
     Ok(())
 }

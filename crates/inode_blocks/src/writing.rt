@@ -104,7 +104,7 @@ pub fn write_bytes<R: CellRead>(
         let within = offset.saturating_sub(block * BLOCK_SIZE) as usize;
         let part = part_in(offset, bytes, block);
         let new = block_bytes(alloc, cells, object, size, block, within, part)?;
-        append_put(changes, object, block, new)?;
+        append_put(alloc, changes, object, block, new)?;
     }
     Ok(())
 }

@@ -13,7 +13,7 @@ use crate::parts::pushes::{erase_blocks, erase_object, put_object};
 use crate::parts::totals::Totals;
 use harp_cells::{CellFault, CellRead, Change, Inode};
 use harp_types::{BLOCK_SIZE, Kind, Time};
-use std::alloc::AllocError;
+use std::alloc::{AllocError, Global};
 
 pub fn is_directory(kind: Kind) -> bool
     ensures { result ≡ is_directory_kind kind }
@@ -76,6 +76,7 @@ fn has_blocks(inode: &Inode) -> bool
 
 /// The changes of an object that loses an entry.
 pub fn lose(
+    alloc: Global,
     changes: &mut Vec<Change>,
     number: u32,
     inode: &Inode,
@@ -85,7 +86,7 @@ pub fn lose(
         ++ loss number inode.now now) }
 {
     if !is_last(inode) {
-        return put_object(changes, number, &unlinked(inode, now));
+        return put_object(alloc, changes, number, &unlinked(inode, now));
     }
     if has_blocks(inode) {
         erase_blocks(changes, number)?;

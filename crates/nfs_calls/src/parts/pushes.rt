@@ -7,17 +7,21 @@ ghost use Rattle.harp_cells.specs.declared.change.Change.TheVariants as change;
 
 use harp_cells::{Cell, Change, Inode, NonEmpty, Value};
 use harp_types::LONGEST_NAME;
-use std::alloc::AllocError;
+use std::alloc::{AllocError, Global};
 
 /// An object gets attributes.
-pub fn put_object(changes: &mut Vec<Change>, number: u32, inode: &Inode) -> Result<(), AllocError>
+pub fn put_object(
+    alloc: Global,
+    changes: &mut Vec<Change>,
+    number: u32,
+    inode: &Inode,
+) -> Result<(), AllocError>
     ensures { IfOk result (λ _. changes.new.items
         ≡ changes.old.items ++ change.Put (cell.Object number) (value.Object inode.now) ∷ []) }
 {
-    changes.push(Change::Put {
-        cell: Cell::Object { object: number },
-        value: Value::Object { inode: *inode },
-    })?;
+    let value = Value::Object { inode: *inode };
+    let put = Change::put(alloc, Cell::Object { object: number }, value)?;
+    changes.push(put)?;
     Ok(())
 }
 
@@ -46,6 +50,7 @@ pub fn erase_blocks(changes: &mut Vec<Change>, number: u32) -> Result<(), AllocE
 
 /// A slot gets an entry.
 pub fn put_slot(
+    alloc: Global,
     changes: &mut Vec<Change>,
     dir: u32,
     slot: u32,
@@ -55,10 +60,9 @@ pub fn put_slot(
     ensures { IfOk result (λ _. changes.new.items
         ≡ changes.old.items ++ change.Put (cell.Slot dir slot) (value.Slot object name) ∷ []) }
 {
-    changes.push(Change::Put {
-        cell: Cell::Slot { object: dir, slot },
-        value: Value::Slot { object, name },
-    })?;
+    let value = Value::Slot { object, name };
+    let put = Change::put(alloc, Cell::Slot { object: dir, slot }, value)?;
+    changes.push(put)?;
     Ok(())
 }
 

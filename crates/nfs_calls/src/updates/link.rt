@@ -89,14 +89,15 @@ fn link_changes(
 {
     let mut changes = Vec::new(alloc);
     put_slot(
+        alloc,
         &mut changes,
         entering.dir,
         entering.slot,
         handle,
         entering.name,
     )?;
-    put_object(&mut changes, entering.dir, &entering.inode)?;
-    put_object(&mut changes, handle, linked)?;
+    put_object(alloc, &mut changes, entering.dir, &entering.inode)?;
+    put_object(alloc, &mut changes, handle, linked)?;
     Ok(changes)
 }
 

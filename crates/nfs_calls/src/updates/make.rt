@@ -110,12 +110,11 @@ fn put_text(
     if text.is_empty() {
         return Ok(());
     }
-    changes.push(Change::Put {
-        cell: Cell::Block { object, block: 0 },
-        value: Value::Block {
-            bytes: NonEmpty::new(Vec::from_slice(alloc, text)?),
-        },
-    })?;
+    let value = Value::Block {
+        bytes: NonEmpty::new(Vec::from_slice(alloc, text)?),
+    };
+    let put = Change::put(alloc, Cell::Block { object, block: 0 }, value)?;
+    changes.push(put)?;
     Ok(())
 }
 
@@ -134,6 +133,7 @@ pub fn make(
 {
     let mut changes = Vec::new(alloc);
     put_slot(
+        alloc,
         &mut changes,
         entering.dir,
         entering.slot,
@@ -141,8 +141,8 @@ pub fn make(
         entering.name,
     )?;
     put_text(alloc, &mut changes, number, text)?;
-    put_object(&mut changes, entering.dir, &entering.inode)?;
-    put_object(&mut changes, number, made)?;
+    put_object(alloc, &mut changes, entering.dir, &entering.inode)?;
+    put_object(alloc, &mut changes, number, made)?;
     Ok(changes)
 }
 

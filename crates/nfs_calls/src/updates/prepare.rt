@@ -171,19 +171,22 @@ fn settled<R: CellRead>(
 }
 
 /// The whole tree gets totals and the stamp of its last update.
-fn put_totals(changes: &mut Vec<Change>, totals: Totals, stamp: Moment) -> Result<(), AllocError>
+fn put_totals(
+    alloc: Global,
+    changes: &mut Vec<Change>,
+    totals: Totals,
+    stamp: Moment,
+) -> Result<(), AllocError>
     ensures { IfOk result (λ _. changes.new.items
         ≡ changes.old.items ++ change.Put cell.Meta (value.Meta totals.next totals.used stamp)
         ∷ []) }
 {
-    changes.push(Change::Put {
-        cell: Cell::Meta,
-        value: Value::Meta {
-            next: totals.next,
-            used: totals.used,
-            stamp,
-        },
-    })?;
+    let value = Value::Meta {
+        next: totals.next,
+        used: totals.used,
+        stamp,
+    };
+    changes.push(Change::put(alloc, Cell::Meta, value)?)?;
     Ok(())
 }
 
@@ -220,7 +223,7 @@ pub fn prepare<R: CellRead>(
     let totals = read_totals(cells)?;
     let now = time_of(stamp.get());
     let mut plan = settled(alloc, cells, totals, cred, call, now)?;
-    put_totals(&mut plan.changes, plan.totals, stamp)?;
+    put_totals(alloc, &mut plan.changes, plan.totals, stamp)?;
     Ok(Prepared {
         reply: plan.reply,
         changes: plan.changes,

@@ -54,9 +54,14 @@ fn plan_in(
     ensures form { IfOk result (λ p. form p.reply ≡ done_form) }
 {
     let mut changes = Vec::new(alloc);
-    push_slots(&mut changes, moving, to_slot, to_name)?;
-    push_directories(&mut changes, moving, to, now)?;
-    put_object(&mut changes, moving.number, &moved_inode(moving, now))?;
+    push_slots(alloc, &mut changes, moving, to_slot, to_name)?;
+    push_directories(alloc, &mut changes, moving, to, now)?;
+    put_object(
+        alloc,
+        &mut changes,
+        moving.number,
+        &moved_inode(moving, now),
+    )?;
     Ok(Planned {
         reply: Reply::Done,
         changes,
@@ -89,10 +94,15 @@ fn plan_over(
 {
     let to = relinked(&moving.to, links_over(moving), now);
     let mut changes = Vec::new(alloc);
-    push_slots(&mut changes, moving, to_slot, to_name)?;
-    push_directories(&mut changes, moving, &to, now)?;
-    lose(&mut changes, target, object, now)?;
-    put_object(&mut changes, moving.number, &moved_inode(moving, now))?;
+    push_slots(alloc, &mut changes, moving, to_slot, to_name)?;
+    push_directories(alloc, &mut changes, moving, &to, now)?;
+    lose(alloc, &mut changes, target, object, now)?;
+    put_object(
+        alloc,
+        &mut changes,
+        moving.number,
+        &moved_inode(moving, now),
+    )?;
     Ok(Planned {
         reply: Reply::Done,
         changes,

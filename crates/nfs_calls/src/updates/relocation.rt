@@ -7,7 +7,7 @@ use crate::parts::loss::{is_directory, link_of, relinked};
 use crate::parts::pushes::{erase_slot, put_object, put_slot};
 use harp_cells::{Change, Inode, NonEmpty};
 use harp_types::{LONGEST_NAME, Time};
-use std::alloc::AllocError;
+use std::alloc::{AllocError, Global};
 
 /// The directories of a move, which may be one, and their attributes.
 #[derive(Clone, Copy)]
@@ -33,6 +33,7 @@ pub struct Relocation {
 
 /// The entry leaves its slot for another one, unless that is the same.
 pub fn push_slots(
+    alloc: Global,
     changes: &mut Vec<Change>,
     entry: &Relocation,
     to_slot: u32,
@@ -44,11 +45,12 @@ pub fn push_slots(
     if entry.dir != entry.to_dir || entry.slot != to_slot {
         erase_slot(changes, entry.dir, entry.slot)?;
     }
-    put_slot(changes, entry.to_dir, to_slot, entry.number, to_name)
+    put_slot(alloc, changes, entry.to_dir, to_slot, entry.number, to_name)
 }
 
 /// The directories, which may be one, get their attributes.
 pub fn push_directories(
+    alloc: Global,
     changes: &mut Vec<Change>,
     entry: &Relocation,
     to: &Inode,
@@ -59,9 +61,14 @@ pub fn push_directories(
 {
     if entry.dir != entry.to_dir {
         let links = entry.from.links.saturating_sub(link_of(entry.moved.kind));
-        put_object(changes, entry.dir, &relinked(&entry.from, links, now))?;
+        put_object(
+            alloc,
+            changes,
+            entry.dir,
+            &relinked(&entry.from, links, now),
+        )?;
     }
-    put_object(changes, entry.to_dir, to)
+    put_object(alloc, changes, entry.to_dir, to)
 }
 
 /// The moved object after its move: a directory gets another parent.

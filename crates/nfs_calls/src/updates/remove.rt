@@ -95,8 +95,8 @@ fn take(
     let links = inode.links.saturating_sub(link_of(object.kind));
     let mut changes = Vec::new(alloc);
     erase_slot(&mut changes, dir, slot)?;
-    put_object(&mut changes, dir, &relinked(inode, links, now))?;
-    lose(&mut changes, number, object, now)?;
+    put_object(alloc, &mut changes, dir, &relinked(inode, links, now))?;
+    lose(alloc, &mut changes, number, object, now)?;
     Ok(Planned {
         reply: Reply::Done,
         changes,

@@ -166,7 +166,7 @@ pub fn set_found<R: CellRead>(
     let used = with_size(cred, inode, totals.used, attr.size)?;
     let mut changes = resize(alloc, cells, handle, inode.size, attr.size)?;
     let new = set_inode(inode, attr, now);
-    put_object(&mut changes, handle, &new)?;
+    put_object(alloc, &mut changes, handle, &new)?;
     Ok(Set {
         inode: new,
         changes,

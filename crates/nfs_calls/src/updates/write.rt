@@ -102,7 +102,7 @@ pub fn write<R: CellRead>(
         ctime: now,
         ..inode
     };
-    put_object(&mut changes, handle, &new)?;
+    put_object(alloc, &mut changes, handle, &new)?;
     Ok(Planned {
         reply: Reply::Attr {
             attr: attr_by(handle, &new),
