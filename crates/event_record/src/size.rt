@@ -111,7 +111,7 @@ fn change_size(change: &Change) -> usize
     ensures bound { result ≤ 2 ^ 28 }
 {
     match change {
-        Change::Put { cell, value } => 1 + cell_size(*cell) + value_size(value),
+        Change::Put { cell, value } => 1 + cell_size(*cell) + value_size(value.get()),
         Change::Erase { cell } => 1 + cell_size(*cell),
         Change::EraseFrom { .. } => 9,
     }

@@ -72,7 +72,7 @@ impl<U: CellRead, L: ChangeLog> CellRead for At<'_, U, L> {
     fn value(&self) -> Option<&Value> {
         match self.found.first() {
             None => self.under.value(),
-            Some(Change::Put { value, .. }) => Some(value),
+            Some(Change::Put { value, .. }) => Some(value.get()),
             Some(Change::Erase { .. } | Change::EraseFrom { .. }) => None,
         }
     }

@@ -273,7 +273,7 @@ impl Unsynced {
         ensures blocks { self.new.blocks ≡ self.old.blocks }
     {
         match self.find(alloc, cell)? {
-            Some(Some(value)) => changes.push(Change::Put { cell, value })?,
+            Some(Some(value)) => changes.push(Change::put(alloc, cell, value)?)?,
             Some(None) => changes.push(Change::Erase { cell })?,
             None => {}
         }

@@ -34,7 +34,7 @@ fn made_by(alloc: Global, change: &Change) -> Result<Option<Option<Value>>, Allo
     ensures { IfOk result (λ made. made ≡ made_by (Some change.now)) }
 {
     match change {
-        Change::Put { value, .. } => Ok(Some(Some(value.copy(alloc)?))),
+        Change::Put { value, .. } => Ok(Some(Some(value.get().copy(alloc)?))),
         Change::Erase { .. } => Ok(Some(None)),
         Change::EraseFrom { .. } => Ok(None),
     }

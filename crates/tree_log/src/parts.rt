@@ -69,7 +69,7 @@ fn change_is_short(change: &Change)
     ensures { IsShortChange change.now }
 {
     match change {
-        Change::Put { value, .. } => value_is_short(value),
+        Change::Put { value, .. } => value_is_short(value.get()),
         Change::Erase { .. } | Change::EraseFrom { .. } => {}
     }
 }

@@ -24,19 +24,16 @@ pub(crate) struct Overlay {
 }
 
 impl Numbers {
-    fn change(&mut self) -> Change {
+    fn change(&mut self, alloc: Global) -> Option<Change> {
         let place = self.next() % PLACES;
         let number = self.next();
         match self.next() % 8 {
-            0..5 => Change::Put {
-                cell: cell(place),
-                value: value(number),
-            },
-            5..7 => Change::Erase { cell: cell(place) },
-            _ => Change::EraseFrom {
+            0..5 => Change::put(alloc, cell(place), value(number)).ok(),
+            5..7 => Some(Change::Erase { cell: cell(place) }),
+            _ => Some(Change::EraseFrom {
                 object: 2 + number % 2,
                 first: place % 4,
-            },
+            }),
         }
     }
 }
@@ -169,7 +166,7 @@ impl Overlay {
     fn random(&mut self, alloc: Global, numbers: &mut Numbers) -> Option<()> {
         if numbers.next() % 8 > 0 {
             for _ in 0..numbers.next() % 4 + 1 {
-                self.changes.push(numbers.change()).ok()?;
+                self.changes.push(numbers.change(alloc)?).ok()?;
             }
             return self.append(alloc);
         }
@@ -209,7 +206,7 @@ impl Overlay {
     ) -> Option<Answer> {
         let [first, second, third, ..] = numbers;
         match name {
-            "new-put" => self.put(first, second),
+            "new-put" => self.put(alloc, first, second),
             "new-erases" => self.erase_from(first, second),
             "append" => {
                 self.append(alloc)?;
@@ -229,9 +226,9 @@ impl Overlay {
         }
     }
 
-    fn put(&mut self, place: u32, number: u32) -> Option<Answer> {
-        let (cell, value) = (cell(place), value(number));
-        self.changes.push(Change::Put { cell, value }).ok()?;
+    fn put(&mut self, alloc: Global, place: u32, number: u32) -> Option<Answer> {
+        let put = Change::put(alloc, cell(place), value(number)).ok()?;
+        self.changes.push(put).ok()?;
         Some(Answer::Says(""))
     }
 

@@ -136,7 +136,7 @@ fn put_erase(out: &mut Vec<u8>, cell: Cell) -> Result<(), AllocError> {
 
 fn put_change(alloc: Global, out: &mut Vec<u8>, change: &Change) -> Result<(), AllocError> {
     match change {
-        Change::Put { cell, value } => put_put(alloc, out, *cell, value),
+        Change::Put { cell, value } => put_put(alloc, out, *cell, value.get()),
         Change::Erase { cell } => put_erase(out, *cell),
         Change::EraseFrom { object, first } => put_pair(out, b"erase blocks", *object, *first),
     }
