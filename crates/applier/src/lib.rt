@@ -83,7 +83,7 @@ fn make_change<D: Store>(alloc: Global, store: &mut D, change: &Change) -> Resul
     ensures count { D.faults store.old ≤ D.faults store.new }
 {
     match change {
-        Change::Put { cell, value } => store.put(alloc, *cell, value.get()),
+        Change::Put { cell, value } => store.put(alloc, *cell, value),
         Change::Erase { cell } => store.erase(alloc, *cell),
         Change::EraseFrom { object, first } => store.erase_from(alloc, *object, *first),
     }

@@ -53,26 +53,4 @@ impl SharedValue {
     {
         &self.value
     }
-
-    /// Whether the value has one owner, and is of a kind that is small outside its box too.
-    pub fn is_spare(&self) -> bool {
-        let boxed = matches!(
-            self.get(),
-            Value::Meta { .. } | Value::Object { .. } | Value::Client { .. }
-        );
-        boxed && Rc::strong_count(&self.value) == 1
-    }
-
-    /// An equal value, in the same box where it has no other owner.
-    pub fn refilled(mut self, alloc: Global, value: &Value) -> Result<SharedValue, AllocError>
-        ensures { IfOk result (λ shared. shared ≡ value.now) }
-    {
-        match Rc::get_mut(&mut self.value) {
-            Some(held) => {
-                *held = value.copy(alloc)?;
-                Ok(self)
-            }
-            None => SharedValue::of(alloc, value),
-        }
-    }
 }

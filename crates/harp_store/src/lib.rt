@@ -45,7 +45,6 @@ mod mark;
 mod mem_store;
 mod memory;
 mod sound;
-mod spares;
 mod stopping;
 mod store;
 mod stores;

@@ -9,7 +9,7 @@ use crate::mark::Mark;
 use crate::mem_store::MemStore;
 use crate::store::{Store, StoreFault};
 use crate::stores::{SoundStore, StoppingStore};
-use harp_cells::{Cell, SharedValue, Value};
+use harp_cells::{Cell, SharedValue};
 use harp_types::Pick;
 use std::alloc::Global;
 
@@ -78,7 +78,7 @@ impl Store for SoundStore {
         self.store.read(alloc, cell)
     }
 
-    fn put(&mut self, alloc: Global, cell: Cell, value: &Value) -> Result<(), StoreFault> {
+    fn put(&mut self, alloc: Global, cell: Cell, value: &SharedValue) -> Result<(), StoreFault> {
         self.store.put(alloc, cell, value)
     }
 

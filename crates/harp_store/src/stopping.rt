@@ -11,7 +11,7 @@ use crate::attempt::Attempt;
 use crate::mark::Mark;
 use crate::store::{Store, StoreFault};
 use crate::stores::{SoundStore, StoppingStore};
-use harp_cells::{Cell, SharedValue, Value};
+use harp_cells::{Cell, SharedValue};
 use harp_types::Pick;
 use std::alloc::Global;
 
@@ -93,12 +93,12 @@ impl Store for StoppingStore {
         self.store.read(alloc, cell)
     }
 
-    fn put(&mut self, alloc: Global, cell: Cell, value: &Value) -> Result<(), StoreFault> {
+    fn put(&mut self, alloc: Global, cell: Cell, value: &SharedValue) -> Result<(), StoreFault> {
         if self.stopped.is_some() {
             return Err(self.fail());
         }
         if self.left == 0 {
-            let value = value.copy(alloc)?;
+            let value = value.share()?;
             return Err(self.stop(Attempt::Put { cell, value }));
         }
         self.store.put(alloc, cell, value)?;

@@ -7,7 +7,7 @@ ghost use Rattle.harp_cells.specs.declared.change.Change.TheVariants.{EraseFrom}
 ghost use Rattle.harp_store.specs.Disk.{Disk, Moments, with_value, without_from, synced_whole, with_mark, after_step, MayHaveMade, cells_told, ReadsMark};
 
 use crate::mark::Mark;
-use harp_cells::{Cell, SharedValue, Value};
+use harp_cells::{Cell, SharedValue};
 use std::alloc::{AllocError, Global};
 
 /// Why a call of a store gave nothing.
@@ -49,8 +49,8 @@ pub trait Store {
         ensures rose { (result ≡ Err StoreFault.Failed) → Rose (faults self.old) (faults self.new) }
         ensures count { faults self.old ≤ faults self.new };
 
-    /// The cell holds the value, whatever it held before.
-    fn put(&mut self, alloc: Global, cell: Cell, value: &Value) -> Result<(), StoreFault>
+    /// The cell holds the value, whatever it held before. The store may share it.
+    fn put(&mut self, alloc: Global, cell: Cell, value: &SharedValue) -> Result<(), StoreFault>
         ensures put { OnOk result (told self.new
             ≡ after_step (with_value cell (Some value.now)) (told self.old)) }
         ensures part { OnErr result (MayHaveMade (with_value cell (Some value.now))

@@ -12,7 +12,7 @@ ghost use Rattle.volatile_log.specs.Log.{room, top};
 use crate::fault::SaveFault;
 use crate::record::value_of;
 use event_record::Record;
-use harp_cells::Cell;
+use harp_cells::{Cell, SharedValue};
 use harp_store::{Mark, RING, Saved, Store};
 use std::alloc::Global;
 use volatile_log::FrozenLog;
@@ -28,7 +28,8 @@ fn put_record<D: Store>(alloc: Global, item: &Record, store: &mut D) -> Result<(
     ensures never { result ≡ Err NotSaved → ⊥ }
     ensures count { D.faults store.old ≤ D.faults store.new }
 {
-    let value = value_of(alloc, item)?;
+    // The copy has no room to spare.
+    let value = SharedValue::of(alloc, &value_of(alloc, item)?)?;
     let place = (item.index().get() % u64::from(RING)) as u32;
     store.put(alloc, Cell::Saved { place }, &value)?;
     Ok(())

@@ -12,7 +12,7 @@ mod server;
 
 pub(crate) use crate::servers::server::Server;
 use crate::servers::server::input_of;
-use harp_cells::Cell;
+use harp_cells::{Cell, SharedValue};
 use harp_store::{Pick, Store, StoreFault};
 use harp_types::ServerId;
 use node::{Input, NodeFault};
@@ -65,6 +65,7 @@ fn put_saved<D: Store>(alloc: Global, disk: &mut D, line: &str) -> Option<Result
     let (place, digits) = halves(line);
     let place = place.parse::<u32>().ok()?;
     let value = read_cell_file(alloc, bytes_of(alloc, digits)?.as_slice()).ok()?;
+    let value = SharedValue::new(alloc, value).ok()?;
     Some(disk.put(alloc, Cell::Saved { place }, &value))
 }
 

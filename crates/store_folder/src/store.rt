@@ -286,7 +286,7 @@ impl<F: DiskFiles + Drop> Store for FolderStore<F> {
         self.counted(read)
     }
 
-    fn put(&mut self, alloc: Global, cell: Cell, value: &Value) -> Result<(), StoreFault>
+    fn put(&mut self, alloc: Global, cell: Cell, value: &SharedValue) -> Result<(), StoreFault>
         // Reads give what the change makes of them, whatever the disk holds.
         ensures changed { OnOk result (IsChanged (change.Put cell value.now)
             (unsynced_of self.old) (unsynced_of self.new)) }
@@ -303,7 +303,7 @@ impl<F: DiskFiles + Drop> Store for FolderStore<F> {
             → Rose (store_faults self.old) (store_faults self.new) }
         ensures count { store_faults self.old ≤ store_faults self.new }
     {
-        Ok(self.unsynced.put(alloc, cell, value)?)
+        Ok(self.unsynced.put(alloc, cell, value.get())?)
     }
 
     fn erase(&mut self, alloc: Global, cell: Cell) -> Result<(), StoreFault>

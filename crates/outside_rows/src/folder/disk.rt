@@ -2,7 +2,7 @@
 
 use crate::digits::bytes_of;
 use crate::folder::words::{Answer, came, halves, number, tell_bytes, told};
-use harp_cells::{Cell, NonEmpty, Value};
+use harp_cells::{Cell, NonEmpty, SharedValue, Value};
 use harp_store::{Mark, Store};
 use std::alloc::Global;
 use store_folder::{DiskFiles, FolderStore, read_mark_file, write_cell_file, write_mark_file};
@@ -40,9 +40,9 @@ fn cell_named(name: &str) -> Option<Cell> {
 }
 
 /// A block of bytes that are told as digits.
-fn block_of(alloc: Global, digits: &str) -> Option<Value> {
+fn block_of(alloc: Global, digits: &str) -> Option<SharedValue> {
     let bytes = NonEmpty::of(bytes_of(alloc, digits)?)?;
-    Some(Value::Block { bytes })
+    SharedValue::new(alloc, Value::Block { bytes }).ok()
 }
 
 /// A mark by the bytes of its file.
@@ -78,7 +78,7 @@ fn read<D: Store>(alloc: Global, store: &mut D, cell: Cell, text: &mut String) -
     }
 }
 
-fn put<D: Store>(alloc: Global, store: &mut D, cell: Cell, value: &Value) -> Answer {
+fn put<D: Store>(alloc: Global, store: &mut D, cell: Cell, value: &SharedValue) -> Answer {
     came(store.put(alloc, cell, value))
 }
 

@@ -2,6 +2,7 @@
 
 use crate::disks::cells::{Numbers, cell, folded, number, value};
 use crate::disks::words::{Answer, passed, tell, tell_read, told};
+use harp_cells::SharedValue;
 use harp_store::{Bits, Mark, MemStore, Pick, Store, StoreFault};
 use harp_types::{Role, ServerId, ViewNo};
 use std::alloc::Global;
@@ -38,8 +39,9 @@ fn pick(alloc: Global, bits: u32) -> Option<Pick> {
 
 // ---- calls of a store
 
-fn put<D: Store>(alloc: Global, store: &mut D, place: u32, number: u32) -> Answer {
-    passed(store.put(alloc, cell(place), &value(number)))
+fn put<D: Store>(alloc: Global, store: &mut D, place: u32, number: u32) -> Option<Answer> {
+    let value = SharedValue::new(alloc, value(number)).ok()?;
+    Some(passed(store.put(alloc, cell(place), &value)))
 }
 
 fn erase<D: Store>(alloc: Global, store: &mut D, place: u32) -> Answer {
@@ -160,7 +162,7 @@ impl Disk {
         second: u32,
     ) -> Option<Answer> {
         match name {
-            "put" => Some(put(alloc, &mut self.store, first, second)),
+            "put" => put(alloc, &mut self.store, first, second),
             "erase" => Some(erase(alloc, &mut self.store, first)),
             "erases" => Some(erase_from(alloc, &mut self.store, first)),
             "sync" => Some(sync(alloc, &mut self.store)),

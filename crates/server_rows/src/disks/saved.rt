@@ -82,8 +82,9 @@ fn saved<D: Store>(
 }
 
 /// Puts a value in the cell of a saved record.
-fn put<D: Store>(alloc: Global, store: &mut D, place: u32, value: &Value) -> Answer {
-    passed(store.put(alloc, Cell::Saved { place }, value))
+fn put<D: Store>(alloc: Global, store: &mut D, place: u32, value: Value) -> Option<Answer> {
+    let value = SharedValue::new(alloc, value).ok()?;
+    Some(passed(store.put(alloc, Cell::Saved { place }, &value)))
 }
 
 /// What the cell of a saved record holds.
@@ -122,7 +123,7 @@ impl Disk {
             "taken" => self.take_mark(alloc, text),
             "marks" => self.set_mark(numbers),
             "keeps" => self.keep(alloc, numbers),
-            "number" => Some(put(alloc, &mut self.store, place, &value(3))),
+            "number" => put(alloc, &mut self.store, place, value(3)),
             "loads" => self.load(alloc, text),
             "item" => self.item(alloc, place, text),
             "bytes" => self.bytes(alloc, place, text),
@@ -170,7 +171,7 @@ impl Disk {
 
     fn keep(&mut self, alloc: Global, numbers: [u32; 7]) -> Option<Answer> {
         let value = value_of(alloc, numbers)?;
-        Some(put(alloc, &mut self.store, numbers[0], &value))
+        put(alloc, &mut self.store, numbers[0], value)
     }
 
     fn bytes(&mut self, alloc: Global, place: u32, text: &mut String) -> Option<Answer> {

@@ -2,7 +2,7 @@
 
 ghost use Rattle.std.specs.Prelude.{None};
 
-use harp_cells::{Cell, SharedValue, Value};
+use harp_cells::{Cell, SharedValue};
 use harp_store::{Mark, MemStore, Store, StoreFault};
 use std::alloc::Global;
 
@@ -26,7 +26,7 @@ impl Store for Disk {
         self.store.read(alloc, cell)
     }
 
-    fn put(&mut self, alloc: Global, cell: Cell, value: &Value) -> Result<(), StoreFault> {
+    fn put(&mut self, alloc: Global, cell: Cell, value: &SharedValue) -> Result<(), StoreFault> {
         self.store.put(alloc, cell, value)
     }
 
