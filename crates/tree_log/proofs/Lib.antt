@@ -1,3 +1,4 @@
+pub mod Faults
 pub mod Forgetting
 pub mod Holding
 mod Indexed

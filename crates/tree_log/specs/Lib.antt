@@ -1,6 +1,7 @@
 pub mod TreeLog
 pub mod Reading
 pub mod Applying
+pub mod Storing
 pub mod Planning
 pub mod Records
 pub mod Sizes

@@ -19,18 +19,19 @@
 //!   `next_record` is the record of the new entry: its index the next one, its stamp the larger of
 //!   the clock and the last one, its reply and changes those of the outcome on the tree after the
 //!   list.
-//! - `apply` brings just the changes of at most so many records to the store, in their order
-//!   (`done`); where the store fails, a first part of them (`part`), and the log is as before. A
-//!   disk that is fuzzy stays so at each moment (`fuzzy`, `reached`), and the premise is kept
-//!   either way (`tree`). `flush` syncs and then writes the mark (`done`, `moments`, `fuzzy`), or
-//!   makes a first part of these two calls (`part`).
+//! - `apply` brings just the changes of at most so many records to the store, in their order, and
+//!   where the store fails, a first part of them (`changes`); then the log is as before (`still`).
+//!   A disk that is fuzzy stays so at each moment (`fuzzy`), and the premise is kept either way
+//!   (`tree`). `flush` syncs and then writes the mark, or makes a first part of these two calls
+//!   (`writes`); at each moment the mark is the old one, or all cells are synced (`at_once`), and
+//!   the disk is fuzzy from its own mark's LB on (`fuzzy`).
 //! - `cell` gives what a cell holds after the committed records, over the store as it reads
 //!   (`value`).
 //! - `list` gives the listing of the tree after the first CP entries. `commit_to`, `lower_to` and
 //!   `drop_to` keep the premise.
 //! - Each call that is lent a store needs that each entry of the cache is the store's cell, and
 //!   keeps it (`cached`), also where the store fails. StoreFailed comes only where the store's
-//!   count of faults rose (`rose`).
+//!   count of faults rose (`rose`, `faults`).
 //! - `new_record` plans a caller's update over the cells at top. Where these are alike those after
 //!   a list of updates, the record *is* `record_of` of that list and the update's entry (`record`):
 //!   index, client, number, credential, call, stamp and view as given, the outcome's reply, and
