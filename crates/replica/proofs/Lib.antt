@@ -7,4 +7,5 @@ pub mod Ticking
 pub mod Opening
 pub mod Asking
 pub mod Asked
+pub mod Storing
 pub mod Trees

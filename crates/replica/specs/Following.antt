@@ -1,7 +1,8 @@
 -- The partner of a view as a server of the group's machine.
-use Rattle.std.specs.Prelude.{ℕ, ◌+◌, ◌==◌, Bool, true, false, List, [], ◌∷◌, Option, None, Some, max, min, if◌then◌else◌}
+use Rattle.std.specs.Prelude.{◌≡◌, ℕ, ◌+◌, ◌==◌, Bool, true, false, List, [], ◌∷◌, OnErr, OnOk, Option, None, Result, Some, max, min, if◌then◌else◌}
 use Rattle.cell_cache.specs.Entries.{Entries}
 use Rattle.file_tree.specs.Book.{Entry}
+use Rattle.group_rules.specs.Moves.{Move, act}
 use Rattle.group_rules.specs.Places.{Zero, One, Two, Pair, Place, S01, S02, S12, nobody, partner}
 use Rattle.group_rules.specs.State.{Ack, Follows, Live, Log, Message, Mode, Server, Waits, no_report}
 use Rattle.volatile_log.specs.Log.{LogValue, committed_to, top, with_record}
@@ -99,3 +100,12 @@ settled f cp = record f {
 -- the Ack for its leader, with a promise up to this moment
 abbrev pub acknowledged : Following → ℕ → Place × Option (Message Entry)
 acknowledged f until = (leader_of f.ahead, Some (Ack f.view (top f.log) f.log.lb until))
+
+-- THE PARTNER AFTER A MOVE of its log alone has this log, and as a server has made the move; after
+-- an error it is as before. It may keep other cells in memory
+pub record MovesFollowed {A E : Type 0} (result : Result A E) (made : LogValue)
+    (move : Move Entry) (old new : Following) : Type 0 where
+  pub log : OnOk result (new ≡ record old { log = made; cached = new.cached })
+  pub still : OnErr result (new ≡ record old { cached = new.cached })
+  pub moves : OnOk result ((o : Outer) (clock : ℕ)
+      → followed new o ≡ act (place_followed old o) clock (followed old o) move)

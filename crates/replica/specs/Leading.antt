@@ -1,9 +1,10 @@
 -- The leader of a view as a server of the group's machine.
-use Rattle.std.specs.Prelude.{◌≡◌, ℕ, ◌+◌, ◌≤◌, Bool, true, false, List, [], length, map, Option, None, Some, if◌then◌else◌}
+use Rattle.std.specs.Prelude.{◌≡◌, ℕ, ◌+◌, ◌≤◌, Bool, true, false, List, [], length, map, OnErr, OnOk, Option, None, Result, Some, if◌then◌else◌}
 use Rattle.harp_types.specs.declared.peer.Peer.{Peer}
 use Rattle.cell_cache.specs.Entries.{Entries}
 use Rattle.event_record.specs.Record.{entry_of}
 use Rattle.file_tree.specs.Book.{Entry}
+use Rattle.group_rules.specs.Moves.{Move, act}
 use Rattle.group_rules.specs.Places.{Zero, One, Two, Pair, Place, S01, S02, S12, Trio, leader, nobody, with_at}
 use Rattle.group_rules.specs.State.{Duty, Leads, Log, Mode, Open, Plan, Server, Waits, no_report}
 use Rattle.promise.specs.Promise.{HorizonValue}
@@ -128,3 +129,12 @@ pub record IsLeading (l : Leading) : Type 0 where
   pub waits : l.opened ≡ true → l.log.cp + length l.peers ≡ top l.log
   pub first : l.opened ≡ false → l.peers ≡ []
   pub formed : l.opened ≡ true → l.formed ≡ None
+
+-- THE LEADER AFTER A MOVE of its log alone has this log, and as a server has made the move; after
+-- an error it is as before. It may keep other cells in memory
+pub record MovesLed {A E : Type 0} (result : Result A E) (made : LogValue) (move : Move Entry)
+    (old new : Leading) : Type 0 where
+  pub log : OnOk result (new ≡ record old { log = made; cached = new.cached })
+  pub still : OnErr result (new ≡ record old { cached = new.cached })
+  pub moves : OnOk result ((o : Outer) (clock : ℕ)
+      → led new o ≡ act (place_led old o) clock (led old o) move)

@@ -18,12 +18,12 @@
 //!   leader is as before but for its cells in memory (`still`); whatever the tree is, nothing
 //!   changes of a leader but its records, those cells and who waits (`grown`).
 //! - `list` gives the listing of the tree after CP updates of the list to the outputs (`listing`),
-//!   and is the machine's Saying of it (`makes`). After an error nothing is listed.
+//!   and is the machine's Saying of it (`makes`). After an error nothing is listed (`none`).
 //! - `cell` gives what a cell holds at CP, by the log over the store (`value`), and changes nothing
 //!   but which cells are kept in memory (`same`).
-//! - `apply` and `flush` leave what the log says of the disk, and are the machine's Applying and
-//!   Flushing; whether they are due is the caller's to test. Each call that changes the log says
-//!   that the tree can still be read (`tree`).
+//! - `apply` and `flush` leave what the log says of the disk (`changes`, `writes`), and are the
+//!   machine's Applying and Flushing (`applies`, `flushes`); whether they are due is the caller's
+//!   to test. Each call that changes the log says that the tree can still be read (`tree`).
 //! - `freeze` and `log` give the very log; where `Leader::of` or `Partner::of` fails, it gives the
 //!   log back (`err`). What a partner's log is after an Event is said where it succeeds.
 //! - An open leader's `tick` sends exactly the records of its log above what its partner told, at

@@ -1,15 +1,15 @@
 //! The listing of a leader's tree.
 
-ghost use Rattle.std.specs.Prelude.{◌≡◌, ℕ, ◌≤◌, ◌∷◌, [], List, Some, Err, OnOk, OnErr};
+ghost use Rattle.std.specs.Prelude.{◌≡◌, ℕ, ◌∷◌, [], List, Some, Err, OnOk, OnErr};
 ghost use Rattle.cell_cache.specs.Entries.{AreOf};
 ghost use Rattle.file_tree.specs.Book.{Entry};
 ghost use Rattle.group_rules.specs.Moves.{Saying};
 ghost use Rattle.group_rules.specs.State.{Lists};
-ghost use Rattle.harp_types.specs.Streams.{Rose};
 ghost use Rattle.harp_store.specs.Disk.{cells_told};
 ghost use Rattle.node_outputs.specs.Makes.{Makes};
 ghost use Rattle.node_outputs.specs.Records.{records_sent};
 ghost use Rattle.tree_log.specs.Reading.{HoldsTree};
+ghost use Rattle.tree_log.specs.Storing.{CountsFaults, OnlyReads};
 ghost use Rattle.replica.specs.Leading.{Outer, led, place_led};
 ghost use Rattle.replica.specs.Listing.{listing_at};
 
@@ -38,11 +38,9 @@ impl Leader {
         ensures records { records_sent outs.new ≡ records_sent outs.old }
         ensures none { OnErr result (outs.new ≡ outs.old) }
         ensures same { self.new ≡ record self.old { cached = self.new.cached } }
-        ensures cached { AreOf (cells_told (D.told store.new)) self.new.cached }
-        ensures kept { D.told store.new ≡ D.told store.old }
-        ensures rose { result ≡ Err CellFault.StoreFailed
-            → Rose (D.faults store.old) (D.faults store.new) }
-        ensures count { D.faults store.old ≤ D.faults store.new }
+        ensures reads { OnlyReads (D.told store.old) (D.told store.new) self.new.cached }
+        ensures faults { CountsFaults (result ≡ Err CellFault.StoreFailed) (D.faults store.old)
+            (D.faults store.new) }
     {
         let _ = self.log.top();
         let listing = self.log.list(alloc, store)?;

@@ -1,20 +1,18 @@
 //! What a leader brings to its store.
 
-ghost use Rattle.std.specs.Prelude.{◌≡◌, ℕ, ◌≤◌, List, Some, OnOk, OnErr, Err};
-ghost use Rattle.applier.specs.Applied.{AfterPart, FlushesInPart, IsOldOrSynced, after_changes, flushed, lower};
-ghost use Rattle.applier.specs.Fuzzy.{IsFuzzyTo, StaysFuzzy};
+ghost use Rattle.std.specs.Prelude.{◌≡◌, ℕ, ◌≤◌, List, Some, Err};
+ghost use Rattle.applier.specs.Applied.{FlushesAtOnce};
 ghost use Rattle.cell_cache.specs.Entries.{AreOf};
 ghost use Rattle.file_tree.specs.Book.{Entry};
-ghost use Rattle.fuzzy_cells.specs.History.{AllSetOnce, History};
-ghost use Rattle.applier.specs.FuzzyDisk.{AreRecordsOf, IsFuzzyByMark, IsFuzzyDisk};
-ghost use Rattle.group_rules.specs.Moves.{Applying, Flushing, act};
-ghost use Rattle.harp_types.specs.Streams.{Rose};
+ghost use Rattle.fuzzy_cells.specs.History.{History};
+ghost use Rattle.applier.specs.FuzzyDisk.{IsFuzzyByMark, IsFuzzyDisk};
+ghost use Rattle.group_rules.specs.Moves.{Applying, Flushing};
 ghost use Rattle.harp_store.specs.declared.store.StoreFault.TheVariants.{Failed};
-ghost use Rattle.harp_store.specs.Disk.{AtEachMoment, Moments, Now, cells_told};
+ghost use Rattle.harp_store.specs.Disk.{AtEachMoment, Moments, cells_told};
 ghost use Rattle.tree_log.specs.Applying.{applied_by, changes_by};
 ghost use Rattle.tree_log.specs.Reading.{HoldsTree};
-ghost use Rattle.tree_log.specs.TreeLog.{changes_in};
-ghost use Rattle.replica.specs.Leading.{Outer, led, place_led};
+ghost use Rattle.tree_log.specs.Storing.{AppliesFuzzy, CountsFaults, FlushesUpTo, MakesChanges};
+ghost use Rattle.replica.specs.Leading.{MovesLed};
 ghost use Rattle.volatile_log.specs.Log.{applied_to, lowered_to};
 
 use crate::leader::Leader;
@@ -32,35 +30,19 @@ impl Leader {
         store: &mut D,
     ) -> Result<(), StoreFault>
         requires { AreOf (cells_told (D.told store.old)) self.old.cached }
-        ensures log { OnOk result (self.new ≡ record self.old {
-          log = applied_to self.old.log (applied_by most self.old.log);
-          cached = self.new.cached;
-        }) }
-        ensures still { OnErr result (self.new ≡ record self.old { cached = self.new.cached }) }
-        ensures applies { OnOk result ((o : Outer) (clock : ℕ) → led self.new o
-            ≡ act (place_led self.old o) clock (led self.old o)
-            (Applying (applied_by most self.old.log))) }
-        ensures done { OnOk result (D.told store.new
-            ≡ after_changes (changes_by most self.old.log) (D.told store.old)) }
-        ensures part { AfterPart (changes_by most self.old.log) (D.told store.old)
+        ensures applies { MovesLed result
+            (applied_to self.old.log (applied_by most self.old.log))
+            (Applying (applied_by most self.old.log)) self.old self.new }
+        ensures changes { MakesChanges result (changes_by most self.old.log) (D.told store.old)
             (D.told store.new) }
-        ensures fuzzy { (history : History) (lb m : ℕ) (h : Moments) → D.told store.old ≡ Some h
-            → AllSetOnce history
-            → AreRecordsOf history self.old.log.base (changes_in self.old.log.records)
-            → IsFuzzyDisk history lb self.old.log.ap m h.now → StaysFuzzy history lb
-            self.old.log.ap (applied_by most self.old.log) m h (D.told store.new) }
-        ensures reached { (history : History) (lb m : ℕ) (h : Moments) → D.told store.old ≡ Some h
-            → AllSetOnce history
-            → AreRecordsOf history self.old.log.base (changes_in self.old.log.records)
-            → IsFuzzyDisk history lb self.old.log.ap m h.now
-            → OnOk result (Now (IsFuzzyTo history lb (applied_by most self.old.log) m)
-            (D.told store.new)) }
+        ensures fuzzy { AppliesFuzzy result most self.old.log (D.told store.old)
+            (D.told store.new) }
         ensures cached { AreOf (cells_told (D.told store.new)) self.new.cached }
         ensures tree { (list : List Entry) (upto : ℕ) → self.old.log.cp ≤ upto
             → HoldsTree list upto self.old.log (D.told store.old)
             → HoldsTree list upto self.new.log (D.told store.new) }
-        ensures rose { result ≡ Err Failed → Rose (D.faults store.old) (D.faults store.new) }
-        ensures count { D.faults store.old ≤ D.faults store.new }
+        ensures faults { CountsFaults (result ≡ Err Failed) (D.faults store.old)
+            (D.faults store.new) }
     {
         let _ = self.log.top();
         self.log.apply(alloc, most, store)
@@ -76,33 +58,22 @@ impl Leader {
         store: &mut D,
     ) -> Result<(), StoreFault>
         requires { AreOf (cells_told (D.told store.old)) self.old.cached }
-        ensures log { OnOk result (self.new ≡ record self.old {
-          log = lowered_to self.old.log self.old.log.ap;
-          cached = self.new.cached;
-        }) }
-        ensures still { OnErr result (self.new ≡ record self.old { cached = self.new.cached }) }
-        ensures flushes { OnOk result ((o : Outer) (clock : ℕ) → led self.new o
-            ≡ act (place_led self.old o) clock (led self.old o) Flushing) }
-        ensures done { OnOk result (D.told store.new
-            ≡ flushed (lower self.old.log.ap mark.old) (D.told store.old)) }
-        ensures mark { OnOk result (mark.new ≡ lower self.old.log.ap mark.old) }
-        ensures kept { OnErr result (mark.new ≡ mark.old) }
-        ensures part { FlushesInPart (lower self.old.log.ap mark.old) (D.told store.old)
+        ensures flushes { MovesLed result (lowered_to self.old.log self.old.log.ap) Flushing
+            self.old self.new }
+        ensures writes { FlushesUpTo result self.old.log.ap mark.old mark.new (D.told store.old)
             (D.told store.new) }
-        ensures moments { (h : Moments) → D.told store.old ≡ Some h
-            → AtEachMoment (IsOldOrSynced h.now.mark) (D.told store.old) (D.told store.new) }
+        ensures at_once { FlushesAtOnce (D.told store.old) (D.told store.new) }
         ensures fuzzy { (history : History) (m : ℕ) (h : Moments) → D.told store.old ≡ Some h
             → h.now.mark ≡ Some mark.old
             → IsFuzzyDisk history mark.old.lb self.old.log.ap m h.now
             → AtEachMoment (IsFuzzyByMark history self.old.log.ap m) (D.told store.old)
             (D.told store.new) }
-        ensures cells { cells_told (D.told store.new) ≡ cells_told (D.told store.old) }
         ensures cached { AreOf (cells_told (D.told store.new)) self.new.cached }
         ensures tree { (list : List Entry) (upto : ℕ)
             → HoldsTree list upto self.old.log (D.told store.old)
             → HoldsTree list upto self.new.log (D.told store.new) }
-        ensures rose { result ≡ Err Failed → Rose (D.faults store.old) (D.faults store.new) }
-        ensures count { D.faults store.old ≤ D.faults store.new }
+        ensures faults { CountsFaults (result ≡ Err Failed) (D.faults store.old)
+            (D.faults store.new) }
     {
         let _ = self.log.top();
         self.log.flush(alloc, store, mark)

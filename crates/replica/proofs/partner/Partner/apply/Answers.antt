@@ -1,12 +1,13 @@
-use Rattle.std.proofs.Common.{◌≡◌, ℕ, Some, sym, subst}
-use Rattle.applier.specs.Fuzzy.{StaysFuzzy}
+use Rattle.std.proofs.Common.{◌≡◌, ap, refl, sym, subst}
+use Rattle.std.specs.Prelude.{OnErr, OnOk}
 use Rattle.cell_cache.specs.Entries.{AreOf}
-use Rattle.fuzzy_cells.specs.History.{AllSetOnce, History}
-use Rattle.applier.specs.FuzzyDisk.{AreRecordsOf, IsFuzzyDisk}
-use Rattle.harp_store.specs.Disk.{Moments, cells_told}
-use Rattle.tree_log.specs.Applying.{applied_by}
-use Rattle.tree_log.specs.TreeLog.{changes_in}
+use Rattle.group_rules.specs.Moves.{Applying}
+use Rattle.harp_store.specs.Disk.{cells_told}
+use Rattle.tree_log.specs.Applying.{applied_by, changes_by}
+use Rattle.tree_log.specs.Storing.{AppliesFuzzy, MakesChanges}
+use Rattle.volatile_log.specs.Log.{applied_to}
 use Rattle.replica.specs.Following.{Following}
+use Rattle.replica.proofs.Storing.{moves_followed}
 use Rattle.replica.proofs.partner.Partner.apply.Goals as goal
 
 pub apply-requires : goal.apply-requires
@@ -14,11 +15,31 @@ apply-requires g c =
     subst (λ (x : Following). AreOf (cells_told (g.D.Store.told c.args.store.now)) x.cached)
     (sym c.self.view_is) c.requires
 
+pub returns-clause-applies : goal.returns-clause-applies
+returns-clause-applies g c =
+    let r = c.apply.result in
+    let old = c.args.self.now in
+    let log = c.apply.new.self.log in
+    let k = c.apply.new.self.cached in
+    let to = applied_by c.args.most old.log in
+    moves_followed r log (applied_to old.log to) (Applying to) k old _
+    (ap (λ (x : Following). record x { log = log; cached = k }) c.self.view_is)
+    (subst (λ (x : Following). OnOk r (log ≡ applied_to x.log (applied_by c.args.most x.log)))
+    c.self.view_is c.apply.ensures.log)
+    (subst (λ (x : Following). OnErr r (log ≡ x.log)) c.self.view_is c.apply.ensures.still)
+    (λ o clock. refl)
+
+pub returns-clause-changes : goal.returns-clause-changes
+returns-clause-changes g c =
+    subst (λ (x : Following). MakesChanges c.apply.result (changes_by c.args.most x.log)
+    (g.D.Store.told c.args.store.now) (g.D.Store.told c.apply.new.store)) c.self.view_is
+    c.apply.ensures.changes
+
 pub returns-clause-fuzzy : goal.returns-clause-fuzzy
 returns-clause-fuzzy g c =
-    subst (λ (x : Following). (history : History) (lb m : ℕ) (h : Moments)
-    → g.D.Store.told c.args.store.now ≡ Some h → AllSetOnce history
-    → AreRecordsOf history x.log.base (changes_in x.log.records)
-    → IsFuzzyDisk history lb x.log.ap m h.now
-    → StaysFuzzy history lb x.log.ap (applied_by c.args.most x.log) m h
-    (g.D.Store.told c.apply.new.store)) c.self.view_is c.apply.ensures.fuzzy
+    subst (λ (x : Following). AppliesFuzzy c.apply.result c.args.most x.log
+    (g.D.Store.told c.args.store.now) (g.D.Store.told c.apply.new.store)) c.self.view_is
+    c.apply.ensures.fuzzy
+
+pub returns-clause-faults : goal.returns-clause-faults
+returns-clause-faults g c = c.apply.ensures.faults
