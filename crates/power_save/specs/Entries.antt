@@ -1,13 +1,17 @@
 -- Saved logs as the group's machine has them: by their entries.
-use Rattle.std.specs.Prelude.{◌≡◌, ℕ, ◌+◌, List, map, length, Some}
+use Rattle.std.specs.Prelude.{◌≡◌, ℕ, ◌+◌, true, false, Err, IfOk, List, map, length, OnOk, Result, Some}
 use Rattle.event_record.specs.Record.{entry_of}
 use Rattle.event_record.specs.declared.record.RecordFields.{RecordFields}
 use Rattle.file_tree.specs.Book.{Entry}
+use Rattle.group_rules.specs.Effects.{load_tests}
+use Rattle.group_rules.specs.Places.{all_of}
 use Rattle.group_rules.specs.State.{Saved}
 use Rattle.harp_cells.specs.Effect.{Cells}
 use Rattle.harp_store.specs.Disk.{Disk, Image, IsSynced, MayLeave, reads}
 use Rattle.harp_store.specs.Mark.{MarkFields}
 use Rattle.power_save.specs.Saved.{HoldRecords}
+use Rattle.power_save.specs.declared.fault.SaveFault.{SaveFault}
+use Rattle.power_save.specs.declared.fault.SaveFault.TheVariants.{NotSaved}
 use Rattle.volatile_log.specs.Log.{LogValue}
 
 -- a log, as the machine saves it
@@ -39,6 +43,14 @@ pub record IsLoaded (saved : Saved Entry) (n : ℕ) (log : LogValue) : Type 0 wh
   pub entries : saved_entries log ≡ saved
   pub lb : log.lb ≡ n
   pub ap : log.ap ≡ n
+
+-- A LOAD BY THIS MARK, where the cells hold the machine's saved log, gives that log where the
+-- machine's boot takes it; NotSaved comes only where the boot doesn't
+pub record LoadsEntries (cells : Cells) (mark : MarkFields) (result : Result LogValue SaveFault)
+    (saved : Saved Entry) : Type 0 where
+  pub loaded : IfOk result (λ log. IsLoaded saved mark.lb log)
+  pub taken : OnOk result (all_of (load_tests mark.lb saved) ≡ true)
+  pub refused : result ≡ Err NotSaved → all_of (load_tests mark.lb saved) ≡ false
 
 -- a crash of a disk that has the machine's saved log leaves it
 abbrev pub CrashesKeepEntries : Type 0

@@ -1,5 +1,5 @@
 -- What a saved log is, and when a disk has it.
-use Rattle.std.specs.Prelude.{◌≡◌, ◌⊎◌, ℕ, ◌+◌, ◌-◌, ◌%◌, ◌<◌, ◌≤◌, nat_le, Bool, false, ◌&&◌, List, map, length, slice_index_or, Option, Some, None, IsSome}
+use Rattle.std.specs.Prelude.{◌≡◌, ◌⊎◌, ℕ, ◌+◌, ◌-◌, ◌%◌, ◌<◌, ◌≤◌, nat_le, Bool, false, ◌&&◌, Err, IfOk, IsErr, List, map, length, slice_index_or, OnErr, OnOk, Option, Some, None, IsSome, Result}
 use Rattle.event_record.specs.Bytes.{OldRecordFits, RecordFits, old_record_bytes, record_bytes}
 use Rattle.event_record.specs.declared.record.RecordFields.{RecordFields}
 use Rattle.harp_cells.specs.declared.cell.Cell.{Cell}
@@ -15,7 +15,7 @@ use Rattle.harp_store.specs.declared.store.StoreFault.{StoreFault}
 use Rattle.harp_store.specs.declared.store.StoreFault.TheVariants as store
 use Rattle.power_save.specs.declared.fault.SaveFault.{SaveFault}
 use Rattle.power_save.specs.declared.fault.SaveFault.TheVariants as save
-use Rattle.volatile_log.specs.Log.{LogValue, room, top}
+use Rattle.volatile_log.specs.Log.{IsLog, LogValue, room, top}
 
 abbrev pub fault_of : StoreFault → SaveFault
 fault_of store.Failed = save.StoreFailed
@@ -95,6 +95,17 @@ SavesInPart log mark old new = AfterPart (puts_of log.records) old new
     ⊎ (new ≡ after_step (with_mark mark)
     (after_step synced_whole (after_changes (puts_of log.records) old))))
 
+-- A SAVE puts the records of a log, syncs, and then writes the mark with the numbers of the log,
+-- which the mark in memory has then too; after an error a first part of these calls is made, and
+-- the mark in memory is as before
+pub record SavesLog {A E : Type 0} (result : Result A E) (log : LogValue)
+    (before after : MarkFields) (disk left : Option Moments) : Type 0 where
+  pub done : OnOk result (left ≡ after_step (with_mark (saved_mark room log before))
+      (after_step synced_whole (after_changes (puts_of log.records) disk)))
+  pub part : SavesInPart log (saved_mark room log before) disk left
+  pub mark : OnOk result (after ≡ saved_mark room log before)
+  pub kept : OnErr result (after ≡ before)
+
 -- ---- loading
 
 -- the mark has the numbers of a log
@@ -120,6 +131,21 @@ pub record HasNumbers (log : LogValue) (mark : MarkFields) : Type 0 where
   pub saved : IsSome mark.saved
   pub synced : log.lb ≡ mark.lb
   pub applied : log.ap ≡ mark.lb
+
+-- A LOAD BY THIS MARK, of cells that are told, gives records that they hold. NotSaved comes only
+-- where no log is saved whole, and there no load succeeds; where one was saved, it is this one
+pub record LoadsRecords (cells : Cells) (mark : MarkFields)
+    (result : Result LogValue SaveFault) : Type 0 where
+  pub records : IfOk result (λ log. (s : SavedNumbers) → mark.saved ≡ Some s
+      → HoldRecords s.ring cells log.base log.records)
+  pub unsaved : result ≡ Err save.NotSaved → IsNotSaved cells mark
+  pub whole : IsNotSaved cells mark → IsErr result
+  pub found : (ring : ℕ) (saved : LogValue) (before : MarkFields) → IsLog saved
+      → HoldRecords ring cells saved.base saved.records → mark ≡ saved_mark ring saved before
+      → result ≡ Err save.NotSaved → ⊥
+  pub again : (ring : ℕ) (saved : LogValue) (before : MarkFields) → IsLog saved
+      → HoldRecords ring cells saved.base saved.records → mark ≡ saved_mark ring saved before
+      → IfOk result (λ log. log ≡ record saved { lb = saved.ap })
 
 -- a crash of a disk with a whole saved log leaves its records
 abbrev pub CrashesKeep : Type 0

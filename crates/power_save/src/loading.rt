@@ -1,19 +1,16 @@
 //! Loading a log.
 
-ghost use Rattle.std.specs.Prelude.{◌≡◌, ℕ, ◌≤◌, ◌+◌, ◌<◌, ◌^◌, List, length, false, true, Option, Some, None, IfOk, OnOk, OnErr, Err, IsErr};
+ghost use Rattle.std.specs.Prelude.{◌≡◌, ℕ, ◌≤◌, ◌+◌, ◌<◌, length, false, Some, IfOk, Err};
 ghost use Rattle.event_record.specs.declared.record.RecordFields.{RecordFields};
 ghost use Rattle.file_tree.specs.Book.{Entry};
-ghost use Rattle.group_rules.specs.Effects.{load_tests};
-ghost use Rattle.group_rules.specs.Places.{all_of};
 ghost use Rattle.group_rules.specs.State.{Saved as SavedLog};
 ghost use Rattle.harp_types.specs.Streams.{Rose};
 ghost use Rattle.harp_cells.specs.Effect.{Cells};
 ghost use Rattle.harp_store.specs.Disk.{cells_told};
-ghost use Rattle.harp_store.specs.Mark.{MarkFields, SavedNumbers};
 ghost use Rattle.power_save.specs.declared.fault.SaveFault.TheVariants.{StoreFailed, NotSaved};
-ghost use Rattle.power_save.specs.Entries.{HoldEntries, IsLoaded};
-ghost use Rattle.power_save.specs.Saved.{HasNumbers, HoldRecords, IsNotSaved, IsSavedAs, fits_log, saved_mark};
-ghost use Rattle.volatile_log.specs.Log.{AreNumberedAfter, IsLog, LogValue};
+ghost use Rattle.power_save.specs.Entries.{HoldEntries, LoadsEntries};
+ghost use Rattle.power_save.specs.Saved.{HasNumbers, HoldRecords, IsSavedAs, LoadsRecords, fits_log};
+ghost use Rattle.volatile_log.specs.Log.{AreNumberedAfter, IsLog};
 
 use crate::fault::SaveFault;
 use crate::record::record_of;
@@ -105,33 +102,12 @@ pub fn load<D: Store>(
     store: &mut D,
     seen: &mut SeenRecords,
 ) -> Result<FrozenLog, SaveFault>
-    ensures numbers { IfOk result (λ log. HasNumbers log mark.now) }
-    ensures order { IfOk result (λ log. IsLog log) }
+    ensures log { IfOk result (λ log. IsLog log × HasNumbers log mark.now) }
     ensures records { (cells : Cells) → cells_told (D.told store.old) ≡ Some cells
-        → IfOk result (λ log. (s : SavedNumbers) → mark.now.saved ≡ Some s
-        → HoldRecords s.ring cells log.base log.records) }
-    ensures unsaved { (cells : Cells) → cells_told (D.told store.old) ≡ Some cells → result
-        ≡ Err NotSaved → IsNotSaved cells mark.now }
-    ensures whole { (cells : Cells) → cells_told (D.told store.old) ≡ Some cells
-        → IsNotSaved cells mark.now → IsErr result }
-    ensures found { (cells : Cells) (ring : ℕ) (saved : LogValue) (before : MarkFields)
-        → cells_told (D.told store.old) ≡ Some cells → IsLog saved
-        → HoldRecords ring cells saved.base saved.records
-        → mark.now ≡ saved_mark ring saved before → result ≡ Err NotSaved → ⊥ }
-    ensures again { (cells : Cells) (ring : ℕ) (saved : LogValue) (before : MarkFields)
-        → cells_told (D.told store.old) ≡ Some cells → IsLog saved
-        → HoldRecords ring cells saved.base saved.records
-        → mark.now ≡ saved_mark ring saved before
-        → IfOk result (λ log. log ≡ record saved { lb = saved.ap }) }
+        → LoadsRecords cells mark.now result }
     ensures entries { (cells : Cells) (saved : SavedLog Entry)
         → cells_told (D.told store.old) ≡ Some cells → HoldEntries cells mark.now saved
-        → IfOk result (λ log. IsLoaded saved mark.now.lb log) }
-    ensures taken { (cells : Cells) (saved : SavedLog Entry)
-        → cells_told (D.told store.old) ≡ Some cells → HoldEntries cells mark.now saved
-        → OnOk result (all_of (load_tests mark.now.lb saved) ≡ true) }
-    ensures refused { (cells : Cells) (saved : SavedLog Entry)
-        → cells_told (D.told store.old) ≡ Some cells → HoldEntries cells mark.now saved
-        → result ≡ Err NotSaved → all_of (load_tests mark.now.lb saved) ≡ false }
+        → LoadsEntries cells mark.now result saved }
     ensures misfit { fits_log mark.now.lb mark.now.saved ≡ false → result ≡ Err NotSaved }
     ensures kept { D.told store.new ≡ D.told store.old }
     ensures rose { result ≡ Err StoreFailed → Rose (D.faults store.old) (D.faults store.new) }

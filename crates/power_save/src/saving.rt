@@ -3,10 +3,10 @@
 ghost use Rattle.std.specs.Prelude.{◌≡◌, ◌≤◌, ◌+◌, ◌<◌, ◌^◌, length, slice_index_or, Option, Some, None, IfOk, OnOk, OnErr, Err};
 ghost use Rattle.event_record.specs.Bytes.{RecordFits};
 ghost use Rattle.harp_types.specs.Streams.{Rose};
-ghost use Rattle.harp_store.specs.Disk.{AfterPart, AtEachMoment, Moments, MayHaveMade, Now, after_changes, after_step, changed_by, synced_whole, with_mark};
+ghost use Rattle.harp_store.specs.Disk.{AfterPart, AtEachMoment, Moments, MayHaveMade, Now, after_changes, after_step, changed_by};
 ghost use Rattle.power_save.specs.declared.fault.SaveFault.TheVariants.{StoreFailed, NotSaved};
 ghost use Rattle.power_save.specs.Entries.{HasSaved, saved_entries};
-ghost use Rattle.power_save.specs.Saved.{AllFit, IsUnsaved, IsUnsavedOrSaved, SavedOn, SavesInPart, put_of, puts_of, saved_mark};
+ghost use Rattle.power_save.specs.Saved.{AllFit, IsUnsaved, IsUnsavedOrSaved, SavedOn, SavesLog, put_of, puts_of};
 ghost use Rattle.volatile_log.specs.Log.{room, top};
 
 use crate::fault::SaveFault;
@@ -77,15 +77,10 @@ pub fn save<D: Store>(
     store: &mut D,
 ) -> Result<(), SaveFault>
     requires unsaved { mark.old.saved ≡ None }
-    ensures done { OnOk result (D.told store.new
-        ≡ after_step (with_mark (saved_mark room log.now mark.old))
-        (after_step synced_whole (after_changes (puts_of log.now.records) (D.told store.old)))) }
+    ensures saves { SavesLog result log.now mark.old mark.new (D.told store.old)
+        (D.told store.new) }
     ensures saved { OnOk result (Now (SavedOn log.now) (D.told store.new)) }
     ensures entries { OnOk result (Now (HasSaved (saved_entries log.now)) (D.told store.new)) }
-    ensures mark { OnOk result (mark.new ≡ saved_mark room log.now mark.old) }
-    ensures kept { OnErr result (mark.new ≡ mark.old) }
-    ensures part { SavesInPart log.now (saved_mark room log.now mark.old) (D.told store.old)
-        (D.told store.new) }
     ensures moments { (h : Moments) → D.told store.old ≡ Some h → IsUnsaved h.now.mark
         → AtEachMoment (IsUnsavedOrSaved log.now) (D.told store.old) (D.told store.new) }
     ensures rose { result ≡ Err StoreFailed → Rose (D.faults store.old) (D.faults store.new) }
