@@ -10,17 +10,17 @@ returns-in-Ok-clause-verdict g c = λ h told marked.
     let apart : c.args.mark.now.role ≡ role.Outside → ⊥ = search rules in
     each_ok _ _ c.audit_logged.result
     (λ v is. of_marked h.now v c.args.mark.now c.in-Ok.log marked apart (record {
-      numbers = c.in-Ok.ensures.numbers;
-      order = c.in-Ok.ensures.order;
-      records = c.in-Ok.ensures.records (reads h.now) (ap cells_told told);
+      numbers = c.in-Ok.ensures.log.1;
+      order = c.in-Ok.ensures.log.0;
+      records = (c.in-Ok.ensures.records (reads h.now) (ap cells_told told)).records;
     }) is)
     (c.audit_logged.ensures.verdict h (c.in-Ok.ensures.kept ∙ told))
 
 pub returns-in-Ok-clause-tree : goal.returns-in-Ok-clause-tree
 returns-in-Ok-clause-tree g c = λ list log h told marked left.
     let mark = inner _ _ (sym marked ∙ left.marked) in
-    let loaded = c.in-Ok.ensures.again (reads h.now) left.ring log left.before (ap cells_told told)
-    left.order left.held mark in
+    let loaded = (c.in-Ok.ensures.records (reads h.now) (ap cells_told told)).again left.ring log
+    left.before left.order left.held mark in
     each_ok _ _ c.audit_logged.result
     (λ v is. left_tells list log h left v c.in-Ok.log loaded nothing_found_in_a_tree
     standing_named is)
@@ -30,11 +30,11 @@ pub returns-in-Err-NotSaved-clause-verdict : goal.returns-in-Err-NotSaved-clause
 returns-in-Err-NotSaved-clause-verdict g c = λ h told marked.
     let failed = c.in-Err-NotSaved.is ∙ ap Err c.in-Err-NotSaved.field-0-is in
     of_unsaved h.now c.args.mark.now marked
-    (inr (c.load.ensures.unsaved (reads h.now) (ap cells_told told) failed))
+    (inr ((c.load.ensures.records (reads h.now) (ap cells_told told)).unsaved failed))
 
 pub returns-in-Err-NotSaved-clause-tree : goal.returns-in-Err-NotSaved-clause-tree
 returns-in-Err-NotSaved-clause-tree g c = λ list log h told marked left.
     let failed = c.in-Err-NotSaved.is ∙ ap Err c.in-Err-NotSaved.field-0-is in
     let mark = inner _ _ (sym marked ∙ left.marked) in
-    c.load.ensures.found (reads h.now) left.ring log left.before (ap cells_told told) left.order
-    left.held mark failed
+    (c.load.ensures.records (reads h.now) (ap cells_told told)).found left.ring log left.before
+    left.order left.held mark failed
