@@ -1,13 +1,10 @@
 -- What stands of a server, its disk and its store behind a call, whether it went well or failed.
 use Rattle.std.specs.Prelude.{◌≡◌, ◌↔◌, ◌≤◌, ℕ, true, false, Err, List, [], OnErr, OnOk, Option, Result, Some}
-use Rattle.applier.specs.Applied.{FlushesInPart, flushed, lower}
 use Rattle.cell_cache.specs.Entries.{AreOf}
 use Rattle.file_tree.specs.Book.{Entry}
 use Rattle.group_rules.specs.Moves.{Move}
 use Rattle.group_rules.specs.Step.{Input}
-use Rattle.harp_cells.specs.declared.change.Change.{Change}
 use Rattle.harp_store.specs.Disk.{AfterPart, Moments, after_changes, cells_told}
-use Rattle.harp_store.specs.Mark.{MarkFields}
 use Rattle.harp_types.specs.Streams.{Rose}
 use Rattle.node.specs.Cached.{IsCachedAs}
 use Rattle.node.specs.Node.{NodeValue}
@@ -24,13 +21,8 @@ use Rattle.volatile_log.specs.Log.{lowered_to}
 
 -- ---- why a call failed
 
--- OF THE STORE: a call says that it failed only where the store's count of faults rose, and it
--- never falls
-pub record CountsFaults (failed : Type 0) (faults risen : ℕ) : Type 0 where
-  pub rose : failed → Rose faults risen
-  pub count : faults ≤ risen
-
--- and of a server that isn't halted: then no call says Halted
+-- OF A SERVER that isn't halted: no call says Halted, and it says that the store failed only where
+-- the store's count of faults rose, which never falls
 pub record FailsOnce {A : Type 0} (result : Result A NodeFault)
     (faults risen : ℕ) : Type 0 where
   pub running : result ≡ Err Halted → ⊥
@@ -105,34 +97,13 @@ pub record Keeps (old new : NodeValue) (disk left : Option Moments) : Type 0 whe
   pub mark : new.mark ≡ old.mark
   pub kept : left ≡ disk
 
--- ---- the log of a leader or a partner, and its disk
+-- ---- the log of a leader or a partner
 
--- A call that reads cells leaves the log and the disk, and the cells in memory are the disk's
-pub record OnlyReads (old new : State) (disk left : Option Moments) : Type 0 where
-  pub same : new ≡ with_log old (log_in old) (cached_in new)
-  pub kept : left ≡ disk
-  pub cached : AreOf (cells_told left) (cached_in new)
-
--- An apply makes these changes, or, after an error, a first part of them
-pub record MakesChanges {A E : Type 0} (result : Result A E) (changes : List Change)
-    (disk left : Option Moments) : Type 0 where
-  pub done : OnOk result (left ≡ after_changes changes disk)
-  pub part : AfterPart changes disk left
-
--- A flush lowers LB to AP, in the log and in the mark; after an error both are as before
-pub record Lowers {A E : Type 0} (result : Result A E) (old new : State)
-    (before after : MarkFields) : Type 0 where
+-- A flush lowers LB to AP in the log; after an error the log is as before
+pub record Lowers {A E : Type 0} (result : Result A E) (old new : State) : Type 0 where
   pub log : OnOk result (let log = log_in old in
       new ≡ with_log old (lowered_to log log.ap) (cached_in new))
   pub still : OnErr result (new ≡ with_log old (log_in old) (cached_in new))
-  pub mark : OnOk result (after ≡ lower (log_in old).ap before)
-  pub kept : OnErr result (after ≡ before)
-
--- It syncs the cells, and then writes this mark; after an error a first part of the two is there
-pub record SyncsUnder {A E : Type 0} (result : Result A E) (mark : MarkFields)
-    (disk left : Option Moments) : Type 0 where
-  pub done : OnOk result (left ≡ flushed mark disk)
-  pub part : FlushesInPart mark disk left
 
 -- ---- what a listing tells
 

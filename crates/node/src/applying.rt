@@ -1,25 +1,22 @@
 //! What a server brings to its store. After an error the server is halted.
 
 ghost use Rattle.node.specs.Stock.{stock};
-ghost use Rattle.std.specs.Prelude.{◌≡◌, ◌≤◌, [], List, ℕ, Err, OnErr, OnOk, Some, false, true};
-ghost use Rattle.applier.specs.Fuzzy.{IsFuzzyTo, StaysFuzzy};
+ghost use Rattle.std.specs.Prelude.{◌≡◌, ◌≤◌, [], List, ℕ, Err, OnErr, OnOk, false, true};
 ghost use Rattle.cell_cache.specs.Entries.{AreOf};
 ghost use Rattle.file_tree.specs.Book.{Entry};
-ghost use Rattle.fuzzy_cells.specs.History.{AllSetOnce, History};
-ghost use Rattle.applier.specs.FuzzyDisk.{AreRecordsOf, IsFuzzyDisk};
 ghost use Rattle.group_rules.specs.Disk.{apply};
-ghost use Rattle.harp_store.specs.Disk.{Moments, Now, cells_told};
+ghost use Rattle.harp_store.specs.Disk.{cells_told};
 ghost use Rattle.harp_store.specs.declared.store.StoreFault.TheVariants.{Failed};
 ghost use Rattle.node.specs.Active.{is_active};
 ghost use Rattle.node.specs.Node.{server};
-ghost use Rattle.node.specs.Outcomes.{Applies, CountsFaults, FailsOnce, MakesChanges, Runs};
+ghost use Rattle.node.specs.Outcomes.{Applies, FailsOnce, Runs};
 ghost use Rattle.node.specs.State.{cached_in};
 ghost use Rattle.node.specs.Stored.{log_in, log_of, stores, with_log};
 ghost use Rattle.node_outputs.specs.Makes.{Makes};
 ghost use Rattle.node_outputs.specs.declared.outputs.Outputs.{Outputs};
 ghost use Rattle.tree_log.specs.Applying.{applied_by, changes_by};
 ghost use Rattle.tree_log.specs.Reading.{HoldsTree};
-ghost use Rattle.tree_log.specs.TreeLog.{changes_in};
+ghost use Rattle.tree_log.specs.Storing.{AppliesFuzzy, CountsFaults, MakesChanges};
 ghost use Rattle.volatile_log.specs.Log.{applied_to};
 
 use crate::fault::NodeFault;
@@ -48,13 +45,8 @@ impl Node {
         ensures stock { OnOk result (stock self.new ≡ stock self.old) }
         ensures applies { Applies result most self.old self.new (D.told store.old)
             (D.told store.new) }
-        ensures fuzzy { (history : History) (lb m : ℕ) (h : Moments) → stores self.old ≡ true
-            → D.told store.old ≡ Some h → AllSetOnce history
-            → AreRecordsOf history self.old.plain.base (changes_in self.old.records)
-            → IsFuzzyDisk history lb self.old.plain.ap m h.now
-            → let upto = applied_by most (log_of self.old) in
-            StaysFuzzy history lb self.old.plain.ap upto m h (D.told store.new)
-            × OnOk result (Now (IsFuzzyTo history lb upto m) (D.told store.new)) }
+        ensures fuzzy { stores self.old ≡ true → AppliesFuzzy result most (log_of self.old)
+            (D.told store.old) (D.told store.new) }
         ensures tree { OnOk result ((list : List Entry) (upto : ℕ) → self.old.plain.cp ≤ upto
             → HoldsTree list upto (log_of self.old) (D.told store.old)
             → HoldsTree list upto (log_of self.new) (D.told store.new)) }
@@ -94,12 +86,8 @@ fn apply_log<D: Store>(
         ≡ with_log state.old (log_in state.old) (cached_in state.new)) }
     ensures changes { MakesChanges result (changes_by most (log_in state.old))
         (D.told store.old) (D.told store.new) }
-    ensures fuzzy { let log = log_in state.old in (history : History) (lb m : ℕ) (h : Moments)
-        → D.told store.old ≡ Some h → AllSetOnce history
-        → AreRecordsOf history log.base (changes_in log.records)
-        → IsFuzzyDisk history lb log.ap m h.now
-        → StaysFuzzy history lb log.ap (applied_by most log) m h (D.told store.new)
-        × OnOk result (Now (IsFuzzyTo history lb (applied_by most log) m) (D.told store.new)) }
+    ensures fuzzy { AppliesFuzzy result most (log_in state.old) (D.told store.old)
+        (D.told store.new) }
     ensures tree { (list : List Entry) (upto : ℕ) → (log_in state.old).cp ≤ upto
         → HoldsTree list upto (log_in state.old) (D.told store.old)
         → HoldsTree list upto (log_in state.new) (D.told store.new) }

@@ -2,7 +2,7 @@
 
 ghost use Rattle.node.specs.Stock.{stock};
 ghost use Rattle.std.specs.Prelude.{◌≡◌, [], List, ℕ, Err, OnOk, Some, false, true};
-ghost use Rattle.applier.specs.Applied.{FlushesAtOnce, lower};
+ghost use Rattle.applier.specs.Applied.{FlushesAtOnce};
 ghost use Rattle.cell_cache.specs.Entries.{AreOf};
 ghost use Rattle.file_tree.specs.Book.{Entry};
 ghost use Rattle.fuzzy_cells.specs.History.{History};
@@ -12,12 +12,13 @@ ghost use Rattle.harp_store.specs.Disk.{AtEachMoment, Moments, cells_told};
 ghost use Rattle.harp_store.specs.declared.store.StoreFault.TheVariants.{Failed};
 ghost use Rattle.node.specs.Active.{is_active};
 ghost use Rattle.node.specs.Node.{server};
-ghost use Rattle.node.specs.Outcomes.{CountsFaults, FailsOnce, Flushes, Lowers, Runs, SyncsUnder};
+ghost use Rattle.node.specs.Outcomes.{FailsOnce, Flushes, Lowers, Runs};
 ghost use Rattle.node.specs.State.{cached_in};
 ghost use Rattle.node.specs.Stored.{flushes, log_in, log_of};
 ghost use Rattle.node_outputs.specs.Makes.{Makes};
 ghost use Rattle.node_outputs.specs.declared.outputs.Outputs.{Outputs};
 ghost use Rattle.tree_log.specs.Reading.{HoldsTree};
+ghost use Rattle.tree_log.specs.Storing.{CountsFaults, FlushesUpTo};
 
 use crate::fault::NodeFault;
 use crate::node::Node;
@@ -85,9 +86,9 @@ fn flush_log<D: Store>(
 ) -> Result<(), StoreFault>
     requires active { is_active state.old ≡ true }
     requires cached { AreOf (cells_told (D.told store.old)) (cached_in state.old) }
-    ensures lowers { Lowers result state.old state.new mark.old mark.new }
-    ensures writes { SyncsUnder result (lower (log_in state.old).ap mark.old) (D.told store.old)
-        (D.told store.new) }
+    ensures lowers { Lowers result state.old state.new }
+    ensures writes { FlushesUpTo result (log_in state.old).ap mark.old mark.new
+        (D.told store.old) (D.told store.new) }
     ensures at_once { FlushesAtOnce (D.told store.old) (D.told store.new) }
     ensures fuzzy { (history : History) (m : ℕ) (h : Moments) → D.told store.old ≡ Some h
         → h.now.mark ≡ Some mark.old

@@ -8,13 +8,14 @@ ghost use Rattle.group_rules.specs.Disk.{list_tree};
 ghost use Rattle.harp_store.specs.Disk.{cells_told};
 ghost use Rattle.node.specs.Active.{is_active};
 ghost use Rattle.node.specs.Node.{server};
-ghost use Rattle.node.specs.Outcomes.{CountsFaults, FailsOnce, Keeps, OnlyReads, Runs, TellsTree};
+ghost use Rattle.node.specs.Outcomes.{FailsOnce, Keeps, Runs, TellsTree};
 ghost use Rattle.node.specs.State.{cached_in};
-ghost use Rattle.node.specs.Stored.{log_in};
+ghost use Rattle.node.specs.Stored.{log_in, with_log};
 ghost use Rattle.node_outputs.specs.Makes.{Makes};
 ghost use Rattle.node_outputs.specs.Records.{records_sent};
 ghost use Rattle.node_outputs.specs.Said.{said};
 ghost use Rattle.tree_log.specs.Reading.{HoldsTree};
+ghost use Rattle.tree_log.specs.Storing.{CountsFaults, OnlyReads};
 ghost use Rattle.replica.specs.Listing.{listing_at};
 
 use crate::fault::NodeFault;
@@ -70,7 +71,8 @@ fn list_log<D: Store>(
       listed = Some (log_in state.old).cp;
     }) }
     ensures records { records_sent outs.new ≡ records_sent outs.old }
-    ensures reads { OnlyReads state.old state.new (D.told store.old) (D.told store.new) }
+    ensures same { state.new ≡ with_log state.old (log_in state.old) (cached_in state.new) }
+    ensures reads { OnlyReads (D.told store.old) (D.told store.new) (cached_in state.new) }
     ensures faults { CountsFaults (result ≡ Err CellFault.StoreFailed) (D.faults store.old)
         (D.faults store.new) }
 {

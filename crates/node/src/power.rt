@@ -6,10 +6,11 @@ ghost use Rattle.group_rules.specs.Moves.{Saving, act};
 ghost use Rattle.group_rules.specs.State.{mark_of};
 ghost use Rattle.harp_store.specs.Disk.{AtEachMoment, Moments, Now, after_changes, after_step, synced_whole, with_mark};
 ghost use Rattle.node.specs.Node.{server};
-ghost use Rattle.node.specs.Outcomes.{CountsFaults, FailsOnce};
+ghost use Rattle.node.specs.Outcomes.{FailsOnce};
 ghost use Rattle.node.specs.Power.{IsSavedBy, SavesAtOnce, mark_left, saves_log};
 ghost use Rattle.power_save.specs.Entries.{HasSaved, saved_entries};
 ghost use Rattle.power_save.specs.Saved.{IsUnsaved, IsUnsavedOrSaved, SavesInPart, puts_of, saved_mark};
+ghost use Rattle.tree_log.specs.Storing.{CountsFaults};
 ghost use Rattle.volatile_log.specs.Log.{AreNumberedAfter, room};
 
 use crate::fault::NodeFault;

@@ -10,7 +10,7 @@ ghost use Rattle.harp_store.specs.Disk.{cells_told};
 ghost use Rattle.idle_log.specs.Gives.{StandIn};
 ghost use Rattle.node.specs.Input.{FillsInput, FillsSized, came, input_of, peers_of};
 ghost use Rattle.node.specs.Node.{IsServer, server};
-ghost use Rattle.node.specs.Outcomes.{Brings, CountsFaults, FailsOnce, Halts, Runs};
+ghost use Rattle.node.specs.Outcomes.{Brings, FailsOnce, Halts, Runs};
 ghost use Rattle.node.specs.Serving.{entry_size};
 ghost use Rattle.node.specs.Step.{ListsFor, StepsWhole};
 ghost use Rattle.node.specs.Stock.{Stocks, stock, stock_after};
@@ -19,6 +19,7 @@ ghost use Rattle.node_outputs.specs.Makes.{Makes};
 ghost use Rattle.node_outputs.specs.Records.{records_sent};
 ghost use Rattle.node_outputs.specs.Said.{nothing, said};
 ghost use Rattle.replica.specs.Asking.{recorded};
+ghost use Rattle.tree_log.specs.Storing.{CountsFaults};
 
 use crate::fault::NodeFault;
 use crate::input::Input;

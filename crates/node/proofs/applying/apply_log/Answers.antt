@@ -1,16 +1,17 @@
-use Rattle.std.proofs.Common.{◌≡◌, ℕ, Some, subst, sym}
-use Rattle.std.specs.Prelude.{OnOk}
-use Rattle.applier.specs.Fuzzy.{IsFuzzyTo, StaysFuzzy}
+use Rattle.std.proofs.Common.{◌≡◌, ap, subst, sym}
+use Rattle.std.proofs.lemmas.Result.{on_err_weaker, on_ok_weaker}
+use Rattle.std.specs.Prelude.{OnErr, OnOk}
 use Rattle.cell_cache.specs.Entries.{AreOf}
-use Rattle.fuzzy_cells.specs.History.{AllSetOnce, History}
-use Rattle.applier.specs.FuzzyDisk.{AreRecordsOf, IsFuzzyDisk}
-use Rattle.harp_store.specs.Disk.{Moments, Now, cells_told}
-use Rattle.node.specs.Outcomes.{MakesChanges}
+use Rattle.harp_store.specs.Disk.{cells_told}
 use Rattle.node.specs.State.{cached_in}
-use Rattle.node.specs.Stored.{log_in}
+use Rattle.node.specs.Stored.{log_in, with_log}
 use Rattle.node.specs.declared.state.State.{State}
+use Rattle.node.specs.declared.state.State.TheVariants as state
+use Rattle.replica.specs.Following.{Following}
+use Rattle.replica.specs.Leading.{Leading}
 use Rattle.tree_log.specs.Applying.{applied_by, changes_by}
-use Rattle.tree_log.specs.TreeLog.{changes_in}
+use Rattle.tree_log.specs.Storing.{AppliesFuzzy, MakesChanges}
+use Rattle.volatile_log.specs.Log.{applied_to}
 use Rattle.node.proofs.applying.apply_log.Goals as goal
 
 pub apply-requires : goal.apply-requires
@@ -25,58 +26,70 @@ apply-requires-in-Follows g c =
 
 -- ---- a leader
 
+pub returns-in-Leads-clause-log : goal.returns-in-Leads-clause-log
+returns-in-Leads-clause-log g c =
+    let r = c.apply.result in
+    let made = λ (l : Leading). state.Leads l c.in-Leads.field-1 in
+    let new = made c.apply.new.self in
+    subst (λ (s : State). OnOk r (new
+    ≡ with_log s (applied_to (log_in s) (applied_by c.args.most (log_in s))) (cached_in new)))
+    (sym c.in-Leads.is) (on_ok_weaker r (λ is. ap made is) c.apply.ensures.applies.log)
+
+pub returns-in-Leads-clause-still : goal.returns-in-Leads-clause-still
+returns-in-Leads-clause-still g c =
+    let r = c.apply.result in
+    let made = λ (l : Leading). state.Leads l c.in-Leads.field-1 in
+    let new = made c.apply.new.self in
+    subst (λ (s : State). OnErr r (new ≡ with_log s (log_in s) (cached_in new)))
+    (sym c.in-Leads.is) (on_err_weaker r (λ is. ap made is) c.apply.ensures.applies.still)
+
 pub returns-in-Leads-clause-changes : goal.returns-in-Leads-clause-changes
 returns-in-Leads-clause-changes g c =
-    subst (λ (s : State). MakesChanges c.apply.result (changes_by c.args.most (log_in s))
-    (g.D.Store.told c.args.store.now) (g.D.Store.told c.apply.new.store)) (sym c.in-Leads.is)
-    (record { done = c.apply.ensures.done; part = c.apply.ensures.part })
+    subst (λ (s : State). MakesChanges c.apply.result
+    (changes_by c.args.most (log_in s)) (g.D.Store.told c.args.store.now)
+    (g.D.Store.told c.apply.new.store)) (sym c.in-Leads.is)
+    c.apply.ensures.changes
 
 pub returns-in-Leads-clause-fuzzy : goal.returns-in-Leads-clause-fuzzy
 returns-in-Leads-clause-fuzzy g c =
-    subst (λ (s : State). (history : History) (lb m : ℕ) (h : Moments)
-    → g.D.Store.told c.args.store.now ≡ Some h → AllSetOnce history
-    → AreRecordsOf history (log_in s).base (changes_in (log_in s).records)
-    → IsFuzzyDisk history lb (log_in s).ap m h.now
-    → StaysFuzzy history lb (log_in s).ap (applied_by c.args.most (log_in s)) m h
-    (g.D.Store.told c.apply.new.store)
-    × OnOk c.apply.result (Now (IsFuzzyTo history lb (applied_by c.args.most (log_in s)) m)
-    (g.D.Store.told c.apply.new.store))) (sym c.in-Leads.is)
-    (λ history lb m h told once records fuzzy. (
-      c.apply.ensures.fuzzy history lb m h told once records fuzzy,
-      c.apply.ensures.reached history lb m h told once records fuzzy,
-    ))
+    subst (λ (s : State). AppliesFuzzy c.apply.result c.args.most (log_in s)
+    (g.D.Store.told c.args.store.now) (g.D.Store.told c.apply.new.store)) (sym c.in-Leads.is)
+    c.apply.ensures.fuzzy
 
 pub returns-in-Leads-clause-faults : goal.returns-in-Leads-clause-faults
-returns-in-Leads-clause-faults g c = record {
-  rose = c.apply.ensures.rose;
-  count = c.apply.ensures.count;
-}
+returns-in-Leads-clause-faults g c = c.apply.ensures.faults
 
 -- ---- a partner
 
+pub returns-in-Follows-clause-log : goal.returns-in-Follows-clause-log
+returns-in-Follows-clause-log g c =
+    let r = c.apply-in-Follows.result in
+    let made = λ (l : Following). state.Follows l c.in-Follows.field-1 in
+    let new = made c.apply-in-Follows.new.self in
+    subst (λ (s : State). OnOk r (new
+    ≡ with_log s (applied_to (log_in s) (applied_by c.args.most (log_in s))) (cached_in new)))
+    (sym c.in-Follows.is) (on_ok_weaker r (λ is. ap made is) c.apply-in-Follows.ensures.applies.log)
+
+pub returns-in-Follows-clause-still : goal.returns-in-Follows-clause-still
+returns-in-Follows-clause-still g c =
+    let r = c.apply-in-Follows.result in
+    let made = λ (l : Following). state.Follows l c.in-Follows.field-1 in
+    let new = made c.apply-in-Follows.new.self in
+    subst (λ (s : State). OnErr r (new ≡ with_log s (log_in s) (cached_in new)))
+    (sym c.in-Follows.is) (on_err_weaker r (λ is. ap made is) c.apply-in-Follows.ensures.applies.still)
+
 pub returns-in-Follows-clause-changes : goal.returns-in-Follows-clause-changes
 returns-in-Follows-clause-changes g c =
-    subst (λ (s : State). MakesChanges c.apply-in-Follows.result (changes_by c.args.most (log_in s))
-    (g.D.Store.told c.args.store.now) (g.D.Store.told c.apply-in-Follows.new.store)) (sym c.in-Follows.is)
-    (record { done = c.apply-in-Follows.ensures.done; part = c.apply-in-Follows.ensures.part })
+    subst (λ (s : State). MakesChanges c.apply-in-Follows.result
+    (changes_by c.args.most (log_in s)) (g.D.Store.told c.args.store.now)
+    (g.D.Store.told c.apply-in-Follows.new.store)) (sym c.in-Follows.is)
+    c.apply-in-Follows.ensures.changes
 
 pub returns-in-Follows-clause-fuzzy : goal.returns-in-Follows-clause-fuzzy
 returns-in-Follows-clause-fuzzy g c =
-    subst (λ (s : State). (history : History) (lb m : ℕ) (h : Moments)
-    → g.D.Store.told c.args.store.now ≡ Some h → AllSetOnce history
-    → AreRecordsOf history (log_in s).base (changes_in (log_in s).records)
-    → IsFuzzyDisk history lb (log_in s).ap m h.now
-    → StaysFuzzy history lb (log_in s).ap (applied_by c.args.most (log_in s)) m h
-    (g.D.Store.told c.apply-in-Follows.new.store)
-    × OnOk c.apply-in-Follows.result (Now (IsFuzzyTo history lb (applied_by c.args.most (log_in s)) m)
-    (g.D.Store.told c.apply-in-Follows.new.store))) (sym c.in-Follows.is)
-    (λ history lb m h told once records fuzzy. (
-      c.apply-in-Follows.ensures.fuzzy history lb m h told once records fuzzy,
-      c.apply-in-Follows.ensures.reached history lb m h told once records fuzzy,
-    ))
+    subst (λ (s : State). AppliesFuzzy c.apply-in-Follows.result c.args.most (log_in s)
+    (g.D.Store.told c.args.store.now) (g.D.Store.told c.apply-in-Follows.new.store)) (sym c.in-Follows.is)
+    c.apply-in-Follows.ensures.fuzzy
 
 pub returns-in-Follows-clause-faults : goal.returns-in-Follows-clause-faults
-returns-in-Follows-clause-faults g c = record {
-  rose = c.apply-in-Follows.ensures.rose;
-  count = c.apply-in-Follows.ensures.count;
-}
+returns-in-Follows-clause-faults g c = c.apply-in-Follows.ensures.faults

@@ -63,7 +63,7 @@ returns-in-Err-NotSaved-clause-boots g c = λ cells items clock delta told held.
     (no_log q m items mark.saved
     (of_saved (λ (s : Saved Entry). all_of (load_tests mark.lb s) ≡ false) cells mark items
     mark.saved
-    (λ s h. c.in-Err-NotSaved.ensures.refused cells s told h (search rules)) held))
+    (λ s h. (c.in-Err-NotSaved.ensures.entries cells s told h).refused (search rules)) held))
 
 pub returns-in-Err-NotSaved-clause-lost : goal.returns-in-Err-NotSaved-clause-lost
 returns-in-Err-NotSaved-clause-lost g c = λ cells items clock delta told lacks.
@@ -101,13 +101,13 @@ rests_so : (g : given.Over) (c : goal.After-loaded g)
     ≡ rests 0 0 (mark_with (map entry_of c.in-Ok.log.records) c.args.mark.now) c.loaded.result
 rests_so g c = c.loaded.ensures.boots 0 0
     (mark_with (map entry_of c.in-Ok.log.records) c.args.mark.now)
-    (can g c) c.in-Ok.ensures.numbers.synced c.in-Ok.ensures.numbers.applied
-    (was_saved c.in-Ok.log c.args.mark.now c.in-Ok.ensures.numbers)
+    (can g c) c.in-Ok.ensures.log.1.synced c.in-Ok.ensures.log.1.applied
+    (was_saved c.in-Ok.log c.args.mark.now c.in-Ok.ensures.log.1)
 
 pub returns-in-Ok-clause-records : goal.returns-in-Ok-clause-records
 returns-in-Ok-clause-records g c = λ cells saved told held.
-    loaded_whole cells c.args.mark.now c.in-Ok.log saved c.loaded.result c.in-Ok.ensures.numbers
-    (c.in-Ok.ensures.records cells told) held c.loaded.ensures.held c.loaded.ensures.records
+    loaded_whole cells c.args.mark.now c.in-Ok.log saved c.loaded.result c.in-Ok.ensures.log.1
+    (c.in-Ok.ensures.records cells told).records held c.loaded.ensures.held c.loaded.ensures.records
 
 pub returns-then-not-can_have-clause-fits : goal.returns-then-not-can_have-clause-fits
 returns-then-not-can_have-clause-fits g c = record {
@@ -127,8 +127,8 @@ pub returns-in-Ok-clause-fits : goal.returns-in-Ok-clause-fits
 returns-in-Ok-clause-fits g c = record {
   placed = c.loaded.ensures.placed;
   bound = loaded_below (place_of c.args.me) c.args.mark.now c.in-Ok.log c.loaded.result
-      c.in-Ok.ensures.order
-      (can g c) c.in-Ok.ensures.numbers (rests_so g c);
+      c.in-Ok.ensures.log.0
+      (can g c) c.in-Ok.ensures.log.1 (rests_so g c);
   lb = λ at. loaded_at (place_of c.args.me) c.args.mark.now c.in-Ok.log c.loaded.result
-      c.in-Ok.ensures.order (can g c) c.in-Ok.ensures.numbers at (rests_so g c);
+      c.in-Ok.ensures.log.0 (can g c) c.in-Ok.ensures.log.1 at (rests_so g c);
 }

@@ -1,15 +1,15 @@
 use Rattle.std.proofs.Common.{ap, subst, sym}
 use Rattle.std.proofs.lemmas.Result.{on_err_weaker, on_ok_weaker}
-use Rattle.applier.specs.Applied.{lower}
 use Rattle.cell_cache.specs.Entries.{AreOf}
 use Rattle.harp_store.specs.Disk.{cells_told}
-use Rattle.node.specs.Outcomes.{Lowers, SyncsUnder}
+use Rattle.node.specs.Outcomes.{Lowers}
 use Rattle.node.specs.State.{cached_in}
 use Rattle.node.specs.Stored.{log_in}
 use Rattle.node.specs.declared.state.State.{State}
 use Rattle.node.specs.declared.state.State.TheVariants as state
 use Rattle.replica.specs.Following.{Following}
 use Rattle.replica.specs.Leading.{Leading}
+use Rattle.tree_log.specs.Storing.{FlushesUpTo}
 use Rattle.node.proofs.flushing.flush_log.Goals as goal
 
 pub flush-requires : goal.flush-requires
@@ -28,31 +28,22 @@ pub returns-in-Leads-clause-lowers : goal.returns-in-Leads-clause-lowers
 returns-in-Leads-clause-lowers g c =
     let r = c.flush.result in
     let made = λ (l : Leading). state.Leads l c.in-Leads.field-1 in
-    subst (λ (s : State). Lowers r s (made c.flush.new.self) c.args.mark.now c.flush.new.mark)
-    (sym c.in-Leads.is) (record {
-      log = on_ok_weaker r (λ is. ap made is) c.flush.ensures.log;
-      still = on_err_weaker r (λ is. ap made is) c.flush.ensures.still;
-      mark = c.flush.ensures.mark;
-      kept = c.flush.ensures.kept;
+    subst (λ (s : State). Lowers r s (made c.flush.new.self)) (sym c.in-Leads.is) (record {
+      log = on_ok_weaker r (λ is. ap made is) c.flush.ensures.flushes.log;
+      still = on_err_weaker r (λ is. ap made is) c.flush.ensures.flushes.still;
     })
 
 pub returns-in-Leads-clause-writes : goal.returns-in-Leads-clause-writes
 returns-in-Leads-clause-writes g c =
-    subst (λ (s : State). SyncsUnder c.flush.result (lower (log_in s).ap c.args.mark.now)
-    (g.D.Store.told c.args.store.now) (g.D.Store.told c.flush.new.store)) (sym c.in-Leads.is)
-    (record { done = c.flush.ensures.done; part = c.flush.ensures.part })
+    subst (λ (s : State). FlushesUpTo c.flush.result (log_in s).ap c.args.mark.now
+    c.flush.new.mark (g.D.Store.told c.args.store.now)
+    (g.D.Store.told c.flush.new.store)) (sym c.in-Leads.is) c.flush.ensures.writes
 
 pub returns-in-Leads-clause-at_once : goal.returns-in-Leads-clause-at_once
-returns-in-Leads-clause-at_once g c = record {
-  cells = c.flush.ensures.cells;
-  moments = c.flush.ensures.moments;
-}
+returns-in-Leads-clause-at_once g c = c.flush.ensures.at_once
 
 pub returns-in-Leads-clause-faults : goal.returns-in-Leads-clause-faults
-returns-in-Leads-clause-faults g c = record {
-  rose = c.flush.ensures.rose;
-  count = c.flush.ensures.count;
-}
+returns-in-Leads-clause-faults g c = c.flush.ensures.faults
 
 -- ---- a partner
 
@@ -60,28 +51,19 @@ pub returns-in-Follows-clause-lowers : goal.returns-in-Follows-clause-lowers
 returns-in-Follows-clause-lowers g c =
     let r = c.flush-in-Follows.result in
     let made = λ (l : Following). state.Follows l c.in-Follows.field-1 in
-    subst (λ (s : State). Lowers r s (made c.flush-in-Follows.new.self) c.args.mark.now c.flush-in-Follows.new.mark)
-    (sym c.in-Follows.is) (record {
-      log = on_ok_weaker r (λ is. ap made is) c.flush-in-Follows.ensures.log;
-      still = on_err_weaker r (λ is. ap made is) c.flush-in-Follows.ensures.still;
-      mark = c.flush-in-Follows.ensures.mark;
-      kept = c.flush-in-Follows.ensures.kept;
+    subst (λ (s : State). Lowers r s (made c.flush-in-Follows.new.self)) (sym c.in-Follows.is) (record {
+      log = on_ok_weaker r (λ is. ap made is) c.flush-in-Follows.ensures.flushes.log;
+      still = on_err_weaker r (λ is. ap made is) c.flush-in-Follows.ensures.flushes.still;
     })
 
 pub returns-in-Follows-clause-writes : goal.returns-in-Follows-clause-writes
 returns-in-Follows-clause-writes g c =
-    subst (λ (s : State). SyncsUnder c.flush-in-Follows.result (lower (log_in s).ap c.args.mark.now)
-    (g.D.Store.told c.args.store.now) (g.D.Store.told c.flush-in-Follows.new.store)) (sym c.in-Follows.is)
-    (record { done = c.flush-in-Follows.ensures.done; part = c.flush-in-Follows.ensures.part })
+    subst (λ (s : State). FlushesUpTo c.flush-in-Follows.result (log_in s).ap c.args.mark.now
+    c.flush-in-Follows.new.mark (g.D.Store.told c.args.store.now)
+    (g.D.Store.told c.flush-in-Follows.new.store)) (sym c.in-Follows.is) c.flush-in-Follows.ensures.writes
 
 pub returns-in-Follows-clause-at_once : goal.returns-in-Follows-clause-at_once
-returns-in-Follows-clause-at_once g c = record {
-  cells = c.flush-in-Follows.ensures.cells;
-  moments = c.flush-in-Follows.ensures.moments;
-}
+returns-in-Follows-clause-at_once g c = c.flush-in-Follows.ensures.at_once
 
 pub returns-in-Follows-clause-faults : goal.returns-in-Follows-clause-faults
-returns-in-Follows-clause-faults g c = record {
-  rose = c.flush-in-Follows.ensures.rose;
-  count = c.flush-in-Follows.ensures.count;
-}
+returns-in-Follows-clause-faults g c = c.flush-in-Follows.ensures.faults

@@ -3,9 +3,8 @@ use Rattle.std.proofs.lemmas.Result.{on_ok_weaker}
 use Rattle.cell_cache.specs.Entries.{AreOf}
 use Rattle.harp_store.specs.Disk.{cells_told}
 use Rattle.node.proofs.Stores.{any_outer, said_listed}
-use Rattle.node.specs.Outcomes.{OnlyReads}
 use Rattle.node.specs.State.{cached_in}
-use Rattle.node.specs.Stored.{log_in}
+use Rattle.node.specs.Stored.{log_in, with_log}
 use Rattle.node.specs.declared.state.State.{State}
 use Rattle.node.specs.declared.state.State.TheVariants as state
 use Rattle.node_outputs.specs.Said.{said}
@@ -38,36 +37,32 @@ returns-in-Follows-clause-said g c = on_ok_weaker c.list-in-Follows.result
     (said_listed (said c.args.outs.now) (said c.list-in-Follows.new.outs)
     c.in-Follows.partner.log.cp (made any_outer 0).said)) c.list-in-Follows.ensures.makes
 
-pub returns-in-Leads-clause-reads : goal.returns-in-Leads-clause-reads
-returns-in-Leads-clause-reads g c =
+-- ---- the state of a leader, and its store
+
+pub returns-in-Leads-clause-same : goal.returns-in-Leads-clause-same
+returns-in-Leads-clause-same g c =
     let made = λ (l : Leading). state.Leads l c.in-Leads.field-1 in
-    subst (λ (s : State). OnlyReads s (made c.list.new.self) (g.D.Store.told c.args.store.now)
-    (g.D.Store.told c.list.new.store)) (sym c.in-Leads.is)
-    (record {
-      same = ap made c.list.ensures.same;
-      kept = c.list.ensures.kept;
-      cached = c.list.ensures.cached;
-    })
+    let new = made c.list.new.self in
+    subst (λ (s : State). new ≡ with_log s (log_in s) (cached_in new)) (sym c.in-Leads.is)
+    (ap made c.list.ensures.same)
+
+pub returns-in-Leads-clause-reads : goal.returns-in-Leads-clause-reads
+returns-in-Leads-clause-reads g c = c.list.ensures.reads
 
 pub returns-in-Leads-clause-faults : goal.returns-in-Leads-clause-faults
-returns-in-Leads-clause-faults g c = record {
-  rose = c.list.ensures.rose;
-  count = c.list.ensures.count;
-}
+returns-in-Leads-clause-faults g c = c.list.ensures.faults
+
+-- ---- the state of a partner, and its store
+
+pub returns-in-Follows-clause-same : goal.returns-in-Follows-clause-same
+returns-in-Follows-clause-same g c =
+    let made = λ (l : Following). state.Follows l c.in-Follows.field-1 in
+    let new = made c.list-in-Follows.new.self in
+    subst (λ (s : State). new ≡ with_log s (log_in s) (cached_in new)) (sym c.in-Follows.is)
+    (ap made c.list-in-Follows.ensures.same)
 
 pub returns-in-Follows-clause-reads : goal.returns-in-Follows-clause-reads
-returns-in-Follows-clause-reads g c =
-    let made = λ (l : Following). state.Follows l c.in-Follows.field-1 in
-    subst (λ (s : State). OnlyReads s (made c.list-in-Follows.new.self) (g.D.Store.told c.args.store.now)
-    (g.D.Store.told c.list-in-Follows.new.store)) (sym c.in-Follows.is)
-    (record {
-      same = ap made c.list-in-Follows.ensures.same;
-      kept = c.list-in-Follows.ensures.kept;
-      cached = c.list-in-Follows.ensures.cached;
-    })
+returns-in-Follows-clause-reads g c = c.list-in-Follows.ensures.reads
 
 pub returns-in-Follows-clause-faults : goal.returns-in-Follows-clause-faults
-returns-in-Follows-clause-faults g c = record {
-  rose = c.list-in-Follows.ensures.rose;
-  count = c.list-in-Follows.ensures.count;
-}
+returns-in-Follows-clause-faults g c = c.list-in-Follows.ensures.faults

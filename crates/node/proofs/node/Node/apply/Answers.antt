@@ -1,6 +1,5 @@
 use Rattle.std.proofs.Common.{◌≤◌, List, le_refl, refl, subst, sym, true≢false, ◌∙◌, ap}
 use Rattle.std.proofs.lemmas.Result.{IfOk-from_err}
-use Rattle.std.specs.Prelude.{OnOk}
 use Rattle.applier.specs.Fuzzy.{IsFuzzyTo, StaysFuzzy}
 use Rattle.applier.specs.FuzzyDisk.{AreRecordsOf, IsFuzzyDisk}
 use Rattle.harp_cells.specs.declared.change.Change.{Change}
@@ -13,6 +12,7 @@ use Rattle.node.specs.State.{cached_in}
 use Rattle.node.specs.Stored.{changes_made, log_in}
 use Rattle.tree_log.specs.Applying.{applied_by}
 use Rattle.tree_log.specs.Reading.{HoldsTree}
+use Rattle.tree_log.specs.Storing.{AppliesFuzzy}
 use Rattle.tree_log.specs.TreeLog.{changes_in}
 use Rattle.volatile_log.specs.Log.{LogValue, applied_to}
 use Rattle.node.proofs.Stocked.{logged_stock}
@@ -98,33 +98,38 @@ pub returns-then-not-stores-clause-faults : goal.returns-then-not-stores-clause-
 returns-then-not-stores-clause-faults g c = once_done _ _ _ (le_refl _)
 
 pub returns-then-not-stores-clause-fuzzy : goal.returns-then-not-stores-clause-fuzzy
-returns-then-not-stores-clause-fuzzy g c history lb m h st =
+returns-then-not-stores-clause-fuzzy g c st =
     absurd (true≢false (sym st ∙ sym c.stores.ensures ∙ c.if-not-stores.true))
 
 pub returns-in_err-apply_log-clause-fuzzy : goal.returns-in_err-apply_log-clause-fuzzy
-returns-in_err-apply_log-clause-fuzzy g c history lb m h st told once records fuzzy =
+returns-in_err-apply_log-clause-fuzzy g c st =
     let n = c.self.inside in
-    let left = g.D.Store.told c.apply_log.new.store in (
-      (subst (λ (x : LogValue). AreRecordsOf history x.base (changes_in x.records)
-          → IsFuzzyDisk history lb x.ap m h.now
-          → let upto = applied_by c.args.most x in StaysFuzzy history lb x.ap upto m h left
-          × OnOk c.apply_log.result (Now (IsFuzzyTo history lb upto m) left))
-          (sym (log_at n.me n.mark n.horizon n.served n.duty n.state c.args.self.now
-          c.self.view_is st c.self.invariant.1))
-          (c.apply_log.ensures.fuzzy history lb m h told once) records fuzzy).0,
-      IfOk-from_err c.from_residual.result _ c.from_residual.ensures.0,
-    )
+    let here = subst (λ (x : LogValue). AppliesFuzzy c.apply_log.result c.args.most x
+    (g.D.Store.told c.args.store.now) (g.D.Store.told c.apply_log.new.store))
+    (sym (log_at n.me n.mark n.horizon n.served n.duty n.state c.args.self.now c.self.view_is st
+    c.self.invariant.1)) c.apply_log.ensures.fuzzy in record {
+      fuzzy = here.fuzzy;
+      reached = λ history lb m h told once records fuzzy. IfOk-from_err c.from_residual.result _
+          c.from_residual.ensures.0;
+    }
 
 pub returns-clause-fuzzy : goal.returns-clause-fuzzy
-returns-clause-fuzzy g c history lb m h st told once =
+returns-clause-fuzzy g c st =
     let n = c.self.inside in
     let left = g.D.Store.told c.apply_log.new.store in
-    subst (λ (x : LogValue). AreRecordsOf history x.base (changes_in x.records)
-    → IsFuzzyDisk history lb x.ap m h.now
-    → let upto = applied_by c.args.most x in StaysFuzzy history lb x.ap upto m h left
-    × Now (IsFuzzyTo history lb upto m) left)
-    (sym (log_at n.me n.mark n.horizon n.served n.duty n.state c.args.self.now c.self.view_is st
-    c.self.invariant.1)) (c.in_ok-apply_log.ensures.fuzzy history lb m h told once)
+    let log = sym (log_at n.me n.mark n.horizon n.served n.duty n.state c.args.self.now
+    c.self.view_is st c.self.invariant.1) in record {
+      fuzzy = λ history lb m h told once.
+          subst (λ (x : LogValue). AreRecordsOf history x.base (changes_in x.records)
+          → IsFuzzyDisk history lb x.ap m h.now
+          → StaysFuzzy history lb x.ap (applied_by c.args.most x) m h left) log
+          (c.in_ok-apply_log.ensures.fuzzy.fuzzy history lb m h told once);
+      reached = λ history lb m h told once.
+          subst (λ (x : LogValue). AreRecordsOf history x.base (changes_in x.records)
+          → IsFuzzyDisk history lb x.ap m h.now
+          → Now (IsFuzzyTo history lb (applied_by c.args.most x) m) left) log
+          (c.in_ok-apply_log.ensures.fuzzy.reached history lb m h told once);
+    }
 
 pub returns-in_err-apply_log-clause-applies : goal.returns-in_err-apply_log-clause-applies
 returns-in_err-apply_log-clause-applies g c =

@@ -53,7 +53,7 @@ invariant_of-self-2 g c =
           (cached_in c.flush_log.new.state) c.self.view_is
           (flushes_stores c.args.self.now (sym c.flushes.ensures ∙ c.if-not-flushes.false))
           c.self.invariant.1 c.in_ok-flush_log.ensures.lowers.log
-          c.in_ok-flush_log.ensures.lowers.mark,
+          c.in_ok-flush_log.ensures.writes.mark,
     )
 
 pub returns-clause-fuzzy : goal.returns-clause-fuzzy
@@ -149,7 +149,7 @@ returns-clause-writes g c =
     c.self.view_is due c.self.invariant.1 in
     let now = c.args.self.now in record {
       me = ap (λ (n : NodeValue). n.me) c.self.view_is;
-      mark = c.in_ok-flush_log.ensures.lowers.mark ∙ low
+      mark = c.in_ok-flush_log.ensures.writes.mark ∙ low
           ∙ sym (if_is (flushes now) (lower now.plain.ap now.mark) now.mark due);
       done = c.in_ok-flush_log.ensures.writes.done
           ∙ ap (λ (m : MarkFields). flushed m told) low

@@ -30,7 +30,7 @@ pub returns-clause-stock : goal.returns-clause-stock
 returns-clause-stock g c =
     let n = c.self.inside in
     let log = log_in n.state in
-    ap stock_in c.list_log.ensures.reads.same
+    ap stock_in c.list_log.ensures.same
     ∙ logged_stock n.state (log)
     (cached_in c.list_log.new.state) refl ∙ ap stock c.self.view_is
 
@@ -102,7 +102,7 @@ returns-clause-runs g c =
       up = alive_with n.state c.list_log.new.state (log_in n.state)
           (cached_in c.list_log.new.state) (stores_active n.me n.mark n.horizon n.served n.duty
           n.state c.args.self.now c.self.view_is (sym c.stores.ensures ∙ c.if-not-stores.false))
-          c.list_log.ensures.reads.same;
+          c.list_log.ensures.same;
       cached = c.list_log.ensures.reads.cached;
     }
 
