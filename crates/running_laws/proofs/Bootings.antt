@@ -1,0 +1,137 @@
+-- A boot at a place from the disk that is left there is a boot of its host.
+use Rattle.std.proofs.Common.{◌≡◌, ℕ, ◌≤◌, false, List, [], Option, None, Some, refl, sym, ap, ◌∙◌, subst}
+use Rattle.group_rules.proofs.Tests.{all_true, if_is, if_not, le_is}
+use Rattle.group_rules.specs.Limits.{delta_tests}
+use Rattle.group_rules.specs.Names.{place_of}
+use Rattle.group_rules.specs.Places.{all_of}
+use Rattle.group_trace.specs.DiskRun.{DiskScene}
+use Rattle.group_trace.specs.Lines.{state_lines}
+use Rattle.group_trace.specs.Refusals.{net_limit}
+use Rattle.group_trace.specs.Shown.{shown_of}
+use Rattle.harp_types.specs.Trio.{value_of}
+use Rattle.harp_types.specs.declared.server.ServerId.{ServerId}
+use Rattle.node.specs.Node.{NodeValue}
+use Rattle.promise.specs.Promise.{IsDelta}
+use Rattle.trace_types.specs.declared.line.Line.{Line}
+use Rattle.trace_types.specs.declared.line.LineFault.TheVariants as fault
+use Rattle.trace_types.specs.declared.step.Step.TheVariants as step
+use Rattle.world.proofs.Crashes.{boot_taken}
+use Rattle.world.proofs.Quiet.{delta_taken}
+use Rattle.world.proofs.Refusals.{net_passed}
+use Rattle.world.proofs.Tables.{value_there}
+use Rattle.world.proofs.TheLaws.{the_laws}
+use Rattle.world.proofs.Turns.{with_host}
+use Rattle.world.specs.Clocks.{delta_after}
+use Rattle.world.specs.World.{IsWorld, WorldValue}
+use Rattle.world_host.proofs.Starts.{boots, start_at}
+use Rattle.world_host.proofs.Takes.{none_up}
+use Rattle.world_host.specs.Starts.{HostStarts}
+use Rattle.world_lines.specs.Posted.{bytes_sent}
+use Rattle.world_rules.specs.Host.{HostValue, IsNodeOf, disk_of}
+use Rattle.world_rules.specs.Steps.{HostBoots}
+use Rattle.running_laws.specs.Events.{Site}
+use Rattle.running_laws.specs.Follows.{HasStore, IsSite}
+use Rattle.running_laws.specs.Lives.{WholeBoot}
+use Rattle.running_laws.proofs.Answering.{none_shown}
+use Rattle.running_laws.proofs.Clocks.{both_none}
+use Rattle.running_laws.proofs.Moving.{IsAt, LedTo, take_one}
+use Rattle.running_laws.proofs.Takings.{shown_so, state_shown}
+use Rattle.running_laws.proofs.Wholes.{few_sent, net_none}
+
+-- ---- the length of promises
+
+-- the length of promises of later boots is set
+pub delta_led : (w : DiskScene) (x : WorldValue) (delta : ℕ) → IsAt w x
+    → LedTo w (record x { delta = delta_after x.delta delta }) []
+delta_led w x delta at =
+    let y = record x { delta = delta_after x.delta delta } in
+    take_one w x y (step.Delta delta) [] at (delta_taken x y delta refl)
+    (net_passed w (step.Delta delta) refl) refl
+
+pub delta_is : (old delta : ℕ) → IsDelta delta → delta_after old delta ≡ delta
+delta_is old delta is = if_is (all_of (delta_tests delta)) delta old
+    (all_true (delta_tests delta) (le_is 500 delta is.0, (le_is delta 100000 is.1, tt)))
+
+-- ---- a server that is down
+
+down_so : (x : WorldValue) (place : ServerId) → (value_of x.hosts place).node ≡ None
+    → (w : DiskScene) → IsWorld w x → (w.scene.group.server (place_of place)).up ≡ false
+down_so x place none w world =
+    let own = world.servers place in
+    let s = w.scene.group.server (place_of place) in
+    let h = value_of x.hosts place in
+    let fell = subst (λ (o : Option NodeValue). IsNodeOf s own.stock own.saved h.me (disk_of h) o)
+    none own.host.node in
+    none_up s fell.server
+
+pub none_shown_so : (x : WorldValue) (place : ServerId) → (value_of x.hosts place).node ≡ None
+    → (w : DiskScene) → IsWorld w x → None ≡ shown_of (w.scene.group.server (place_of place))
+none_shown_so x place none w world =
+    sym (if_not (w.scene.group.server (place_of place)).up _ None (down_so x place none w world))
+
+-- ---- the boot
+
+-- what a boot at a place rests on, and what it leaves
+pub record IsBooting (x : WorldValue) (place : ServerId) (now delta : ℕ) (a b : Site)
+    : Type 0 where
+  pub site : IsSite (value_of x.hosts place) a
+  pub me : (value_of x.hosts place).me ≡ place_of place
+  pub clock : value_of x.clocks place ≡ now
+  pub length : x.delta ≡ delta
+  pub boot : WholeBoot place now delta a b
+  pub has_store : HasStore b
+
+module _ (x : WorldValue) (place : ServerId) (now delta : ℕ) (a b : Site)
+    (t : IsBooting x place now delta a b) where
+  abbrev old : HostValue
+  old = value_of x.hosts place
+
+  -- the host with the node that booted, and its store
+  abbrev pub host_booted : HostValue
+  host_booted = record {
+    me = place_of place;
+    node = Some t.boot.node;
+    store = t.has_store.store;
+  }
+
+  abbrev pub world_booted : WorldValue
+  world_booted = with_host x place host_booted
+
+  abbrev lines_booted : List Line
+  lines_booted = state_lines (place_of place) None (state_shown t.boot.node)
+
+  old_none : old.node ≡ None
+  old_none = t.site.node ∙ t.boot.none
+
+  starts : HostStarts old host_booted now delta
+  starts = start_at place now delta t.boot.node a.disk b.disk old host_booted t.me t.site.disk refl
+      t.has_store.holds (record {
+        boots = λ items held. t.boot.boot.boots a.disk items refl held;
+        records = λ saved held. t.boot.boot.records a.disk saved refl held;
+        me = t.boot.boot.me_is;
+        served = t.boot.boot.is_server;
+        mark = λ base. t.boot.boot.mark a.disk refl base;
+        written = t.boot.boot.written;
+      })
+
+  booting : HostBoots old host_booted (value_of x.clocks place) x.delta
+  booting = subst (λ (d : ℕ). HostBoots old host_booted (value_of x.clocks place) d) (sym t.length)
+      (subst (λ (n : ℕ). HostBoots old host_booted n delta) (sym t.clock)
+      (boots now delta old host_booted (sym t.me) starts))
+
+  new_is : (value_of world_booted.hosts place).node ≡ Some t.boot.node
+  new_is = ap (λ (h : HostValue). h.node) (value_there x.hosts place host_booted)
+
+  -- A BOOT leads on
+  pub boot_led : (w : DiskScene) → IsAt w x → bytes_sent x.packets ≤ net_limit
+      → LedTo w world_booted []
+  boot_led w at few =
+      let s = step.Boot place in
+      subst (LedTo w world_booted) (none_shown (place_of place) None (state_shown t.boot.node))
+      (take_one w x world_booted s lines_booted at
+      (boot_taken the_laws x world_booted place host_booted None (state_shown t.boot.node) []
+      lines_booted refl (none_shown_so x place old_none) (sym t.me) booting refl
+      (shown_so world_booted place t.boot.node new_is t.boot.boot.is_server) refl)
+      (both_none _ _ (if_not (w.scene.group.server (place_of place)).up (Some fault.ServerUp) None
+      (down_so x place old_none w at.stands))
+      (net_none w s refl (few_sent w x at.stands few))) refl)

@@ -1,0 +1,15 @@
+mod Lists
+mod Reaching
+mod Picks
+mod Spelled
+mod Posts
+mod Moving
+mod Clocks
+mod Steps
+mod Takings
+mod Answering
+mod Wholes
+mod Bootings
+mod Endings
+mod Standing
+pub mod Following

@@ -1,0 +1,137 @@
+-- What happens at servers that run is a run of the group: a scene that follows a history, and where
+-- it leads while no process is gone amid an event.
+use Rattle.std.specs.Prelude.{◌≡◌, ◌⊎◌, ℕ, ◌+◌, ◌≤◌, false, List, ◌++◌, length, Contains, filter, sum_by, None, Some}
+use Rattle.std.specs.List.{slice_get}
+use Rattle.group_trace.specs.DiskCalls.{measures_of}
+use Rattle.group_trace.specs.DiskRun.{DiskScene, disk_run}
+use Rattle.group_trace.specs.Refusals.{net_limit}
+use Rattle.group_trace.specs.Run.{AreTaken, run_lines}
+use Rattle.harp_store.specs.Values.{stored}
+use Rattle.harp_store.specs.declared.stores.SoundStore.{SoundStore}
+use Rattle.harp_types.specs.Limits.{clock_skew}
+use Rattle.harp_types.specs.Trio.{value_of}
+use Rattle.harp_types.specs.declared.peer.Peer.TheVariants.{Server}
+use Rattle.harp_types.specs.declared.server.ServerId.{ServerId}
+use Rattle.harp_types.specs.declared.trio.Trio.{Trio}
+use Rattle.node.specs.Node.{IsServer, NodeValue}
+use Rattle.node_link.specs.declared.link.SentDatagram.{SentDatagram}
+use Rattle.node_loop.specs.Arriving.{IsMessage}
+use Rattle.node_loop.specs.Chain.{Chain}
+use Rattle.node_outputs.specs.Messages.{heard}
+use Rattle.schedule_play.specs.Stage.{IsReached}
+use Rattle.trace_types.specs.declared.step.Step.{Step}
+use Rattle.wire.specs.Messages.{message_bytes}
+use Rattle.wire.specs.declared.message.Message.{Message}
+use Rattle.world.specs.World.{IsWorld, WorldValue}
+use Rattle.world_lines.specs.Posted.{Posted, bytes_sent}
+use Rattle.world_rules.specs.Host.{HostValue, disk_of}
+use Rattle.world_rules.specs.Spellings.{spellings}
+use Rattle.running_laws.specs.Events.{EachAfter, Event, Site, all_sent}
+use Rattle.running_laws.specs.Histories.{IsInTime, IsNear, IsRisen, IsSentBefore}
+use Rattle.running_laws.specs.Lives.{Happens}
+use Rattle.running_laws.specs.Statement.{CanFollow, IsServerOf, answer_lines, is_answer}
+
+-- ---- a scene that follows a history
+
+-- a host has the node and the disk of a place
+pub record IsSite (h : HostValue) (s : Site) : Type 0 where
+  pub node : h.node ≡ s.node
+  pub disk : disk_of h ≡ s.disk.now
+  pub served : (n : NodeValue) → s.node ≡ Some n → IsServer n
+
+-- a packet from one server to another has these bytes
+pub record IsPacket (ps : List Posted) (from to : ServerId) (bytes : List ℕ) : Type 0 where
+  pub number : ℕ
+  pub posted : Posted
+  pub there : slice_get ps number ≡ Some posted
+  pub from_is : posted.packet.from ≡ from
+  pub to_is : posted.packet.to ≡ to
+  pub spells : IsMessage bytes posted.packet.message
+
+-- bytes that tell something to a client
+pub record AreForClients (bytes : List ℕ) : Type 0 where
+  pub message : Message
+  pub spells : bytes ≡ message_bytes message
+  pub unheard : heard message ≡ None
+
+-- A DATAGRAM TO A SERVER is a packet, or tells something to a client
+abbrev pub IsPosted : List Posted → SentDatagram → Type 0
+IsPosted ps d = (to : ServerId) → d.to ≡ Server to
+    → IsPacket ps d.place to d.bytes ⊎ AreForClients d.bytes
+
+-- THE CLOCKS OF A RUN are near the highest reading of a history, and above no reading that may come
+-- next at their place
+pub record ClocksFollow (before : List Event) (clocks : Trio ℕ) : Type 0 where
+  pub top : ℕ
+  pub near : (now : ℕ) → IsNear before now → top ≤ now + clock_skew
+  pub low : (place : ServerId) → top ≤ value_of clocks place + clock_skew
+  pub high : (place : ServerId) → value_of clocks place ≤ top
+  pub behind : (place : ServerId) (now : ℕ) → IsRisen before place now → IsNear before now
+      → value_of clocks place ≤ now
+
+-- the bytes of datagrams
+abbrev pub bytes_in : List SentDatagram → ℕ
+bytes_in ds = sum_by (λ (d : SentDatagram). length d.bytes) ds
+
+-- A SCENE FOLLOWS A HISTORY that left these nodes and disks: steps that are taken lead to it, and a
+-- world stands there whose hosts are the places, whose packets are what was sent, and no stop is
+-- armed
+pub record Follows (before : List Event) (sites : Trio Site) (w : DiskScene) (x : WorldValue)
+    : Type 0 where
+  pub reached : IsReached spellings w
+  pub stands : IsWorld w x
+  pub sites_are : (place : ServerId) → IsSite (value_of x.hosts place) (value_of sites place)
+  pub no_stop : (place : ServerId) → value_of x.stops place ≡ None
+  pub posted : (d : SentDatagram) → Contains (all_sent before) d → IsPosted x.packets d
+  pub bytes : bytes_sent x.packets ≤ bytes_in (all_sent before)
+  pub clocks : ClocksFollow before x.clocks
+
+-- ---- events that are whole
+
+-- a store in memory has the disk of a place; what a host is over is such a store
+pub record HasStore (s : Site) : Type 0 where
+  pub store : SoundStore
+  pub holds : (stored store).now ≡ s.disk.now
+
+-- the node of a place, if there is one, is a server of the machine
+abbrev pub IsServed : Site → Type 0
+IsServed s = (n : NodeValue) → s.node ≡ Some n → IsServer n
+
+-- AN EVENT IS WHOLE: no process is gone amid it
+pub record HappensWhole (e : Event) (a c : Trio Site) : Type 0 where
+  pub happens : Happens e a c
+  pub whole : e.cut ≡ false
+  pub has_store : HasStore (value_of c e.place)
+  pub served : IsServed (value_of c e.place)
+
+-- so few bytes were sent before that servers still step
+abbrev pub HasRoom : List Event → Event → Type 0
+HasRoom before e = bytes_in (all_sent before) ≤ net_limit
+
+-- ---- where they lead
+
+-- steps that are taken lead from one scene to another
+pub record LeadsTo (w v : DiskScene) : Type 0 where
+  pub steps : List Step
+  pub taken : AreTaken (measures_of spellings) w.scene steps
+  pub leads : disk_run spellings w steps ≡ v
+
+-- steps lead on to a scene that follows the longer history: they can be taken however much was
+-- sent, the places are its servers, and their answers are those of what happened meanwhile
+pub record FollowsOn (before events : List Event) (sites : Trio Site) (w : DiskScene)
+    : Type 0 where
+  pub scene : DiskScene
+  pub world : WorldValue
+  pub led : LeadsTo w scene
+  pub follows : Follows (before ++ events) sites scene world
+  pub can : CanFollow (measures_of spellings) w.scene led.steps
+  pub places : (place : ServerId) → IsServerOf scene place (value_of sites place)
+  pub answers : filter is_answer (run_lines (measures_of spellings) w.scene led.steps)
+      ≡ answer_lines events
+
+-- WHOLE EVENTS FOLLOW: from each scene that follows a history, where more events are whole
+abbrev pub WholeEventsFollow : Type 0
+WholeEventsFollow = (before events : List Event) (a c : Trio Site) (w : DiskScene) (x : WorldValue)
+    → Follows before a w x → Chain HappensWhole events a c
+    → EachAfter IsSentBefore before events → EachAfter IsInTime before events
+    → EachAfter HasRoom before events → FollowsOn before events c w

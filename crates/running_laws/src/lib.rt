@@ -1,0 +1,28 @@
+//! Servers that run as processes, and the runs of the group that they are: histories of processes,
+//! what they owe, and the steps of a run that each event is.
+//!
+//! # What is proved
+//!
+//! A *history* (`IsHistory`) is the row of what happens at the places of three servers: lives that
+//! begin and end, steps of them at readings of their clocks, and datagrams that are taken, of which
+//! those from the port of a server were sent by it before. `RunningServersAreTheGroup` says that
+//! each is a run of the group with disks, and has a book. That isn't proved yet; of it this is:
+//!
+//! - `whole_events_follow`: where a scene of a run follows a history (`Follows`), and no process is
+//!   gone amid one of the next events, steps of the run lead on to a scene that follows the longer
+//!   history, and their answers are those of the events (`follow`). No step is refused: the clocks
+//!   of the run are set before each event, its packets are what was sent, and of what a crash may
+//!   leave of a disk there is a pick that leaves it.
+//!
+//! What contracts below don't say yet is a premise of it, each with a name: a place's disk is that
+//! of a store in memory (`HasStore`), what an event leaves is a server of the machine (`IsServed`),
+//! and at most so many bytes were sent that a play still takes steps (`HasRoom`).
+#![tactic(auto)]
+
+ghost use Rattle.running_laws.specs.Follows.{WholeEventsFollow};
+
+/// From a scene that follows a history of servers that run, the run goes on as they do, where no
+/// process is gone amid an event.
+pub fn whole_events_follow()
+    ensures follow { WholeEventsFollow }
+{}
