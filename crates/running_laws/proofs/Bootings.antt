@@ -8,6 +8,7 @@ use Rattle.group_trace.specs.DiskRun.{DiskScene}
 use Rattle.group_trace.specs.Lines.{state_lines}
 use Rattle.group_trace.specs.Refusals.{net_limit}
 use Rattle.group_trace.specs.Shown.{shown_of}
+use Rattle.harp_store.specs.Disk.{Moments}
 use Rattle.harp_types.specs.Trio.{value_of}
 use Rattle.harp_types.specs.declared.server.ServerId.{ServerId}
 use Rattle.node.specs.Node.{NodeValue}
@@ -23,7 +24,7 @@ use Rattle.world.proofs.TheLaws.{the_laws}
 use Rattle.world.proofs.Turns.{with_host}
 use Rattle.world.specs.Clocks.{delta_after}
 use Rattle.world.specs.World.{IsWorld, WorldValue}
-use Rattle.world_host.proofs.Starts.{boots, start_at}
+use Rattle.world_host.proofs.Starts.{BootedBy, boots, start_at}
 use Rattle.world_host.proofs.Takes.{none_up}
 use Rattle.world_host.specs.Starts.{HostStarts}
 use Rattle.world_lines.specs.Posted.{bytes_sent}
@@ -54,7 +55,7 @@ delta_is old delta is = if_is (all_of (delta_tests delta)) delta old
 
 -- ---- a server that is down
 
-down_so : (x : WorldValue) (place : ServerId) → (value_of x.hosts place).node ≡ None
+pub down_so : (x : WorldValue) (place : ServerId) → (value_of x.hosts place).node ≡ None
     → (w : DiskScene) → IsWorld w x → (w.scene.group.server (place_of place)).up ≡ false
 down_so x place none w world =
     let own = world.servers place in
@@ -71,18 +72,50 @@ none_shown_so x place none w world =
 
 -- ---- the boot
 
--- what a boot at a place rests on, and what it leaves
-pub record IsBooting (x : WorldValue) (place : ServerId) (now delta : ℕ) (a b : Site)
+-- a host is down over a disk from which a node boots, and leaves a place
+pub record IsBootAt (h : HostValue) (place : ServerId) (now delta : ℕ) (b : Site)
     : Type 0 where
-  pub site : IsSite (value_of x.hosts place) a
+  pub none : h.node ≡ None
+  pub node : NodeValue
+  pub is : b.node ≡ Some node
+  pub old : Moments
+  pub left : Moments
+  pub disk : disk_of h ≡ old.now
+  pub there : left.now ≡ b.disk.now
+  pub boots : BootedBy place now delta node old left
+
+-- from the disk of a place
+pub boot_there : (h : HostValue) (place : ServerId) (now delta : ℕ) (a b : Site) → IsSite h a
+    → WholeBoot place now delta a b → IsBootAt h place now delta b
+boot_there h place now delta a b s w = record {
+  none = s.node ∙ w.none;
+  node = w.node;
+  is = w.is;
+  old = a.disk;
+  left = b.disk;
+  disk = s.disk;
+  there = refl;
+  boots = record {
+    boots = λ items held. w.boot.boots a.disk items refl held;
+    records = λ saved held. w.boot.records a.disk saved refl held;
+    me = w.boot.me_is;
+    served = w.boot.is_server;
+    mark = λ base. w.boot.mark a.disk refl base;
+    written = w.boot.written;
+  };
+}
+
+-- what a boot at a place rests on, and what it leaves
+pub record IsBooting (x : WorldValue) (place : ServerId) (now delta : ℕ) (b : Site)
+    : Type 0 where
   pub me : (value_of x.hosts place).me ≡ place_of place
   pub clock : value_of x.clocks place ≡ now
   pub length : x.delta ≡ delta
-  pub boot : WholeBoot place now delta a b
+  pub boot : IsBootAt (value_of x.hosts place) place now delta b
   pub has_store : HasStore b
 
-module _ (x : WorldValue) (place : ServerId) (now delta : ℕ) (a b : Site)
-    (t : IsBooting x place now delta a b) where
+module _ (x : WorldValue) (place : ServerId) (now delta : ℕ) (b : Site)
+    (t : IsBooting x place now delta b) where
   abbrev old : HostValue
   old = value_of x.hosts place
 
@@ -100,19 +133,9 @@ module _ (x : WorldValue) (place : ServerId) (now delta : ℕ) (a b : Site)
   abbrev lines_booted : List Line
   lines_booted = state_lines (place_of place) None (state_shown t.boot.node)
 
-  old_none : old.node ≡ None
-  old_none = t.site.node ∙ t.boot.none
-
   starts : HostStarts old host_booted now delta
-  starts = start_at place now delta t.boot.node a.disk b.disk old host_booted t.me t.site.disk refl
-      t.has_store.holds (record {
-        boots = λ items held. t.boot.boot.boots a.disk items refl held;
-        records = λ saved held. t.boot.boot.records a.disk saved refl held;
-        me = t.boot.boot.me_is;
-        served = t.boot.boot.is_server;
-        mark = λ base. t.boot.boot.mark a.disk refl base;
-        written = t.boot.boot.written;
-      })
+  starts = start_at place now delta t.boot.node t.boot.old t.boot.left old host_booted t.me
+      t.boot.disk refl (t.has_store.holds ∙ sym t.boot.there) t.boot.boots
 
   booting : HostBoots old host_booted (value_of x.clocks place) x.delta
   booting = subst (λ (d : ℕ). HostBoots old host_booted (value_of x.clocks place) d) (sym t.length)
@@ -130,8 +153,8 @@ module _ (x : WorldValue) (place : ServerId) (now delta : ℕ) (a b : Site)
       subst (LedTo w world_booted) (none_shown (place_of place) None (state_shown t.boot.node))
       (take_one w x world_booted s lines_booted at
       (boot_taken the_laws x world_booted place host_booted None (state_shown t.boot.node) []
-      lines_booted refl (none_shown_so x place old_none) (sym t.me) booting refl
-      (shown_so world_booted place t.boot.node new_is t.boot.boot.is_server) refl)
+      lines_booted refl (none_shown_so x place t.boot.none) (sym t.me) booting refl
+      (shown_so world_booted place t.boot.node new_is t.boot.boots.served) refl)
       (both_none _ _ (if_not (w.scene.group.server (place_of place)).up (Some fault.ServerUp) None
-      (down_so x place old_none w at.stands))
+      (down_so x place t.boot.none w at.stands))
       (net_none w s refl (few_sent w x at.stands few))) refl)

@@ -18,6 +18,7 @@ use Rattle.node_link.specs.declared.link.Datagram.{Datagram}
 use Rattle.node_link.specs.declared.link.SentDatagram.{SentDatagram}
 use Rattle.node_loop.specs.Arriving.{Arrives, IsMessage, input_of}
 use Rattle.node_loop.specs.Outgoing.{datagrams}
+use Rattle.promise.specs.Promise.{IsDelta}
 use Rattle.wire.specs.declared.message.Message.{Message}
 use Rattle.world.proofs.Arrivals.{delivered_bytes}
 use Rattle.world.proofs.Turns.{with_host}
@@ -30,11 +31,12 @@ use Rattle.world_rules.specs.Host.{HostValue}
 use Rattle.world_rules.specs.Spellings.{spellings}
 use Rattle.running_laws.specs.Books.{answers_in}
 use Rattle.running_laws.specs.Events.{Boots, Does, EachAfter, Ends, Event, Site, Takes, What, all_sent, put_out, sent_by}
-use Rattle.running_laws.specs.Follows.{AreForClients, ClocksFollow, Follows, FollowsOn, HappensWhole, HasRoom, IsPacket, IsPosted, IsSite, WholeEventsFollow, bytes_in}
+use Rattle.running_laws.specs.Follows.{AreForClients, ClocksFollow, Follows, FollowsOn, HappensWhole, HasRoom, IsNew, IsPacket, IsPlace, IsPosted, IsSite, LastsLong, WholeEventsFollow, bytes_in}
 use Rattle.running_laws.specs.Histories.{IsInTime, IsNotForged, IsSentBefore}
 use Rattle.running_laws.specs.Statement.{answer_lines}
 use Rattle.running_laws.specs.Lives.{EndBetween, HappensBy, Steps, WholeBoot, WholeStep}
-use Rattle.running_laws.proofs.Bootings.{IsBooting, boot_led, delta_is, delta_led, host_booted, world_booted}
+use Rattle.running_laws.proofs.Bootings.{IsBootAt, IsBooting, boot_led, boot_there, delta_is, delta_led, host_booted, world_booted}
+use Rattle.running_laws.proofs.FirstBoots.{first_boot}
 use Rattle.running_laws.proofs.Clocks.{clocks_follow, clocks_led, reads_now, set_last}
 use Rattle.running_laws.proofs.Endings.{IsEnding, end_led, host_fallen, world_fallen}
 use Rattle.running_laws.proofs.Moving.{IsAt, LedTo, answers_nowhere, answers_of, answers_on, leads_nowhere, leads_on, led_nowhere, led_on}
@@ -46,9 +48,9 @@ use Rattle.running_laws.proofs.Takings.{IsTurn, host_left, world_left}
 use Rattle.running_laws.proofs.Wholes.{counted, deed_led, message_led}
 
 -- what holds of each server's two values, where both of one change
-each_pair : {A B : Type 0} (P : A → B → Type 0) (t : Trio A) (u : Trio B) (s : ServerId)
-    (x : A) (y : B) → ((p : ServerId) → P (value_of t p) (value_of u p)) → P x y
-    → (p : ServerId) → P (value_of (with_value t s x) p) (value_of (with_value u s y) p)
+each_pair : {A B : Type 0} (P : ServerId → A → B → Type 0) (t : Trio A) (u : Trio B) (s : ServerId)
+    (x : A) (y : B) → ((p : ServerId) → P p (value_of t p) (value_of u p)) → P s x y
+    → (p : ServerId) → P p (value_of (with_value t s x) p) (value_of (with_value u s y) p)
 each_pair P t u server.Zero x y h own server.Zero = own
 each_pair P t u server.Zero x y h own server.One = h server.One
 each_pair P t u server.Zero x y h own server.Two = h server.Two
@@ -72,6 +74,9 @@ each_none t server.Two h server.Zero = h server.Zero
 each_none t server.Two h server.One = h server.One
 each_none t server.Two h server.Two = refl
 
+pub none_some : {A : Type 0} (x : A) → ◌≡◌ {A = Option A} None (Some x) → ⊥
+none_some x e = cc
+
 -- what is sent by the longer history
 sent_more : (before : List Event) (e : Event)
     → all_sent (before ++ e ∷ []) ≡ all_sent before ++ sent_by e
@@ -82,7 +87,7 @@ sent_more before e = flat_map-append sent_by before (e ∷ [])
 
 -- the world follows, but for its clocks
 record IsLeft (before : List Event) (e : Event) (c : Trio Site) (x y : WorldValue) : Type 0 where
-  sites_are : (place : ServerId) → IsSite (value_of y.hosts place) (value_of c place)
+  sites_are : (place : ServerId) → IsPlace place (value_of y.hosts place) (value_of c place)
   no_stop : (place : ServerId) → value_of y.stops place ≡ None
   posted : (d : SentDatagram) → Contains (all_sent before ++ sent_by e) d → IsPosted y.packets d
   bytes : bytes_sent y.packets ≤ bytes_in (all_sent before ++ sent_by e)
@@ -136,7 +141,7 @@ module _ (before : List Event) (e : Event) (a c : Trio Site) (w : DiskScene) (x 
       let all = all_silent silent in
       record {
         sites_are = subst (λ (z : Trio Site). (place : ServerId)
-            → IsSite (value_of x.hosts place) (value_of z place)) (sym (same_sites same))
+            → IsPlace place (value_of x.hosts place) (value_of z place)) (sym (same_sites same))
             f.sites_are;
         no_stop = f.no_stop;
         posted = λ d has. f.posted d (subst (λ ds. Contains ds d) all has);
@@ -155,18 +160,23 @@ module _ (before : List Event) (e : Event) (a c : Trio Site) (w : DiskScene) (x 
 
   -- ---- a step
 
+  -- a place where somebody lives isn't new
+  site_here : (n : NodeValue) → here.node ≡ Some n → IsSite (value_of x.hosts e.place) here
+  site_here n is = ⊎_elim (λ s. s) (λ (k : IsNew e.place (value_of x.hosts e.place) here).
+      absurd (none_some n (sym k.new.gone ∙ is))) (f.sites_are e.place)
+
   own_me : (n : NodeValue) → here.node ≡ Some n → n.me ≡ place_of e.place
   own_me n is =
       let own = f.stands.servers e.place in
       let runs = its_node (w.scene.group.server (place_of e.place)) own.stock own.saved
       (w.disks (place_of e.place)) (value_of x.hosts e.place) n own.host
-      ((f.sites_are e.place).node ∙ is) in
+      ((site_here n is).node ∙ is) in
       runs.me ∙ own.me
 
   turn_of : (given : Input) → WholeStep e.now given e.outs here there → IsUnlisted given
       → IsTurn set e.place e.now given e.outs here there
   turn_of given s unlisted = record {
-    site = f.sites_are e.place;
+    site = site_here s.old s.was;
     me = (f.stands.servers e.place).me;
     own_me = own_me;
     no_stop = f.no_stop e.place;
@@ -187,13 +197,15 @@ module _ (before : List Event) (e : Event) (a c : Trio Site) (w : DiskScene) (x 
       let all = x.packets ++ packets_of e.place puts.sends.items in
       record {
         sites_are = subst (λ (z : Trio Site). (place : ServerId)
-            → IsSite (value_of (with_value x.hosts e.place host) place) (value_of z place))
+            → IsPlace place (value_of (with_value x.hosts e.place host) place)
+            (value_of z place))
             (sym h.happens.is)
-            (each_pair IsSite x.hosts a e.place host there f.sites_are (record {
+            (each_pair IsPlace x.hosts a e.place host there f.sites_are (inl (record {
               node = sym t.step.is;
               disk = t.has_store.holds;
               served = h.served;
-            }));
+              synced = λ none. absurd (none_some t.step.new (sym none ∙ t.step.is));
+            })));
         no_stop = each_none x.stops e.place f.no_stop;
         posted = λ d has. ⊎_elim
             (λ old. posted_still x.packets all d
@@ -269,52 +281,66 @@ module _ (before : List Event) (e : Event) (a c : Trio Site) (w : DiskScene) (x 
   -- ---- boots and ends
 
   -- the world with another host at the place, in which nothing was sent
-  silent_left : (host : HostValue) (delta : ℕ) → IsSite host there → e.outs ≡ None
+  silent_left : (host : HostValue) (delta : ℕ) → IsPlace e.place host there → e.outs ≡ None
       → IsLeft before e c set (with_host (record set { delta = delta }) e.place host)
   silent_left host delta site silent =
       let all = all_silent silent in
       record {
         sites_are = subst (λ (z : Trio Site). (place : ServerId)
-            → IsSite (value_of (with_value x.hosts e.place host) place) (value_of z place))
+            → IsPlace place (value_of (with_value x.hosts e.place host) place)
+            (value_of z place))
             (sym h.happens.is)
-            (each_pair IsSite x.hosts a e.place host there f.sites_are site);
+            (each_pair IsPlace x.hosts a e.place host there f.sites_are site);
         no_stop = each_none x.stops e.place f.no_stop;
         posted = λ d has. f.posted d (subst (λ ds. Contains ds d) all has);
         bytes = subst (λ ds. bytes_sent x.packets ≤ bytes_in ds) (sym all) f.bytes;
         clocks = refl;
       }
 
-  boot_happens : (v : DiskScene) → IsAt v set → (delta : ℕ)
-      → WholeBoot e.place e.now delta here there → e.outs ≡ None → Leaves before e c v set
-  boot_happens v at delta boot silent =
+  booted_happens : (v : DiskScene) → IsAt v set → (delta : ℕ) → IsDelta delta
+      → IsBootAt (value_of x.hosts e.place) e.place e.now delta there → e.outs ≡ None
+      → Leaves before e c v set
+  booted_happens v at delta length boot silent =
       let longer = delta_after set.delta delta in
       let ready = record set { delta = longer } in
-      let t : IsBooting ready e.place e.now delta here there = record {
-        site = f.sites_are e.place;
+      let t : IsBooting ready e.place e.now delta there = record {
         me = (f.stands.servers e.place).me;
         clock = reads_now before e x.clocks f.clocks in_time;
-        length = delta_is set.delta delta boot.length;
+        length = delta_is set.delta delta length;
         boot = boot;
         has_store = h.has_store;
       } in
-      let y = world_booted ready e.place e.now delta here there t in
+      let y = world_booted ready e.place e.now delta there t in
       record {
         world = y;
         led = subst (λ outs. LedTo v y (answered_lines e.place (answers_in outs))) (sym silent)
             (led_on v ready y [] [] (delta_led v set delta at)
-            (λ u there_at. boot_led ready e.place e.now delta here there t u there_at few));
-        left = silent_left (host_booted ready e.place e.now delta here there t) longer (record {
+            (λ u there_at. boot_led ready e.place e.now delta there t u there_at few));
+        left = silent_left (host_booted ready e.place e.now delta there t) longer (inl (record {
           node = sym boot.is;
           disk = h.has_store.holds;
           served = h.served;
-        }) silent;
+          synced = λ none. absurd (none_some boot.node (sym none ∙ boot.is));
+        })) silent;
       }
+
+  boot_happens : (v : DiskScene) → IsAt v set → (delta : ℕ)
+      → WholeBoot e.place e.now delta here there → LastsLong (Boots delta) here → e.outs ≡ None
+      → Leaves before e c v set
+  boot_happens v at delta boot long silent = ⊎_elim
+      (λ (s : IsSite (value_of x.hosts e.place) here).
+      booted_happens v at delta boot.length (boot_there _ e.place e.now delta here there s boot)
+      silent)
+      (λ (k : IsNew e.place (value_of x.hosts e.place) here).
+      booted_happens v at delta boot.length
+      (first_boot _ e.place e.now delta here there k boot (long k.new)) silent)
+      (f.sites_are e.place)
 
   end_happens : (v : DiskScene) → IsAt v set → EndBetween here there → e.outs ≡ None
       → Leaves before e c v set
   end_happens v at ending silent =
       let t : IsEnding set e.place here there = record {
-        site = f.sites_are e.place;
+        site = site_here ending.old ending.was;
         me = (f.stands.servers e.place).me;
         ending = ending;
         has_store = h.has_store;
@@ -324,11 +350,12 @@ module _ (before : List Event) (e : Event) (a c : Trio Site) (w : DiskScene) (x 
         world = y;
         led = subst (λ outs. LedTo v y (answered_lines e.place (answers_in outs))) (sym silent)
             (end_led set e.place here there t v at);
-        left = silent_left (host_fallen set e.place here there t) set.delta (record {
+        left = silent_left (host_fallen set e.place here there t) set.delta (inl (record {
           node = sym ending.gone;
           disk = h.has_store.holds;
           served = h.served;
-        }) silent;
+          synced = λ none. ending.left.synced;
+        })) silent;
       }
 
   -- ---- all of them
@@ -355,12 +382,12 @@ module _ (before : List Event) (e : Event) (a c : Trio Site) (w : DiskScene) (x 
 
   event_leaves : (v : DiskScene) → IsAt v set → (what : What)
       → HappensBy e.place e.now what false e.outs here there → IsNotForged before e.place what
-      → Leaves before e c v set
-  event_leaves v at (Boots delta) by network = boot_happens v at delta by.0 by.1
-  event_leaves v at (Does given) by network =
+      → LastsLong what here → Leaves before e c v set
+  event_leaves v at (Boots delta) by network long = boot_happens v at delta by.0 long by.1
+  event_leaves v at (Does given) by network long =
       deed_happens v at given (own_deed e.place given by.0) (own_unlisted given by.0) by.1
-  event_leaves v at (Takes d) by network = arrives v at d by.0 by.1 network by.2
-  event_leaves v at Ends by network = end_happens v at by.0 by.1
+  event_leaves v at (Takes d) by network long = arrives v at d by.0 by.1 network by.2
+  event_leaves v at Ends by network long = end_happens v at by.0 by.1
 
   -- ONE EVENT follows
   event_follows : IsSentBefore before e → FollowsOn before (e ∷ []) c w
@@ -369,7 +396,7 @@ module _ (before : List Event) (e : Event) (a c : Trio Site) (w : DiskScene) (x 
       (record { reached = f.reached; stands = f.stands }) in
       let last = event_leaves first.scene first.there e.what
       (subst (λ (b : Bool). HappensBy e.place e.now e.what b e.outs here there) h.whole
-      h.happens.here) network in
+      h.happens.here) network h.long in
       let y = last.world in
       let led = leads_on w first.scene last.led.scene first.led last.led.led in
       let follows : Follows (before ++ e ∷ []) c last.led.scene y = record {

@@ -10,6 +10,8 @@ mod Takings
 mod Answering
 mod Wholes
 mod Bootings
+mod FirstBoots
 mod Endings
 mod Standing
 pub mod Following
+pub mod First

@@ -1,5 +1,5 @@
 -- What happens at the places of three servers that run as processes, and what they put out.
-use Rattle.std.specs.Prelude.{ℕ, Bool, List, [], ◌∷◌, ◌++◌, Option, None, Some, flat_map, ⊤}
+use Rattle.std.specs.Prelude.{◌≡◌, ℕ, Bool, List, [], ◌∷◌, ◌++◌, Option, None, Some, flat_map, ⊤}
 use Rattle.harp_store.specs.Disk.{Moments}
 use Rattle.harp_store.specs.Memory.{nothing_stored}
 use Rattle.harp_types.specs.declared.server.ServerId.{ServerId}
@@ -32,6 +32,11 @@ pub record Event : Type 0 where
 pub record Site : Type 0 where
   pub node : Option NodeValue
   pub disk : Moments
+
+-- nobody lives there, and its disk is new
+pub record IsNewSite (s : Site) : Type 0 where
+  pub gone : s.node ≡ None
+  pub empty : s.disk.now ≡ nothing_stored.now
 
 -- with a new disk
 abbrev pub new_site : Site

@@ -1,14 +1,17 @@
 -- What happens at servers that run is a run of the group: a scene that follows a history, and where
 -- it leads while no process is gone amid an event.
-use Rattle.std.specs.Prelude.{◌≡◌, ◌⊎◌, ℕ, ◌+◌, ◌≤◌, false, List, ◌++◌, length, Contains, filter, sum_by, None, Some}
+use Rattle.std.specs.Prelude.{◌≡◌, ◌⊎◌, ℕ, ◌+◌, ◌≤◌, false, List, [], ◌++◌, length, Contains, filter, sum_by, None, Some, ⊤}
 use Rattle.std.specs.List.{slice_get}
 use Rattle.group_trace.specs.DiskCalls.{measures_of}
 use Rattle.group_trace.specs.DiskRun.{DiskScene, disk_run}
 use Rattle.group_trace.specs.Refusals.{net_limit}
 use Rattle.group_trace.specs.Run.{AreTaken, run_lines}
+use Rattle.harp_store.specs.Disk.{Disk as ToldDisk, IsSynced, with_mark}
+use Rattle.harp_store.specs.Mark.{first_mark}
+use Rattle.harp_store.specs.Memory.{nothing_stored}
 use Rattle.harp_store.specs.Values.{stored}
 use Rattle.harp_store.specs.declared.stores.SoundStore.{SoundStore}
-use Rattle.harp_types.specs.Limits.{clock_skew}
+use Rattle.harp_types.specs.Limits.{clock_skew, first_promise}
 use Rattle.harp_types.specs.Trio.{value_of}
 use Rattle.harp_types.specs.declared.peer.Peer.TheVariants.{Server}
 use Rattle.harp_types.specs.declared.server.ServerId.{ServerId}
@@ -26,18 +29,32 @@ use Rattle.world.specs.World.{IsWorld, WorldValue}
 use Rattle.world_lines.specs.Posted.{Posted, bytes_sent}
 use Rattle.world_rules.specs.Host.{HostValue, disk_of}
 use Rattle.world_rules.specs.Spellings.{spellings}
-use Rattle.running_laws.specs.Events.{EachAfter, Event, Site, all_sent}
+use Rattle.running_laws.specs.Events.{Boots, Does, EachAfter, Ends, Event, IsNewSite, Site, Takes, What, all_sent, new_sites}
 use Rattle.running_laws.specs.Histories.{IsInTime, IsNear, IsRisen, IsSentBefore}
 use Rattle.running_laws.specs.Lives.{Happens}
-use Rattle.running_laws.specs.Statement.{CanFollow, IsServerOf, answer_lines, is_answer}
+use Rattle.running_laws.specs.Statement.{CanFollow, IsRunOfGroup, Stands, answer_lines, is_answer}
 
 -- ---- a scene that follows a history
 
--- a host has the node and the disk of a place
+-- a host has the node and the disk of a place, where without a node all is synced
 pub record IsSite (h : HostValue) (s : Site) : Type 0 where
   pub node : h.node ≡ s.node
   pub disk : disk_of h ≡ s.disk.now
   pub served : (n : NodeValue) → s.node ≡ Some n → IsServer n
+  pub synced : s.node ≡ None → IsSynced s.disk.now
+
+-- a new disk with the mark that the first boot of a run writes on it
+abbrev pub first_disk : ServerId → ToldDisk
+first_disk place = with_mark (first_mark place first_promise) nothing_stored.now
+
+-- A PLACE IS NEW: nothing was written there yet; its host has the first mark, and is down
+pub record IsNew (place : ServerId) (h : HostValue) (s : Site) : Type 0 where
+  pub new : IsNewSite s
+  pub node : h.node ≡ None
+  pub disk : disk_of h ≡ first_disk place
+
+abbrev pub IsPlace : ServerId → HostValue → Site → Type 0
+IsPlace place h s = IsSite h s ⊎ IsNew place h s
 
 -- a packet from one server to another has these bytes
 pub record IsPacket (ps : List Posted) (from to : ServerId) (bytes : List ℕ) : Type 0 where
@@ -80,7 +97,8 @@ pub record Follows (before : List Event) (sites : Trio Site) (w : DiskScene) (x 
     : Type 0 where
   pub reached : IsReached spellings w
   pub stands : IsWorld w x
-  pub sites_are : (place : ServerId) → IsSite (value_of x.hosts place) (value_of sites place)
+  pub sites_are : (place : ServerId)
+      → IsPlace place (value_of x.hosts place) (value_of sites place)
   pub no_stop : (place : ServerId) → value_of x.stops place ≡ None
   pub posted : (d : SentDatagram) → Contains (all_sent before) d → IsPosted x.packets d
   pub bytes : bytes_sent x.packets ≤ bytes_in (all_sent before)
@@ -97,12 +115,20 @@ pub record HasStore (s : Site) : Type 0 where
 abbrev pub IsServed : Site → Type 0
 IsServed s = (n : NodeValue) → s.node ≡ Some n → IsServer n
 
+-- a boot of a new disk makes promises at least as long as the first ones of a run
+abbrev pub LastsLong : What → Site → Type 0
+LastsLong (Boots delta) s = IsNewSite s → first_promise ≤ delta
+LastsLong (Does given) s = ⊤
+LastsLong (Takes d) s = ⊤
+LastsLong Ends s = ⊤
+
 -- AN EVENT IS WHOLE: no process is gone amid it
 pub record HappensWhole (e : Event) (a c : Trio Site) : Type 0 where
   pub happens : Happens e a c
   pub whole : e.cut ≡ false
   pub has_store : HasStore (value_of c e.place)
   pub served : IsServed (value_of c e.place)
+  pub long : LastsLong e.what (value_of a e.place)
 
 -- so few bytes were sent before that servers still step
 abbrev pub HasRoom : List Event → Event → Type 0
@@ -125,7 +151,7 @@ pub record FollowsOn (before events : List Event) (sites : Trio Site) (w : DiskS
   pub led : LeadsTo w scene
   pub follows : Follows (before ++ events) sites scene world
   pub can : CanFollow (measures_of spellings) w.scene led.steps
-  pub places : (place : ServerId) → IsServerOf scene place (value_of sites place)
+  pub places : (place : ServerId) → Stands scene place (value_of sites place)
   pub answers : filter is_answer (run_lines (measures_of spellings) w.scene led.steps)
       ≡ answer_lines events
 
@@ -135,3 +161,17 @@ WholeEventsFollow = (before events : List Event) (a c : Trio Site) (w : DiskScen
     → Follows before a w x → Chain HappensWhole events a c
     → EachAfter IsSentBefore before events → EachAfter IsInTime before events
     → EachAfter HasRoom before events → FollowsOn before events c w
+
+-- ---- from new disks on
+
+-- the place of a server that booted on a new disk, and fell
+abbrev pub first_site : ServerId → Site
+first_site place =
+    record { node = None; disk = record { past = []; now = first_disk place } }
+
+-- HISTORIES OF WHOLE EVENTS ARE RUNS of the group, from new disks on
+abbrev pub WholeHistoriesAreRuns : Type 0
+WholeHistoriesAreRuns = ((place : ServerId) → HasStore (first_site place))
+    → (events : List Event) (left : Trio Site) → Chain HappensWhole events new_sites left
+    → EachAfter IsSentBefore [] events → EachAfter IsInTime [] events
+    → EachAfter HasRoom [] events → IsRunOfGroup events left

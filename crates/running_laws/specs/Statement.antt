@@ -19,7 +19,7 @@ use Rattle.world_lines.specs.Given.{answered_lines}
 use Rattle.world_rules.specs.Host.{IsHostAt}
 use Rattle.world_rules.specs.Spellings.{spellings}
 use Rattle.running_laws.specs.Books.{HasBook, answers_in}
-use Rattle.running_laws.specs.Events.{Event, Site, new_site}
+use Rattle.running_laws.specs.Events.{Event, IsNewSite, Site}
 use Rattle.running_laws.specs.Histories.{IsHistory}
 
 -- each step can be taken, however many bytes were sent before it
@@ -37,10 +37,10 @@ pub record IsServerOf (w : DiskScene) (place : ServerId) (s : Site) : Type 0 whe
   pub host : IsHostAt (w.scene.group.server (place_of place)) stock saved
       (w.disks (place_of place)) (place_of place) s.node s.disk.now
 
--- or it is new, and its server is down
+-- or nothing was written there yet, and its server is down
 abbrev pub Stands : DiskScene → ServerId → Site → Type 0
 Stands w place s = IsServerOf w place s
-    ⊎ ((s ≡ new_site) × ((w.scene.group.server (place_of place)).up ≡ false))
+    ⊎ (IsNewSite s × ((w.scene.group.server (place_of place)).up ≡ false))
 
 -- ---- answers
 

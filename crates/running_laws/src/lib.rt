@@ -13,16 +13,26 @@
 //!   history, and their answers are those of the events (`follow`). No step is refused: the clocks
 //!   of the run are set before each event, its packets are what was sent, and of what a crash may
 //!   leave of a disk there is a pick that leaves it.
+//! - `whole_histories_are_runs`: new places follow the scene in which each server fell behind its
+//!   first boot, so from new disks on each history whose events are whole is a run of the group
+//!   (`runs`): its steps end in these servers and disks, and all that `disk_laws` says of a run
+//!   holds.
 //!
-//! What contracts below don't say yet is a premise of it, each with a name: a place's disk is that
+//! What contracts below don't say yet is a premise of them, each with a name: a place's disk is that
 //! of a store in memory (`HasStore`), what an event leaves is a server of the machine (`IsServed`),
-//! and at most so many bytes were sent that a play still takes steps (`HasRoom`).
+//! at most so many bytes were sent that a play still takes steps (`HasRoom`), and a boot of a new
+//! disk makes promises at least as long as the first ones of a run (`LastsLong`).
 #![tactic(auto)]
 
-ghost use Rattle.running_laws.specs.Follows.{WholeEventsFollow};
+ghost use Rattle.running_laws.specs.Follows.{WholeEventsFollow, WholeHistoriesAreRuns};
 
 /// From a scene that follows a history of servers that run, the run goes on as they do, where no
 /// process is gone amid an event.
 pub fn whole_events_follow()
     ensures follow { WholeEventsFollow }
+{}
+
+/// From new disks on, each history whose events are whole is a run of the group.
+pub fn whole_histories_are_runs()
+    ensures runs { WholeHistoriesAreRuns }
 {}
