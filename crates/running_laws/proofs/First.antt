@@ -23,10 +23,11 @@ use Rattle.world.specs.World.{WorldValue}
 use Rattle.world_rules.specs.Host.{HasMark, HostValue, IsHost, IsHostAt, disk_of, no_stock}
 use Rattle.world_rules.specs.Spellings.{spellings}
 use Rattle.running_laws.specs.Events.{Site, new_sites}
-use Rattle.running_laws.specs.Follows.{ClocksFollow, Follows, HasStore, IsPlace, WholeHistoriesAreRuns, first_disk, first_site}
+use Rattle.running_laws.specs.Follows.{ClocksFollow, Follows, HasStore, IsPlace, HistoriesAreRuns, first_disk, first_site}
 use Rattle.running_laws.specs.Statement.{Stands}
 use Rattle.running_laws.proofs.Endings.{IsEnding, end_led, world_fallen}
-use Rattle.running_laws.proofs.Following.{none_some, whole_events_follow}
+use Rattle.running_laws.proofs.Following.{events_follow}
+use Rattle.running_laws.proofs.Left.{none_some, same_some}
 use Rattle.running_laws.proofs.Moving.{IsAt, LedTo, answers_of, answers_on, leads_on, led_on}
 use Rattle.running_laws.proofs.Standing.{taken_follow}
 
@@ -116,9 +117,6 @@ first_clocks = record {
     all_zero : (place : ServerId) → value_of (record { zero = 0; one = 0; two = 0 }) place ≤ 0
     all_zero place = all_below place 0
 
-same_node : (n m : NodeValue) → Some n ≡ Some m → n ≡ m
-same_node n m e = cc
-
 -- the place, before its server fell
 up_site : ServerId → Site
 up_site place = record {
@@ -162,7 +160,7 @@ module _ (stores : (place : ServerId) → HasStore (first_site place)) where
     site = record {
       node = ap (λ (h : HostValue). h.node) is;
       disk = ap disk_of is ∙ (stores place).holds;
-      served = λ n e. subst IsServer (same_node (node_first place) n e) (first_served place);
+      served = λ n e. subst IsServer (same_some (node_first place) n e) (first_served place);
       synced = λ none. absurd (none_some (node_first place) (sym none));
     };
     me = ap (λ (h : HostValue). h.me) is;
@@ -240,10 +238,10 @@ module _ (stores : (place : ServerId) → HasStore (first_site place)) where
   }
 
 -- HISTORIES OF WHOLE EVENTS are runs
-pub whole_histories_are_runs : WholeHistoriesAreRuns
-whole_histories_are_runs stores events left lives network clocks room =
+pub histories_are_runs : HistoriesAreRuns
+histories_are_runs stores events left lives network clocks room =
     let start = down_led stores in
-    let on = whole_events_follow [] events new_sites left start.scene (world_down stores)
+    let on = events_follow [] events new_sites left start.scene (world_down stores)
     (start_follows stores) lives network clocks room in
     let led = leads_on first_disk_scene start.scene on.scene start.led on.led in
     record {

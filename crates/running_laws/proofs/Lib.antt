@@ -13,5 +13,7 @@ mod Bootings
 mod FirstBoots
 mod Endings
 mod Standing
+mod Left
+mod Happening
 pub mod Following
 pub mod First

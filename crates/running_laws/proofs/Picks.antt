@@ -8,7 +8,7 @@ use Rattle.harp_cells.proofs.CellLemmas.{is_cell_true}
 use Rattle.harp_cells.specs.Effect.{Cells, is_cell}
 use Rattle.harp_cells.specs.declared.cell.Cell.{Cell}
 use Rattle.harp_cells.specs.declared.value.Value.{Value}
-use Rattle.harp_store.specs.Disk.{Disk, IsLeftOf, reads, set_by, values_of}
+use Rattle.harp_store.specs.Disk.{Disk, IsLeftOf, IsSynced, reads, set_by, values_of}
 use Rattle.harp_store.specs.Mark.{MarkFields}
 use Rattle.harp_store.specs.Memory.{crashed_by, kept}
 use Rattle.harp_store.specs.declared.layers.Unsynced.{Unsynced}
@@ -206,3 +206,20 @@ pick_of_left d left h =
             mark = m;
           }) h.image.mark,
     )
+
+-- ---- a disk that is synced
+
+crashed_synced : (by : Pick) (d : Disk) → IsSynced d → crashed_by by d ≡ d
+unfolding reads set_by kept
+crashed_synced by d none = ap (λ (us : List Unsynced). crashed_by by (record {
+  synced = d.synced;
+  unsynced = us;
+  mark = d.mark;
+})) none
+    ∙ ap (λ (us : List Unsynced). record { synced = d.synced; unsynced = us; mark = d.mark })
+    (sym none)
+
+-- of a synced disk all is left
+pub left_of_synced : (d left : Disk) → IsSynced d → IsLeftOf d left → left ≡ d
+left_of_synced d left synced h =
+    let picked = pick_of_left d left h in picked.1 ∙ crashed_synced picked.0 d synced

@@ -1,12 +1,12 @@
 -- What happens at servers that run is a run of the group: a scene that follows a history, and where
--- it leads while no process is gone amid an event.
-use Rattle.std.specs.Prelude.{◌≡◌, ◌⊎◌, ℕ, ◌+◌, ◌≤◌, false, List, [], ◌++◌, length, Contains, filter, sum_by, None, Some, ⊤}
+-- it leads, by what is known of each event.
+use Rattle.std.specs.Prelude.{◌≡◌, ◌⊎◌, ℕ, ◌+◌, ◌≤◌, Bool, true, false, List, [], ◌++◌, length, Contains, filter, sum_by, None, Some, ⊤}
 use Rattle.std.specs.List.{slice_get}
 use Rattle.group_trace.specs.DiskCalls.{measures_of}
 use Rattle.group_trace.specs.DiskRun.{DiskScene, disk_run}
 use Rattle.group_trace.specs.Refusals.{net_limit}
 use Rattle.group_trace.specs.Run.{AreTaken, run_lines}
-use Rattle.harp_store.specs.Disk.{Disk as ToldDisk, IsSynced, with_mark}
+use Rattle.harp_store.specs.Disk.{Disk as ToldDisk, IsLeftOf, IsSynced, Moments, with_mark}
 use Rattle.harp_store.specs.Mark.{first_mark}
 use Rattle.harp_store.specs.Memory.{nothing_stored}
 use Rattle.harp_store.specs.Values.{stored}
@@ -16,10 +16,12 @@ use Rattle.harp_types.specs.Trio.{value_of}
 use Rattle.harp_types.specs.declared.peer.Peer.TheVariants.{Server}
 use Rattle.harp_types.specs.declared.server.ServerId.{ServerId}
 use Rattle.harp_types.specs.declared.trio.Trio.{Trio}
+use Rattle.node.specs.Boot.{after_boot}
 use Rattle.node.specs.Node.{IsServer, NodeValue}
 use Rattle.node_link.specs.declared.link.SentDatagram.{SentDatagram}
 use Rattle.node_loop.specs.Arriving.{IsMessage}
 use Rattle.node_loop.specs.Chain.{Chain}
+use Rattle.node_loop.specs.Step.{IsBoot}
 use Rattle.node_outputs.specs.Messages.{heard}
 use Rattle.schedule_play.specs.Stage.{IsReached}
 use Rattle.trace_types.specs.declared.step.Step.{Step}
@@ -104,7 +106,7 @@ pub record Follows (before : List Event) (sites : Trio Site) (w : DiskScene) (x 
   pub bytes : bytes_sent x.packets ≤ bytes_in (all_sent before)
   pub clocks : ClocksFollow before x.clocks
 
--- ---- events that are whole
+-- ---- what is known of events
 
 -- a store in memory has the disk of a place; what a host is over is such a store
 pub record HasStore (s : Site) : Type 0 where
@@ -122,10 +124,27 @@ LastsLong (Does given) s = ⊤
 LastsLong (Takes d) s = ⊤
 LastsLong Ends s = ⊤
 
--- AN EVENT IS WHOLE: no process is gone amid it
-pub record HappensWhole (e : Event) (a c : Trio Site) : Type 0 where
+-- a boot that is cut behind its write was about to make a node
+abbrev pub HasNode : ServerId → (now delta : ℕ) → Site → Type 0
+HasNode place now delta a = (amid : Moments) → Some amid ≡ after_boot place delta (Some a.disk)
+    → (n : NodeValue) × IsBoot place delta now (Some a.disk) (Some amid) n
+
+-- a step amid which the process is gone leaves no more than a crash before it may
+abbrev pub LeavesNoMore : (a b : Site) → Type 0
+LeavesNoMore a b = b.node ≡ None → IsLeftOf a.disk.now b.disk.now
+
+-- what is known of an event amid which the process is gone
+abbrev pub IsCutSo : ServerId → (now : ℕ) → What → (cut : Bool) → (a b : Site) → Type 0
+IsCutSo place now what false a b = ⊤
+IsCutSo place now (Boots delta) true a b = HasNode place now delta a
+IsCutSo place now (Does given) true a b = LeavesNoMore a b
+IsCutSo place now (Takes d) true a b = LeavesNoMore a b
+IsCutSo place now Ends true a b = ⊤
+
+-- WHAT HAPPENS, and what contracts don't say of it yet
+pub record HappensKnown (e : Event) (a c : Trio Site) : Type 0 where
   pub happens : Happens e a c
-  pub whole : e.cut ≡ false
+  pub cut : IsCutSo e.place e.now e.what e.cut (value_of a e.place) (value_of c e.place)
   pub has_store : HasStore (value_of c e.place)
   pub served : IsServed (value_of c e.place)
   pub long : LastsLong e.what (value_of a e.place)
@@ -155,10 +174,10 @@ pub record FollowsOn (before events : List Event) (sites : Trio Site) (w : DiskS
   pub answers : filter is_answer (run_lines (measures_of spellings) w.scene led.steps)
       ≡ answer_lines events
 
--- WHOLE EVENTS FOLLOW: from each scene that follows a history, where more events are whole
-abbrev pub WholeEventsFollow : Type 0
-WholeEventsFollow = (before events : List Event) (a c : Trio Site) (w : DiskScene) (x : WorldValue)
-    → Follows before a w x → Chain HappensWhole events a c
+-- EVENTS FOLLOW: from each scene that follows a history, where these are known of more events
+abbrev pub EventsFollow : Type 0
+EventsFollow = (before events : List Event) (a c : Trio Site) (w : DiskScene) (x : WorldValue)
+    → Follows before a w x → Chain HappensKnown events a c
     → EachAfter IsSentBefore before events → EachAfter IsInTime before events
     → EachAfter HasRoom before events → FollowsOn before events c w
 
@@ -169,9 +188,9 @@ abbrev pub first_site : ServerId → Site
 first_site place =
     record { node = None; disk = record { past = []; now = first_disk place } }
 
--- HISTORIES OF WHOLE EVENTS ARE RUNS of the group, from new disks on
-abbrev pub WholeHistoriesAreRuns : Type 0
-WholeHistoriesAreRuns = ((place : ServerId) → HasStore (first_site place))
-    → (events : List Event) (left : Trio Site) → Chain HappensWhole events new_sites left
+-- HISTORIES ARE RUNS of the group, from new disks on
+abbrev pub HistoriesAreRuns : Type 0
+HistoriesAreRuns = ((place : ServerId) → HasStore (first_site place))
+    → (events : List Event) (left : Trio Site) → Chain HappensKnown events new_sites left
     → EachAfter IsSentBefore [] events → EachAfter IsInTime [] events
     → EachAfter HasRoom [] events → IsRunOfGroup events left
