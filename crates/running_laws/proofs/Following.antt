@@ -23,10 +23,11 @@ event_follows : (before : List Event) (e : Event) (a c : Trio Site) (w : DiskSce
     (x : WorldValue) → Follows before a w x → HappensKnown e a c → IsInTime before e
     → HasRoom before e → IsSentBefore before e → FollowsOn before (e ∷ []) c w
 event_follows before e a c w x f h in_time room network =
-    let first : LedTo w (set before e a c w x f h in_time room) [] = clocks_led before e x.clocks f.clocks in_time w x refl
+    let first : LedTo w (set before e a c w x f h in_time room) [] =
+    clocks_led before e x.clocks f.clocks in_time w x refl
     (record { reached = f.reached; stands = f.stands }) in
-    let last = cut_or_whole before e a c w x f h in_time room first.scene first.there e.cut h.happens.here h.cut
-    network in
+    let last = cut_or_whole before e a c w x f h in_time room first.scene first.there e.cut
+    h.happens.here h.cut network in
     let y = last.world in
     let led = leads_on w first.scene last.led.scene first.led last.led.led in
     let follows : Follows (before ++ e ∷ []) c last.led.scene y = record {

@@ -31,12 +31,13 @@ use Rattle.world_lines.specs.Posted.{bytes_sent, delivered_at}
 use Rattle.world_rules.specs.Host.{HostValue}
 use Rattle.running_laws.specs.Books.{answers_in}
 use Rattle.running_laws.specs.Events.{Boots, Does, Ends, Event, Site, Takes, What, all_sent, put_out, sent_by}
-use Rattle.running_laws.specs.Follows.{AreForClients, Follows, HappensKnown, HasNode, HasRoom, HasStore, IsCutSo, IsNew, IsPacket, IsPlace, IsSite, LastsLong, LeavesNoMore, bytes_in}
+use Rattle.running_laws.specs.Follows.{AreForClients, Follows, HappensKnown, HasNode, HasRoom, HasStore, IsCutSo, IsCutStep, IsNew, IsPacket, IsPlace, IsSite, KeepsMark, LastsLong, bytes_in}
 use Rattle.running_laws.specs.Histories.{IsInTime, IsNotForged}
-use Rattle.running_laws.specs.Lives.{EndBetween, HappensBy, PartOfBoot, Steps, WholeBoot, WholeStep}
+use Rattle.running_laws.specs.Lives.{EndBetween, HappensBy, PartOfBoot, PartOfStep, Steps, WholeBoot, WholeStep}
 use Rattle.running_laws.proofs.Bootings.{IsBootAt, IsBooting, boot_led, boot_there, delta_is, delta_led, host_booted, world_booted}
 use Rattle.running_laws.proofs.FirstBoots.{first_boot}
 use Rattle.running_laws.proofs.Clocks.{reads_now, set_last}
+use Rattle.running_laws.proofs.Cuts.{cut_left, known_so}
 use Rattle.running_laws.proofs.Endings.{IsEnding, end_led, host_fallen, world_fallen}
 use Rattle.running_laws.proofs.Moving.{IsAt, LedTo, led_nowhere, led_on}
 use Rattle.running_laws.proofs.Picks.{left_of_synced}
@@ -427,21 +428,30 @@ module _ (before : List Event) (e : Event) (a c : Trio Site) (w : DiskScene) (x 
 
   -- ---- steps that are cut
 
-  cut_step : (v : DiskScene) → IsAt v set → (given : Option Input)
-      → Steps true e.now given e.outs here there → LeavesNoMore here there
+  cut_step : (v : DiskScene) → IsAt v set → (given : Input)
+      → PartOfStep e.now given e.outs here there → IsCutStep given here there
       → Leaves before e c v set
-  cut_step v at None step no_more = nothing_arrives v at step.0 step.1
-  cut_step v at (Some given) step no_more = end_happens v at
-      (record { old = step.old; was = step.was; gone = step.gone; left = no_more step.gone })
-      step.silent
+  cut_step v at given p known = end_happens v at (record {
+    old = p.old;
+    was = p.was;
+    gone = p.gone;
+    left = cut_left e.now given e.outs here there known p;
+  }) p.silent
+
+  cut_arrives : (v : DiskScene) → IsAt v set → (d : Datagram) (given : Option Input)
+      → Arrives d given → Steps true e.now given e.outs here there → KeepsMark here there
+      → Leaves before e c v set
+  cut_arrives v at d None come step keeps = nothing_arrives v at step.0 step.1
+  cut_arrives v at d (Some given) come step keeps =
+      cut_step v at given step (known_so d given here there come keeps)
 
   event_cut : (v : DiskScene) → IsAt v set → (what : What)
       → HappensBy e.place e.now what true e.outs here there → LastsLong what here
       → IsCutSo e.place e.now what true here there → Leaves before e c v set
   event_cut v at (Boots delta) by long known =
       cut_boot v at delta by.0 by.0.part known long by.1
-  event_cut v at (Does given) by long known = cut_step v at (Some given) by.1 known
-  event_cut v at (Takes d) by long known = cut_step v at by.0 by.2 known
+  event_cut v at (Does given) by long known = cut_step v at given by.1 known
+  event_cut v at (Takes d) by long known = cut_arrives v at d by.0 by.1 by.2 known
   event_cut v at Ends by long known = end_happens v at by.0 by.1
 
   -- ---- all of them

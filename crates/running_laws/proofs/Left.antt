@@ -22,8 +22,8 @@ use Rattle.running_laws.specs.Follows.{IsPlace, IsPosted, bytes_in}
 use Rattle.running_laws.proofs.Moving.{LedTo}
 
 -- what holds of each server's two values, where both of one change
-pub each_pair : {A B : Type 0} (P : ServerId → A → B → Type 0) (t : Trio A) (u : Trio B) (s : ServerId)
-    (x : A) (y : B) → ((p : ServerId) → P p (value_of t p) (value_of u p)) → P s x y
+pub each_pair : {A B : Type 0} (P : ServerId → A → B → Type 0) (t : Trio A) (u : Trio B)
+    (s : ServerId) (x : A) (y : B) → ((p : ServerId) → P p (value_of t p) (value_of u p)) → P s x y
     → (p : ServerId) → P p (value_of (with_value t s x) p) (value_of (with_value u s y) p)
 each_pair P t u server.Zero x y h own server.Zero = own
 each_pair P t u server.Zero x y h own server.One = h server.One
@@ -79,7 +79,8 @@ sent_more before e = flat_map-append sent_by before (e ∷ [])
 -- ---- what one event leaves of the world
 
 -- the world follows, but for its clocks
-pub record IsLeft (before : List Event) (e : Event) (c : Trio Site) (x y : WorldValue) : Type 0 where
+pub record IsLeft (before : List Event) (e : Event) (c : Trio Site) (x y : WorldValue)
+    : Type 0 where
   pub sites_are : (place : ServerId) → IsPlace place (value_of y.hosts place) (value_of c place)
   pub no_stop : (place : ServerId) → value_of y.stops place ≡ None
   pub posted : (d : SentDatagram) → Contains (all_sent before ++ sent_by e) d → IsPosted y.packets d

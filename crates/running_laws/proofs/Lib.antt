@@ -14,6 +14,7 @@ mod FirstBoots
 mod Endings
 mod Standing
 mod Left
+mod Cuts
 mod Happening
 pub mod Following
 pub mod First

@@ -18,6 +18,8 @@ use Rattle.harp_types.specs.declared.server.ServerId.{ServerId}
 use Rattle.harp_types.specs.declared.trio.Trio.{Trio}
 use Rattle.node.specs.Boot.{after_boot}
 use Rattle.node.specs.Node.{IsServer, NodeValue}
+use Rattle.node.specs.declared.input.Input.{Input}
+use Rattle.node.specs.declared.input.Input.TheVariants as input
 use Rattle.node_link.specs.declared.link.SentDatagram.{SentDatagram}
 use Rattle.node_loop.specs.Arriving.{IsMessage}
 use Rattle.node_loop.specs.Chain.{Chain}
@@ -129,16 +131,21 @@ abbrev pub HasNode : ServerId → (now delta : ℕ) → Site → Type 0
 HasNode place now delta a = (amid : Moments) → Some amid ≡ after_boot place delta (Some a.disk)
     → (n : NodeValue) × IsBoot place delta now (Some a.disk) (Some amid) n
 
--- a step amid which the process is gone leaves no more than a crash before it may
-abbrev pub LeavesNoMore : (a b : Site) → Type 0
-LeavesNoMore a b = b.node ≡ None → IsLeftOf a.disk.now b.disk.now
+-- a step that is cut wrote no other mark
+abbrev pub KeepsMark : (a b : Site) → Type 0
+KeepsMark a b = b.node ≡ None → b.disk.now.mark ≡ a.disk.now.mark
+
+-- an apply that is cut leaves no more than a crash before it may
+abbrev pub IsCutStep : Input → (a b : Site) → Type 0
+IsCutStep (input.Apply most) a b = b.node ≡ None → IsLeftOf a.disk.now b.disk.now
+IsCutStep given a b = KeepsMark a b
 
 -- what is known of an event amid which the process is gone
 abbrev pub IsCutSo : ServerId → (now : ℕ) → What → (cut : Bool) → (a b : Site) → Type 0
 IsCutSo place now what false a b = ⊤
 IsCutSo place now (Boots delta) true a b = HasNode place now delta a
-IsCutSo place now (Does given) true a b = LeavesNoMore a b
-IsCutSo place now (Takes d) true a b = LeavesNoMore a b
+IsCutSo place now (Does given) true a b = IsCutStep given a b
+IsCutSo place now (Takes d) true a b = KeepsMark a b
 IsCutSo place now Ends true a b = ⊤
 
 -- WHAT HAPPENS, and what contracts don't say of it yet

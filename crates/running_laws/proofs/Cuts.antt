@@ -1,0 +1,166 @@
+-- What is left of a disk amid a step that wrote no other mark: what a crash before it may leave.
+use Rattle.std.proofs.Common.{◌≡◌, ℕ, zero, suc, ◌<◌, Bool, true, false, List, [], ◌∷◌, length, Option, None, Some, inl, inr, refl, sym, ◌∙◌, subst, arith, slice_index_or, if◌then◌else◌, ⊎_elim}
+use Rattle.std.specs.Prelude.{Any}
+use Rattle.std.specs.Option.{option_map}
+use Rattle.applier.specs.Applied.{FlushesInPart, lower}
+use Rattle.file_tree.specs.Book.{Entry}
+use Rattle.group_rules.specs.Moves.{Move}
+use Rattle.group_rules.specs.Names.{place_of}
+use Rattle.group_rules.specs.State.{Message as Told}
+use Rattle.group_rules.specs.Step.{Comes, Does, Suspect, Tick}
+use Rattle.harp_cells.specs.Effect.{is_cell}
+use Rattle.harp_cells.specs.declared.cell.Cell.{Cell}
+use Rattle.harp_cells.specs.declared.value.Value.{Value}
+use Rattle.harp_store.specs.Disk.{Disk, IsLeftOf, MayHold, Moments, reads, set_by, synced_whole, then_disk, values_of, with_mark}
+use Rattle.harp_store.specs.Mark.{MarkFields}
+use Rattle.harp_store.specs.declared.layers.Unsynced.{Unsynced}
+use Rattle.harp_types.specs.declared.server.ServerId.{ServerId}
+use Rattle.node.specs.Disk.{MayLeave, marked_by}
+use Rattle.node.specs.Node.{NodeValue}
+use Rattle.node.specs.Stored.{LeavesBy, LeavesFlush}
+use Rattle.node.specs.Taking.{input_in, stepped}
+use Rattle.node.specs.declared.input.Input.{Input}
+use Rattle.node.specs.declared.input.Input.TheVariants as input
+use Rattle.node_link.specs.declared.link.Datagram.{Datagram}
+use Rattle.node_loop.specs.Arriving.{Arrives}
+use Rattle.node_outputs.specs.Messages.{heard}
+use Rattle.node_outputs.specs.declared.outputs.Outputs.{Outputs}
+use Rattle.wire.specs.declared.message.Message.{Message}
+use Rattle.world_host.proofs.Stops.{now_at}
+use Rattle.running_laws.specs.Events.{Site}
+use Rattle.running_laws.specs.Follows.{IsCutStep, KeepsMark}
+use Rattle.running_laws.specs.Lives.{PartOfStep}
+use Rattle.running_laws.proofs.Spelled.{IsAsked, IsTold, given_as}
+
+-- ---- a disk that is synced holds what it reads as
+
+the_one : (k : ℕ) (held x v : Option Value) → k < length (held ∷ [])
+    → slice_index_or (held ∷ []) k x ≡ x → x ≡ v → held ≡ v
+the_one zero held x v lt is e = is ∙ e
+the_one (suc k) held x v lt is e = absurd (omega (arith, lt))
+
+-- what a cell reads as is what was held, or a value that was put or erased
+last_among : (us : List Unsynced) (c : Cell) (held v : Option Value) → set_by c us held ≡ v
+    → Any (λ x. x ≡ v) (held ∷ values_of c us)
+unfolding set_by values_of
+last_among [] c held v e = (0, held, omega arith, refl, e)
+last_among (u ∷ us) c held v e =
+    by (is_cell u.cell c) e (λ h is. last_among us c h v is)
+  where
+    by : (b : Bool) → set_by c us (if b then u.value else held) ≡ v
+        → ((h : Option Value) → set_by c us h ≡ v → Any (λ x. x ≡ v) (h ∷ values_of c us))
+        → Any (λ x. x ≡ v)
+        (held ∷ (if b then u.value ∷ values_of c us else values_of c us))
+    by true e on =
+        let more = on u.value e in
+        let lt = more.2 in
+        (suc more.0, more.1, omega (arith, lt), more.3, more.4)
+    by false e on = on held e
+
+synced_held : (d : Disk) (c : Cell) (v : Option Value) → MayHold (synced_whole d) c v
+    → MayHold d c v
+unfolding reads values_of
+synced_held d c v h = last_among d.unsynced c (d.synced c) v
+    (the_one h.0 (reads d c) h.1 v h.2 h.3 h.4)
+
+left_of_whole : (d left : Disk) → IsLeftOf (synced_whole d) left → left.mark ≡ d.mark
+    → IsLeftOf d left
+left_of_whole d left h mark = record {
+  image = record { cells = λ c. synced_held d c (left.synced c) (h.image.cells c); mark = mark };
+  synced = h.synced;
+}
+
+-- ---- what is left amid a step
+
+left_of_old : (old amid : Moments) (left : Disk) → Some amid ≡ Some old → IsLeftOf amid.now left
+    → IsLeftOf old.now left
+left_of_old old amid left e h =
+    subst (λ (d : Disk). IsLeftOf d left) (now_at amid old e) h
+
+left_of_marked : (d left : Disk) (mark : MarkFields) → IsLeftOf (with_mark mark d) left
+    → left.mark ≡ d.mark → IsLeftOf d left
+left_of_marked d left mark h same = record {
+  image = record { cells = h.image.cells; mark = same };
+  synced = h.synced;
+}
+
+part_marked : (ms : List (Move Entry)) (mark : MarkFields) (old amid : Moments) (left : Disk)
+    → MayLeave ms mark (Some old) (Some amid) → IsLeftOf amid.now left
+    → left.mark ≡ old.now.mark → IsLeftOf old.now left
+part_marked ms mark old amid left (inl e) h same = left_of_old old amid left e h
+part_marked ms mark old amid left (inr w) h same = left_of_marked old.now left mark
+    (subst (λ (d : Disk). IsLeftOf d left)
+    (now_at amid (then_disk (with_mark mark old.now) old) w.1) h) same
+
+part_flushed : (mark : MarkFields) (old amid : Moments) (left : Disk)
+    → FlushesInPart mark (Some old) (Some amid) → IsLeftOf amid.now left
+    → left.mark ≡ old.now.mark → IsLeftOf old.now left
+part_flushed mark old amid left (inl e) h same = left_of_old old amid left e h
+part_flushed mark old amid left (inr (inl e)) h same = left_of_whole old.now left
+    (subst (λ (d : Disk). IsLeftOf d left)
+    (now_at amid (then_disk (synced_whole old.now) old) e) h) same
+part_flushed mark old amid left (inr (inr e)) h same = left_of_whole old.now left
+    (left_of_marked (synced_whole old.now) left mark
+    (subst (λ (d : Disk). IsLeftOf d left)
+    (now_at amid (then_disk (with_mark mark (synced_whole old.now))
+    (then_disk (synced_whole old.now) old)) e) h) same) same
+
+flush_left : (n : NodeValue) (old amid : Moments) (left : Disk)
+    → LeavesFlush n (Some old) (Some amid) → IsLeftOf amid.now left
+    → left.mark ≡ old.now.mark → IsLeftOf old.now left
+flush_left n old amid left (inl e) h same = left_of_old old amid left e h
+flush_left n old amid left (inr f) h same =
+    part_flushed (lower n.plain.ap n.mark) old amid left f.1 h same
+
+no_size : List Entry → Entry → ℕ
+no_size list e = 0
+
+part_told : (now : ℕ) (from : ServerId) (m : Message) (old amid : Moments) (left : Disk)
+    (n : NodeValue)
+    → LeavesBy n (stepped no_size n.me now [] n.plain (input_in from m)) (input_in from m)
+    (Some old) (Some amid)
+    → IsLeftOf amid.now left → left.mark ≡ old.now.mark → IsLeftOf old.now left
+part_told now from m old amid left n = by (heard m)
+  where
+    by : (o : Option (Told Entry))
+        → LeavesBy n (stepped no_size n.me now [] n.plain (option_map (Comes (place_of from)) o))
+        (option_map (Comes (place_of from)) o) (Some old) (Some amid)
+        → IsLeftOf amid.now left → left.mark ≡ old.now.mark → IsLeftOf old.now left
+    by None e h same = left_of_old old amid left e h
+    by (Some told) part h same =
+        let ms = stepped no_size n.me now [] n.plain (Some (Comes (place_of from) told)) in
+        part_marked ms (marked_by n.mark ms) old amid left part h same
+
+-- WHAT IS LEFT amid a step is what a crash before it may leave
+pub cut_left : (now : ℕ) (given : Input) (outs : Option Outputs) (a b : Site)
+    → IsCutStep given a b → (p : PartOfStep now given outs a b)
+    → IsLeftOf a.disk.now b.disk.now
+cut_left now input.Tick outs a b known p =
+    let ms = stepped no_size p.old.me now [] p.old.plain (Some (Does Tick)) in
+    part_marked ms (marked_by p.old.mark ms) a.disk p.amid b.disk.now (p.part no_size []) p.left
+    (known p.gone)
+cut_left now input.Suspect outs a b known p =
+    let ms = stepped no_size p.old.me now [] p.old.plain (Some (Does Suspect)) in
+    part_marked ms (marked_by p.old.mark ms) a.disk p.amid b.disk.now (p.part no_size []) p.left
+    (known p.gone)
+cut_left now (input.Message from message) outs a b known p =
+    part_told now from message a.disk p.amid b.disk.now p.old (p.part no_size []) p.left
+    (known p.gone)
+cut_left now (input.Ask peer client number cred call) outs a b known p =
+    left_of_old a.disk p.amid b.disk.now (p.part no_size []) p.left
+cut_left now (input.Apply most) outs a b known p = known p.gone
+cut_left now input.Flush outs a b known p =
+    flush_left p.old a.disk p.amid b.disk.now (p.part no_size []) p.left (known p.gone)
+cut_left now input.List outs a b known p =
+    left_of_old a.disk p.amid b.disk.now (p.part no_size []) p.left
+
+-- no apply arrives
+pub known_so : (d : Datagram) (given : Input) (a b : Site) → Arrives d (Some given)
+    → KeepsMark a b → IsCutStep given a b
+known_so d given a b (inl m) keeps = ⊎_elim
+    (λ (k : IsAsked given). subst (λ (i : Input). IsCutStep i a b) (sym k.is) keeps)
+    (λ (k : IsTold d.from m.0 given). subst (λ (i : Input). IsCutStep i a b) (sym k.is) keeps)
+    (given_as d.from m.0 given m.2)
+known_so d given a b (inr noise) keeps =
+    let never : ◌≡◌ {A = Option Input} (Some given) None = noise.1 in
+    absurd cc
