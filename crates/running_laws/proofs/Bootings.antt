@@ -6,7 +6,6 @@ use Rattle.group_rules.specs.Names.{place_of}
 use Rattle.group_rules.specs.Places.{all_of}
 use Rattle.group_trace.specs.DiskRun.{DiskScene}
 use Rattle.group_trace.specs.Lines.{state_lines}
-use Rattle.group_trace.specs.Refusals.{net_limit}
 use Rattle.group_trace.specs.Shown.{shown_of}
 use Rattle.harp_store.specs.Disk.{Moments}
 use Rattle.harp_types.specs.Trio.{value_of}
@@ -18,7 +17,6 @@ use Rattle.trace_types.specs.declared.line.LineFault.TheVariants as fault
 use Rattle.trace_types.specs.declared.step.Step.TheVariants as step
 use Rattle.world.proofs.Crashes.{boot_taken}
 use Rattle.world.proofs.Quiet.{delta_taken}
-use Rattle.world.proofs.Refusals.{net_passed}
 use Rattle.world.proofs.Tables.{value_there}
 use Rattle.world.proofs.TheLaws.{the_laws}
 use Rattle.world.proofs.Turns.{with_host}
@@ -27,17 +25,14 @@ use Rattle.world.specs.World.{IsWorld, WorldValue}
 use Rattle.world_host.proofs.Starts.{BootedBy, boots, start_at}
 use Rattle.world_host.proofs.Takes.{none_up}
 use Rattle.world_host.specs.Starts.{HostStarts}
-use Rattle.world_lines.specs.Posted.{bytes_sent}
 use Rattle.world_rules.specs.Host.{HostValue, IsNodeOf, disk_of}
 use Rattle.world_rules.specs.Steps.{HostBoots}
 use Rattle.running_laws.specs.Events.{Site}
 use Rattle.running_laws.specs.Follows.{HasStore, IsSite}
 use Rattle.running_laws.specs.Lives.{WholeBoot}
 use Rattle.running_laws.proofs.Answering.{none_shown}
-use Rattle.running_laws.proofs.Clocks.{both_none}
 use Rattle.running_laws.proofs.Moving.{IsAt, LedTo, take_one}
 use Rattle.running_laws.proofs.Takings.{shown_so, state_shown}
-use Rattle.running_laws.proofs.Wholes.{few_sent, net_none}
 
 -- ---- the length of promises
 
@@ -46,8 +41,7 @@ pub delta_led : (w : DiskScene) (x : WorldValue) (delta : ℕ) → IsAt w x
     → LedTo w (record x { delta = delta_after x.delta delta }) []
 delta_led w x delta at =
     let y = record x { delta = delta_after x.delta delta } in
-    take_one w x y (step.Delta delta) [] at (delta_taken x y delta refl)
-    (net_passed w (step.Delta delta) refl) refl
+    take_one w x y (step.Delta delta) [] at (delta_taken x y delta refl) refl refl
 
 pub delta_is : (old delta : ℕ) → IsDelta delta → delta_after old delta ≡ delta
 delta_is old delta is = if_is (all_of (delta_tests delta)) delta old
@@ -146,15 +140,13 @@ module _ (x : WorldValue) (place : ServerId) (now delta : ℕ) (b : Site)
   new_is = ap (λ (h : HostValue). h.node) (value_there x.hosts place host_booted)
 
   -- A BOOT leads on
-  pub boot_led : (w : DiskScene) → IsAt w x → bytes_sent x.packets ≤ net_limit
-      → LedTo w world_booted []
-  boot_led w at few =
+  pub boot_led : (w : DiskScene) → IsAt w x → LedTo w world_booted []
+  boot_led w at =
       let s = step.Boot place in
       subst (LedTo w world_booted) (none_shown (place_of place) None (state_shown t.boot.node))
       (take_one w x world_booted s lines_booted at
       (boot_taken the_laws x world_booted place host_booted None (state_shown t.boot.node) []
       lines_booted refl (none_shown_so x place t.boot.none) (sym t.me) booting refl
       (shown_so world_booted place t.boot.node new_is t.boot.boots.served) refl)
-      (both_none _ _ (if_not (w.scene.group.server (place_of place)).up (Some fault.ServerUp) None
-      (down_so x place t.boot.none w at.stands))
-      (net_none w s refl (few_sent w x at.stands few))) refl)
+      (if_not (w.scene.group.server (place_of place)).up (Some fault.ServerUp) None
+      (down_so x place t.boot.none w at.stands)) refl)

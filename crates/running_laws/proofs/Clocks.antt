@@ -6,15 +6,13 @@ use Rattle.group_rules.specs.Names.{place_of}
 use Rattle.group_rules.specs.Places.{Zero, One, Two, Place, Trio as Three, get, with_at}
 use Rattle.group_rules.specs.Step.{near, near_tests}
 use Rattle.group_trace.specs.DiskRun.{DiskScene}
-use Rattle.group_trace.specs.Refusals.{before_it}
 use Rattle.harp_types.specs.Trio.{value_of, with_value}
 use Rattle.harp_types.specs.declared.server.ServerId.{ServerId}
 use Rattle.harp_types.specs.declared.server.ServerId.TheVariants as server
 use Rattle.harp_types.specs.declared.trio.Trio.{Trio}
-use Rattle.trace_types.specs.declared.line.LineFault.{LineFault}
 use Rattle.trace_types.specs.declared.step.Step.TheVariants as step
 use Rattle.world.proofs.Quiet.{advance_taken, clock_taken}
-use Rattle.world.proofs.Refusals.{clock_right, net_passed}
+use Rattle.world.proofs.Refusals.{clock_right}
 use Rattle.world.proofs.Tables.{each_value, value_there}
 use Rattle.world.specs.Clocks.{later}
 use Rattle.world.specs.World.{WorldValue, clocks_in}
@@ -83,10 +81,6 @@ within_at low x h Zero = (h.lows server.Zero, h.highs server.Zero)
 within_at low x h One = (h.lows server.One, h.highs server.One)
 within_at low x h Two = (h.lows server.Two, h.highs server.Two)
 
--- no step is refused that isn't by itself, where the bytes don't count
-pub both_none : (a b : Option LineFault) → a ≡ None → b ≡ None → before_it a b ≡ None
-both_none a b e f = ap (λ o. before_it o b) e ∙ f
-
 -- A CLOCK IS SET to a reading in the window that isn't below its own
 set_clock : (w : DiskScene) (x : WorldValue) (low : ℕ) (s : ServerId) (r : ℕ) → IsAt w x
     → AreWithin low x.clocks → value_of x.clocks s ≤ r → r ≤ low + 50
@@ -100,15 +94,13 @@ set_clock w x low s r at within le high =
     sym (near_all low r (λ q. get (with_at (clocks_in x) (place_of s) r) q) above high
     (clocks_set low (clocks_in x) (place_of s) r above high (within_at low x within))) in
     take_one w x y (step.Clock s r) [] at (clock_taken x y s r refl)
-    (both_none _ _ (clock_right w x at.stands s r true later is)
-    (net_passed w (step.Clock s r) refl)) refl
+    (clock_right w x at.stands s r true later is) refl
 
 all_later : (w : DiskScene) (x : WorldValue) (millis : ℕ) → IsAt w x
     → LedTo w (record x { clocks = later x.clocks millis }) []
 all_later w x millis at =
     let y = record x { clocks = later x.clocks millis } in
-    take_one w x y (step.Advance millis) [] at (advance_taken x y millis refl)
-    (net_passed w (step.Advance millis) refl) refl
+    take_one w x y (step.Advance millis) [] at (advance_taken x y millis refl) refl refl
 
 -- ---- all clocks are set
 

@@ -13,7 +13,6 @@ use Rattle.trace_types.specs.declared.line.Line.{Line}
 use Rattle.trace_types.specs.declared.line.LineFault.TheVariants as fault
 use Rattle.trace_types.specs.declared.step.Step.TheVariants as step
 use Rattle.world.proofs.Crashes.{crash_taken}
-use Rattle.world.proofs.Refusals.{net_passed}
 use Rattle.world.proofs.Tables.{value_there}
 use Rattle.world.proofs.TheLaws.{the_laws}
 use Rattle.world.proofs.Turns.{with_host}
@@ -26,7 +25,6 @@ use Rattle.running_laws.specs.Follows.{HasStore, IsSite}
 use Rattle.running_laws.specs.Lives.{EndBetween}
 use Rattle.running_laws.proofs.Answering.{none_shown}
 use Rattle.running_laws.proofs.Bootings.{none_shown_so}
-use Rattle.running_laws.proofs.Clocks.{both_none}
 use Rattle.running_laws.proofs.Moving.{IsAt, LedTo, take_one}
 use Rattle.running_laws.proofs.Picks.{pick_of_left}
 use Rattle.running_laws.proofs.Takings.{shown_so, state_shown, up_so}
@@ -80,6 +78,5 @@ module _ (x : WorldValue) (place : ServerId) (a b : Site) (t : IsEnding x place 
       (crash_taken the_laws x world_fallen place picked.0 host_fallen (state_shown t.ending.old)
       None [] lines_fallen picked.0 refl (shown_so x place t.ending.old old_is old_served)
       (sym t.me) falls refl refl (none_shown_so world_fallen place new_none) refl)
-      (both_none _ _ (if_is (w.scene.group.server (place_of place)).up None
-      (Some fault.ServerDown) (up_so x place t.ending.old old_is old_served w at.stands))
-      (net_passed w s refl)) refl)
+      (if_is (w.scene.group.server (place_of place)).up None
+      (Some fault.ServerDown) (up_so x place t.ending.old old_is old_served w at.stands)) refl)

@@ -5,9 +5,7 @@ use Rattle.group_rules.specs.Names.{place_of}
 use Rattle.group_rules.specs.Places.{all_of}
 use Rattle.group_rules.specs.State.{mark_of}
 use Rattle.group_rules.specs.Step.{first_group}
-use Rattle.group_trace.specs.DiskCalls.{measures_of}
 use Rattle.group_trace.specs.DiskRun.{DiskScene, disk_run, empty_stores, first_disk_scene}
-use Rattle.group_trace.specs.Scene.{first_scene}
 use Rattle.harp_store.specs.Disk.{Disk as ToldDisk, IsLeftOf}
 use Rattle.harp_store.specs.Mark.{first_mark}
 use Rattle.harp_store.specs.Memory.{nothing_stored}
@@ -29,7 +27,6 @@ use Rattle.running_laws.proofs.Endings.{IsEnding, end_led, world_fallen}
 use Rattle.running_laws.proofs.Following.{events_follow}
 use Rattle.running_laws.proofs.Left.{none_some, same_some}
 use Rattle.running_laws.proofs.Moving.{IsAt, LedTo, answers_of, answers_on, leads_on, led_on}
-use Rattle.running_laws.proofs.Standing.{taken_follow}
 
 -- ---- the servers that booted on new disks
 
@@ -233,20 +230,19 @@ module _ (stores : (place : ServerId) → HasStore (first_site place)) where
     sites_are = places_new;
     no_stop = no_stops;
     posted = λ d has. let none = has.1 in absurd (omega (arith, none));
-    bytes = omega arith;
     clocks = first_clocks;
   }
 
 -- HISTORIES OF WHOLE EVENTS are runs
 pub histories_are_runs : HistoriesAreRuns
-histories_are_runs stores events left lives network clocks room =
+histories_are_runs stores events left lives network clocks =
     let start = down_led stores in
     let on = events_follow [] events new_sites left start.scene (world_down stores)
-    (start_follows stores) lives network clocks room in
+    (start_follows stores) lives network clocks in
     let led = leads_on first_disk_scene start.scene on.scene start.led on.led in
     record {
       steps = led.steps;
-      taken = taken_follow (measures_of spellings) first_scene led.steps led.taken;
+      taken = led.taken;
       right = disk_runs_right spellings led.steps led.taken;
       stands = λ place. subst (λ (w : DiskScene). Stands w place (value_of left place))
           (sym led.leads) (on.places place);

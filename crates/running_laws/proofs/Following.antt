@@ -1,32 +1,29 @@
 -- Events follow: one, and then all.
-use Rattle.std.proofs.Common.{◌≤◌, List, [], ◌∷◌, ◌++◌, append-nil, append_assoc, Contains, refl, sym, ap, ◌∙◌, subst}
-use Rattle.group_trace.specs.DiskCalls.{measures_of}
+use Rattle.std.proofs.Common.{List, [], ◌∷◌, ◌++◌, append-nil, append_assoc, Contains, refl, sym, ap, ◌∙◌, subst}
 use Rattle.group_trace.specs.DiskRun.{DiskScene}
 use Rattle.harp_types.specs.declared.trio.Trio.{Trio}
 use Rattle.world.specs.World.{WorldValue}
 use Rattle.world_lines.specs.Given.{answered_lines}
-use Rattle.world_lines.specs.Posted.{bytes_sent}
-use Rattle.world_rules.specs.Spellings.{spellings}
 use Rattle.running_laws.specs.Books.{answers_in}
 use Rattle.running_laws.specs.Events.{EachAfter, Event, Site}
-use Rattle.running_laws.specs.Follows.{ClocksFollow, Follows, FollowsOn, HappensKnown, HasRoom, EventsFollow, bytes_in}
+use Rattle.running_laws.specs.Follows.{ClocksFollow, Follows, FollowsOn, HappensKnown, EventsFollow}
 use Rattle.running_laws.specs.Histories.{IsInTime, IsSentBefore}
 use Rattle.running_laws.specs.Statement.{answer_lines}
 use Rattle.running_laws.proofs.Clocks.{clocks_follow, clocks_led}
 use Rattle.running_laws.proofs.Moving.{LedTo, answers_nowhere, answers_of, answers_on, leads_nowhere, leads_on}
-use Rattle.running_laws.proofs.Standing.{places_are, taken_follow}
+use Rattle.running_laws.proofs.Standing.{places_are}
 use Rattle.running_laws.proofs.Left.{sent_more}
 use Rattle.running_laws.proofs.Happening.{cut_or_whole, set}
 
 -- ONE EVENT follows
 event_follows : (before : List Event) (e : Event) (a c : Trio Site) (w : DiskScene)
     (x : WorldValue) → Follows before a w x → HappensKnown e a c → IsInTime before e
-    → HasRoom before e → IsSentBefore before e → FollowsOn before (e ∷ []) c w
-event_follows before e a c w x f h in_time room network =
-    let first : LedTo w (set before e a c w x f h in_time room) [] =
+    → IsSentBefore before e → FollowsOn before (e ∷ []) c w
+event_follows before e a c w x f h in_time network =
+    let first : LedTo w (set before e a c w x f h in_time) [] =
     clocks_led before e x.clocks f.clocks in_time w x refl
     (record { reached = f.reached; stands = f.stands }) in
-    let last = cut_or_whole before e a c w x f h in_time room first.scene first.there e.cut
+    let last = cut_or_whole before e a c w x f h in_time first.scene first.there e.cut
     h.happens.here h.cut network in
     let y = last.world in
     let led = leads_on w first.scene last.led.scene first.led last.led.led in
@@ -37,8 +34,6 @@ event_follows before e a c w x f h in_time room network =
       no_stop = last.left.no_stop;
       posted = λ d has. last.left.posted d
           (subst (λ ds. Contains ds d) (sent_more before e) has);
-      bytes = subst (λ ds. bytes_sent y.packets ≤ bytes_in ds) (sym (sent_more before e))
-          last.left.bytes;
       clocks = subst (ClocksFollow (before ++ e ∷ [])) (sym last.left.clocks)
           (clocks_follow before e x.clocks f.clocks in_time);
     } in
@@ -47,7 +42,6 @@ event_follows before e a c w x f h in_time room network =
       world = y;
       led = led;
       follows = follows;
-      can = taken_follow (measures_of spellings) w.scene led.steps led.taken;
       places = places_are (before ++ e ∷ []) c last.led.scene y follows;
       answers = answers_on w first.scene last.led.scene first.led last.led.led
           ∙ ap (λ ls. ls ++ answers_of first.scene last.led.led.steps) first.says
@@ -58,7 +52,7 @@ event_follows before e a c w x f h in_time room network =
 -- EVENTS FOLLOW
 pub events_follow : EventsFollow
 unfolding EachAfter
-events_follow before [] a c w x f chain network clocks room =
+events_follow before [] a c w x f chain network clocks =
     let led = leads_nowhere w in
     let follows : Follows (before ++ []) c w x =
     subst (λ (z : Trio Site). Follows (before ++ []) z w x) (sym chain)
@@ -68,14 +62,13 @@ events_follow before [] a c w x f chain network clocks room =
       world = x;
       led = led;
       follows = follows;
-      can = taken_follow (measures_of spellings) w.scene led.steps led.taken;
       places = places_are (before ++ []) c w x follows;
       answers = answers_nowhere w;
     }
-events_follow before (e ∷ es) a c w x f chain network clocks room =
-    let one = event_follows before e a chain.0 w x f chain.1 clocks.0 room.0 network.0 in
+events_follow before (e ∷ es) a c w x f chain network clocks =
+    let one = event_follows before e a chain.0 w x f chain.1 clocks.0 network.0 in
     let more = events_follow (before ++ e ∷ []) es chain.0 c one.scene one.world one.follows
-    chain.2 network.1 clocks.1 room.1 in
+    chain.2 network.1 clocks.1 in
     let led = leads_on w one.scene more.scene one.led more.led in
     let follows = subst (λ (hs : List Event). Follows hs c more.scene more.world)
     (append_assoc before (e ∷ []) es) more.follows in
@@ -84,7 +77,6 @@ events_follow before (e ∷ es) a c w x f chain network clocks room =
       world = more.world;
       led = led;
       follows = follows;
-      can = taken_follow (measures_of spellings) w.scene led.steps led.taken;
       places = places_are (before ++ (e ∷ es)) c more.scene more.world follows;
       answers = answers_on w one.scene more.scene one.led more.led
           ∙ ap (λ ls. ls ++ answers_of one.scene more.led.steps) one.answers

@@ -1,9 +1,8 @@
 -- An event, whole or cut, in the world once the clocks are set: where it leads.
-use Rattle.std.proofs.Common.{◌≡◌, ℕ, ◌≤◌, Bool, true, false, List, [], ◌++◌, append-nil, arith, Contains, Option, None, Some, inl, inr, refl, sym, ap, ◌∙◌, subst, ⊎_elim, ◌⊎◌}
+use Rattle.std.proofs.Common.{◌≡◌, ℕ, Bool, true, false, List, [], ◌++◌, append-nil, Contains, Option, None, Some, inl, inr, refl, sym, ap, ◌∙◌, subst, ⊎_elim, ◌⊎◌}
 use Rattle.std.proofs.lemmas.List.Elements.{Contains-append_cases, recursion_from_All}
 use Rattle.group_rules.specs.Names.{place_of}
 use Rattle.group_trace.specs.DiskRun.{DiskScene}
-use Rattle.group_trace.specs.Refusals.{net_limit}
 use Rattle.harp_store.specs.Disk.{IsLeftOf, IsSynced, Moments}
 use Rattle.harp_types.specs.Trio.{value_of, with_value}
 use Rattle.harp_types.specs.declared.peer.Peer.TheVariants.{Server}
@@ -20,18 +19,17 @@ use Rattle.node_loop.specs.Arriving.{Arrives, IsMessage, input_of}
 use Rattle.node_loop.specs.Outgoing.{datagrams}
 use Rattle.promise.specs.Promise.{IsDelta}
 use Rattle.wire.specs.declared.message.Message.{Message}
-use Rattle.world.proofs.Arrivals.{delivered_bytes}
 use Rattle.world.proofs.Tables.{each_value, value_there}
 use Rattle.world.proofs.Turns.{with_host}
 use Rattle.world.specs.Clocks.{delta_after}
 use Rattle.world.specs.World.{WorldValue}
 use Rattle.world_host.proofs.Shown.{its_node}
 use Rattle.world_lines.specs.Given.{answered_lines, packets_of}
-use Rattle.world_lines.specs.Posted.{bytes_sent, delivered_at}
+use Rattle.world_lines.specs.Posted.{delivered_at}
 use Rattle.world_rules.specs.Host.{HostValue}
 use Rattle.running_laws.specs.Books.{answers_in}
 use Rattle.running_laws.specs.Events.{Boots, Does, Ends, Event, Site, Takes, What, all_sent, put_out, sent_by}
-use Rattle.running_laws.specs.Follows.{AreForClients, Follows, HappensKnown, HasNode, HasRoom, HasStore, IsCutSo, IsCutStep, IsNew, IsPacket, IsPlace, IsSite, KeepsMark, LastsLong, bytes_in}
+use Rattle.running_laws.specs.Follows.{AreForClients, Follows, HappensKnown, HasNode, HasStore, IsCutSo, IsCutStep, IsNew, IsPacket, IsPlace, IsSite, KeepsMark, LastsLong}
 use Rattle.running_laws.specs.Histories.{IsInTime, IsNotForged}
 use Rattle.running_laws.specs.Lives.{EndBetween, HappensBy, PartOfBoot, PartOfStep, Steps, WholeBoot, WholeStep}
 use Rattle.running_laws.proofs.Bootings.{IsBootAt, IsBooting, boot_led, boot_there, delta_is, delta_led, host_booted, world_booted}
@@ -41,16 +39,15 @@ use Rattle.running_laws.proofs.Cuts.{cut_left, known_so}
 use Rattle.running_laws.proofs.Endings.{IsEnding, end_led, host_fallen, world_fallen}
 use Rattle.running_laws.proofs.Moving.{IsAt, LedTo, led_nowhere, led_on}
 use Rattle.running_laws.proofs.Picks.{left_of_synced}
-use Rattle.running_laws.proofs.Posts.{keeps_delivered, keeps_more, outs_bytes, outs_posted, posted_still}
+use Rattle.running_laws.proofs.Posts.{keeps_delivered, keeps_more, outs_posted, posted_still}
 use Rattle.running_laws.proofs.Spelled.{IsTold, given_as, same_message, unheard_by_bytes}
-use Rattle.running_laws.proofs.Steps.{IsDeed, IsUnlisted, asked_deed, asked_unlisted, own_deed, own_unlisted}
+use Rattle.running_laws.proofs.Steps.{IsDeed, asked_deed, own_deed}
 use Rattle.running_laws.proofs.Takings.{IsTurn, host_left, world_left}
 use Rattle.running_laws.proofs.Wholes.{counted, deed_led, message_led}
 use Rattle.running_laws.proofs.Left.{IsLeft, Leaves, each_none, each_pair, marked_synced, none_some, same_some, twice_hosted}
 
 module _ (before : List Event) (e : Event) (a c : Trio Site) (w : DiskScene) (x : WorldValue)
-    (f : Follows before a w x) (h : HappensKnown e a c) (in_time : IsInTime before e)
-    (room : HasRoom before e) where
+    (f : Follows before a w x) (h : HappensKnown e a c) (in_time : IsInTime before e) where
   abbrev pub clocks_set : Trio ℕ
   clocks_set = set_last before e x.clocks f.clocks in_time
 
@@ -63,12 +60,6 @@ module _ (before : List Event) (e : Event) (a c : Trio Site) (w : DiskScene) (x 
 
   abbrev pub there : Site
   there = value_of c e.place
-
-  few : bytes_sent x.packets ≤ net_limit
-  few =
-      let a = f.bytes in
-      let b = room in
-      omega (arith, a, b)
 
   -- ---- nothing arrives
 
@@ -93,7 +84,6 @@ module _ (before : List Event) (e : Event) (a c : Trio Site) (w : DiskScene) (x 
             f.sites_are;
         no_stop = f.no_stop;
         posted = λ d has. f.posted d (subst (λ ds. Contains ds d) all has);
-        bytes = subst (λ ds. bytes_sent x.packets ≤ bytes_in ds) (sym all) f.bytes;
         clocks = refl;
       }
 
@@ -121,18 +111,16 @@ module _ (before : List Event) (e : Event) (a c : Trio Site) (w : DiskScene) (x 
       ((site_here n is).node ∙ is) in
       runs.me ∙ own.me
 
-  turn_of : (given : Input) → WholeStep e.now given e.outs here there → IsUnlisted given
+  turn_of : (given : Input) → WholeStep e.now given e.outs here there
       → IsTurn set e.place e.now given e.outs here there
-  turn_of given s unlisted = record {
+  turn_of given s = record {
     site = site_here s.old s.was;
     me = (f.stands.servers e.place).me;
     own_me = own_me;
     no_stop = f.no_stop e.place;
     clock = reads_now before e x.clocks f.clocks in_time;
     step = s;
-    unlisted = unlisted;
     has_store = h.has_store;
-    served = h.served s.new s.is;
   }
 
   turn_left : (given : Input) (t : IsTurn set e.place e.now given e.outs here there)
@@ -151,7 +139,8 @@ module _ (before : List Event) (e : Event) (a c : Trio Site) (w : DiskScene) (x 
             (each_pair IsPlace x.hosts a e.place host there f.sites_are (inl (record {
               node = sym t.step.is;
               disk = t.has_store.holds;
-              served = h.served;
+              served = λ n is. subst IsServer (same_some t.step.new n (sym t.step.is ∙ is))
+                  t.step.step.is_server;
               synced = λ none. absurd (none_some t.step.new (sym none ∙ t.step.is));
             })));
         no_stop = each_none x.stops e.place f.no_stop;
@@ -161,8 +150,6 @@ module _ (before : List Event) (e : Event) (a c : Trio Site) (w : DiskScene) (x 
             (λ new. outs_posted e.place puts x.packets fits d
             (subst (λ ds. Contains ds d) sent new))
             (Contains-append_cases (all_sent before) (sent_by e) d has);
-        bytes = subst (λ ds. bytes_sent all ≤ bytes_in (all_sent before ++ ds)) (sym sent)
-            (outs_bytes e.place puts x.packets (all_sent before) f.bytes);
         clocks = refl;
       }
 
@@ -173,22 +160,20 @@ module _ (before : List Event) (e : Event) (a c : Trio Site) (w : DiskScene) (x 
     no_stop = l.no_stop;
     posted = λ d has. posted_still y.packets (delivered_at y.packets n) d
         (keeps_delivered y.packets n) (l.posted d has);
-    bytes = subst (λ k. k ≤ bytes_in (all_sent before ++ sent_by e))
-        (sym (delivered_bytes y.packets n)) l.bytes;
     clocks = l.clocks;
   }
 
   -- what a server does by itself, and a call
   deed_happens : (v : DiskScene) → IsAt v set → (given : Input) → IsDeed e.place given
-      → IsUnlisted given → WholeStep e.now given e.outs here there → Leaves before e c v set
+      → WholeStep e.now given e.outs here there → Leaves before e c v set
   unfolding turn_of
-  deed_happens v at given d unlisted s =
-      let t = turn_of given s unlisted in
+  deed_happens v at given d s =
+      let t = turn_of given s in
       record {
         world = world_left set e.place e.now given e.outs here there t;
         led = subst (λ outs. LedTo v (world_left set e.place e.now given e.outs here there t)
             (answered_lines e.place (answers_in outs))) (sym s.outs_are)
-            (deed_led v set e.place e.now given e.outs here there t d at few);
+            (deed_led v set e.place e.now given e.outs here there t d at);
         left = turn_left given t;
       }
 
@@ -199,7 +184,7 @@ module _ (before : List Event) (e : Event) (a c : Trio Site) (w : DiskScene) (x 
   unfolding turn_of
   message_happens v at d m spelled s p step =
       let given = input.Message s m in
-      let t = turn_of given step tt in
+      let t = turn_of given step in
       let same = same_message p.posted.packet.message m p.spells.1 spelled.1
       (sym p.spells.0 ∙ spelled.0) in
       let y = world_left set e.place e.now given e.outs here there t in
@@ -207,7 +192,7 @@ module _ (before : List Event) (e : Event) (a c : Trio Site) (w : DiskScene) (x 
         world = counted y p.number;
         led = subst (λ outs. LedTo v (counted y p.number)
             (answered_lines e.place (answers_in outs))) (sym step.outs_are)
-            (message_led v set e.place s e.now m e.outs here there d.bytes t p same at few);
+            (message_led v set e.place s e.now m e.outs here there d.bytes t p same at);
         left = counted_left y p.number (turn_left given t);
       }
 
@@ -241,7 +226,6 @@ module _ (before : List Event) (e : Event) (a c : Trio Site) (w : DiskScene) (x 
             (each_pair IsPlace x.hosts a e.place host there f.sites_are site);
         no_stop = each_none x.stops e.place f.no_stop;
         posted = λ d has. f.posted d (subst (λ ds. Contains ds d) all has);
-        bytes = subst (λ ds. bytes_sent x.packets ≤ bytes_in ds) (sym all) f.bytes;
         clocks = refl;
       }
 
@@ -272,11 +256,12 @@ module _ (before : List Event) (e : Event) (a c : Trio Site) (w : DiskScene) (x 
         world = y;
         led = subst (λ outs. LedTo v y (answered_lines e.place (answers_in outs))) (sym silent)
             (led_on v ready y [] [] (delta_led v set delta at)
-            (λ u there_at. boot_led ready e.place e.now delta there t u there_at few));
+            (λ u there_at. boot_led ready e.place e.now delta there t u there_at));
         left = silent_left (host_booted ready e.place e.now delta there t) longer (inl (record {
           node = sym boot.is;
           disk = h.has_store.holds;
-          served = h.served;
+          served = λ n is. subst IsServer (same_some boot.node n (sym boot.is ∙ is))
+              boot.boots.served;
           synced = λ none. absurd (none_some boot.node (sym none ∙ boot.is));
         })) silent;
       }
@@ -304,7 +289,7 @@ module _ (before : List Event) (e : Event) (a c : Trio Site) (w : DiskScene) (x 
         left = silent_left (host_fallen set e.place here there t) set.delta (inl (record {
           node = sym ending.gone;
           disk = h.has_store.holds;
-          served = h.served;
+          served = λ n is. absurd (none_some n (sym ending.gone ∙ is));
           synced = λ none. ending.left.synced;
         })) silent;
       }
@@ -348,7 +333,6 @@ module _ (before : List Event) (e : Event) (a c : Trio Site) (w : DiskScene) (x 
               (place_still (f.sites_are e.place) none gone same));
           no_stop = f.no_stop;
           posted = λ d has. f.posted d (subst (λ ds. Contains ds d) all has);
-          bytes = subst (λ ds. bytes_sent x.packets ≤ bytes_in ds) (sym all) f.bytes;
           clocks = refl;
         };
       }
@@ -394,13 +378,13 @@ module _ (before : List Event) (e : Event) (a c : Trio Site) (w : DiskScene) (x 
         led = subst (λ outs. LedTo v z (answered_lines e.place (answers_in outs))) (sym silent)
             (led_on v ready z [] [] (delta_led v set delta at)
             (λ u ready_at. led_on u y z [] []
-            (boot_led ready e.place e.now delta b t u ready_at few)
+            (boot_led ready e.place e.now delta b t u ready_at)
             (λ k booted_at. end_led y e.place b there ending k booted_at)));
         left = subst (IsLeft before e c set) (sym (twice_hosted ready e.place host fell))
             (silent_left fell longer (inl (record {
               node = sym end.gone;
               disk = h.has_store.holds;
-              served = h.served;
+              served = λ n is. absurd (none_some n (sym end.gone ∙ is));
               synced = λ none. end.left.synced;
             })) silent);
       }
@@ -461,8 +445,7 @@ module _ (before : List Event) (e : Event) (a c : Trio Site) (w : DiskScene) (x 
       → IsNotForged before e.place (Takes d)
       → WholeStep e.now given e.outs here there → Leaves before e c v set
   message_arrives v at d m given spelled is network step = ⊎_elim
-      (λ asked. deed_happens v at given (asked_deed e.place given asked)
-      (asked_unlisted given asked) step)
+      (λ asked. deed_happens v at given (asked_deed e.place given asked) step)
       (λ told. told_happens v at d m given spelled network told step)
       (given_as d.from m given is)
 
@@ -481,7 +464,7 @@ module _ (before : List Event) (e : Event) (a c : Trio Site) (w : DiskScene) (x 
       → LastsLong what here → Leaves before e c v set
   event_leaves v at (Boots delta) by network long = boot_happens v at delta by.0 long by.1
   event_leaves v at (Does given) by network long =
-      deed_happens v at given (own_deed e.place given by.0) (own_unlisted given by.0) by.1
+      deed_happens v at given (own_deed e.place given by.0) by.1
   event_leaves v at (Takes d) by network long = arrives v at d by.0 by.1 network by.2
   event_leaves v at Ends by network long = end_happens v at by.0 by.1
 

@@ -1,5 +1,5 @@
 -- What one event leaves of the world that follows.
-use Rattle.std.proofs.Common.{◌≡◌, ℕ, ◌≤◌, Bool, true, false, List, [], ◌∷◌, ◌++◌, append-nil, Contains, Option, None, Some, refl, ap, ◌∙◌, if◌then◌else◌}
+use Rattle.std.proofs.Common.{◌≡◌, ℕ, Bool, true, false, List, [], ◌∷◌, ◌++◌, append-nil, Contains, Option, None, Some, refl, ap, ◌∙◌, if◌then◌else◌}
 use Rattle.std.proofs.lemmas.List.Concat.{flat_map-append}
 use Rattle.group_trace.specs.DiskRun.{DiskScene}
 use Rattle.harp_store.specs.Disk.{Disk as ToldDisk, Moments, after_step, then_disk}
@@ -14,11 +14,10 @@ use Rattle.world.proofs.Turns.{with_host}
 use Rattle.world.specs.World.{WorldValue}
 use Rattle.world_host.proofs.Stops.{now_at}
 use Rattle.world_lines.specs.Given.{answered_lines}
-use Rattle.world_lines.specs.Posted.{bytes_sent}
 use Rattle.world_rules.specs.Host.{HostValue}
 use Rattle.running_laws.specs.Books.{answers_in}
 use Rattle.running_laws.specs.Events.{Event, Site, all_sent, sent_by}
-use Rattle.running_laws.specs.Follows.{IsPlace, IsPosted, bytes_in}
+use Rattle.running_laws.specs.Follows.{IsPlace, IsPosted}
 use Rattle.running_laws.proofs.Moving.{LedTo}
 
 -- what holds of each server's two values, where both of one change
@@ -84,7 +83,6 @@ pub record IsLeft (before : List Event) (e : Event) (c : Trio Site) (x y : World
   pub sites_are : (place : ServerId) → IsPlace place (value_of y.hosts place) (value_of c place)
   pub no_stop : (place : ServerId) → value_of y.stops place ≡ None
   pub posted : (d : SentDatagram) → Contains (all_sent before ++ sent_by e) d → IsPosted y.packets d
-  pub bytes : bytes_sent y.packets ≤ bytes_in (all_sent before ++ sent_by e)
   pub clocks : y.clocks ≡ x.clocks
 
 -- steps lead there

@@ -1,10 +1,10 @@
--- Where steps that are taken lead, one after the other.
+-- Where steps lead, one after the other.
 use Rattle.std.proofs.Common.{◌≡◌, true, List, [], ◌∷◌, ◌++◌, None, filter, refl, sym, ap, ◌∙◌, subst, append_assoc, append-nil}
 use Rattle.std.proofs.lemmas.List.Elements.{filter-append}
 use Rattle.group_trace.specs.DiskCalls.{measures_of}
 use Rattle.group_trace.specs.DiskRun.{DiskScene, disk_next, disk_run, first_disk_scene}
-use Rattle.group_trace.specs.Refusals.{refusal}
-use Rattle.group_trace.specs.Run.{AreTaken, is_elementary, next, run_lines, step_lines}
+use Rattle.group_trace.specs.Refusals.{own_refusal}
+use Rattle.group_trace.specs.Run.{CanFollow, is_elementary, next, run_lines, step_lines}
 use Rattle.schedule_play.proofs.Runs.{disk_run-append}
 use Rattle.schedule_play.specs.Stage.{IsReached}
 use Rattle.trace_types.specs.declared.line.Line.{Line}
@@ -34,9 +34,9 @@ pub record LedTo (w : DiskScene) (x : WorldValue) (said : List Line) : Type 0 wh
 
 -- ---- steps, one after the other
 
-taken_on : (w : DiskScene) (ss ts : List Step) → AreTaken (measures_of spellings) w.scene ss
-    → AreTaken (measures_of spellings) (disk_run spellings w ss).scene ts
-    → AreTaken (measures_of spellings) w.scene (ss ++ ts)
+taken_on : (w : DiskScene) (ss ts : List Step) → CanFollow (measures_of spellings) w.scene ss
+    → CanFollow (measures_of spellings) (disk_run spellings w ss).scene ts
+    → CanFollow (measures_of spellings) w.scene (ss ++ ts)
 unfolding disk_run
 taken_on w [] ts a b = b
 taken_on w (s ∷ ss) ts a b = (a.0, a.1, taken_on (disk_next spellings w s) ss ts a.2 b)
@@ -45,7 +45,7 @@ pub leads_on : (w v u : DiskScene) → LeadsTo w v → LeadsTo v u → LeadsTo w
 leads_on w v u a b = record {
   steps = a.steps ++ b.steps;
   taken = taken_on w a.steps b.steps a.taken
-      (subst (λ (z : DiskScene). AreTaken (measures_of spellings) z.scene b.steps) (sym a.leads)
+      (subst (λ (z : DiskScene). CanFollow (measures_of spellings) z.scene b.steps) (sym a.leads)
       b.taken);
   leads = disk_run-append spellings w a.steps b.steps
       ∙ ap (λ z. disk_run spellings z b.steps) a.leads ∙ b.leads;
@@ -92,7 +92,7 @@ answers_nowhere w = refl
 
 -- ---- one step
 
-one_step : (w : DiskScene) (s : Step) → refusal (measures_of spellings) w.scene s ≡ None
+one_step : (w : DiskScene) (s : Step) → own_refusal (measures_of spellings) w.scene.group s ≡ None
     → is_elementary s ≡ true → LeadsTo w (disk_next spellings w s)
 unfolding disk_run
 one_step w s none one = record { steps = s ∷ []; taken = (none, one, tt); leads = refl }
@@ -106,7 +106,7 @@ one_says w s lines is = ap (filter is_answer)
 
 -- A STEP THAT IS TAKEN leads on, with its answers
 pub take_one : (w : DiskScene) (x y : WorldValue) (s : Step) (lines : List Line) → IsAt w x
-    → Takes x y s lines → refusal (measures_of spellings) w.scene s ≡ None
+    → Takes x y s lines → own_refusal (measures_of spellings) w.scene.group s ≡ None
     → is_elementary s ≡ true → LedTo w y (filter is_answer lines)
 unfolding one_step
 take_one w x y s lines at takes none one =

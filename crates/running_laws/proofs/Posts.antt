@@ -1,8 +1,7 @@
 -- What servers sent, as packets of the world.
-use Rattle.std.proofs.Common.{◌≡◌, ◌⊎◌, ℕ, zero, suc, ◌≤◌, List, [], ◌∷◌, ◌++◌, length, map, flat_map, Contains, Option, None, Some, inl, inr, refl, sym, ap, ◌∙◌, subst, append_assoc, arith, slice_get, ⊎_elim}
+use Rattle.std.proofs.Common.{◌≡◌, ◌⊎◌, ℕ, zero, suc, List, [], ◌∷◌, ◌++◌, length, map, flat_map, Contains, Option, None, Some, inl, inr, refl, sym, ap, ◌∙◌, subst, append_assoc, arith, slice_get, ⊎_elim}
 use Rattle.std.specs.List.{AllByRecursion}
 use Rattle.std.proofs.lemmas.List.Elements.{Contains-append_cases, Contains-push_cases}
-use Rattle.std.proofs.lemmas.List.Sums.{sum_by-append, sum_by-cons}
 use Rattle.file_tree.specs.Book.{Entry}
 use Rattle.group_rules.specs.State.{Message as Told}
 use Rattle.harp_types.specs.declared.peer.Peer.{Peer}
@@ -21,9 +20,9 @@ use Rattle.node_outputs.specs.declared.outputs.Sent.{Sent}
 use Rattle.wire.specs.Messages.{MessageFits, message_bytes}
 use Rattle.world.proofs.Sends.{one_packet}
 use Rattle.world_lines.specs.Given.{packet_of, packets_of}
-use Rattle.world_lines.specs.Posted.{Posted, arrived, bytes_of, bytes_sent, delivered_at, posted}
+use Rattle.world_lines.specs.Posted.{Posted, arrived, delivered_at, posted}
 use Rattle.world_lines.specs.declared.packet.Packet.{Packet}
-use Rattle.running_laws.specs.Follows.{AreForClients, IsPacket, IsPosted, bytes_in}
+use Rattle.running_laws.specs.Follows.{AreForClients, IsPacket, IsPosted}
 use Rattle.running_laws.proofs.Lists.{in_flat_map, stands_behind, stays_there}
 
 -- ---- what was posted stays so
@@ -143,45 +142,3 @@ outs_posted place outs ps fits d h =
     (Contains-append_cases answers refusals d first))
     (sends_posted place outs.sends.items ps fits d)
     (Contains-append_cases (answers ++ refusals) sends d h)
-
--- ---- bytes
-
-one_bytes : (from : ServerId) (s : Sent)
-    → bytes_sent (packet_of from s) ≤ length (message_bytes s.message)
-one_bytes from s = by (heard s.message) refl
-  where
-    by : (o : Option (Told Entry)) → heard s.message ≡ o
-        → bytes_sent (packet_of from s) ≤ length (message_bytes s.message)
-    by None e =
-        let none = ap bytes_sent (no_packet from s e) in
-        omega (arith, none)
-    by (Some m) e =
-        let one = ap bytes_sent (one_packet from s m e)
-        ∙ sum_by-cons bytes_of (posted from s.to s.message) [] in
-        omega (arith, one)
-
-sends_bytes : (from : ServerId) (sends : List Sent)
-    → bytes_sent (packets_of from sends) ≤ bytes_in (map (message_sent from) sends)
-sends_bytes from [] = omega arith
-sends_bytes from (s ∷ sends) =
-    let bytes = λ (d : SentDatagram). length d.bytes in
-    let a = sum_by-append bytes_of (packet_of from s) (packets_of from sends) in
-    let b = sum_by-cons bytes (message_sent from s) (map (message_sent from) sends) in
-    let c = one_bytes from s in
-    let d = sends_bytes from sends in
-    omega (arith, a, b, c, d)
-
-pub outs_bytes : (place : ServerId) (outs : Outputs) (ps : List Posted) (before : List SentDatagram)
-    → bytes_sent ps ≤ bytes_in before
-    → bytes_sent (ps ++ packets_of place outs.sends.items)
-    ≤ bytes_in (before ++ datagrams place outs)
-outs_bytes place outs ps before h =
-    let bytes = λ (d : SentDatagram). length d.bytes in
-    let answers = flat_map (answer_sent place) outs.answers.items in
-    let refusals = flat_map (refusal_sent place) outs.refusals.items in
-    let sends = map (message_sent place) outs.sends.items in
-    let a = sum_by-append bytes_of ps (packets_of place outs.sends.items) in
-    let b = sum_by-append bytes before (datagrams place outs) in
-    let c = sum_by-append bytes (answers ++ refusals) sends in
-    let e = sends_bytes place outs.sends.items in
-    omega (arith, a, b, c, e, h)

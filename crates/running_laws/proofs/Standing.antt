@@ -1,28 +1,19 @@
 -- What follows a history is a run of the group, in the words of the statement.
-use Rattle.std.proofs.Common.{List, [], ◌∷◌, Option, inl, inr, subst, ⊎_elim}
+use Rattle.std.proofs.Common.{List, Option, inl, inr, subst, ⊎_elim}
 use Rattle.group_rules.specs.Names.{place_of}
 use Rattle.group_rules.specs.Places.{Place}
 use Rattle.group_trace.specs.DiskRun.{DiskScene}
-use Rattle.group_trace.specs.Run.{AreTaken, next}
-use Rattle.group_trace.specs.Scene.{Measures, Scene}
 use Rattle.harp_store.specs.Disk.{Disk as ToldDisk}
 use Rattle.harp_types.specs.Trio.{value_of}
 use Rattle.harp_types.specs.declared.server.ServerId.{ServerId}
 use Rattle.harp_types.specs.declared.trio.Trio.{Trio}
 use Rattle.node.specs.Node.{NodeValue}
-use Rattle.trace_laws.proofs.Turns.{own_none}
-use Rattle.trace_types.specs.declared.step.Step.{Step}
 use Rattle.world.specs.World.{IsWorld, WorldValue}
 use Rattle.world_rules.specs.Host.{IsHostAt, disk_of}
 use Rattle.running_laws.specs.Events.{Event, Site}
 use Rattle.running_laws.specs.Follows.{Follows, IsNew, IsSite}
-use Rattle.running_laws.specs.Statement.{CanFollow, IsServerOf, Stands}
+use Rattle.running_laws.specs.Statement.{IsServerOf, Stands}
 use Rattle.running_laws.proofs.Bootings.{down_so}
-
--- steps that are taken can be taken however much was sent
-pub taken_follow : (m : Measures) (w : Scene) (ss : List Step) → AreTaken m w ss → CanFollow m w ss
-taken_follow m w [] t = tt
-taken_follow m w (s ∷ ss) t = (own_none _ _ t.0, t.1, taken_follow m (next m w s) ss t.2)
 
 server_is : (w : DiskScene) (x : WorldValue) (place : ServerId) (s : Site) → IsWorld w x
     → IsSite (value_of x.hosts place) s → IsServerOf w place s

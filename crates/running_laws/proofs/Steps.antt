@@ -1,42 +1,23 @@
 -- The step of a run that an input of a server is, beside the messages of others.
-use Rattle.std.proofs.Common.{◌≡◌, true, false, ◌∷◌, Option, Some, refl, sym, subst}
+use Rattle.std.proofs.Common.{◌≡◌, true, ◌∷◌, Option, Some, refl, sym, subst}
 use Rattle.group_rules.specs.Names.{place_of}
 use Rattle.group_rules.specs.Step.{Apply, Ask, Deed, Does, Flush, Suspect, Tick}
 use Rattle.group_trace.specs.DiskCalls.{measures_of}
 use Rattle.group_trace.specs.DiskRun.{DiskScene, disk_next}
-use Rattle.group_trace.specs.Refusals.{own_refusal, passes_full_net, where_down}
+use Rattle.group_trace.specs.Refusals.{own_refusal, where_down}
 use Rattle.group_trace.specs.Run.{is_elementary, step_lines}
 use Rattle.harp_types.specs.declared.server.ServerId.{ServerId}
-use Rattle.harp_store.specs.Disk.{Moments}
 use Rattle.node.specs.Input.{input_of}
-use Rattle.node.specs.Node.{NodeValue}
-use Rattle.node.specs.Step.{ListsFor}
 use Rattle.node.specs.declared.input.Input.{Input}
 use Rattle.node.specs.declared.input.Input.TheVariants as input
 use Rattle.trace_types.specs.declared.line.Line.TheVariants as line
 use Rattle.trace_types.specs.declared.step.Step.{Step}
 use Rattle.trace_types.specs.declared.step.Step.TheVariants as step
-use Rattle.tree_listing.specs.declared.listing.Listing.{Listing}
 use Rattle.world.specs.Turns.{after_armed_turn, turn_lines}
 use Rattle.world_laws.specs.StockLaws.{GoesOn}
 use Rattle.world_rules.specs.Spellings.{spellings}
 use Rattle.running_laws.specs.Lives.{IsOwn}
 use Rattle.running_laws.proofs.Spelled.{IsAsked}
-
--- an input that asks for no listing
-abbrev pub IsUnlisted : Input → Type 0
-IsUnlisted input.List = ⊥
-IsUnlisted given = Unit {0}
-
-pub lists_nothing : (given : Input) → IsUnlisted given → (n : NodeValue) (told : Option Moments)
-    (old new : Option Listing) → ListsFor given n told old new
-lists_nothing input.Tick h n told old new = tt
-lists_nothing input.Suspect h n told old new = tt
-lists_nothing (input.Message from message) h n told old new = tt
-lists_nothing (input.Ask peer client number cred call) h n told old new = tt
-lists_nothing (input.Apply most) h n told old new = tt
-lists_nothing input.Flush h n told old new = tt
-lists_nothing input.List h n told old new = absurd h
 
 -- AN INPUT IS A DEED of its server, and a step of a run has it
 pub record IsDeed (place : ServerId) (given : Input) : Type 0 where
@@ -45,7 +26,6 @@ pub record IsDeed (place : ServerId) (given : Input) : Type 0 where
   pub begins : input_of given ≡ Some (Does deed)
   pub goes : GoesOn deed
   pub elementary : is_elementary step ≡ true
-  pub counts : passes_full_net step ≡ false
   pub same : (w : DiskScene) → own_refusal (measures_of spellings) w.scene.group step
       ≡ where_down w.scene.group place
   pub leads : (w : DiskScene) → disk_next spellings w step
@@ -60,7 +40,6 @@ own_deed place input.Tick own = record {
   begins = refl;
   goes = tt;
   elementary = refl;
-  counts = refl;
   same = λ w. refl;
   leads = λ w. refl;
   says = λ w. refl;
@@ -71,7 +50,6 @@ own_deed place input.Suspect own = record {
   begins = refl;
   goes = tt;
   elementary = refl;
-  counts = refl;
   same = λ w. refl;
   leads = λ w. refl;
   says = λ w. refl;
@@ -84,7 +62,6 @@ own_deed place (input.Apply most) own = record {
   begins = refl;
   goes = tt;
   elementary = refl;
-  counts = refl;
   same = λ w. refl;
   leads = λ w. refl;
   says = λ w. refl;
@@ -95,21 +72,11 @@ own_deed place input.Flush own = record {
   begins = refl;
   goes = tt;
   elementary = refl;
-  counts = refl;
   same = λ w. refl;
   leads = λ w. refl;
   says = λ w. refl;
 }
 own_deed place input.List own = absurd own
-
-pub own_unlisted : (given : Input) → IsOwn given → IsUnlisted given
-own_unlisted input.Tick own = tt
-own_unlisted input.Suspect own = tt
-own_unlisted (input.Message from message) own = tt
-own_unlisted (input.Ask peer client number cred call) own = tt
-own_unlisted (input.Apply most) own = tt
-own_unlisted input.Flush own = tt
-own_unlisted input.List own = own
 
 -- a call, whoever asks it
 pub asked_deed : (place : ServerId) (given : Input) → IsAsked given → IsDeed place given
@@ -119,11 +86,7 @@ asked_deed place given a = subst (IsDeed place) (sym a.is) (record {
   begins = refl;
   goes = tt;
   elementary = refl;
-  counts = refl;
   same = λ w. refl;
   leads = λ w. refl;
   says = λ w. refl;
 })
-
-pub asked_unlisted : (given : Input) → IsAsked given → IsUnlisted given
-asked_unlisted given a = subst IsUnlisted (sym a.is) tt

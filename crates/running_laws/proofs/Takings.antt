@@ -30,21 +30,20 @@ use Rattle.world_rules.specs.declared.stop.Stop.{Stop}
 use Rattle.running_laws.specs.Events.{Site}
 use Rattle.running_laws.specs.Follows.{HasStore, IsSite}
 use Rattle.running_laws.specs.Lives.{WholeStep}
-use Rattle.running_laws.proofs.Steps.{IsUnlisted, lists_nothing}
 
 -- the state that a node shows
 abbrev pub state_shown : NodeValue → Option StateLine
 state_shown n = Some (state_of (server n []))
 
--- what a node's step says, where its node stays a server, and no listing was asked for
+-- what a node's step says
 stepped_is : (now : ℕ) (given : Input) (n m : NodeValue) (old left : Moments) (outs : Outputs)
-    → IsStep given now n m (Some old) (Some left) outs → IsServed m → IsUnlisted given
+    → IsStep given now n m (Some old) (Some left) outs
     → Stepped now given n m (Some old) (Some left) outs
-stepped_is now given n m old left outs s served unlisted = record {
+stepped_is now given n m old left outs s = record {
   steps = s.steps;
-  listing = lists_nothing given unlisted n (Some old) None outs.listing;
+  listing = s.listing;
   me = s.me_stays;
-  served = served;
+  served = s.is_server;
   mark = s.mark;
   written = s.written;
 }
@@ -71,7 +70,7 @@ up_so x place n is served w world =
 -- ---- the turn
 
 -- what a whole step at a place rests on: its host is that of the place, with no stop, and its clock
--- reads as the event says; and what it leaves has a store, and its node is a server
+-- reads as the event says; and what it leaves has a store
 pub record IsTurn (x : WorldValue) (place : ServerId) (now : ℕ) (given : Input)
     (outs : Option Outputs) (a b : Site) : Type 0 where
   pub site : IsSite (value_of x.hosts place) a
@@ -80,9 +79,7 @@ pub record IsTurn (x : WorldValue) (place : ServerId) (now : ℕ) (given : Input
   pub no_stop : value_of x.stops place ≡ None
   pub clock : value_of x.clocks place ≡ now
   pub step : WholeStep now given outs a b
-  pub unlisted : IsUnlisted given
   pub has_store : HasStore b
-  pub served : IsServed step.new
 
 module _ (x : WorldValue) (place : ServerId) (now : ℕ) (given : Input) (outs : Option Outputs)
     (a b : Site) (t : IsTurn x place now given outs a b) where
@@ -129,8 +126,7 @@ module _ (x : WorldValue) (place : ServerId) (now : ℕ) (given : Input) (outs :
       (Some t.step.puts)) (sym t.no_stop)
       (subst (λ (n : ℕ). HostTakes old host_left given n None (Some t.step.puts)) (sym t.clock)
       (run_takes old host_left given now t.step.old t.step.new a.disk b.disk t.step.puts had has
-      (stepped_is now given t.step.old t.step.new a.disk b.disk t.step.puts t.step.step t.served
-      t.unlisted)))
+      (stepped_is now given t.step.old t.step.new a.disk b.disk t.step.puts t.step.step)))
 
   new_is : (value_of world_left.hosts place).node ≡ Some t.step.new
   new_is = ap (λ (h : HostValue). h.node) (value_there x.hosts place host_left)
@@ -142,4 +138,4 @@ module _ (x : WorldValue) (place : ServerId) (now : ℕ) (given : Input) (outs :
       (lines_given place x.book (length x.packets) t.step.puts) lines_left t.step.puts.listing
       (shown_so x place t.step.old old_is old_served) (sym t.me) takes
       (record { world = refl; lines = refl; listed = refl })
-      (shown_so world_left place t.step.new new_is t.served) refl
+      (shown_so world_left place t.step.new new_is t.step.step.is_server) refl

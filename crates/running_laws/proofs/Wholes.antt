@@ -1,10 +1,10 @@
 -- An event that is a whole step, in the world, once the clocks are set: the run takes a step.
-use Rattle.std.proofs.Common.{◌≡◌, ℕ, zero, suc, ◌<◌, ◌≤◌, false, not, ◌&&◌, nat_lt, List, [], ◌∷◌, length, Option, None, Some, refl, sym, ap, ◌∙◌, subst, arith, slice_get, le-ltb, if◌then◌else◌}
+use Rattle.std.proofs.Common.{◌≡◌, ℕ, zero, suc, ◌<◌, nat_lt, List, [], ◌∷◌, length, Option, None, Some, refl, sym, ap, ◌∙◌, subst, arith, slice_get}
 use Rattle.std.specs.Option.{option_map}
 use Rattle.group_rules.proofs.Tests.{if_is, lt_is}
 use Rattle.group_trace.specs.DiskCalls.{measures_of}
 use Rattle.group_trace.specs.DiskRun.{DiskScene}
-use Rattle.group_trace.specs.Refusals.{net_limit, net_refusal, own_refusal, passes_full_net}
+use Rattle.group_trace.specs.Refusals.{own_refusal}
 use Rattle.harp_types.specs.declared.server.ServerId.{ServerId}
 use Rattle.node.specs.declared.input.Input.{Input}
 use Rattle.node.specs.declared.input.Input.TheVariants as input
@@ -18,38 +18,24 @@ use Rattle.world.proofs.Steps.{deed_taken}
 use Rattle.world.specs.World.{IsWorld, WorldValue}
 use Rattle.world_lines.specs.Given.{answered_lines}
 use Rattle.world_lines.proofs.Machine.{as_many_stand}
-use Rattle.world_lines.specs.Posted.{Posted, bytes_sent, delivered_at}
+use Rattle.world_lines.specs.Posted.{Posted, delivered_at}
 use Rattle.world_lines.specs.declared.packet.Packet.{Packet}
 use Rattle.world_rules.specs.Spellings.{spellings}
 use Rattle.running_laws.specs.Events.{Site}
 use Rattle.running_laws.specs.Follows.{IsPacket}
 use Rattle.running_laws.proofs.Answering.{answers_left}
-use Rattle.running_laws.proofs.Clocks.{both_none}
 use Rattle.running_laws.proofs.Moving.{IsAt, LedTo, take_one}
 use Rattle.running_laws.proofs.Steps.{IsDeed}
 use Rattle.running_laws.proofs.Takings.{IsTurn, lines_left, old_up, turns, world_left}
-
--- ---- what isn't refused
-
--- with so few bytes no step is refused for them
-pub net_none : (w : DiskScene) (s : Step) → passes_full_net s ≡ false → w.scene.sent ≤ net_limit
-    → net_refusal w.scene s ≡ None
-net_none w s counts few =
-    ap (λ p. if not p && nat_lt net_limit w.scene.sent then Some fault.NetFull else None) counts
-    ∙ ap (λ b. if b then Some fault.NetFull else None) (le-ltb net_limit w.scene.sent few)
-
-pub few_sent : (w : DiskScene) (x : WorldValue) → IsWorld w x → bytes_sent x.packets ≤ net_limit
-    → w.scene.sent ≤ net_limit
-few_sent w x world few = subst (λ n. n ≤ net_limit) (sym world.packets.bytes) few
 
 -- ---- what a server does by itself, and calls
 
 pub deed_led : (w : DiskScene) (x : WorldValue) (place : ServerId) (now : ℕ) (given : Input)
     (outs : Option Outputs) (a b : Site) (t : IsTurn x place now given outs a b)
-    → IsDeed place given → IsAt w x → bytes_sent x.packets ≤ net_limit
+    → IsDeed place given → IsAt w x
     → LedTo w (world_left x place now given outs a b t)
     (answered_lines place t.step.puts.answers.items)
-deed_led w x place now given outs a b t d at few =
+deed_led w x place now given outs a b t d at =
     let y = world_left x place now given outs a b t in
     let lines = lines_left x place now given outs a b t in
     let up = old_up x place now given outs a b t w at.stands in
@@ -57,8 +43,7 @@ deed_led w x place now given outs a b t d at few =
     (take_one w x y d.step lines at
     (deed_taken d.step place given d.deed x y [] lines t.step.puts.listing refl
     (turns x place now given outs a b t) d.begins d.goes d.same d.leads d.says)
-    (both_none _ _ (d.same w ∙ if_is _ None (Some fault.ServerDown) up)
-    (net_none w d.step d.counts (few_sent w x at.stands few))) d.elementary)
+    (d.same w ∙ if_is _ None (Some fault.ServerDown) up) d.elementary)
 
 -- ---- messages of other servers
 
@@ -105,10 +90,9 @@ pub message_led : (w : DiskScene) (x : WorldValue) (place from : ServerId) (now 
     (outs : Option Outputs) (a b : Site) (bytes : List ℕ)
     (t : IsTurn x place now (input.Message from m) outs a b)
     (p : IsPacket x.packets from place bytes) → p.posted.packet.message ≡ m → IsAt w x
-    → bytes_sent x.packets ≤ net_limit
     → LedTo w (counted (world_left x place now (input.Message from m) outs a b t) p.number)
     (answered_lines place t.step.puts.answers.items)
-message_led w x place from now m outs a b bytes t p same at few =
+message_led w x place from now m outs a b bytes t p same at =
     let given = input.Message from m in
     let y = world_left x place now given outs a b t in
     let lines = lines_left x place now given outs a b t in
@@ -120,5 +104,4 @@ message_led w x place from now m outs a b bytes t p same at few =
     (the_packet x.packets from place m bytes p same)
     (arrives_taken x y packet [] lines t.step.puts.listing
     (old_up x place now given outs a b t) (turns x place now given outs a b t)) refl)
-    (both_none _ _ (packet_there w x from place bytes at.stands p)
-    (net_none w s refl (few_sent w x at.stands few))) refl)
+    (packet_there w x from place bytes at.stands p) refl)

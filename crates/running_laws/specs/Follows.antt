@@ -1,11 +1,10 @@
 -- What happens at servers that run is a run of the group: a scene that follows a history, and where
 -- it leads, by what is known of each event.
-use Rattle.std.specs.Prelude.{◌≡◌, ◌⊎◌, ℕ, ◌+◌, ◌≤◌, Bool, true, false, List, [], ◌++◌, length, Contains, filter, sum_by, None, Some, ⊤}
+use Rattle.std.specs.Prelude.{◌≡◌, ◌⊎◌, ℕ, ◌+◌, ◌≤◌, Bool, true, false, List, [], ◌++◌, Contains, filter, None, Some, ⊤}
 use Rattle.std.specs.List.{slice_get}
 use Rattle.group_trace.specs.DiskCalls.{measures_of}
 use Rattle.group_trace.specs.DiskRun.{DiskScene, disk_run}
-use Rattle.group_trace.specs.Refusals.{net_limit}
-use Rattle.group_trace.specs.Run.{AreTaken, run_lines}
+use Rattle.group_trace.specs.Run.{CanFollow, run_lines}
 use Rattle.harp_store.specs.Disk.{Disk as ToldDisk, IsLeftOf, IsSynced, Moments, with_mark}
 use Rattle.harp_store.specs.Mark.{first_mark}
 use Rattle.harp_store.specs.Memory.{nothing_stored}
@@ -30,13 +29,13 @@ use Rattle.trace_types.specs.declared.step.Step.{Step}
 use Rattle.wire.specs.Messages.{message_bytes}
 use Rattle.wire.specs.declared.message.Message.{Message}
 use Rattle.world.specs.World.{IsWorld, WorldValue}
-use Rattle.world_lines.specs.Posted.{Posted, bytes_sent}
+use Rattle.world_lines.specs.Posted.{Posted}
 use Rattle.world_rules.specs.Host.{HostValue, disk_of}
 use Rattle.world_rules.specs.Spellings.{spellings}
 use Rattle.running_laws.specs.Events.{Boots, Does, EachAfter, Ends, Event, IsNewSite, Site, Takes, What, all_sent, new_sites}
 use Rattle.running_laws.specs.Histories.{IsInTime, IsNear, IsRisen, IsSentBefore}
 use Rattle.running_laws.specs.Lives.{Happens}
-use Rattle.running_laws.specs.Statement.{CanFollow, IsRunOfGroup, Stands, answer_lines, is_answer}
+use Rattle.running_laws.specs.Statement.{IsRunOfGroup, Stands, answer_lines, is_answer}
 
 -- ---- a scene that follows a history
 
@@ -90,13 +89,9 @@ pub record ClocksFollow (before : List Event) (clocks : Trio ℕ) : Type 0 where
   pub behind : (place : ServerId) (now : ℕ) → IsRisen before place now → IsNear before now
       → value_of clocks place ≤ now
 
--- the bytes of datagrams
-abbrev pub bytes_in : List SentDatagram → ℕ
-bytes_in ds = sum_by (λ (d : SentDatagram). length d.bytes) ds
-
--- A SCENE FOLLOWS A HISTORY that left these nodes and disks: steps that are taken lead to it, and a
--- world stands there whose hosts are the places, whose packets are what was sent, and no stop is
--- armed
+-- A SCENE FOLLOWS A HISTORY that left these nodes and disks: steps lead to it that only a full net
+-- may refuse, and a world stands there whose hosts are the places, whose packets are what was sent,
+-- and no stop is armed
 pub record Follows (before : List Event) (sites : Trio Site) (w : DiskScene) (x : WorldValue)
     : Type 0 where
   pub reached : IsReached spellings w
@@ -105,7 +100,6 @@ pub record Follows (before : List Event) (sites : Trio Site) (w : DiskScene) (x 
       → IsPlace place (value_of x.hosts place) (value_of sites place)
   pub no_stop : (place : ServerId) → value_of x.stops place ≡ None
   pub posted : (d : SentDatagram) → Contains (all_sent before) d → IsPosted x.packets d
-  pub bytes : bytes_sent x.packets ≤ bytes_in (all_sent before)
   pub clocks : ClocksFollow before x.clocks
 
 -- ---- what is known of events
@@ -114,10 +108,6 @@ pub record Follows (before : List Event) (sites : Trio Site) (w : DiskScene) (x 
 pub record HasStore (s : Site) : Type 0 where
   pub store : SoundStore
   pub holds : (stored store).now ≡ s.disk.now
-
--- the node of a place, if there is one, is a server of the machine
-abbrev pub IsServed : Site → Type 0
-IsServed s = (n : NodeValue) → s.node ≡ Some n → IsServer n
 
 -- a boot of a new disk makes promises at least as long as the first ones of a run
 abbrev pub LastsLong : What → Site → Type 0
@@ -153,30 +143,24 @@ pub record HappensKnown (e : Event) (a c : Trio Site) : Type 0 where
   pub happens : Happens e a c
   pub cut : IsCutSo e.place e.now e.what e.cut (value_of a e.place) (value_of c e.place)
   pub has_store : HasStore (value_of c e.place)
-  pub served : IsServed (value_of c e.place)
   pub long : LastsLong e.what (value_of a e.place)
-
--- so few bytes were sent before that servers still step
-abbrev pub HasRoom : List Event → Event → Type 0
-HasRoom before e = bytes_in (all_sent before) ≤ net_limit
 
 -- ---- where they lead
 
--- steps that are taken lead from one scene to another
+-- steps that only a full net may refuse lead from one scene to another
 pub record LeadsTo (w v : DiskScene) : Type 0 where
   pub steps : List Step
-  pub taken : AreTaken (measures_of spellings) w.scene steps
+  pub taken : CanFollow (measures_of spellings) w.scene steps
   pub leads : disk_run spellings w steps ≡ v
 
--- steps lead on to a scene that follows the longer history: they can be taken however much was
--- sent, the places are its servers, and their answers are those of what happened meanwhile
+-- steps lead on to a scene that follows the longer history: the places are its servers, and their
+-- answers are those of what happened meanwhile
 pub record FollowsOn (before events : List Event) (sites : Trio Site) (w : DiskScene)
     : Type 0 where
   pub scene : DiskScene
   pub world : WorldValue
   pub led : LeadsTo w scene
   pub follows : Follows (before ++ events) sites scene world
-  pub can : CanFollow (measures_of spellings) w.scene led.steps
   pub places : (place : ServerId) → Stands scene place (value_of sites place)
   pub answers : filter is_answer (run_lines (measures_of spellings) w.scene led.steps)
       ≡ answer_lines events
@@ -186,7 +170,7 @@ abbrev pub EventsFollow : Type 0
 EventsFollow = (before events : List Event) (a c : Trio Site) (w : DiskScene) (x : WorldValue)
     → Follows before a w x → Chain HappensKnown events a c
     → EachAfter IsSentBefore before events → EachAfter IsInTime before events
-    → EachAfter HasRoom before events → FollowsOn before events c w
+    → FollowsOn before events c w
 
 -- ---- from new disks on
 
@@ -199,5 +183,4 @@ first_site place =
 abbrev pub HistoriesAreRuns : Type 0
 HistoriesAreRuns = ((place : ServerId) → HasStore (first_site place))
     → (events : List Event) (left : Trio Site) → Chain HappensKnown events new_sites left
-    → EachAfter IsSentBefore [] events → EachAfter IsInTime [] events
-    → EachAfter HasRoom [] events → IsRunOfGroup events left
+    → EachAfter IsSentBefore [] events → EachAfter IsInTime [] events → IsRunOfGroup events left

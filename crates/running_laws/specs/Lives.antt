@@ -1,5 +1,5 @@
 -- What an event makes of its place: boots, steps and ends of lives, whole and in part.
-use Rattle.std.specs.Prelude.{◌≡◌, ◌⊎◌, ℕ, Bool, true, false, List, All, Option, None, Some, ⊤}
+use Rattle.std.specs.Prelude.{◌≡◌, ◌⊎◌, ℕ, Bool, true, false, List, Option, None, Some, ⊤}
 use Rattle.file_tree.specs.Book.{Entry}
 use Rattle.harp_store.specs.Disk.{IsLeftOf, Moments}
 use Rattle.harp_types.specs.Trio.{value_of, with_value}
@@ -13,11 +13,10 @@ use Rattle.node.specs.Taking.{stepped}
 use Rattle.node.specs.declared.input.Input.{Input}
 use Rattle.node.specs.declared.input.Input.TheVariants as input
 use Rattle.node_loop.specs.Arriving.{Arrives}
+use Rattle.node_loop.specs.Outgoing.{AreSpelled}
 use Rattle.node_loop.specs.Step.{IsBoot, IsStep}
 use Rattle.node_outputs.specs.declared.outputs.Outputs.{Outputs}
-use Rattle.node_outputs.specs.declared.outputs.Sent.{Sent}
 use Rattle.promise.specs.Promise.{IsDelta}
-use Rattle.wire.specs.Messages.{MessageFits}
 use Rattle.running_laws.specs.Events.{Boots, Does, Ends, Event, Site, Takes, What}
 
 -- ---- boots
@@ -50,7 +49,7 @@ pub record WholeStep (now : ℕ) (given : Input) (outs : Option Outputs) (a b : 
   pub is : b.node ≡ Some new
   pub outs_are : outs ≡ Some puts
   pub step : IsStep given now old new (Some a.disk) (Some b.disk) puts
-  pub fit : All (λ (s : Sent). MessageFits s.message) puts.sends.items
+  pub fit : AreSpelled puts
 
 -- the process is gone amid a step, after some first calls that change the disk; nothing was sent
 pub record PartOfStep (now : ℕ) (given : Input) (outs : Option Outputs) (a b : Site) : Type 0 where

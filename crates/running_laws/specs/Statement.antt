@@ -1,12 +1,11 @@
 -- Running servers are the group: the statement.
-use Rattle.std.specs.Prelude.{◌≡◌, ◌⊎◌, Bool, true, false, List, [], ◌∷◌, None, filter, flat_map}
+use Rattle.std.specs.Prelude.{◌≡◌, ◌⊎◌, Bool, true, false, List, filter, flat_map}
 use Rattle.event_record.specs.declared.record.RecordFields.{RecordFields}
 use Rattle.group_rules.specs.Names.{place_of}
 use Rattle.group_trace.specs.DiskCalls.{measures_of}
 use Rattle.group_trace.specs.DiskRun.{DiskScene, disk_run, first_disk_scene}
-use Rattle.group_trace.specs.Refusals.{own_refusal}
-use Rattle.group_trace.specs.Run.{is_elementary, next, run_lines}
-use Rattle.group_trace.specs.Scene.{Measures, Scene, first_scene}
+use Rattle.group_trace.specs.Run.{CanFollow, run_lines}
+use Rattle.group_trace.specs.Scene.{first_scene}
 use Rattle.harp_types.specs.Trio.{value_of}
 use Rattle.harp_types.specs.declared.server.ServerId.{ServerId}
 use Rattle.harp_types.specs.declared.trio.Trio.{Trio}
@@ -21,12 +20,6 @@ use Rattle.world_rules.specs.Spellings.{spellings}
 use Rattle.running_laws.specs.Books.{HasBook, answers_in}
 use Rattle.running_laws.specs.Events.{Event, IsNewSite, Site}
 use Rattle.running_laws.specs.Histories.{IsHistory}
-
--- each step can be taken, however many bytes were sent before it
-abbrev pub CanFollow : Measures → Scene → List Step → Type 0
-CanFollow m w [] = Unit {0}
-CanFollow m w (s ∷ ss) = (own_refusal m w.group s ≡ None) × (is_elementary s ≡ true)
-    × CanFollow m (next m w s) ss
 
 -- ---- servers and disks
 
@@ -55,8 +48,8 @@ answer_lines events =
 
 -- ---- the statement
 
--- A HISTORY IS A RUN OF THE GROUP: steps that can be taken end in these servers and disks, and
--- their answers are those of the history
+-- A HISTORY IS A RUN OF THE GROUP: steps that only a full net may refuse end in these servers and
+-- disks, and their answers are those of the history
 pub record IsRunOfGroup (events : List Event) (left : Trio Site) : Type 0 where
   pub steps : List Step
   pub taken : CanFollow (measures_of spellings) first_scene steps

@@ -10,19 +10,19 @@
 //!
 //! - `events_follow`: where a scene of a run follows a history (`Follows`), steps of the run lead
 //!   on to a scene that follows the next events too, and their answers are those of the events
-//!   (`follow`). No step is refused: the clocks of the run are set before each event, its packets
-//!   are what was sent, and of what a crash may leave of a disk there is a pick that leaves it. A
-//!   boot that is cut behind its write is a boot and a crash, a step that is cut a crash.
+//!   (`follow`). Only a full net may refuse one of these steps: the clocks of the run are set before
+//!   each event, its packets are what was sent, and of what a crash may leave of a disk there is a
+//!   pick that leaves it. A boot that is cut behind its write is a boot and a crash, a step that is
+//!   cut a crash.
 //! - `histories_are_runs`: new places follow the scene in which each server fell behind its first
 //!   boot, so from new disks on a history is a run of the group (`runs`): its steps end in these
 //!   servers and disks, and all that `disk_laws` says of a run holds.
 //!
 //! What isn't proved yet is a premise of both, each with a name: a place's disk is that of a store
-//! in memory (`HasStore`), what an event leaves is a server of the machine (`IsServed`), at most so
-//! many bytes were sent that a play still takes steps (`HasRoom`), a boot of a new disk makes
-//! promises at least as long as the first ones of a run (`LastsLong`), a boot that is cut behind
-//! its write was about to make a node (`HasNode`), and a step that is cut wrote no other mark
-//! (`KeepsMark`), or is an apply that leaves no more than a crash before it may (`IsCutStep`).
+//! in memory (`HasStore`), a boot of a new disk makes promises at least as long as the first ones of
+//! a run (`LastsLong`), a boot that is cut behind its write was about to make a node (`HasNode`), and
+//! a step that is cut wrote no other mark (`KeepsMark`), or is an apply that leaves no more than a
+//! crash before it may (`IsCutStep`).
 #![tactic(auto)]
 
 ghost use Rattle.running_laws.specs.Follows.{EventsFollow, HistoriesAreRuns};
