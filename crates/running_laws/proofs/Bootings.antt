@@ -1,5 +1,5 @@
 -- A boot at a place from the disk that is left there is a boot of its host.
-use Rattle.std.proofs.Common.{◌≡◌, ℕ, ◌≤◌, false, List, [], Option, None, Some, refl, sym, ap, ◌∙◌, subst}
+use Rattle.std.proofs.Common.{◌≡◌, ℕ, false, List, [], Option, None, Some, refl, sym, ap, ◌∙◌, subst}
 use Rattle.group_rules.proofs.Tests.{all_true, if_is, if_not, le_is}
 use Rattle.group_rules.specs.Limits.{delta_tests}
 use Rattle.group_rules.specs.Names.{place_of}
@@ -27,7 +27,7 @@ use Rattle.world_host.proofs.Takes.{none_up}
 use Rattle.world_host.specs.Starts.{HostStarts}
 use Rattle.world_rules.specs.Host.{HostValue, IsNodeOf, disk_of}
 use Rattle.world_rules.specs.Steps.{HostBoots}
-use Rattle.running_laws.specs.Events.{Site}
+use Rattle.running_laws.specs.Events.{Event, Site}
 use Rattle.running_laws.specs.Follows.{HasStore, IsSite}
 use Rattle.running_laws.specs.Lives.{WholeBoot}
 use Rattle.running_laws.proofs.Answering.{none_shown}
@@ -37,11 +37,11 @@ use Rattle.running_laws.proofs.Takings.{shown_so, state_shown}
 -- ---- the length of promises
 
 -- the length of promises of later boots is set
-pub delta_led : (w : DiskScene) (x : WorldValue) (delta : ℕ) → IsAt w x
-    → LedTo w (record x { delta = delta_after x.delta delta }) []
-delta_led w x delta at =
+pub delta_led : (es : List Event) (w : DiskScene) (x : WorldValue) (delta : ℕ) → IsAt es w x
+    → LedTo es w (record x { delta = delta_after x.delta delta }) []
+delta_led es w x delta at =
     let y = record x { delta = delta_after x.delta delta } in
-    take_one w x y (step.Delta delta) [] at (delta_taken x y delta refl) refl refl
+    take_one es w x y (step.Delta delta) [] at tt (delta_taken x y delta refl) refl refl
 
 pub delta_is : (old delta : ℕ) → IsDelta delta → delta_after old delta ≡ delta
 delta_is old delta is = if_is (all_of (delta_tests delta)) delta old
@@ -140,11 +140,11 @@ module _ (x : WorldValue) (place : ServerId) (now delta : ℕ) (b : Site)
   new_is = ap (λ (h : HostValue). h.node) (value_there x.hosts place host_booted)
 
   -- A BOOT leads on
-  pub boot_led : (w : DiskScene) → IsAt w x → LedTo w world_booted []
-  boot_led w at =
+  pub boot_led : (es : List Event) (w : DiskScene) → IsAt es w x → LedTo es w world_booted []
+  boot_led es w at =
       let s = step.Boot place in
-      subst (LedTo w world_booted) (none_shown (place_of place) None (state_shown t.boot.node))
-      (take_one w x world_booted s lines_booted at
+      subst (LedTo es w world_booted) (none_shown (place_of place) None (state_shown t.boot.node))
+      (take_one es w x world_booted s lines_booted at tt
       (boot_taken the_laws x world_booted place host_booted None (state_shown t.boot.node) []
       lines_booted refl (none_shown_so x place t.boot.none) (sym t.me) booting refl
       (shown_so world_booted place t.boot.node new_is t.boot.boots.served) refl)

@@ -1,5 +1,5 @@
 -- The clocks of a run are set before an event: none is refused.
-use Rattle.std.proofs.Common.{◌≡◌, ℕ, ◌+◌, ◌≤◌, max, true, false, nat_lt, List, [], ◌∷◌, ◌++◌, None, Option, refl, sym, ap, ◌∙◌, subst, arith, le-ltb}
+use Rattle.std.proofs.Common.{◌≡◌, ℕ, ◌+◌, ◌≤◌, max, true, false, nat_lt, List, [], ◌∷◌, ◌++◌, refl, sym, subst, arith, le-ltb}
 use Rattle.std.proofs.lemmas.List.Elements.{Contains-append_left, Contains-push}
 use Rattle.group_rules.proofs.Tests.{all_true, le_is}
 use Rattle.group_rules.specs.Names.{place_of}
@@ -82,10 +82,11 @@ within_at low x h One = (h.lows server.One, h.highs server.One)
 within_at low x h Two = (h.lows server.Two, h.highs server.Two)
 
 -- A CLOCK IS SET to a reading in the window that isn't below its own
-set_clock : (w : DiskScene) (x : WorldValue) (low : ℕ) (s : ServerId) (r : ℕ) → IsAt w x
+set_clock : (es : List Event) (w : DiskScene) (x : WorldValue) (low : ℕ) (s : ServerId) (r : ℕ)
+    → IsAt es w x
     → AreWithin low x.clocks → value_of x.clocks s ≤ r → r ≤ low + 50
-    → LedTo w (record x { clocks = with_value x.clocks s r }) []
-set_clock w x low s r at within le high =
+    → LedTo es w (record x { clocks = with_value x.clocks s r }) []
+set_clock es w x low s r at within le high =
     let y = record x { clocks = with_value x.clocks s r } in
     let low_s = within.lows s in
     let above : low ≤ r = omega (arith, low_s, le) in
@@ -93,14 +94,14 @@ set_clock w x low s r at within le high =
     let is : true ≡ near r (λ q. get (with_at (clocks_in x) (place_of s) r) q) =
     sym (near_all low r (λ q. get (with_at (clocks_in x) (place_of s) r) q) above high
     (clocks_set low (clocks_in x) (place_of s) r above high (within_at low x within))) in
-    take_one w x y (step.Clock s r) [] at (clock_taken x y s r refl)
+    take_one es w x y (step.Clock s r) [] at tt (clock_taken x y s r refl)
     (clock_right w x at.stands s r true later is) refl
 
-all_later : (w : DiskScene) (x : WorldValue) (millis : ℕ) → IsAt w x
-    → LedTo w (record x { clocks = later x.clocks millis }) []
-all_later w x millis at =
+all_later : (es : List Event) (w : DiskScene) (x : WorldValue) (millis : ℕ) → IsAt es w x
+    → LedTo es w (record x { clocks = later x.clocks millis }) []
+all_later es w x millis at =
     let y = record x { clocks = later x.clocks millis } in
-    take_one w x y (step.Advance millis) [] at (advance_taken x y millis refl) refl refl
+    take_one es w x y (step.Advance millis) [] at tt (advance_taken x y millis refl) refl refl
 
 -- ---- all clocks are set
 
@@ -112,12 +113,13 @@ abbrev all_raised : Trio ℕ → ℕ → Trio ℕ
 all_raised clocks to =
     raised (raised (raised clocks server.Zero to) server.One to) server.Two to
 
-raise : (w : DiskScene) (x : WorldValue) (low : ℕ) (s : ServerId) (to : ℕ) → IsAt w x
+raise : (es : List Event) (w : DiskScene) (x : WorldValue) (low : ℕ) (s : ServerId) (to : ℕ)
+    → IsAt es w x
     → AreWithin low x.clocks → to ≤ low + 50
-    → LedTo w (record x { clocks = raised x.clocks s to }) []
-raise w x low s to at within high =
+    → LedTo es w (record x { clocks = raised x.clocks s to }) []
+raise es w x low s to at within high =
     let c = value_of x.clocks s in
-    set_clock w x low s (max c to) at within (omega arith) (max_high c to (low + 50)
+    set_clock es w x low s (max c to) at within (omega arith) (max_high c to (low + 50)
     (within.highs s) high)
 
 raised_within : (low : ℕ) (clocks : Trio ℕ) (s : ServerId) (to : ℕ) → AreWithin low clocks
@@ -128,18 +130,19 @@ raised_within low clocks s to h high =
     within_set low clocks s (max c to) h (omega (arith, a))
     (max_high c to (low + 50) (h.highs s) high)
 
-raise_all : (w : DiskScene) (x : WorldValue) (low to : ℕ) → IsAt w x → AreWithin low x.clocks
-    → to ≤ low + 50 → LedTo w (record x { clocks = all_raised x.clocks to }) []
-raise_all w x low to at within high =
+raise_all : (es : List Event) (w : DiskScene) (x : WorldValue) (low to : ℕ) → IsAt es w x
+    → AreWithin low x.clocks
+    → to ≤ low + 50 → LedTo es w (record x { clocks = all_raised x.clocks to }) []
+raise_all es w x low to at within high =
     let c1 = raised x.clocks server.Zero to in
     let c2 = raised c1 server.One to in
     let h1 = raised_within low x.clocks server.Zero to within high in
     let h2 = raised_within low c1 server.One to h1 high in
-    led_on w (record x { clocks = c2 }) (record x { clocks = raised c2 server.Two to }) [] []
-    (led_on w (record x { clocks = c1 }) (record x { clocks = c2 }) [] []
-    (raise w x low server.Zero to at within high)
-    (λ v there. raise v (record x { clocks = c1 }) low server.One to there h1 high))
-    (λ v there. raise v (record x { clocks = c2 }) low server.Two to there h2 high)
+    led_on es w (record x { clocks = c2 }) (record x { clocks = raised c2 server.Two to }) [] []
+    (led_on es w (record x { clocks = c1 }) (record x { clocks = c2 }) [] []
+    (raise es w x low server.Zero to at within high)
+    (λ v there. raise es v (record x { clocks = c1 }) low server.One to there h1 high))
+    (λ v there. raise es v (record x { clocks = c2 }) low server.Two to there h2 high)
 
 -- ---- before an event
 
@@ -226,18 +229,20 @@ module _ (before : List Event) (e : Event) (clocks : Trio ℕ) (h : ClocksFollow
   reads_now = value_there set_then e.place e.now
 
   -- THE RUN SETS THEM so
-  pub clocks_led : (w : DiskScene) (x : WorldValue) → x.clocks ≡ clocks → IsAt w x
-      → LedTo w (record x { clocks = set_last }) []
+  pub clocks_led : (w : DiskScene) (x : WorldValue) → x.clocks ≡ clocks
+      → IsAt (before ++ e ∷ []) w x
+      → LedTo (before ++ e ∷ []) w (record x { clocks = set_last }) []
   clocks_led w x is at =
       let to = reach h.top e.now in
       let x1 = record x { clocks = set_first } in
       let x2 = record x { clocks = set_then } in
-      led_on w x2 (record x { clocks = set_last }) [] []
-      (led_on w x1 x2 [] []
-      (subst (λ c. LedTo w (record x { clocks = later c (ahead h.top e.now) }) []) is
-      (all_later w x (ahead h.top e.now) at))
-      (λ v there. raise_all v x1 (first_floor h.top e.now) to there first_within
+      led_on (before ++ e ∷ []) w x2 (record x { clocks = set_last }) [] []
+      (led_on (before ++ e ∷ []) w x1 x2 [] []
+      (subst (λ c. LedTo (before ++ e ∷ []) w
+      (record x { clocks = later c (ahead h.top e.now) }) []) is
+      (all_later (before ++ e ∷ []) w x (ahead h.top e.now) at))
+      (λ v there. raise_all (before ++ e ∷ []) v x1 (first_floor h.top e.now) to there first_within
       (floor_reach h.top e.now)))
-      (λ v there. set_clock v x2 to e.place e.now there then_within
+      (λ v there. set_clock (before ++ e ∷ []) v x2 to e.place e.now there then_within
       (then_behind e.place e.now in_time.rises in_time.near (omega arith))
       (let a = top_reach h.top e.now in omega (arith, a)))

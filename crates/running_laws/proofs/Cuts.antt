@@ -158,7 +158,7 @@ cut_left now input.List outs a b known p =
 pub known_so : (d : Datagram) (given : Input) (a b : Site) → Arrives d (Some given)
     → KeepsMark a b → IsCutStep given a b
 known_so d given a b (inl m) keeps = ⊎_elim
-    (λ (k : IsAsked given). subst (λ (i : Input). IsCutStep i a b) (sym k.is) keeps)
+    (λ (k : IsAsked d.from m.0 given). subst (λ (i : Input). IsCutStep i a b) (sym k.is) keeps)
     (λ (k : IsTold d.from m.0 given). subst (λ (i : Input). IsCutStep i a b) (sym k.is) keeps)
     (given_as d.from m.0 given m.2)
 known_so d given a b (inr noise) keeps =

@@ -20,7 +20,7 @@ use Rattle.world.specs.World.{WorldValue}
 use Rattle.world_host.proofs.Falls.{crash_falls}
 use Rattle.world_rules.specs.Host.{HostValue}
 use Rattle.world_rules.specs.Steps.{HostFalls}
-use Rattle.running_laws.specs.Events.{Site}
+use Rattle.running_laws.specs.Events.{Event, Site}
 use Rattle.running_laws.specs.Follows.{HasStore, IsSite}
 use Rattle.running_laws.specs.Lives.{EndBetween}
 use Rattle.running_laws.proofs.Answering.{none_shown}
@@ -70,11 +70,11 @@ module _ (x : WorldValue) (place : ServerId) (a b : Site) (t : IsEnding x place 
   new_none = ap (λ (h : HostValue). h.node) (value_there x.hosts place host_fallen)
 
   -- AN END leads on
-  pub end_led : (w : DiskScene) → IsAt w x → LedTo w world_fallen []
-  end_led w at =
+  pub end_led : (es : List Event) (w : DiskScene) → IsAt es w x → LedTo es w world_fallen []
+  end_led es w at =
       let s = step.Crash place picked.0 in
-      subst (LedTo w world_fallen) (none_shown (place_of place) (state_shown t.ending.old) None)
-      (take_one w x world_fallen s lines_fallen at
+      subst (LedTo es w world_fallen) (none_shown (place_of place) (state_shown t.ending.old) None)
+      (take_one es w x world_fallen s lines_fallen at tt
       (crash_taken the_laws x world_fallen place picked.0 host_fallen (state_shown t.ending.old)
       None [] lines_fallen picked.0 refl (shown_so x place t.ending.old old_is old_served)
       (sym t.me) falls refl refl (none_shown_so world_fallen place new_none) refl)

@@ -20,8 +20,9 @@ use Rattle.world.proofs.First.{first_stands, first_world}
 use Rattle.world.specs.World.{WorldValue}
 use Rattle.world_rules.specs.Host.{HasMark, HostValue, IsHost, IsHostAt, disk_of, no_stock}
 use Rattle.world_rules.specs.Spellings.{spellings}
+use Rattle.running_laws.specs.Books.{HasBook}
 use Rattle.running_laws.specs.Events.{Site, new_sites}
-use Rattle.running_laws.specs.Follows.{ClocksFollow, Follows, HasStore, IsPlace, HistoriesAreRuns, first_disk, first_site}
+use Rattle.running_laws.specs.Follows.{ClocksFollow, Follows, HasAskers, HasStore, IsPlace, HistoriesAreRuns, first_disk, first_site}
 use Rattle.running_laws.specs.Statement.{Stands}
 use Rattle.running_laws.proofs.Endings.{IsEnding, end_led, world_fallen}
 use Rattle.running_laws.proofs.Following.{events_follow}
@@ -139,10 +140,11 @@ module _ (stores : (place : ServerId) → HasStore (first_site place)) where
   world_first =
       first_world (host_first server.Zero) (host_first server.One) (host_first server.Two)
 
-  at_first : IsAt first_disk_scene world_first
+  at_first : IsAt [] first_disk_scene world_first
   unfolding disk_run
   at_first = record {
     reached = record { steps = []; taken = tt; leads = refl };
+    asks = tt;
     stands = first_stands (host_first server.Zero) (host_first server.One)
         (host_first server.Two) refl refl refl (first_host server.Zero) (first_host server.One)
         (first_host server.Two);
@@ -186,15 +188,15 @@ module _ (stores : (place : ServerId) → HasStore (first_site place)) where
   world_down =
       world_fallen world_two server.Two (up_site server.Two) (first_site server.Two) end_two
 
-  down_led : LedTo first_disk_scene world_down []
-  down_led = led_on first_disk_scene world_two world_down [] []
-      (led_on first_disk_scene world_one world_two [] []
-      (end_led world_first server.Zero (up_site server.Zero) (first_site server.Zero) end_zero
+  down_led : LedTo [] first_disk_scene world_down []
+  down_led = led_on [] first_disk_scene world_two world_down [] []
+      (led_on [] first_disk_scene world_one world_two [] []
+      (end_led world_first server.Zero (up_site server.Zero) (first_site server.Zero) end_zero []
       first_disk_scene at_first)
-      (λ v at. end_led world_one server.One (up_site server.One) (first_site server.One) end_one v
-      at))
-      (λ v at. end_led world_two server.Two (up_site server.Two) (first_site server.Two) end_two v
-      at)
+      (λ v at. end_led world_one server.One (up_site server.One) (first_site server.One) end_one []
+      v at))
+      (λ v at. end_led world_two server.Two (up_site server.Two) (first_site server.Two) end_two []
+      v at)
 
   -- ---- new places follow
 
@@ -222,15 +224,23 @@ module _ (stores : (place : ServerId) → HasStore (first_site place)) where
   no_stops server.One = refl
   no_stops server.Two = refl
 
+  nobody_lives : (place : ServerId) (n : NodeValue) → (value_of new_sites place).node ≡ Some n
+      → HasAskers [] n.plain n.peers
+  nobody_lives server.Zero n is = absurd (none_some n is)
+  nobody_lives server.One n is = absurd (none_some n is)
+  nobody_lives server.Two n is = absurd (none_some n is)
+
   -- THE START follows
   start_follows : Follows [] new_sites down_led.scene world_down
   start_follows = record {
     reached = down_led.there.reached;
+    asks = down_led.there.asks;
     stands = down_led.there.stands;
     sites_are = places_new;
     no_stop = no_stops;
     posted = λ d has. let none = has.1 in absurd (omega (arith, none));
     clocks = first_clocks;
+    askers = nobody_lives;
   }
 
 -- HISTORIES OF WHOLE EVENTS are runs
@@ -248,4 +258,6 @@ histories_are_runs stores events left lives network clocks =
           (sym led.leads) (on.places place);
       answers = answers_on first_disk_scene start.scene on.scene start.led on.led
           ∙ ap (λ ls. ls ++ answers_of start.scene on.led.steps) start.says ∙ on.answers;
+      book = subst (HasBook events) (on.follows.stands.book.entries
+          ∙ ap (λ (w : DiskScene). w.scene.group.book) (sym led.leads)) on.book;
     }

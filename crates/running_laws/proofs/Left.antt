@@ -1,6 +1,7 @@
 -- What one event leaves of the world that follows.
 use Rattle.std.proofs.Common.{◌≡◌, ℕ, Bool, true, false, List, [], ◌∷◌, ◌++◌, append-nil, Contains, Option, None, Some, refl, ap, ◌∙◌, if◌then◌else◌}
 use Rattle.std.proofs.lemmas.List.Concat.{flat_map-append}
+use Rattle.file_tree.specs.Book.{Entry}
 use Rattle.group_trace.specs.DiskRun.{DiskScene}
 use Rattle.harp_store.specs.Disk.{Disk as ToldDisk, Moments, after_step, then_disk}
 use Rattle.harp_types.specs.Trio.{value_of, with_value}
@@ -10,14 +11,16 @@ use Rattle.harp_types.specs.declared.trio.Trio.{Trio}
 use Rattle.node.specs.Boot.{booted_disk}
 use Rattle.node.specs.Node.{NodeValue}
 use Rattle.node_link.specs.declared.link.SentDatagram.{SentDatagram}
+use Rattle.node_outputs.specs.declared.outputs.Answered.{Answered}
 use Rattle.world.proofs.Turns.{with_host}
 use Rattle.world.specs.World.{WorldValue}
 use Rattle.world_host.proofs.Stops.{now_at}
 use Rattle.world_lines.specs.Given.{answered_lines}
 use Rattle.world_rules.specs.Host.{HostValue}
-use Rattle.running_laws.specs.Books.{answers_in}
+use Rattle.running_laws.specs.Books.{IsOfBook, answers_in}
 use Rattle.running_laws.specs.Events.{Event, Site, all_sent, sent_by}
-use Rattle.running_laws.specs.Follows.{IsPlace, IsPosted}
+use Rattle.running_laws.specs.Follows.{Follows, HappensKnown, HasAskers, IsPlace, IsPosted}
+use Rattle.running_laws.specs.Histories.{IsInTime}
 use Rattle.running_laws.proofs.Moving.{LedTo}
 
 -- what holds of each server's two values, where both of one change
@@ -77,6 +80,13 @@ sent_more before e = flat_map-append sent_by before (e ∷ [])
 
 -- ---- what one event leaves of the world
 
+-- an event is next, of what is followed
+pub record IsNext (before : List Event) (e : Event) (a c : Trio Site) (w : DiskScene)
+    (x : WorldValue) : Type 0 where
+  pub follows : Follows before a w x
+  pub happens : HappensKnown e a c
+  pub in_time : IsInTime before e
+
 -- the world follows, but for its clocks
 pub record IsLeft (before : List Event) (e : Event) (c : Trio Site) (x y : WorldValue)
     : Type 0 where
@@ -84,10 +94,16 @@ pub record IsLeft (before : List Event) (e : Event) (c : Trio Site) (x y : World
   pub no_stop : (place : ServerId) → value_of y.stops place ≡ None
   pub posted : (d : SentDatagram) → Contains (all_sent before ++ sent_by e) d → IsPosted y.packets d
   pub clocks : y.clocks ≡ x.clocks
+  pub askers : (place : ServerId) (n : NodeValue) → (value_of c place).node ≡ Some n
+      → HasAskers (before ++ e ∷ []) n.plain n.peers
 
--- steps lead there
+-- steps lead there, and each answer of the event is the book's
 pub record Leaves (before : List Event) (e : Event) (c : Trio Site) (v : DiskScene) (x : WorldValue)
     : Type 0 where
   pub world : WorldValue
-  pub led : LedTo v world (answered_lines e.place (answers_in e.outs))
+  pub led : LedTo (before ++ e ∷ []) v world (answered_lines e.place (answers_in e.outs))
   pub left : IsLeft before e c x world
+  pub more : List Entry
+  pub grows : world.book.entries ≡ x.book.entries ++ more
+  pub answers : (a : Answered) → Contains (answers_in e.outs) a
+      → IsOfBook x.book.entries world.book.entries (before ++ e ∷ []) a

@@ -5,8 +5,15 @@ mod Spelled
 mod Posts
 mod Moving
 mod Clocks
+mod Askers
+mod Owed
 mod Steps
 mod Takings
+mod Whole
+mod Waiting
+mod Booked
+mod Replying
+mod Entered
 mod Answering
 mod Wholes
 mod Bootings
@@ -15,6 +22,9 @@ mod Endings
 mod Standing
 mod Left
 mod Cuts
+mod Happened
+mod Stepping
+mod Resting
 mod Happening
 pub mod Following
 pub mod First

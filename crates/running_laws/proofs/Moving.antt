@@ -1,5 +1,6 @@
 -- Where steps lead, one after the other.
 use Rattle.std.proofs.Common.{◌≡◌, true, List, [], ◌∷◌, ◌++◌, None, filter, refl, sym, ap, ◌∙◌, subst, append_assoc, append-nil}
+use Rattle.std.specs.List.{AllByRecursion}
 use Rattle.std.proofs.lemmas.List.Elements.{filter-append}
 use Rattle.group_trace.specs.DiskCalls.{measures_of}
 use Rattle.group_trace.specs.DiskRun.{DiskScene, disk_next, disk_run, first_disk_scene}
@@ -7,18 +8,21 @@ use Rattle.group_trace.specs.Refusals.{own_refusal}
 use Rattle.group_trace.specs.Run.{CanFollow, is_elementary, next, run_lines, step_lines}
 use Rattle.schedule_play.proofs.Runs.{disk_run-append}
 use Rattle.schedule_play.specs.Stage.{IsReached}
+use Rattle.trace_laws.proofs.MoveKinds.{each-append}
 use Rattle.trace_types.specs.declared.line.Line.{Line}
 use Rattle.trace_types.specs.declared.line.Line.TheVariants as line
 use Rattle.trace_types.specs.declared.step.Step.{Step}
 use Rattle.world.specs.Steps.{Takes}
 use Rattle.world.specs.World.{IsWorld, WorldValue}
 use Rattle.world_rules.specs.Spellings.{spellings}
-use Rattle.running_laws.specs.Follows.{LeadsTo}
+use Rattle.running_laws.specs.Events.{Event}
+use Rattle.running_laws.specs.Follows.{IsAskedStep, LeadsTo}
 use Rattle.running_laws.specs.Statement.{is_answer}
 
--- a scene to which steps lead, and at which a world stands
-pub record IsAt (w : DiskScene) (x : WorldValue) : Type 0 where
+-- a scene to which steps lead that ask for what was asked by then, and at which a world stands
+pub record IsAt (es : List Event) (w : DiskScene) (x : WorldValue) : Type 0 where
   pub reached : IsReached spellings w
+  pub asks : AllByRecursion (IsAskedStep es) reached.steps
   pub stands : IsWorld w x
 
 -- the answers among the lines of steps
@@ -26,10 +30,11 @@ abbrev pub answers_of : DiskScene → List Step → List Line
 answers_of w ss = filter is_answer (run_lines (measures_of spellings) w.scene ss)
 
 -- steps lead on to a scene at which a world stands, with these answers
-pub record LedTo (w : DiskScene) (x : WorldValue) (said : List Line) : Type 0 where
+pub record LedTo (es : List Event) (w : DiskScene) (x : WorldValue) (said : List Line)
+    : Type 0 where
   pub scene : DiskScene
   pub led : LeadsTo w scene
-  pub there : IsAt scene x
+  pub there : IsAt es scene x
   pub says : answers_of w led.steps ≡ said
 
 -- ---- steps, one after the other
@@ -105,11 +110,12 @@ one_says w s lines is = ap (filter is_answer)
     (append-nil (step_lines (measures_of spellings) w.scene s) ∙ sym is)
 
 -- A STEP THAT IS TAKEN leads on, with its answers
-pub take_one : (w : DiskScene) (x y : WorldValue) (s : Step) (lines : List Line) → IsAt w x
+pub take_one : (es : List Event) (w : DiskScene) (x y : WorldValue) (s : Step)
+    (lines : List Line) → IsAt es w x → IsAskedStep es s
     → Takes x y s lines → own_refusal (measures_of spellings) w.scene.group s ≡ None
-    → is_elementary s ≡ true → LedTo w y (filter is_answer lines)
-unfolding one_step
-take_one w x y s lines at takes none one =
+    → is_elementary s ≡ true → LedTo es w y (filter is_answer lines)
+unfolding one_step reached_on leads_on
+take_one es w x y s lines at asked takes none one =
     let led = one_step w s none one in
     let taken = takes w at.reached at.stands none in
     record {
@@ -117,13 +123,15 @@ take_one w x y s lines at takes none one =
       led = led;
       there = record {
         reached = reached_on w (disk_next spellings w s) at.reached led;
+        asks = each-append (IsAskedStep es) at.reached.steps (s ∷ []) at.asks (asked, tt);
         stands = taken.left;
       };
       says = one_says w s lines taken.lines_are;
     }
 
-pub led_nowhere : (w : DiskScene) (x : WorldValue) → IsAt w x → LedTo w x []
-led_nowhere w x at = record {
+pub led_nowhere : (es : List Event) (w : DiskScene) (x : WorldValue) → IsAt es w x
+    → LedTo es w x []
+led_nowhere es w x at = record {
   scene = w;
   led = leads_nowhere w;
   there = at;
@@ -131,9 +139,10 @@ led_nowhere w x at = record {
 }
 
 -- one leads there, and then another one on
-pub led_on : (w : DiskScene) (x y : WorldValue) (said more : List Line) → LedTo w x said
-    → ((v : DiskScene) → IsAt v x → LedTo v y more) → LedTo w y (said ++ more)
-led_on w x y said more a next =
+pub led_on : (es : List Event) (w : DiskScene) (x y : WorldValue) (said more : List Line)
+    → LedTo es w x said → ((v : DiskScene) → IsAt es v x → LedTo es v y more)
+    → LedTo es w y (said ++ more)
+led_on es w x y said more a next =
     let b = next a.scene a.there in
     record {
       scene = b.scene;

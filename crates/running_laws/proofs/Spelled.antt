@@ -69,13 +69,13 @@ unheard_by_bytes m k e none =
 -- ---- what a datagram gives
 
 -- a call of a client, whoever asks it
-pub record IsAsked (given : Input) : Type 0 where
-  pub peer : Peer
+pub record IsAsked (from : Peer) (m : Message) (given : Input) : Type 0 where
   pub client : ℕ
   pub number : ℕ
   pub cred : Cred
   pub call : Call
-  pub is : given ≡ input.Ask peer client number cred call
+  pub message_is : m ≡ message.Ask client number cred call
+  pub is : given ≡ input.Ask from client number cred call
 
 -- a server's message, which servers hear
 pub record IsTold (from : Peer) (m : Message) (given : Input) : Type 0 where
@@ -92,13 +92,13 @@ told_by (Other address port) m given e is = absurd cc
 
 -- WHAT A DATAGRAM GIVES is a call, or a server's message
 pub given_as : (from : Peer) (m : Message) (given : Input) → Some given ≡ input_of from m
-    → IsAsked given ⊎ IsTold from m given
+    → IsAsked from m given ⊎ IsTold from m given
 given_as from (message.Ask client number cred call) given e = inl (record {
-  peer = from;
   client = client;
   number = number;
   cred = cred;
   call = call;
+  message_is = refl;
   is = cc;
 })
 given_as from (message.Answer client number index reply) given e = absurd cc

@@ -55,7 +55,7 @@ pub shown_so : (x : WorldValue) (place : ServerId) (n : NodeValue)
 shown_so x place n is served w world =
     let own = world.servers place in
     shown_up (w.scene.group.server (place_of place)) own.stock own.saved (w.disks (place_of place))
-    (value_of x.hosts place) n (state_of (server n [])) own.host is served (λ items. refl)
+    (value_of x.hosts place) n (state_shown n) own.host is served (λ items. refl)
 
 -- a node that is a server is up, in each scene
 pub up_so : (x : WorldValue) (place : ServerId) (n : NodeValue)
@@ -120,7 +120,7 @@ module _ (x : WorldValue) (place : ServerId) (now : ℕ) (given : Input) (outs :
   pub old_up : (w : DiskScene) → IsWorld w x → (w.scene.group.server (place_of place)).up ≡ true
   old_up = up_so x place t.step.old old_is old_served
 
-  takes : HostTakes old host_left given (value_of x.clocks place) (value_of x.stops place)
+  pub takes : HostTakes old host_left given (value_of x.clocks place) (value_of x.stops place)
       (Some t.step.puts)
   takes = subst (λ (s : Option Stop). HostTakes old host_left given (value_of x.clocks place) s
       (Some t.step.puts)) (sym t.no_stop)

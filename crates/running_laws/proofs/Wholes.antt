@@ -1,5 +1,5 @@
 -- An event that is a whole step, in the world, once the clocks are set: the run takes a step.
-use Rattle.std.proofs.Common.{◌≡◌, ℕ, zero, suc, ◌<◌, nat_lt, List, [], ◌∷◌, length, Option, None, Some, refl, sym, ap, ◌∙◌, subst, arith, slice_get}
+use Rattle.std.proofs.Common.{◌≡◌, ℕ, zero, suc, ◌<◌, nat_lt, List, [], ◌∷◌, length, Option, None, Some, refl, ap, ◌∙◌, subst, arith, slice_get}
 use Rattle.std.specs.Option.{option_map}
 use Rattle.group_rules.proofs.Tests.{if_is, lt_is}
 use Rattle.group_trace.specs.DiskCalls.{measures_of}
@@ -10,7 +10,6 @@ use Rattle.node.specs.declared.input.Input.{Input}
 use Rattle.node.specs.declared.input.Input.TheVariants as input
 use Rattle.node_outputs.specs.declared.outputs.Outputs.{Outputs}
 use Rattle.trace_types.specs.declared.line.LineFault.TheVariants as fault
-use Rattle.trace_types.specs.declared.step.Step.{Step}
 use Rattle.trace_types.specs.declared.step.Step.TheVariants as step
 use Rattle.wire.specs.declared.message.Message.{Message}
 use Rattle.world.proofs.Arrivals.{arrives_taken, delivery_taken}
@@ -21,7 +20,7 @@ use Rattle.world_lines.proofs.Machine.{as_many_stand}
 use Rattle.world_lines.specs.Posted.{Posted, delivered_at}
 use Rattle.world_lines.specs.declared.packet.Packet.{Packet}
 use Rattle.world_rules.specs.Spellings.{spellings}
-use Rattle.running_laws.specs.Events.{Site}
+use Rattle.running_laws.specs.Events.{Event, Site}
 use Rattle.running_laws.specs.Follows.{IsPacket}
 use Rattle.running_laws.proofs.Answering.{answers_left}
 use Rattle.running_laws.proofs.Moving.{IsAt, LedTo, take_one}
@@ -30,17 +29,17 @@ use Rattle.running_laws.proofs.Takings.{IsTurn, lines_left, old_up, turns, world
 
 -- ---- what a server does by itself, and calls
 
-pub deed_led : (w : DiskScene) (x : WorldValue) (place : ServerId) (now : ℕ) (given : Input)
-    (outs : Option Outputs) (a b : Site) (t : IsTurn x place now given outs a b)
-    → IsDeed place given → IsAt w x
-    → LedTo w (world_left x place now given outs a b t)
+pub deed_led : (es : List Event) (w : DiskScene) (x : WorldValue) (place : ServerId) (now : ℕ)
+    (given : Input) (outs : Option Outputs) (a b : Site) (t : IsTurn x place now given outs a b)
+    → IsDeed es place given → IsAt es w x
+    → LedTo es w (world_left x place now given outs a b t)
     (answered_lines place t.step.puts.answers.items)
-deed_led w x place now given outs a b t d at =
+deed_led es w x place now given outs a b t d at =
     let y = world_left x place now given outs a b t in
     let lines = lines_left x place now given outs a b t in
     let up = old_up x place now given outs a b t w at.stands in
-    subst (LedTo w y) (answers_left x place now given outs a b t)
-    (take_one w x y d.step lines at
+    subst (LedTo es w y) (answers_left x place now given outs a b t)
+    (take_one es w x y d.step lines at d.asks
     (deed_taken d.step place given d.deed x y [] lines t.step.puts.listing refl
     (turns x place now given outs a b t) d.begins d.goes d.same d.leads d.says)
     (d.same w ∙ if_is _ None (Some fault.ServerDown) up) d.elementary)
@@ -48,7 +47,7 @@ deed_led w x place now given outs a b t d at =
 -- ---- messages of other servers
 
 -- the packet, as a whole
-the_packet : (ps : List Posted) (from to : ServerId) (m : Message) (bytes : List ℕ)
+pub the_packet : (ps : List Posted) (from to : ServerId) (m : Message) (bytes : List ℕ)
     (p : IsPacket ps from to bytes) → p.posted.packet.message ≡ m
     → option_map (λ (p : Posted). p.packet) (slice_get ps p.number)
     ≡ Some (record { from = from; to = to; message = m })
@@ -86,20 +85,20 @@ packet_there w x from to bytes world p =
 abbrev pub counted : WorldValue → ℕ → WorldValue
 counted x n = record x { packets = delivered_at x.packets n }
 
-pub message_led : (w : DiskScene) (x : WorldValue) (place from : ServerId) (now : ℕ) (m : Message)
-    (outs : Option Outputs) (a b : Site) (bytes : List ℕ)
+pub message_led : (es : List Event) (w : DiskScene) (x : WorldValue) (place from : ServerId)
+    (now : ℕ) (m : Message) (outs : Option Outputs) (a b : Site) (bytes : List ℕ)
     (t : IsTurn x place now (input.Message from m) outs a b)
-    (p : IsPacket x.packets from place bytes) → p.posted.packet.message ≡ m → IsAt w x
-    → LedTo w (counted (world_left x place now (input.Message from m) outs a b t) p.number)
+    (p : IsPacket x.packets from place bytes) → p.posted.packet.message ≡ m → IsAt es w x
+    → LedTo es w (counted (world_left x place now (input.Message from m) outs a b t) p.number)
     (answered_lines place t.step.puts.answers.items)
-message_led w x place from now m outs a b bytes t p same at =
+message_led es w x place from now m outs a b bytes t p same at =
     let given = input.Message from m in
     let y = world_left x place now given outs a b t in
     let lines = lines_left x place now given outs a b t in
     let packet : Packet = record { from = from; to = place; message = m } in
     let s = step.Deliver p.number in
-    subst (LedTo w (counted y p.number)) (answers_left x place now given outs a b t)
-    (take_one w x (counted y p.number) s lines at
+    subst (LedTo es w (counted y p.number)) (answers_left x place now given outs a b t)
+    (take_one es w x (counted y p.number) s lines at tt
     (delivery_taken x y (counted y p.number) p.number packet [] lines refl
     (the_packet x.packets from place m bytes p same)
     (arrives_taken x y packet [] lines t.step.puts.listing

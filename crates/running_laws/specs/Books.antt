@@ -1,6 +1,5 @@
 -- The book of a history: what was asked for, and what was answered.
-use Rattle.std.specs.Prelude.{◌≡◌, ℕ, suc, List, [], ◌∷◌, ◌++◌, Contains, MatchBool, Option, None, Some, take, true}
-use Rattle.std.specs.List.{slice_get}
+use Rattle.std.specs.Prelude.{◌≡◌, ℕ, List, [], ◌∷◌, ◌++◌, Contains, MatchBool, Option, None, Some, true}
 use Rattle.file_tree.specs.Book.{Entry, IsBook}
 use Rattle.harp_types.specs.Update.{is_update}
 use Rattle.harp_types.specs.declared.call.Call.{Call}
@@ -40,17 +39,26 @@ pub record IsOfBook (before book : List Entry) (events : List Event) (a : Answer
   pub asked : WasAsked events a.client a.number cred call a.peer
   pub place : MatchBool (is_update entry.call)
       ((is_update call ≡ true) × Contains book entry × (entry.index ≡ a.index))
-      ((call ≡ entry.call) × (cred ≡ entry.cred) × (book ≡ before ++ entry ∷ []))
+      ((call ≡ entry.call) × (cred ≡ entry.cred)
+      × ((more : List Entry) × (book ≡ before ++ (more ++ entry ∷ []))))
 
--- THE BOOK OF A HISTORY, after its first n events: one run of one file tree, which only grows; each
--- call in it was asked for before, and each answer is its
-pub record HasBook (events : List Event) : Type 0 where
-  pub book : ℕ → List Entry
-  pub first : book 0 ≡ []
-  pub is_book : (n : ℕ) → IsBook (book n)
-  pub grows : (n : ℕ) → (more : List Entry) × (book (suc n) ≡ book n ++ more)
-  pub asked : (n : ℕ) (e : Entry) → Contains (book n) e
-      → (peer : Peer) × WasAsked (take n events) e.client e.number e.cred e.call peer
-  pub answers : (n : ℕ) (x : Event) (a : Answered) → slice_get events n ≡ Some x
-      → Contains (answers_in x.outs) a
-      → IsOfBook (book n) (book (suc n)) (take (suc n) events) a
+-- AN EVENT ADDS TO THE BOOK: it is one run of one file tree still, each call in it was asked for by
+-- then, and each answer of the event is its
+pub record AddsTo (before : List Event) (e : Event) (old new : List Entry) : Type 0 where
+  pub more : List Entry
+  pub grows : new ≡ old ++ more
+  pub is_book : IsBook new
+  pub asked : (x : Entry) → Contains new x
+      → (peer : Peer) × WasAsked (before ++ e ∷ []) x.client x.number x.cred x.call peer
+  pub answers : (a : Answered) → Contains (answers_in e.outs) a
+      → IsOfBook old new (before ++ e ∷ []) a
+
+-- events add to it, one after the other
+unfoldable pub AddTo : (before events : List Event) → (old new : List Entry) → Type 0
+AddTo before [] old new = new ≡ old
+AddTo before (e ∷ es) old new =
+    (mid : List Entry) × AddsTo before e old mid × AddTo (before ++ e ∷ []) es mid new
+
+-- THE BOOK OF A HISTORY, which is empty at first
+abbrev pub HasBook : List Event → List Entry → Type 0
+HasBook events book = AddTo [] events [] book

@@ -1,7 +1,9 @@
 -- What happens at servers that run is a run of the group: a scene that follows a history, and where
 -- it leads, by what is known of each event.
-use Rattle.std.specs.Prelude.{◌≡◌, ◌⊎◌, ℕ, ◌+◌, ◌≤◌, Bool, true, false, List, [], ◌++◌, Contains, filter, None, Some, ⊤}
-use Rattle.std.specs.List.{slice_get}
+use Rattle.std.specs.Prelude.{◌≡◌, ◌⊎◌, ℕ, ◌+◌, ◌-◌, ◌≤◌, Bool, true, false, List, [], ◌∷◌, ◌++◌, Contains, drop, filter, None, Some, ⊤}
+use Rattle.std.specs.List.{AllByRecursion, slice_get}
+use Rattle.file_tree.specs.Book.{Entry}
+use Rattle.group_rules.specs.State.{Mode, Open, Server as Machine, Waits}
 use Rattle.group_trace.specs.DiskCalls.{measures_of}
 use Rattle.group_trace.specs.DiskRun.{DiskScene, disk_run}
 use Rattle.group_trace.specs.Run.{CanFollow, run_lines}
@@ -12,6 +14,8 @@ use Rattle.harp_store.specs.Values.{stored}
 use Rattle.harp_store.specs.declared.stores.SoundStore.{SoundStore}
 use Rattle.harp_types.specs.Limits.{clock_skew, first_promise}
 use Rattle.harp_types.specs.Trio.{value_of}
+use Rattle.harp_types.specs.Update.{is_update}
+use Rattle.harp_types.specs.declared.peer.Peer.{Peer}
 use Rattle.harp_types.specs.declared.peer.Peer.TheVariants.{Server}
 use Rattle.harp_types.specs.declared.server.ServerId.{ServerId}
 use Rattle.harp_types.specs.declared.trio.Trio.{Trio}
@@ -26,12 +30,14 @@ use Rattle.node_loop.specs.Step.{IsBoot}
 use Rattle.node_outputs.specs.Messages.{heard}
 use Rattle.schedule_play.specs.Stage.{IsReached}
 use Rattle.trace_types.specs.declared.step.Step.{Step}
+use Rattle.trace_types.specs.declared.step.Step.TheVariants as step
 use Rattle.wire.specs.Messages.{message_bytes}
 use Rattle.wire.specs.declared.message.Message.{Message}
 use Rattle.world.specs.World.{IsWorld, WorldValue}
 use Rattle.world_lines.specs.Posted.{Posted}
 use Rattle.world_rules.specs.Host.{HostValue, disk_of}
 use Rattle.world_rules.specs.Spellings.{spellings}
+use Rattle.running_laws.specs.Books.{AddTo, WasAsked}
 use Rattle.running_laws.specs.Events.{Boots, Does, EachAfter, Ends, Event, IsNewSite, Site, Takes, What, all_sent, new_sites}
 use Rattle.running_laws.specs.Histories.{IsInTime, IsNear, IsRisen, IsSentBefore}
 use Rattle.running_laws.specs.Lives.{Happens}
@@ -89,18 +95,48 @@ pub record ClocksFollow (before : List Event) (clocks : Trio ℕ) : Type 0 where
   pub behind : (place : ServerId) (now : ℕ) → IsRisen before place now → IsNear before now
       → value_of clocks place ≤ now
 
+-- a step of a run that asks has a call that was asked for
+abbrev pub IsAskedStep : List Event → Step → Type 0
+IsAskedStep events (step.Ask server client number cred call) =
+    (peer : Peer) × WasAsked events client number cred call peer
+IsAskedStep events s = ⊤
+
+-- each of these updates has somebody, in their order, who asked for it
+abbrev pub AreAskers : List Event → List Entry → List Peer → Type 0
+AreAskers events [] [] = ⊤
+AreAskers events [] (p ∷ peers) = ⊥
+AreAskers events (x ∷ xs) [] = ⊥
+AreAskers events (x ∷ xs) (p ∷ peers) = (is_update x.call ≡ true)
+    × WasAsked events x.client x.number x.cred x.call p × AreAskers events xs peers
+
+-- the records above CP
+abbrev pub above_cp : Machine Entry → List Entry
+above_cp s = drop (s.cp - s.base) s.items
+
+abbrev pub WaitIn : List Event → Mode → List Entry → List Peer → Type 0
+WaitIn events Open xs peers = AreAskers events xs peers
+WaitIn events Waits xs peers = peers ≡ []
+WaitIn events m xs peers = ⊤
+
+-- WHO WAITS AT AN OPEN LEADER asked for what it hasn't committed; before it opens, nobody waits
+abbrev pub HasAskers : List Event → Machine Entry → List Peer → Type 0
+HasAskers events s peers = WaitIn events s.mode (above_cp s) peers
+
 -- A SCENE FOLLOWS A HISTORY that left these nodes and disks: steps lead to it that only a full net
--- may refuse, and a world stands there whose hosts are the places, whose packets are what was sent,
--- and no stop is armed
+-- may refuse, which ask for what was asked, and a world stands there whose hosts are the places,
+-- whose packets are what was sent, and no stop is armed
 pub record Follows (before : List Event) (sites : Trio Site) (w : DiskScene) (x : WorldValue)
     : Type 0 where
   pub reached : IsReached spellings w
+  pub asks : AllByRecursion (IsAskedStep before) reached.steps
   pub stands : IsWorld w x
   pub sites_are : (place : ServerId)
       → IsPlace place (value_of x.hosts place) (value_of sites place)
   pub no_stop : (place : ServerId) → value_of x.stops place ≡ None
   pub posted : (d : SentDatagram) → Contains (all_sent before) d → IsPosted x.packets d
   pub clocks : ClocksFollow before x.clocks
+  pub askers : (place : ServerId) (n : NodeValue) → (value_of sites place).node ≡ Some n
+      → HasAskers before n.plain n.peers
 
 -- ---- what is known of events
 
@@ -153,10 +189,10 @@ pub record LeadsTo (w v : DiskScene) : Type 0 where
   pub taken : CanFollow (measures_of spellings) w.scene steps
   pub leads : disk_run spellings w steps ≡ v
 
--- steps lead on to a scene that follows the longer history: the places are its servers, and their
--- answers are those of what happened meanwhile
+-- steps lead on to a scene that follows the longer history: the places are its servers, their
+-- answers are those of what happened meanwhile, and so is what comes to the book
 pub record FollowsOn (before events : List Event) (sites : Trio Site) (w : DiskScene)
-    : Type 0 where
+    (x : WorldValue) : Type 0 where
   pub scene : DiskScene
   pub world : WorldValue
   pub led : LeadsTo w scene
@@ -164,13 +200,14 @@ pub record FollowsOn (before events : List Event) (sites : Trio Site) (w : DiskS
   pub places : (place : ServerId) → Stands scene place (value_of sites place)
   pub answers : filter is_answer (run_lines (measures_of spellings) w.scene led.steps)
       ≡ answer_lines events
+  pub book : AddTo before events x.book.entries world.book.entries
 
 -- EVENTS FOLLOW: from each scene that follows a history, where these are known of more events
 abbrev pub EventsFollow : Type 0
 EventsFollow = (before events : List Event) (a c : Trio Site) (w : DiskScene) (x : WorldValue)
     → Follows before a w x → Chain HappensKnown events a c
     → EachAfter IsSentBefore before events → EachAfter IsInTime before events
-    → FollowsOn before events c w
+    → FollowsOn before events c w x
 
 -- ---- from new disks on
 

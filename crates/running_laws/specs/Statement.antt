@@ -49,7 +49,7 @@ answer_lines events =
 -- ---- the statement
 
 -- A HISTORY IS A RUN OF THE GROUP: steps that only a full net may refuse end in these servers and
--- disks, and their answers are those of the history
+-- disks, their answers are those of the history, and the group's book is the history's
 pub record IsRunOfGroup (events : List Event) (left : Trio Site) : Type 0 where
   pub steps : List Step
   pub taken : CanFollow (measures_of spellings) first_scene steps
@@ -58,8 +58,9 @@ pub record IsRunOfGroup (events : List Event) (left : Trio Site) : Type 0 where
       → Stands (disk_run spellings first_disk_scene steps) place (value_of left place)
   pub answers : filter is_answer (run_lines (measures_of spellings) first_scene steps)
       ≡ answer_lines events
+  pub book : HasBook events (disk_run spellings first_disk_scene steps).scene.group.book
 
 -- RUNNING SERVERS ARE THE GROUP
 abbrev pub RunningServersAreTheGroup : Type 0
 RunningServersAreTheGroup = (events : List Event) (left : Trio Site) → IsHistory events left
-    → IsRunOfGroup events left × HasBook events
+    → IsRunOfGroup events left

@@ -64,13 +64,13 @@ sent_there (p ∷ ps) n less =
 
 -- a packet that was opened is the group's of its number: its message is one of servers, with the
 -- records of its view's list
-record IsPacket (w : DiskScene) (n : ℕ) (p : Opened) : Type 0 where
-  body : Message Entry
-  hears : heard p.message ≡ Some body
-  there : numbered w.scene.group.packets n ≡ Some (sent p.from p.to body)
-  carries : Carries w.scene.group.page body (carried p.message)
+pub record IsPacket (w : DiskScene) (n : ℕ) (p : Opened) : Type 0 where
+  pub body : Message Entry
+  pub hears : heard p.message ≡ Some body
+  pub there : numbered w.scene.group.packets n ≡ Some (sent p.from p.to body)
+  pub carries : Carries w.scene.group.page body (carried p.message)
 
-is_packet : (w : DiskScene) (x : WorldValue) → IsWorld w x → (n : ℕ) (p : Opened)
+pub is_packet : (w : DiskScene) (x : WorldValue) → IsWorld w x → (n : ℕ) (p : Opened)
     → option_map (λ (p : Posted). p.packet) (slice_get x.packets n) ≡ Some p → IsPacket w n p
 is_packet w x world n p opened =
     let stand = world.packets.packets in

@@ -1,0 +1,227 @@
+-- Boots and ends of lives, and boots that are cut.
+use Rattle.std.proofs.Common.{◌≡◌, ℕ, List, [], ◌∷◌, ◌++◌, Contains, None, Some, inl, inr, refl, sym, ap, ◌∙◌, subst, ⊎_elim, ◌⊎◌}
+use Rattle.group_trace.specs.DiskRun.{DiskScene}
+use Rattle.harp_store.specs.Disk.{IsLeftOf, IsSynced, Moments}
+use Rattle.harp_types.specs.Trio.{value_of}
+use Rattle.harp_types.specs.declared.server.ServerId.{ServerId}
+use Rattle.harp_types.specs.declared.trio.Trio.{Trio}
+use Rattle.node.specs.Boot.{after_boot, has_boot_mark}
+use Rattle.node.specs.Node.{IsServer, NodeValue}
+use Rattle.promise.specs.Promise.{IsDelta}
+use Rattle.world.proofs.Tables.{each_value, value_there}
+use Rattle.world.specs.Clocks.{delta_after}
+use Rattle.world.specs.World.{WorldValue}
+use Rattle.world_rules.specs.Host.{HostValue}
+use Rattle.running_laws.specs.Events.{Boots, Event, Site}
+use Rattle.running_laws.specs.Follows.{Follows, HappensKnown, HasNode, HasStore, IsNew, IsPlace, IsSite, LastsLong}
+use Rattle.running_laws.specs.Histories.{IsInTime}
+use Rattle.running_laws.specs.Lives.{EndBetween, PartOfBoot, WholeBoot}
+use Rattle.running_laws.proofs.Bootings.{IsBootAt, IsBooting, boot_led, boot_there, delta_is, delta_led, host_booted, world_booted}
+use Rattle.running_laws.proofs.FirstBoots.{first_boot}
+use Rattle.running_laws.proofs.Clocks.{reads_now}
+use Rattle.running_laws.proofs.Endings.{IsEnding, end_led, host_fallen, world_fallen}
+use Rattle.running_laws.proofs.Moving.{IsAt, LedTo, led_nowhere, led_on}
+use Rattle.running_laws.proofs.Picks.{left_of_synced}
+use Rattle.running_laws.proofs.Waiting.{none_waits}
+use Rattle.running_laws.proofs.Left.{IsNext, IsLeft, Leaves, marked_synced, none_some, same_some, twice_hosted}
+use Rattle.running_laws.proofs.Happened.{all_silent, askers_left, gone_askers, set_world, silent_left, silently, site_here}
+
+module _ (before : List Event) (e : Event) (a c : Trio Site) (w : DiskScene) (x : WorldValue)
+    (k : IsNext before e a c w x) where
+  abbrev f : Follows before a w x
+  f = k.follows
+
+  abbrev h : HappensKnown e a c
+  h = k.happens
+
+  abbrev in_time : IsInTime before e
+  in_time = k.in_time
+
+  abbrev set : WorldValue
+  set = set_world before e a c w x k
+
+  abbrev es : List Event
+  es = before ++ e ∷ []
+
+  abbrev here : Site
+  here = value_of a e.place
+
+  abbrev there : Site
+  there = value_of c e.place
+
+  boot_at : (delta : ℕ) (b : Site) → WholeBoot e.place e.now delta here b
+      → LastsLong (Boots delta) here → IsBootAt (value_of x.hosts e.place) e.place e.now delta b
+  boot_at delta b boot long = ⊎_elim
+      (λ (s : IsSite (value_of x.hosts e.place) here). boot_there _ e.place e.now delta here b s
+      boot)
+      (λ (k : IsNew e.place (value_of x.hosts e.place) here). first_boot _ e.place e.now delta here
+      b k boot (long k.new))
+      (f.sites_are e.place)
+
+  booted_happens : (v : DiskScene) → IsAt es v set → (delta : ℕ) → IsDelta delta
+      → IsBootAt (value_of x.hosts e.place) e.place e.now delta there
+      → ((n : NodeValue) → there.node ≡ Some n → n.peers ≡ []) → e.outs ≡ None
+      → Leaves before e c v set
+  booted_happens v at delta length boot alone silent =
+      let longer = delta_after set.delta delta in
+      let ready = record set { delta = longer } in
+      let t : IsBooting ready e.place e.now delta there = record {
+        me = (f.stands.servers e.place).me;
+        clock = reads_now before e x.clocks f.clocks in_time;
+        length = delta_is set.delta delta length;
+        boot = boot;
+        has_store = h.has_store;
+      } in
+      let y = world_booted ready e.place e.now delta there t in
+      let led : LedTo es v y [] = led_on es v ready y [] [] (delta_led es v set delta at)
+      (λ u there_at. boot_led ready e.place e.now delta there t es u there_at) in
+      let host_is = ap (λ (k : HostValue). k.node) (value_there x.hosts e.place
+      (host_booted ready e.place e.now delta there t)) in
+      silently before e a c w x k v y led
+      (silent_left before e a c w x k (host_booted ready e.place e.now delta there t) longer
+      (inl (record {
+        node = sym boot.is;
+        disk = h.has_store.holds;
+        served = λ n is. subst IsServer (same_some boot.node n (sym boot.is ∙ is))
+            boot.boots.served;
+        synced = λ none. absurd (none_some boot.node (sym none ∙ boot.is));
+      })) silent
+      (λ n is. none_waits es led.scene y led.there e.place n (host_is ∙ sym boot.is ∙ is)
+      (alone n is)))
+      refl silent
+
+  pub boot_happens : (v : DiskScene) → IsAt es v set → (delta : ℕ)
+      → WholeBoot e.place e.now delta here there → LastsLong (Boots delta) here → e.outs ≡ None
+      → Leaves before e c v set
+  boot_happens v at delta boot long silent =
+      booted_happens v at delta boot.length (boot_at delta there boot long)
+      (λ n is. subst (λ (k : NodeValue). k.peers ≡ [])
+      (same_some boot.node n (sym boot.is ∙ is)) boot.boot.peers) silent
+
+  pub end_happens : (v : DiskScene) → IsAt es v set → EndBetween here there → e.outs ≡ None
+      → Leaves before e c v set
+  end_happens v at ending silent =
+      let t : IsEnding set e.place here there = record {
+        site = site_here before e a c w x k ending.old ending.was;
+        me = (f.stands.servers e.place).me;
+        ending = ending;
+        has_store = h.has_store;
+      } in
+      let y = world_fallen set e.place here there t in
+      silently before e a c w x k v y (end_led set e.place here there t es v at)
+      (silent_left before e a c w x k (host_fallen set e.place here there t) set.delta
+      (inl (record {
+        node = sym ending.gone;
+        disk = h.has_store.holds;
+        served = λ n is. absurd (none_some n (sym ending.gone ∙ is));
+        synced = λ none. ending.left.synced;
+      })) silent (gone_askers before e a c w x k ending.gone)) refl silent
+
+  -- ---- boots that are cut
+
+  none_here : IsPlace e.place (value_of x.hosts e.place) here → here.node ≡ None
+      → IsSynced here.disk.now
+  none_here (inl s) none = s.synced none
+  none_here (inr k) none = subst IsSynced (sym k.new.empty) refl
+
+  place_still : IsPlace e.place (value_of x.hosts e.place) here → here.node ≡ None
+      → there.node ≡ None → there.disk.now ≡ here.disk.now
+      → IsPlace e.place (value_of x.hosts e.place) there
+  place_still (inl s) none gone same = inl (record {
+    node = s.node ∙ none ∙ sym gone;
+    disk = s.disk ∙ sym same;
+    served = λ n is. absurd (none_some n (sym gone ∙ is));
+    synced = λ _. subst IsSynced (sym same) (s.synced none);
+  })
+  place_still (inr k) none gone same = inr (record {
+    new = record { gone = gone; empty = same ∙ k.new.empty };
+    node = k.node;
+    disk = k.disk;
+  })
+
+  -- before its write: nothing changed
+  unwritten_boot : (v : DiskScene) → IsAt es v set → here.node ≡ None → there.node ≡ None
+      → there.disk.now ≡ here.disk.now → e.outs ≡ None → Leaves before e c v set
+  unwritten_boot v at none gone same silent =
+      let all = all_silent before e a c w x k silent in
+      silently before e a c w x k v set (led_nowhere es v set at) (record {
+        sites_are = subst (λ (z : Trio Site). (place : ServerId)
+            → IsPlace place (value_of x.hosts place) (value_of z place)) (sym h.happens.is)
+            (each_value (λ (p : ServerId) (s : Site). IsPlace p (value_of x.hosts p) s) a e.place
+            there (λ p other. f.sites_are p)
+            (place_still (f.sites_are e.place) none gone same));
+        no_stop = f.no_stop;
+        posted = λ d has. f.posted d (subst (λ ds. Contains ds d) all has);
+        clocks = refl;
+        askers = askers_left before e a c w x k (gone_askers before e a c w x k gone);
+      }) refl silent
+
+  -- behind it: a boot, and a crash
+  written_boot : (v : DiskScene) → IsAt es v set → (delta : ℕ) (b : Site)
+      → WholeBoot e.place e.now delta here b → EndBetween b there
+      → there.disk.now ≡ b.disk.now → LastsLong (Boots delta) here → e.outs ≡ None
+      → Leaves before e c v set
+  written_boot v at delta b boot end same long silent =
+      let longer = delta_after set.delta delta in
+      let ready = record set { delta = longer } in
+      let has : HasStore b = record {
+        store = h.has_store.store;
+        holds = h.has_store.holds ∙ same;
+      } in
+      let t : IsBooting ready e.place e.now delta b = record {
+        me = (f.stands.servers e.place).me;
+        clock = reads_now before e x.clocks f.clocks in_time;
+        length = delta_is set.delta delta boot.length;
+        boot = boot_at delta b boot long;
+        has_store = has;
+      } in
+      let host = host_booted ready e.place e.now delta b t in
+      let y = world_booted ready e.place e.now delta b t in
+      let there_is = value_there x.hosts e.place host in
+      let ending : IsEnding y e.place b there = record {
+        site = subst (λ (k : HostValue). IsSite k b) (sym there_is) (record {
+          node = sym t.boot.is;
+          disk = has.holds;
+          served = λ n is. subst IsServer (same_some t.boot.node n (sym t.boot.is ∙ is))
+              t.boot.boots.served;
+          synced = λ none. absurd (none_some t.boot.node (sym none ∙ t.boot.is));
+        });
+        me = ap (λ (k : HostValue). k.me) there_is;
+        ending = end;
+        has_store = h.has_store;
+      } in
+      let fell = host_fallen y e.place b there ending in
+      let z = world_fallen y e.place b there ending in
+      silently before e a c w x k v z
+      (led_on es v ready z [] [] (delta_led es v set delta at)
+      (λ u ready_at. led_on es u y z [] []
+      (boot_led ready e.place e.now delta b t es u ready_at)
+      (λ k booted_at. end_led y e.place b there ending es k booted_at)))
+      (subst (IsLeft before e c set) (sym (twice_hosted ready e.place host fell))
+      (silent_left before e a c w x k fell longer (inl (record {
+        node = sym end.gone;
+        disk = h.has_store.holds;
+        served = λ n is. absurd (none_some n (sym end.gone ∙ is));
+        synced = λ none. end.left.synced;
+      })) silent (gone_askers before e a c w x k end.gone))) refl silent
+
+  pub cut_boot : (v : DiskScene) → IsAt es v set → (delta : ℕ)
+      → (p : PartOfBoot e.place delta here there)
+      → (p.amid ≡ here.disk) ⊎ (Some p.amid ≡ after_boot e.place delta (Some here.disk))
+      → HasNode e.place e.now delta here → LastsLong (Boots delta) here → e.outs ≡ None
+      → Leaves before e c v set
+  cut_boot v at delta p (inl old) node long silent =
+      let left = subst (λ (m : Moments). IsLeftOf m.now there.disk.now) old p.left in
+      unwritten_boot v at p.none p.still
+      (left_of_synced here.disk.now there.disk.now (none_here (f.sites_are e.place) p.none) left)
+      silent
+  cut_boot v at delta p (inr written) node long silent =
+      let made = node p.amid written in
+      let b : Site = record { node = Some made.0; disk = p.amid } in
+      let synced : IsSynced p.amid.now = marked_synced e.place delta here.disk p.amid
+      (has_boot_mark delta here.disk.now.mark) written
+      ∙ none_here (f.sites_are e.place) p.none in
+      written_boot v at delta b
+      (record { none = p.none; length = p.length; node = made.0; is = refl; boot = made.1 })
+      (record { old = made.0; was = refl; gone = p.still; left = p.left })
+      (left_of_synced p.amid.now there.disk.now synced p.left) long silent
