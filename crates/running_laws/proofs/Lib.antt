@@ -28,3 +28,10 @@ mod Resting
 mod Happening
 pub mod Following
 pub mod First
+mod Told
+mod Parts
+mod Given
+mod Living
+mod Gone
+mod GoneTurns
+pub mod Called

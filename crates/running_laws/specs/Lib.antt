@@ -4,3 +4,4 @@ pub mod Histories
 pub mod Books
 pub mod Statement
 pub mod Follows
+pub mod Parts

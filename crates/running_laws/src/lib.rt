@@ -20,8 +20,12 @@
 //!   boot, so from new disks on a history is a run of the group (`runs`): its steps end in these
 //!   servers and disks, its book is the history's (`HasBook`), and all that `disk_laws` says of a
 //!   run holds.
+//! - `lives`: what the servers of one call do, from their boots on, are events of a history at their
+//!   places (`lives`): from the disks before, where they tell, to those after; with what the link
+//!   told that they took and sent, at readings that the clock told. Where the call was cut off, its
+//!   last event is one amid which the process is gone, or of which a front was sent.
 //!
-//! What isn't proved yet is a premise of both, each with a name: a place's disk is that of
+//! What isn't proved yet is a premise of the first two, each with a name: a place's disk is that of
 //! a store in memory (`HasStore`), a boot of a new disk makes promises at least as long as the first
 //! ones of a run (`LastsLong`), a boot that is cut behind its write was about to make a node
 //! (`HasNode`), and a step that is cut wrote no other mark (`KeepsMark`), or is an apply that leaves
@@ -29,6 +33,7 @@
 #![tactic(auto)]
 
 ghost use Rattle.running_laws.specs.Follows.{EventsFollow, HistoriesAreRuns};
+ghost use Rattle.running_laws.specs.Parts.{LivesArePartsOfHistories};
 
 /// From a scene that follows a history of servers that run, the run goes on as they do.
 pub fn events_follow()
@@ -38,4 +43,9 @@ pub fn events_follow()
 /// From new disks on, each history of which this is known is a run of the group.
 pub fn histories_are_runs()
     ensures runs { HistoriesAreRuns }
+{}
+
+/// What the servers of one call do is their part of a history.
+pub fn lives()
+    ensures lives { LivesArePartsOfHistories }
 {}
