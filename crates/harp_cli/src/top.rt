@@ -25,6 +25,8 @@ ghost use Rattle.observe_laws.specs.Reading.{observed_reading};
 ghost use Rattle.observed_text.specs.Grammar.{ExplainsObserved};
 ghost use Rattle.observed_text.specs.Reading.{observed_meaning};
 ghost use Rattle.node_loop.specs.Scene.{OneRose, all_places, around, each, only, start};
+ghost use Rattle.running_laws.specs.Follows.{HistoriesAreRuns};
+ghost use Rattle.running_laws.specs.Parts.{LivesArePartsOfHistories};
 ghost use Rattle.schedule_text.specs.Grammar.{Explains};
 ghost use Rattle.schedule_text.specs.Reading.{meaning_of};
 ghost use Rattle.sweep.specs.Lines.{generated};
@@ -68,6 +70,7 @@ use harp_store::Store;
 use harp_types::{Cred, Sink, Source, Trio};
 use node_link::{Clock, Link};
 use play_commands::{door_play, observe, observed_texts, play};
+use running_laws::{histories_are_runs, lives};
 use schedule_play::every_text;
 use std::alloc::Global;
 use std::thread::Threads;
@@ -260,6 +263,10 @@ pub fn harp<R: Threads + Sync, S: Source, K: Sink, L: Link, D: Store, C: Clock>(
     // the tree after the updates that it tells, which are entered before and never get fewer.
     ensures observe_meaning { (line : List ℕ) → ExplainsObserved line (observed_meaning line) }
     ensures observed { (text : List ℕ) → IsObservedRightly sizes text }
+    // What histories of servers that run as processes are, over a network and disks that fail: runs
+    // of the group, each with one book; and what the servers of one call do is a part of one.
+    ensures running { HistoriesAreRuns }
+    ensures lives { LivesArePartsOfHistories }
 {
     every_text();
     traced_texts();
@@ -269,6 +276,8 @@ pub fn harp<R: Threads + Sync, S: Source, K: Sink, L: Link, D: Store, C: Clock>(
     accepted_texts();
     audit_laws();
     swept_texts();
+    histories_are_runs();
+    lives();
     match command_of(words) {
         Some(Command::Play) => play(alloc, world, source, sink).status(),
         Some(Command::Observe) => observe(alloc, world, source, sink).status(),
