@@ -6,6 +6,7 @@ ghost use Rattle.node_loop.specs.Chain.{Chain, Stops};
 ghost use Rattle.node_loop.specs.Cut.{IsGivenInPart, SendsInPart, work_left};
 ghost use Rattle.node_loop.specs.Run.{IsGiven};
 ghost use Rattle.node_loop.specs.Scene.{IsUp, sent_after, with_all_sent, work};
+ghost use Rattle.tree_log.specs.Storing.{CountsFaults};
 
 use crate::counts::Counts;
 use crate::fault::{LoopFault, of_link};
@@ -70,12 +71,10 @@ pub fn give<L: Link, D: Store>(
         (work_left (D.told store.new) (L.told link.new))) }
     ensures up { OnOk result (IsUp node.new (D.told store.new)) }
     ensures taken { ledger.new.counts.taken ≡ ledger.old.counts.taken }
-    ensures link_rose { result ≡ Err LoopFault.LinkFailed
-        → Rose (L.faults link.old) (L.faults link.new) }
-    ensures link_count { L.faults link.old ≤ L.faults link.new }
-    ensures disk_rose { result ≡ Err LoopFault.StoreFailed
-        → Rose (D.faults store.old) (D.faults store.new) }
-    ensures disk_count { D.faults store.old ≤ D.faults store.new }
+    ensures link { CountsFaults (result ≡ Err LoopFault.LinkFailed) (L.faults link.old)
+        (L.faults link.new) }
+    ensures disk { CountsFaults (result ≡ Err LoopFault.StoreFailed) (D.faults store.old)
+        (D.faults store.new) }
 {
     let mut outs = Outputs::new(alloc);
     match node.step_into(alloc, input, now, store, &mut outs) {
@@ -111,12 +110,10 @@ pub fn give_all<L: Link, D: Store>(
         (work_left (D.told store.new) (L.told link.new))) }
     ensures up { OnOk result (IsUp node.new (D.told store.new)) }
     ensures taken { ledger.new.counts.taken ≡ ledger.old.counts.taken }
-    ensures link_rose { result ≡ Err LoopFault.LinkFailed
-        → Rose (L.faults link.old) (L.faults link.new) }
-    ensures link_count { L.faults link.old ≤ L.faults link.new }
-    ensures disk_rose { result ≡ Err LoopFault.StoreFailed
-        → Rose (D.faults store.old) (D.faults store.new) }
-    ensures disk_count { D.faults store.old ≤ D.faults store.new }
+    ensures link { CountsFaults (result ≡ Err LoopFault.LinkFailed) (L.faults link.old)
+        (L.faults link.new) }
+    ensures disk { CountsFaults (result ≡ Err LoopFault.StoreFailed) (D.faults store.old)
+        (D.faults store.new) }
 {
     for input in inputs {
         match give(alloc, me, now, input, node, link, store, ledger) {

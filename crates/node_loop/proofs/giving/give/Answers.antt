@@ -66,3 +66,17 @@ returns-in_err-datagrams-in-Ok-clause-part g c =
         sent = sent-none (g.L.Link.told c.args.link.now);
       };
     }))
+
+-- ---- what failed
+
+pub returns-in-Ok-clause-link : goal.returns-in-Ok-clause-link
+returns-in-Ok-clause-link g c = record {
+  rose = c.send_all.ensures.rose;
+  count = c.send_all.ensures.count;
+}
+
+pub returns-in-Ok-clause-disk : goal.returns-in-Ok-clause-disk
+returns-in-Ok-clause-disk g c = record {
+  rose = λ is. absurd (c.send_all.ensures.disk is);
+  count = c.step_into.ensures.faults.count;
+}

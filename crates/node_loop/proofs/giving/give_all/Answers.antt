@@ -21,8 +21,8 @@ loop-input-preserved g c = record {
       c.loop-input.invariant.given c.in-Ok.ensures.given;
   up = c.in-Ok.ensures.up;
   taken = c.in-Ok.ensures.taken ∙ c.loop-input.invariant.taken;
-  link_count = omega (arith, c.loop-input.invariant.link_count, c.in-Ok.ensures.link_count);
-  disk_count = omega (arith, c.loop-input.invariant.disk_count, c.in-Ok.ensures.disk_count);
+  link_count = omega (arith, c.loop-input.invariant.link_count, c.in-Ok.ensures.link.count);
+  disk_count = omega (arith, c.loop-input.invariant.disk_count, c.in-Ok.ensures.disk.count);
 }
 
 pub returns-in-Err-clause-part : goal.returns-in-Err-clause-part
@@ -46,3 +46,29 @@ returns-in-Err-clause-part g c =
     (stops-behind (IsGiven c.args.me c.args.now) (IsGivenInPart c.args.me c.args.now) so_far
     (c.in-Some.input ∷ drop (suc (length so_far)) all) start here left
     c.loop-input.invariant.given (inl c.in-Err.ensures.part))
+
+-- ---- what failed
+
+pub returns-in-Err-clause-link : goal.returns-in-Err-clause-link
+returns-in-Err-clause-link g c = record {
+  rose = λ is. omega (arith, c.loop-input.invariant.link_count, c.in-Err.ensures.link.rose is);
+  count = omega (arith, c.loop-input.invariant.link_count, c.in-Err.ensures.link.count);
+}
+
+pub returns-in-Err-clause-disk : goal.returns-in-Err-clause-disk
+returns-in-Err-clause-disk g c = record {
+  rose = λ is. omega (arith, c.loop-input.invariant.disk_count, c.in-Err.ensures.disk.rose is);
+  count = omega (arith, c.loop-input.invariant.disk_count, c.in-Err.ensures.disk.count);
+}
+
+pub returns-clause-link : goal.returns-clause-link
+returns-clause-link g c = record {
+  rose = λ is. cc;
+  count = c.loop-input.invariant.link_count;
+}
+
+pub returns-clause-disk : goal.returns-clause-disk
+returns-clause-disk g c = record {
+  rose = λ is. cc;
+  count = c.loop-input.invariant.disk_count;
+}

@@ -17,3 +17,15 @@ returns-clause-part g c = on_err-one c.give.result (λ part. inr (record {
   clock = c.now-now.ensures.told;
   given = part;
 })) c.give.ensures.part
+
+pub returns-clause-link_rose : goal.returns-clause-link_rose
+returns-clause-link_rose g c = c.give.ensures.link.rose
+
+pub returns-clause-link_count : goal.returns-clause-link_count
+returns-clause-link_count g c = c.give.ensures.link.count
+
+pub returns-clause-disk_rose : goal.returns-clause-disk_rose
+returns-clause-disk_rose g c = c.give.ensures.disk.rose
+
+pub returns-clause-disk_count : goal.returns-clause-disk_count
+returns-clause-disk_count g c = c.give.ensures.disk.count

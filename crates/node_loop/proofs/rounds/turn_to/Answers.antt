@@ -1,4 +1,4 @@
-use Rattle.std.proofs.Common.{◌∙◌, ap, inl, inr, refl, subst}
+use Rattle.std.proofs.Common.{◌∙◌, ap, arith, inl, inr, refl, subst}
 use Rattle.node_loop.specs.declared.counts.Counts.{Counts}
 use Rattle.node_loop.specs.Chain.{Chain, Stops}
 use Rattle.node_loop.specs.Cut.{IsGivenInPart, work_left}
@@ -75,3 +75,25 @@ returns-clause-part g c =
           (work_left (g.D.Store.told c.give_all.new.store) (g.L.Link.told c.give_all.new.link)))
           (ap (λ (n : Counts). n.sent) c.take.ensures) c.in-Err.ensures.part;
     })
+
+pub returns-in-Ok-clause-link_count : goal.returns-in-Ok-clause-link_count
+returns-in-Ok-clause-link_count g c =
+    omega (arith, c.take_turn.ensures.count, c.give_all.ensures.link.count)
+
+pub returns-in-Ok-clause-disk_count : goal.returns-in-Ok-clause-disk_count
+returns-in-Ok-clause-disk_count g c = c.give_all.ensures.disk.count
+
+pub returns-clause-link_rose : goal.returns-clause-link_rose
+returns-clause-link_rose g c = λ is.
+    let risen = c.in-Err.ensures.link.rose cc in
+    omega (arith, c.take_turn.ensures.count, risen)
+
+pub returns-clause-link_count : goal.returns-clause-link_count
+returns-clause-link_count g c =
+    omega (arith, c.take_turn.ensures.count, c.give_all.ensures.link.count)
+
+pub returns-clause-disk_rose : goal.returns-clause-disk_rose
+returns-clause-disk_rose g c = λ is. c.in-Err.ensures.disk.rose cc
+
+pub returns-clause-disk_count : goal.returns-clause-disk_count
+returns-clause-disk_count g c = c.give_all.ensures.disk.count
