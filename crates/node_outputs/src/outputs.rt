@@ -100,6 +100,20 @@ impl Outputs {
         }
     }
 
+    /// No outputs any more. The room that the lists took stays theirs.
+    pub fn clear(&mut self)
+        ensures said { said self.new ≡ nothing }
+        ensures records { records_sent self.new ≡ [] }
+    {
+        self.committed.clear();
+        self.answers.clear();
+        self.refusals.clear();
+        self.sends.clear();
+        self.opened = None;
+        self.chosen = None;
+        self.listing = None;
+    }
+
     /// A message is sent.
     #[inline(always)]
     pub fn send(&mut self, to: ServerId, message: Message) -> Result<(), AllocError>

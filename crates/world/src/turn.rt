@@ -71,7 +71,7 @@ impl World {
         match self.outs.take() {
             Some(kept) => {
                 let mut outs = kept;
-                clear(&mut *outs);
+                outs.clear();
                 Ok(outs)
             }
             None => Ok(Box::new(alloc, Outputs::new(alloc))?),
@@ -104,17 +104,4 @@ impl World {
         let (book, packets) = (&mut self.book, &mut self.packets);
         give(alloc, server, outs, book, packets, lines)
     }
-}
-
-/// No outputs any more. The room that their lists took stays theirs.
-fn clear(outs: &mut Outputs)
-    ensures { said outs.new ≡ nothing }
-{
-    outs.committed.clear();
-    outs.answers.clear();
-    outs.refusals.clear();
-    outs.sends.clear();
-    outs.opened = None;
-    outs.chosen = None;
-    outs.listing = None;
 }
