@@ -11,7 +11,7 @@ use std::alloc::{AllocError, Global};
 type Name = Bounded<LONGEST_ARGUMENT>;
 
 /// The calls of one entry of a directory.
-#[derive(Clone, Copy, PartialEq, Eq)]
+#[derive(Clone, Copy)]
 pub enum EntryCall {
     Create,
     MkDir,
@@ -20,7 +20,7 @@ pub enum EntryCall {
 }
 
 /// The calls of which one is drawn.
-#[derive(Clone, Copy, PartialEq, Eq)]
+#[derive(Clone, Copy)]
 pub enum CallKind {
     OfEntry(EntryCall),
     Write,

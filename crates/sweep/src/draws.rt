@@ -4,7 +4,7 @@ ghost use Rattle.std.specs.Prelude.{◌≡◌, ◌<◌};
 ghost use Rattle.sweep.specs.Draws.{below};
 
 /// The numbers of a linear congruential generator: each seed has its own, and always the same.
-#[derive(Clone, Copy, PartialEq, Eq)]
+#[derive(Clone, Copy)]
 pub struct Draws {
     state: u64,
 }

@@ -13,7 +13,7 @@ use std::alloc::{AllocError, Global};
 use trace_types::{Bits, Pick, Step};
 
 /// Where the draws are, and what the lines so far came to.
-#[derive(Clone, Copy, PartialEq, Eq)]
+#[derive(Clone, Copy)]
 pub struct Generator {
     draws: Draws,
     /// Which servers are up.

@@ -4,7 +4,7 @@ ghost use Rattle.std.specs.Prelude.{◌≡◌};
 ghost use Rattle.sweep.specs.Lines.{line_kind};
 
 /// The kinds of lines for one server.
-#[derive(Clone, Copy, PartialEq, Eq)]
+#[derive(Clone, Copy)]
 pub enum ServerLine {
     /// The server crashes, or its power fails.
     Fail,
@@ -15,7 +15,7 @@ pub enum ServerLine {
 }
 
 /// The kinds of lines. A kind is drawn as often as numbers below 16 stand for it.
-#[derive(Clone, Copy, PartialEq, Eq)]
+#[derive(Clone, Copy)]
 pub enum LineKind {
     Ask,
     /// A line for any of the servers.

@@ -14,7 +14,7 @@ use std::alloc::{AllocError, Global};
 use text_writer::{put_named, put_number};
 
 /// The counts of a run.
-#[derive(Clone, Copy, PartialEq, Eq)]
+#[derive(Clone, Copy)]
 pub enum Count {
     Entered,
     Answered,
