@@ -20,7 +20,8 @@ use replica::{Leader, Partner};
 use volatile_log::ActiveLog;
 
 impl Node {
-    /// The server's state line. A lost server shows its LB for each number, one without a log 0.
+    /// The server's state line. A lost server shows its LB for each number, one without a log 0. It
+    /// goes into its callers, which compare a few of its numbers: so no line is moved.
     #[inline(always)]
     pub fn state_line(&self) -> StateLine
         requires { self.now.halted ≡ false }

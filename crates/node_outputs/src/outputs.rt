@@ -114,7 +114,8 @@ impl Outputs {
         self.listing = None;
     }
 
-    /// A message is sent.
+    /// A message is sent. It goes into its callers, since a message is large, and handing it on
+    /// moves it.
     #[inline(always)]
     pub fn send(&mut self, to: ServerId, message: Message) -> Result<(), AllocError>
         ensures said { OnOk result (said self.new ≡ record (said self.old) {
@@ -154,7 +155,7 @@ impl Outputs {
         Ok(())
     }
 
-    /// An ask is answered.
+    /// An ask is answered. It goes into its callers, as `send`.
     #[inline(always)]
     pub fn answer(&mut self, answer: Answered) -> Result<(), AllocError>
         ensures said { OnOk result (said self.new ≡ record (said self.old) {
@@ -166,7 +167,7 @@ impl Outputs {
         Ok(())
     }
 
-    /// An update is committed.
+    /// An update is committed. It goes into its callers, as `send`.
     #[inline(always)]
     pub fn commit(&mut self, entry: BookEntry) -> Result<(), AllocError>
         ensures said { OnOk result (said self.new ≡ record (said self.old) {

@@ -46,7 +46,8 @@ impl World {
     }
 
     /// A step of a server's host by its clock. Its outputs come where none are yet, and the result
-    /// tells whether it gave them.
+    /// tells whether it gave them. It goes into its caller, since an input is large, and handing it
+    /// on moves it.
     #[inline(always)]
     pub(crate) fn step_host(
         &mut self,

@@ -10,7 +10,8 @@ use std::alloc::{AllocError, Global};
 use trace_types::{Line, Step};
 
 impl World {
-    /// Takes a step that isn't refused.
+    /// Takes a step that isn't refused. It goes into its caller, since a step is large, and handing
+    /// it on moves it.
     #[inline(always)]
     pub(crate) fn take(
         &mut self,

@@ -84,7 +84,8 @@ impl Stage for World {
     ghost stands = { λ x w. IsWorld w x };
 
     /// Takes a step, and gives its lines behind its event line. A step that is refused changes
-    /// nothing. After want of memory the world may be anything.
+    /// nothing. After want of memory the world may be anything. It goes into its callers, since a
+    /// step is large, and handing it on moves it.
     #[inline(always)]
     fn step(&mut self, alloc: Global, step: Step, lines: &mut Vec<Line>) -> Result<(), Refusal> {
         if let Some(refusal) = self.refusal(alloc, &step) {

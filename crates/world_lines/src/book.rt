@@ -181,7 +181,8 @@ impl Book {
         }
     }
 
-    /// Enters a call, with its line, which has an equal one.
+    /// Enters a call, with its line, which has an equal one. It goes into its callers, since a call
+    /// is large, and handing it on moves it.
     #[inline(always)]
     fn enter(
         &mut self,

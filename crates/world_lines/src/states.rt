@@ -12,7 +12,8 @@ use std::alloc::{AllocError, Global};
 use trace_types::Line;
 use tree_listing::Listing;
 
-/// The line of a server's state, where it isn't the one before. A server that is down has none.
+/// The line of a server's state, where it isn't the one before. A server that is down has none. It
+/// goes into its callers: most steps change no state, and then nothing is moved.
 #[tactic(auto, unfolding(group_rules::specs::Shown::same_state))]
 #[inline(always)]
 pub fn show_state(
