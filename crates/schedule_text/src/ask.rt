@@ -69,8 +69,8 @@ fn untold_call_at(alloc: Global, line: &[u8], at: usize) -> Result<((Cred, Call)
     Ok(((SUPERUSER, call), at))
 }
 
-/// A call and the credential that is told before it, or the superuser's own. A call is large, and
-/// each call of a function that gives it moves it.
+/// A call and the credential that is told before it, or the superuser's own. It goes into its
+/// callers, since a call is large, and each call of a function that gives it moves it.
 #[tactic(auto, unfolding(crate::specs::Reading::asked_at))]
 #[inline(always)]
 pub fn asked_at(alloc: Global, line: &[u8], at: usize) -> Result<((Cred, Call), usize), TextFault>
@@ -84,7 +84,7 @@ pub fn asked_at(alloc: Global, line: &[u8], at: usize) -> Result<((Cred, Call), 
     }
 }
 
-/// An ask behind its name.
+/// An ask behind its name. It goes into its caller, as `asked_at`.
 #[tactic(auto, unfolding(crate::specs::Reading::form_at))]
 #[inline(always)]
 pub fn ask_at(alloc: Global, line: &[u8], at: usize) -> Result<(Step, usize), TextFault>

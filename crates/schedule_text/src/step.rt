@@ -226,8 +226,8 @@ fn boot_at(line: &[u8], at: usize) -> Result<(Step, usize), TextFault>
     Ok((Step::Boot { server }, at))
 }
 
-/// A step of a form, behind its name. A step is large, and each call of a function that gives it
-/// moves it.
+/// A step of a form, behind its name. It goes into its caller, since a step is large, and each call
+/// of a function that gives it moves it.
 #[tactic(auto, unfolding(crate::specs::Reading::form_at))]
 #[inline(always)]
 pub fn form_at(

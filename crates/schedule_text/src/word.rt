@@ -13,7 +13,7 @@ use harp_types::Bytes;
 use std::alloc::Global;
 
 /// Whether a word is this name. Names are short and known, so that going byte by byte asks for a
-/// few bytes of the word alone.
+/// few bytes of the word alone, where it goes into its callers.
 #[inline(always)]
 pub fn is_name(word: &[u8], name: &[u8]) -> bool
     ensures { result ≡ bytes_eq word.now name.now }
