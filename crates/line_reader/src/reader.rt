@@ -81,7 +81,9 @@ impl Model for LineReader {
     ghost invariant = { λ r. (length r.line.items ≤ 20001) × AllByRecursion (λ b. (b == 10) ≡ false) r.line.items };
 }
 
-/// Takes the bytes at hand before the next line feed to a line, as far as it has room.
+/// Takes the bytes at hand before the next line feed to a line, as far as it has room. It goes into
+/// its caller: a line is short, and a call for each piece costs as much as the piece.
+#[inline(always)]
 fn take_plain(line: &mut Vec<u8>, chunk: &mut Chunk) -> Result<(), AllocError>
     requires { length line.old.items ≤ longest_line }
     ensures whole { line.new.items ++ chunk.new ≡ line.old.items ++ chunk.old }
@@ -120,7 +122,7 @@ impl LineReader {
     }
 
     /// The next line of the text that is left. After a fault the text left is as before. When the source fails, each
-    /// line was given that came whole.
+    /// line was given that came whole. It goes into its callers, since what it gives is large.
     #[inline(always)]
     pub fn next<S: Source>(&mut self, alloc: Global, source: &mut S) -> Result<Next, ReadFault>
         ensures ok { IfOk result (λ next. GivesKnown (text_left self.old (S.left source.old)) (text_left self.new (S.left source.new)) next) }

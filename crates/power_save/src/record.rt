@@ -97,6 +97,7 @@ fn with_bytes(alloc: Global, bytes: &[u8], record: &Record) -> Result<Record, Al
 
 /// The record that these bytes are, where it may have been seen before. One with few bytes keeps
 /// them; one with more does so only if it was seen, so that a log doesn't take twice the room.
+#[inline(always)]
 fn seen_record(
     alloc: Global,
     bytes: &[u8],
@@ -124,7 +125,8 @@ fn seen_record(
 }
 
 /// The record that a cell has, None where it has none. It is that of the index, if it was seen
-/// before.
+/// before. As the two beside it, it goes into its callers: a record is handed on by each, and each
+/// call that gives it moves it.
 #[inline(always)]
 fn record_in(
     alloc: Global,

@@ -14,7 +14,8 @@ use crate::step::form_at;
 use std::alloc::Global;
 use trace_types::Step;
 
-/// A step from a place on, and the end. It is moved by each call of a function that gives it.
+/// A step from a place on, and the end. It goes into its callers, since a step is large, and each
+/// call of a function that gives it moves it.
 #[tactic(auto, unfolding(crate::specs::Reading::step_at))]
 #[inline(always)]
 pub fn step_at(alloc: Global, line: &[u8], at: usize) -> Result<Step, TextFault>
@@ -36,8 +37,9 @@ fn is_blank(line: &[u8]) -> bool
     line.is_empty() || peek(line, 0) == b'#'
 }
 
-/// What a line means, but for what memory refuses.
+/// What a line means, but for what memory refuses. It goes into its caller, as `step_at`.
 #[tactic(auto, unfolding(crate::specs::Reading::meaning_of))]
+#[inline(always)]
 fn meaning_of(alloc: Global, line: &[u8]) -> Result<Option<Step>, TextFault>
     ensures { Gives (λ x. x) result (meaning_of line.now) }
 {
@@ -50,7 +52,8 @@ fn meaning_of(alloc: Global, line: &[u8]) -> Result<Option<Step>, TextFault>
 
 /// The step of a line of a schedule, without its line end. None is an empty line or a comment.
 ///
-/// Every other line that is no step is Grammar, with the first place at which no step goes on.
+/// Every other line that is no step is Grammar, with the first place at which no step goes on. It
+/// goes into its callers, as `step_at`.
 #[inline(always)]
 pub fn read_step(alloc: Global, line: &[u8]) -> Result<Option<Step>, TextFault>
     // A line means one thing, and that is answered unless memory runs out.

@@ -26,7 +26,8 @@ use wire::{DecodeFault, decode};
 const NET_LIMIT: u64 = 532_676_608;
 
 impl World {
-    /// Why a step isn't taken.
+    /// Why a step isn't taken. It goes into its caller, since there the step's kind is known.
+    #[inline(always)]
     pub(crate) fn refusal(&self, alloc: Global, step: &Step) -> Option<Refusal>
         requires elementary { is_elementary step.now ≡ true }
         requires readings { AreReadings (clocks_after (clocks_in self.now) step.now) }
