@@ -1,6 +1,6 @@
 //! Records that were read before.
 
-ghost use Rattle.std.specs.Prelude.{◌≡◌, true, IfOk, IfSome};
+ghost use Rattle.std.specs.Prelude.{◌≡◌, [], true, IfOk, IfSome};
 ghost use Rattle.event_record.specs.Bytes.{RecordFits, record_bytes};
 
 use event_record::Record;
@@ -50,7 +50,9 @@ pub struct SeenRecords {
 
 impl SeenRecords {
     /// No record is kept in mind.
-    pub fn new(alloc: Global) -> SeenRecords {
+    pub fn new(alloc: Global) -> SeenRecords
+        ensures { result.places.items ≡ [] }
+    {
         SeenRecords {
             places: Vec::new(alloc),
         }

@@ -6,3 +6,4 @@ pub mod Journal
 pub mod Sync
 pub mod Store
 pub mod Names
+pub mod Trouble

@@ -164,8 +164,11 @@ pub struct SystemFiles<R> {
 }
 
 impl<R> SystemFiles<R> {
-    /// The files that a runtime gives.
-    pub fn new(rt: R) -> SystemFiles<R> {
+    /// The files that a runtime gives. No folder is locked.
+    pub fn new(rt: R) -> SystemFiles<R>
+        ensures runtime { result.rt ≡ rt }
+        ensures locked { result.locked ≡ None }
+    {
         SystemFiles { rt, locked: None }
     }
 }
