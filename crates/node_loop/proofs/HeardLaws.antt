@@ -88,6 +88,7 @@ given_part place now input a left (inr h) hs = inr (record {
   node = h.node;
   outs = h.outs;
   step = h.step;
+  spelled = h.spelled;
   sends = h.sends;
 })
 

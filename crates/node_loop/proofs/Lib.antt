@@ -1,6 +1,7 @@
 mod ClockLaws
 mod Chains
 mod Fronts
+mod Lefts
 mod Results
 mod Scenes
 mod Stays

@@ -15,7 +15,7 @@ use Rattle.node_loop.specs.declared.habit.Habit.TheVariants.{Plain}
 use Rattle.node_loop.specs.declared.turned.Turned.{Turned}
 use Rattle.node_loop.specs.Chain.{Chain, Stops}
 use Rattle.node_loop.specs.Looks.{look_of}
-use Rattle.node_loop.specs.Outgoing.{datagrams}
+use Rattle.node_loop.specs.Outgoing.{AreSpelled, datagrams}
 use Rattle.node_loop.specs.Run.{Asked, BootsWith, IsGiven, TurnsAt, ask_of, rounds}
 use Rattle.node_loop.specs.Scene.{Around, AtWork, Scene, Spot, around, around_in, at_work, with_all_sent, with_spot}
 use Rattle.node_loop.specs.Step.{FailsBoot, FailsStep, IsStep}
@@ -59,12 +59,13 @@ pub record SendsInPart (all : List SentDatagram) (old new : Option Traffic) : Ty
   pub parts : all ≡ front ++ rest
   pub sent : new ≡ with_all_sent front old
 
--- or it is taken, and a front of what goes out is sent
+-- or it is taken, and a front of what goes out is sent; what goes to other servers has spellings
 pub record SendsAFront (place : ServerId) (now : ℕ) (input : Input) (a : AtWork)
     (left : WorkLeft) : Type 0 where
   pub node : NodeValue
   pub outs : Outputs
   pub step : IsStep input now a.node node a.disk left.disk outs
+  pub spelled : AreSpelled outs
   pub sends : SendsInPart (datagrams place outs) a.link left.link
 
 -- A NODE IS GIVEN AN INPUT IN PART. So nothing of a step is sent before its disk is written

@@ -268,7 +268,7 @@ module _ (places : List ServerId) (place : ServerId) (now : ℕ) (what : What) (
         outs = front.outs;
         puts = refl;
         there = at.has;
-        happens = λ spelled old sites.
+        happens = λ old sites.
             let site = at.site old sites in
             let told = subst (λ (d : Option Moments).
             IsStep given now y.node front.node d w.disk front.outs) site.disk front.step in
@@ -284,7 +284,7 @@ module _ (places : List ServerId) (place : ServerId) (now : ℕ) (what : What) (
               outs_are = refl;
               step = subst (λ (d : Option Moments). IsStep given now y.node front.node
                   (Some (value_of old place).disk) d front.outs) amid.1 told;
-              fit = spelled;
+              fit = front.spelled;
             } in (
               b,
               at.disk ∙ amid.1,

@@ -9,7 +9,6 @@ use Rattle.node_link.specs.declared.clock.Reading.{Reading}
 use Rattle.node_link.specs.declared.link.TakenDatagram.{TakenDatagram}
 use Rattle.node_loop.specs.Chain.{Chain}
 use Rattle.node_loop.specs.Cut.{IsCutOff, SendsInPart}
-use Rattle.node_loop.specs.Outgoing.{AreSpelled}
 use Rattle.node_loop.specs.Run.{IsRun}
 use Rattle.node_loop.specs.Scene.{Around, Scene, all_places, start}
 use Rattle.node_loop.specs.declared.counts.Served.{Served}
@@ -110,13 +109,13 @@ pub record IsGoneAmid (places : List ServerId) (a : Scene) (left : Around) : Typ
   pub others : left.disks ≡ with_value a.disks event.place (value_of left.disks event.place)
   pub link : LinkDid (silenced event ∷ []) a.link left.link
 
--- BEHIND AN EVENT of a place, of which a front was sent; what a step sends to others has a spelling
+-- BEHIND AN EVENT of a place, of which a front was sent
 pub record IsGoneBehind (places : List ServerId) (a : Scene) (left : Around) : Type 0 where
   pub event : Event
   pub outs : Outputs
   pub puts : event.outs ≡ Some outs
   pub there : Contains places event.place
-  pub happens : AreSpelled outs → (old : Trio Site) → AreSitesOf places a old
+  pub happens : (old : Trio Site) → AreSitesOf places a old
       → (b : Site) × (value_of left.disks event.place ≡ Some b.disk)
       × Happens event old (with_value old event.place b)
   pub others : left.disks ≡ with_value a.disks event.place (value_of left.disks event.place)
