@@ -12,7 +12,7 @@ use Rattle.harp_store.specs.Memory.{nothing_stored}
 use Rattle.harp_types.specs.Limits.{first_promise}
 use Rattle.harp_types.specs.declared.server.ServerId.{ServerId}
 use Rattle.harp_types.specs.declared.server.ServerId.TheVariants as server
-use Rattle.node.specs.Boot.{HasBase, HoldSaved, HoldWhole, boot_mark, booted_disk, has_boot_mark, mark_before}
+use Rattle.node.specs.Boot.{HasBase, HoldSaved, HoldWhole, after_boot, boot_mark, booted_disk, has_boot_mark, mark_before}
 use Rattle.node.specs.Node.{mark_with, server}
 use Rattle.world_host.proofs.Stops.{now_at}
 use Rattle.world_rules.specs.Host.{HostValue}
@@ -46,12 +46,13 @@ same_booted server.Two now delta e = ap (λ (n : ℕ). rested (place_of server.T
     (record (first_mark_of Entry delta (place_of server.Two)) { longest = Some n })) e
 
 module _ (h : HostValue) (place : ServerId) (now delta : ℕ) (a b : Site) (k : IsNew place h a)
-    (w : WholeBoot place now delta a b) (long : first_promise ≤ delta) where
+    (written : Some b.disk ≡ after_boot place delta (Some a.disk)) (long : first_promise ≤ delta)
+    where
   abbrev q : Place
   q = place_of place
 
   -- the disk of the run
-  abbrev from : Moments
+  abbrev pub from : Moments
   from = record { past = []; now = first_disk place }
 
   -- the disk of the place afterwards
@@ -85,26 +86,28 @@ module _ (h : HostValue) (place : ServerId) (now delta : ℕ) (a b : Site) (k : 
   whole_there saved held = subst (λ (d : ToldDisk).
       HoldWhole (reads d) (boot_mark place delta d.mark) saved) (sym k.new.empty) held
 
-  boots_empty : HoldSaved (reads from.now) (boot_mark place delta from.now.mark) []
+  boots_empty : (w : WholeBoot place now delta a b)
+      → HoldSaved (reads from.now) (boot_mark place delta from.now.mark) []
       → server w.node [] ≡ booted q now delta (mark_with [] (first_mark place first_promise))
-  boots_empty held =
+  boots_empty w held =
       subst (λ (o : Option MarkFields). server w.node []
       ≡ booted q now delta (mark_before place delta [] o)) no_mark
       (w.boot.boots a.disk [] refl (held_there [] held))
       ∙ sym (same_booted place now delta both_max)
 
-  boots_from : (items : List Entry)
+  boots_from : (w : WholeBoot place now delta a b) (items : List Entry)
       → HoldSaved (reads from.now) (boot_mark place delta from.now.mark) items
       → server w.node items ≡ booted q now delta (mark_before place delta items from.now.mark)
-  boots_from items held =
+  boots_from w items held =
       let mark = first_mark place first_promise in
       let none = none_held (reads from.now) place (max delta first_promise) items held in
       subst (λ (es : List Entry). server w.node es ≡ booted q now delta (mark_with es mark))
-      (sym none) (boots_empty (subst (λ (es : List Entry).
+      (sym none) (boots_empty w (subst (λ (es : List Entry).
       HoldSaved (reads from.now) (boot_mark place delta from.now.mark) es) none held))
 
-  mark_is : w.node.mark ≡ boot_mark place delta from.now.mark
-  mark_is = subst (λ (o : Option MarkFields). HasBase q (boot_mark place delta o)
+  mark_is : (w : WholeBoot place now delta a b)
+      → w.node.mark ≡ boot_mark place delta from.now.mark
+  mark_is w = subst (λ (o : Option MarkFields). HasBase q (boot_mark place delta o)
       → w.node.mark ≡ boot_mark place delta o) no_mark (w.boot.mark a.disk refl) (λ two. refl)
       ∙ ap (first_mark place) (sym is_max)
 
@@ -131,26 +134,36 @@ module _ (h : HostValue) (place : ServerId) (now delta : ℕ) (a b : Site) (k : 
 
   disk_there : b.disk.now ≡ marked_disk delta
   disk_there = now_at b.disk (then_disk (booted_disk place delta a.disk.now) a.disk)
-      (w.boot.written ∙ if_not (has_boot_mark delta a.disk.now.mark) (Some a.disk)
+      (written ∙ if_not (has_boot_mark delta a.disk.now.mark) (Some a.disk)
       (after_step (booted_disk place delta) (Some a.disk)) (ap (has_boot_mark delta) no_mark))
       ∙ ap (booted_disk place delta) k.new.empty
 
+  -- what a boot of the run leaves
+  abbrev pub new_left : Moments
+  new_left = left_by (has_boot_mark delta from.now.mark)
+
+  pub new_written : Some new_left ≡ after_boot place delta (Some from)
+  new_written = written_by (has_boot_mark delta from.now.mark)
+
+  pub new_there : new_left.now ≡ b.disk.now
+  new_there = left_now (has_boot_mark delta from.now.mark) refl ∙ sym disk_there
+
   -- A FIRST BOOT is one from the disk of the run
-  pub first_boot : IsBootAt h place now delta b
-  first_boot = record {
+  pub first_boot : WholeBoot place now delta a b → IsBootAt h place now delta b
+  first_boot w = record {
     none = k.node;
     node = w.node;
     is = w.is;
     old = from;
-    left = left_by (has_boot_mark delta from.now.mark);
+    left = new_left;
     disk = k.disk;
-    there = left_now (has_boot_mark delta from.now.mark) refl ∙ sym disk_there;
+    there = new_there;
     boots = record {
-      boots = boots_from;
+      boots = boots_from w;
       records = λ saved held. w.boot.records a.disk saved refl (whole_there saved held);
       me = w.boot.me_is;
       served = w.boot.is_server;
-      mark = λ base. mark_is;
-      written = written_by (has_boot_mark delta from.now.mark);
+      mark = λ base. mark_is w;
+      written = new_written;
     };
   }

@@ -64,9 +64,9 @@ module _ (before : List Event) (e : Event) (a c : Trio Site) (w : DiskScene) (x 
 
   event_cut : (v : DiskScene) → IsAt es v set → (what : What)
       → HappensBy e.place e.now what true e.outs here there → LastsLong what here
-      → IsCutSo e.place e.now what true here there → Leaves before e c v set
+      → IsCutSo what true here there → Leaves before e c v set
   event_cut v at (Boots delta) by long known =
-      cut_boot before e a c w x k v at delta by.0 by.0.part known long by.1
+      cut_boot before e a c w x k v at delta by.0 by.0.part long by.1
   event_cut v at (Does given) by long known = cut_step v at given by.1 known
   event_cut v at (Takes d) by long known = cut_arrives v at d by.0 by.1 by.2 known
   event_cut v at Ends by long known = end_happens before e a c w x k v at by.0 by.1
@@ -85,7 +85,7 @@ module _ (before : List Event) (e : Event) (a c : Trio Site) (w : DiskScene) (x 
 
   pub cut_or_whole : (v : DiskScene) → IsAt es v set → (cut : Bool)
       → HappensBy e.place e.now e.what cut e.outs here there
-      → IsCutSo e.place e.now e.what cut here there → IsNotForged before e.place e.what
+      → IsCutSo e.what cut here there → IsNotForged before e.place e.what
       → Leaves before e c v set
   cut_or_whole v at false by known network = event_leaves v at e.what refl by network h.long
   cut_or_whole v at true by known network = event_cut v at e.what by h.long known

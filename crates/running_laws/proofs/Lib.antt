@@ -18,6 +18,7 @@ mod Answering
 mod Wholes
 mod Bootings
 mod FirstBoots
+mod Making
 mod Endings
 mod Standing
 mod Left

@@ -1,5 +1,6 @@
 -- Boots and ends of lives, and boots that are cut.
 use Rattle.std.proofs.Common.{◌≡◌, ℕ, List, [], ◌∷◌, ◌++◌, Contains, None, Some, inl, inr, refl, sym, ap, ◌∙◌, subst, ⊎_elim, ◌⊎◌}
+use Rattle.group_rules.specs.Names.{place_of}
 use Rattle.group_trace.specs.DiskRun.{DiskScene}
 use Rattle.harp_store.specs.Disk.{IsLeftOf, IsSynced, Moments}
 use Rattle.harp_types.specs.Trio.{value_of}
@@ -13,11 +14,12 @@ use Rattle.world.specs.Clocks.{delta_after}
 use Rattle.world.specs.World.{WorldValue}
 use Rattle.world_rules.specs.Host.{HostValue}
 use Rattle.running_laws.specs.Events.{Boots, Event, Site}
-use Rattle.running_laws.specs.Follows.{Follows, HappensKnown, HasNode, HasStore, IsNew, IsPlace, IsSite, LastsLong}
+use Rattle.running_laws.specs.Follows.{Follows, HappensKnown, HasStore, IsNew, IsPlace, IsSite, LastsLong}
 use Rattle.running_laws.specs.Histories.{IsInTime}
 use Rattle.running_laws.specs.Lives.{EndBetween, PartOfBoot, WholeBoot}
 use Rattle.running_laws.proofs.Bootings.{IsBootAt, IsBooting, boot_led, boot_there, delta_is, delta_led, host_booted, world_booted}
-use Rattle.running_laws.proofs.FirstBoots.{first_boot}
+use Rattle.running_laws.proofs.FirstBoots.{first_boot, from, new_left, new_there, new_written}
+use Rattle.running_laws.proofs.Making.{made_boot}
 use Rattle.running_laws.proofs.Clocks.{reads_now}
 use Rattle.running_laws.proofs.Endings.{IsEnding, end_led, host_fallen, world_fallen}
 use Rattle.running_laws.proofs.Moving.{IsAt, LedTo, led_nowhere, led_on}
@@ -55,7 +57,7 @@ module _ (before : List Event) (e : Event) (a c : Trio Site) (w : DiskScene) (x 
       (λ (s : IsSite (value_of x.hosts e.place) here). boot_there _ e.place e.now delta here b s
       boot)
       (λ (k : IsNew e.place (value_of x.hosts e.place) here). first_boot _ e.place e.now delta here
-      b k boot (long k.new))
+      b k boot.boot.written (long k.new) boot)
       (f.sites_are e.place)
 
   booted_happens : (v : DiskScene) → IsAt es v set → (delta : ℕ) → IsDelta delta
@@ -157,11 +159,10 @@ module _ (before : List Event) (e : Event) (a c : Trio Site) (w : DiskScene) (x 
       }) refl silent
 
   -- behind it: a boot, and a crash
-  written_boot : (v : DiskScene) → IsAt es v set → (delta : ℕ) (b : Site)
-      → WholeBoot e.place e.now delta here b → EndBetween b there
-      → there.disk.now ≡ b.disk.now → LastsLong (Boots delta) here → e.outs ≡ None
-      → Leaves before e c v set
-  written_boot v at delta b boot end same long silent =
+  written_boot : (v : DiskScene) → IsAt es v set → (delta : ℕ) (b : Site) → IsDelta delta
+      → IsBootAt (value_of x.hosts e.place) e.place e.now delta b → EndBetween b there
+      → there.disk.now ≡ b.disk.now → e.outs ≡ None → Leaves before e c v set
+  written_boot v at delta b length boot end same silent =
       let longer = delta_after set.delta delta in
       let ready = record set { delta = longer } in
       let has : HasStore b = record {
@@ -171,8 +172,8 @@ module _ (before : List Event) (e : Event) (a c : Trio Site) (w : DiskScene) (x 
       let t : IsBooting ready e.place e.now delta b = record {
         me = (f.stands.servers e.place).me;
         clock = reads_now before e x.clocks f.clocks in_time;
-        length = delta_is set.delta delta boot.length;
-        boot = boot_at delta b boot long;
+        length = delta_is set.delta delta length;
+        boot = boot;
         has_store = has;
       } in
       let host = host_booted ready e.place e.now delta b t in
@@ -205,23 +206,43 @@ module _ (before : List Event) (e : Event) (a c : Trio Site) (w : DiskScene) (x 
         synced = λ none. end.left.synced;
       })) silent (gone_askers before e a c w x k end.gone))) refl silent
 
+  -- the node that it was about to make
+  made_at : (delta : ℕ) (amid : Moments) → here.node ≡ None → LastsLong (Boots delta) here
+      → Some amid ≡ after_boot e.place delta (Some here.disk)
+      → (n : NodeValue) × IsBootAt (value_of x.hosts e.place) e.place e.now delta
+      (record { node = Some n; disk = amid })
+  made_at delta amid none long written =
+      let q = place_of e.place in
+      let own = f.stands.servers e.place in
+      let host = value_of x.hosts e.place in
+      let b : Site = record { node = None; disk = amid } in
+      ⊎_elim
+      (λ (s : IsSite host here). made_boot (w.scene.group.server q) own.stock own.saved
+      (w.disks q) host own.host e.place e.now delta own.me (s.node ∙ none) here.disk amid amid
+      s.disk written refl)
+      (λ (k : IsNew e.place host here). made_boot (w.scene.group.server q) own.stock own.saved
+      (w.disks q) host own.host e.place e.now delta own.me k.node
+      (from host e.place e.now delta here b k written (long k.new))
+      (new_left host e.place e.now delta here b k written (long k.new)) amid k.disk
+      (new_written host e.place e.now delta here b k written (long k.new))
+      (new_there host e.place e.now delta here b k written (long k.new)))
+      (f.sites_are e.place)
+
   pub cut_boot : (v : DiskScene) → IsAt es v set → (delta : ℕ)
       → (p : PartOfBoot e.place delta here there)
       → (p.amid ≡ here.disk) ⊎ (Some p.amid ≡ after_boot e.place delta (Some here.disk))
-      → HasNode e.place e.now delta here → LastsLong (Boots delta) here → e.outs ≡ None
-      → Leaves before e c v set
-  cut_boot v at delta p (inl old) node long silent =
+      → LastsLong (Boots delta) here → e.outs ≡ None → Leaves before e c v set
+  cut_boot v at delta p (inl old) long silent =
       let left = subst (λ (m : Moments). IsLeftOf m.now there.disk.now) old p.left in
       unwritten_boot v at p.none p.still
       (left_of_synced here.disk.now there.disk.now (none_here (f.sites_are e.place) p.none) left)
       silent
-  cut_boot v at delta p (inr written) node long silent =
-      let made = node p.amid written in
+  cut_boot v at delta p (inr written) long silent =
+      let made = made_at delta p.amid p.none long written in
       let b : Site = record { node = Some made.0; disk = p.amid } in
       let synced : IsSynced p.amid.now = marked_synced e.place delta here.disk p.amid
       (has_boot_mark delta here.disk.now.mark) written
       ∙ none_here (f.sites_are e.place) p.none in
-      written_boot v at delta b
-      (record { none = p.none; length = p.length; node = made.0; is = refl; boot = made.1 })
+      written_boot v at delta b p.length made.1
       (record { old = made.0; was = refl; gone = p.still; left = p.left })
-      (left_of_synced p.amid.now there.disk.now synced p.left) long silent
+      (left_of_synced p.amid.now there.disk.now synced p.left) silent

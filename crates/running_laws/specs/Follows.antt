@@ -19,14 +19,12 @@ use Rattle.harp_types.specs.declared.peer.Peer.{Peer}
 use Rattle.harp_types.specs.declared.peer.Peer.TheVariants.{Server}
 use Rattle.harp_types.specs.declared.server.ServerId.{ServerId}
 use Rattle.harp_types.specs.declared.trio.Trio.{Trio}
-use Rattle.node.specs.Boot.{after_boot}
 use Rattle.node.specs.Node.{IsServer, NodeValue}
 use Rattle.node.specs.declared.input.Input.{Input}
 use Rattle.node.specs.declared.input.Input.TheVariants as input
 use Rattle.node_link.specs.declared.link.SentDatagram.{SentDatagram}
 use Rattle.node_loop.specs.Arriving.{IsMessage}
 use Rattle.node_loop.specs.Chain.{Chain}
-use Rattle.node_loop.specs.Step.{IsBoot}
 use Rattle.node_outputs.specs.Messages.{heard}
 use Rattle.schedule_play.specs.Stage.{IsReached}
 use Rattle.trace_types.specs.declared.step.Step.{Step}
@@ -152,11 +150,6 @@ LastsLong (Does given) s = ⊤
 LastsLong (Takes d) s = ⊤
 LastsLong Ends s = ⊤
 
--- a boot that is cut behind its write was about to make a node
-abbrev pub HasNode : ServerId → (now delta : ℕ) → Site → Type 0
-HasNode place now delta a = (amid : Moments) → Some amid ≡ after_boot place delta (Some a.disk)
-    → (n : NodeValue) × IsBoot place delta now (Some a.disk) (Some amid) n
-
 -- a step that is cut wrote no other mark
 abbrev pub KeepsMark : (a b : Site) → Type 0
 KeepsMark a b = b.node ≡ None → b.disk.now.mark ≡ a.disk.now.mark
@@ -167,17 +160,17 @@ IsCutStep (input.Apply most) a b = b.node ≡ None → IsLeftOf a.disk.now b.dis
 IsCutStep given a b = KeepsMark a b
 
 -- what is known of an event amid which the process is gone
-abbrev pub IsCutSo : ServerId → (now : ℕ) → What → (cut : Bool) → (a b : Site) → Type 0
-IsCutSo place now what false a b = ⊤
-IsCutSo place now (Boots delta) true a b = HasNode place now delta a
-IsCutSo place now (Does given) true a b = IsCutStep given a b
-IsCutSo place now (Takes d) true a b = KeepsMark a b
-IsCutSo place now Ends true a b = ⊤
+abbrev pub IsCutSo : What → (cut : Bool) → (a b : Site) → Type 0
+IsCutSo what false a b = ⊤
+IsCutSo (Boots delta) true a b = ⊤
+IsCutSo (Does given) true a b = IsCutStep given a b
+IsCutSo (Takes d) true a b = KeepsMark a b
+IsCutSo Ends true a b = ⊤
 
 -- WHAT HAPPENS, and what contracts don't say of it yet
 pub record HappensKnown (e : Event) (a c : Trio Site) : Type 0 where
   pub happens : Happens e a c
-  pub cut : IsCutSo e.place e.now e.what e.cut (value_of a e.place) (value_of c e.place)
+  pub cut : IsCutSo e.what e.cut (value_of a e.place) (value_of c e.place)
   pub has_store : HasStore (value_of c e.place)
   pub long : LastsLong e.what (value_of a e.place)
 
