@@ -1,7 +1,8 @@
 -- What a whole step leaves of a disk is a part of what it makes of it too: all.
-use Rattle.std.proofs.Common.{◌≡◌, Bool, true, false, List, length, Option, None, Some, if◌then◌else◌, ap, inl, inr, refl, subst, sym}
+use Rattle.std.proofs.Common.{◌≡◌, Bool, true, false, List, length, Option, None, Some, ap, inl, inr, refl, subst, sym}
 use Rattle.std.proofs.Math.Seq.{take-length}
 use Rattle.file_tree.specs.Book.{Entry}
+use Rattle.group_rules.proofs.Tests.{if_is, if_not}
 use Rattle.group_rules.specs.Moves.{Move}
 use Rattle.group_rules.specs.Step.{Apply, Ask, Comes, Crash, Does, Flush, Input, ListTree, Power, Suspect, Tick}
 use Rattle.harp_store.specs.Disk.{Moments, after_changes, after_step, with_mark}
@@ -10,27 +11,19 @@ use Rattle.node.specs.Disk.{MayLeave, disk_after, marked_by, write_mark}
 use Rattle.node.specs.Node.{NodeValue}
 use Rattle.node.specs.Stored.{LeavesBy, LeavesFlush, changes_made, disk_by, disk_flushed, flushes}
 
-if_so : {A : Type 0} (b : Bool) (x y : A) → b ≡ true → (if b then x else y) ≡ x
-if_so true x y is = refl
-if_so false x y is = cc
-
-if_not : {A : Type 0} (b : Bool) (x y : A) → b ≡ false → (if b then x else y) ≡ y
-if_not true x y is = cc
-if_not false x y is = refl
-
 marks_all : (ms : List (Move Entry)) (mark : MarkFields) (told : Option Moments)
     → MayLeave ms mark told (disk_after ms mark told)
 marks_all ms mark told = by (write_mark ms) refl
   where
     by : (b : Bool) → write_mark ms ≡ b → MayLeave ms mark told (disk_after ms mark told)
-    by true is = inr (is, if_so (write_mark ms) (after_step (with_mark mark) told) told is)
+    by true is = inr (is, if_is (write_mark ms) (after_step (with_mark mark) told) told is)
     by false is = inl (if_not (write_mark ms) (after_step (with_mark mark) told) told is)
 
 flushes_all : (n : NodeValue) (told : Option Moments) → LeavesFlush n told (disk_flushed n told)
 flushes_all n told = by (flushes n) refl
   where
     by : (b : Bool) → flushes n ≡ b → LeavesFlush n told (disk_flushed n told)
-    by true is = inr (is, inr (inr (if_so (flushes n) _ told is)))
+    by true is = inr (is, inr (inr (if_is (flushes n) _ told is)))
     by false is = inl (if_not (flushes n) _ told is)
 
 all_left : (n : NodeValue) (ms : List (Move Entry)) (o : Option Input) (told : Option Moments)

@@ -71,7 +71,7 @@ of_read es old new n e p reads owed more is = record {
 
 -- ---- of moves
 
-none_answered : (ms : List (Move Entry)) → AreSilent ms → answers_said ms ≡ []
+pub none_answered : (ms : List (Move Entry)) → AreSilent ms → answers_said ms ≡ []
 none_answered [] h = refl
 none_answered (Saying (Answers n e) ∷ ms) h = absurd h.0
 none_answered (Reading n e ∷ ms) h = absurd h.0

@@ -1,36 +1,36 @@
--- What is left of a disk amid a step that wrote no other mark: what a crash before it may leave.
-use Rattle.std.proofs.Common.{◌≡◌, ℕ, zero, suc, ◌<◌, Bool, true, false, List, [], ◌∷◌, length, Option, None, Some, inl, inr, refl, sym, ◌∙◌, subst, arith, slice_index_or, if◌then◌else◌, ⊎_elim}
-use Rattle.std.specs.Prelude.{Any}
+-- What is left of a disk amid a step: what a crash before it may leave, where it wrote no other
+-- mark; else that of the whole step.
+use Rattle.std.proofs.Common.{◌≡◌, ℕ, zero, suc, ◌<◌, Bool, true, false, List, [], ◌∷◌, length, Option, None, Some, inl, inr, refl, sym, ◌∙◌, subst, arith, slice_index_or, if◌then◌else◌}
+use Rattle.std.specs.Prelude.{Any, ◌⊎◌, ⊤}
 use Rattle.std.specs.Option.{option_map}
-use Rattle.applier.specs.Applied.{FlushesInPart, lower}
+use Rattle.applier.specs.Applied.{FlushesInPart, flushed, lower}
 use Rattle.file_tree.specs.Book.{Entry}
+use Rattle.group_rules.proofs.Tests.{if_is}
 use Rattle.group_rules.specs.Moves.{Move}
 use Rattle.group_rules.specs.Names.{place_of}
 use Rattle.group_rules.specs.State.{Message as Told}
-use Rattle.group_rules.specs.Step.{Comes, Does, Suspect, Tick}
+use Rattle.group_rules.specs.Step.{Apply, Ask, Comes, Crash, Does, Flush, Input as Begins, ListTree, Power, Suspect, Tick}
 use Rattle.harp_cells.specs.Effect.{is_cell}
 use Rattle.harp_cells.specs.declared.cell.Cell.{Cell}
 use Rattle.harp_cells.specs.declared.value.Value.{Value}
-use Rattle.harp_store.specs.Disk.{Disk, IsLeftOf, MayHold, Moments, reads, set_by, synced_whole, then_disk, values_of, with_mark}
+use Rattle.harp_store.specs.Disk.{Disk, IsLeftOf, MayHold, Moments, after_step, reads, set_by, synced_whole, then_disk, values_of, with_mark}
 use Rattle.harp_store.specs.Mark.{MarkFields}
 use Rattle.harp_store.specs.declared.layers.Unsynced.{Unsynced}
 use Rattle.harp_types.specs.declared.server.ServerId.{ServerId}
-use Rattle.node.specs.Disk.{MayLeave, marked_by}
+use Rattle.node.specs.Disk.{MayLeave, disk_after, marked_by, write_mark}
+use Rattle.node.specs.Input.{input_of}
 use Rattle.node.specs.Node.{NodeValue}
-use Rattle.node.specs.Stored.{LeavesBy, LeavesFlush}
+use Rattle.node.specs.Stored.{LeavesBy, LeavesFlush, disk_by, disk_flushed, flushes}
 use Rattle.node.specs.Taking.{input_in, stepped}
 use Rattle.node.specs.declared.input.Input.{Input}
 use Rattle.node.specs.declared.input.Input.TheVariants as input
-use Rattle.node_link.specs.declared.link.Datagram.{Datagram}
-use Rattle.node_loop.specs.Arriving.{Arrives}
 use Rattle.node_outputs.specs.Messages.{heard}
 use Rattle.node_outputs.specs.declared.outputs.Outputs.{Outputs}
 use Rattle.wire.specs.declared.message.Message.{Message}
 use Rattle.world_host.proofs.Stops.{now_at}
 use Rattle.running_laws.specs.Events.{Site}
-use Rattle.running_laws.specs.Follows.{IsCutStep, KeepsMark}
+use Rattle.running_laws.specs.Follows.{CouldBeWhole, IsCutStep, KeepsMark}
 use Rattle.running_laws.specs.Lives.{PartOfStep}
-use Rattle.running_laws.proofs.Spelled.{IsAsked, IsTold, given_as}
 
 -- ---- a disk that is synced holds what it reads as
 
@@ -131,36 +131,138 @@ part_told now from m old amid left n = by (heard m)
         let ms = stepped no_size n.me now [] n.plain (Some (Comes (place_of from) told)) in
         part_marked ms (marked_by n.mark ms) old amid left part h same
 
--- WHAT IS LEFT amid a step is what a crash before it may leave
-pub cut_left : (now : ℕ) (given : Input) (outs : Option Outputs) (a b : Site)
-    → IsCutStep given a b → (p : PartOfStep now given outs a b)
+-- what is given is no apply
+abbrev pub IsNoApply : Option Begins → Type 0
+IsNoApply (Some (Does (Apply most))) = ⊥
+IsNoApply o = ⊤
+
+-- what is left amid a step that wrote no other mark, and applied nothing
+kept_left : (now : ℕ) (given : Input) (outs : Option Outputs) (a b : Site) → KeepsMark a b
+    → IsNoApply (input_of given) → (p : PartOfStep now given outs a b)
     → IsLeftOf a.disk.now b.disk.now
-cut_left now input.Tick outs a b known p =
+kept_left now input.Tick outs a b keeps no p =
     let ms = stepped no_size p.old.me now [] p.old.plain (Some (Does Tick)) in
     part_marked ms (marked_by p.old.mark ms) a.disk p.amid b.disk.now (p.part no_size []) p.left
-    (known p.gone)
-cut_left now input.Suspect outs a b known p =
+    (keeps p.gone)
+kept_left now input.Suspect outs a b keeps no p =
     let ms = stepped no_size p.old.me now [] p.old.plain (Some (Does Suspect)) in
     part_marked ms (marked_by p.old.mark ms) a.disk p.amid b.disk.now (p.part no_size []) p.left
-    (known p.gone)
-cut_left now (input.Message from message) outs a b known p =
+    (keeps p.gone)
+kept_left now (input.Message from message) outs a b keeps no p =
     part_told now from message a.disk p.amid b.disk.now p.old (p.part no_size []) p.left
-    (known p.gone)
-cut_left now (input.Ask peer client number cred call) outs a b known p =
+    (keeps p.gone)
+kept_left now (input.Ask peer client number cred call) outs a b keeps no p =
     left_of_old a.disk p.amid b.disk.now (p.part no_size []) p.left
-cut_left now (input.Apply most) outs a b known p = known p.gone
-cut_left now input.Flush outs a b known p =
-    flush_left p.old a.disk p.amid b.disk.now (p.part no_size []) p.left (known p.gone)
-cut_left now input.List outs a b known p =
+kept_left now (input.Apply most) outs a b keeps no p = absurd no
+kept_left now input.Flush outs a b keeps no p =
+    flush_left p.old a.disk p.amid b.disk.now (p.part no_size []) p.left (keeps p.gone)
+kept_left now input.List outs a b keeps no p =
     left_of_old a.disk p.amid b.disk.now (p.part no_size []) p.left
 
--- no apply arrives
-pub known_so : (d : Datagram) (given : Input) (a b : Site) → Arrives d (Some given)
-    → KeepsMark a b → IsCutStep given a b
-known_so d given a b (inl m) keeps = ⊎_elim
-    (λ (k : IsAsked d.from m.0 given). subst (λ (i : Input). IsCutStep i a b) (sym k.is) keeps)
-    (λ (k : IsTold d.from m.0 given). subst (λ (i : Input). IsCutStep i a b) (sym k.is) keeps)
-    (given_as d.from m.0 given m.2)
-known_so d given a b (inr noise) keeps =
-    let never : ◌≡◌ {A = Option Input} (Some given) None = noise.1 in
-    absurd cc
+-- a message is no apply
+told_no_apply : (from : ServerId) (o : Option (Told Entry))
+    → IsNoApply (option_map (Comes (place_of from)) o)
+told_no_apply from None = tt
+told_no_apply from (Some m) = tt
+
+-- it is what a crash before the step may leave, or the step could have been whole
+abbrev pub LeftOrWhole : (now : ℕ) → Input → (a b : Site) → Type 0
+LeftOrWhole now given a b = IsLeftOf a.disk.now b.disk.now
+    ⊎ (CouldBeWhole now given a × IsNoApply (input_of given))
+
+by_known : (now : ℕ) (given : Input) (outs : Option Outputs) (a b : Site)
+    → IsNoApply (input_of given) → KeepsMark a b ⊎ CouldBeWhole now given a
+    → PartOfStep now given outs a b → LeftOrWhole now given a b
+by_known now given outs a b no (inl keeps) p = inl (kept_left now given outs a b keeps no p)
+by_known now given outs a b no (inr could) p = inr (could, no)
+
+-- WHAT IS LEFT amid a step
+pub cut_left : (now : ℕ) (given : Input) (outs : Option Outputs) (a b : Site)
+    → IsCutStep now given a b → PartOfStep now given outs a b → LeftOrWhole now given a b
+cut_left now input.Tick outs a b known p = by_known now input.Tick outs a b tt known p
+cut_left now input.Suspect outs a b known p = by_known now input.Suspect outs a b tt known p
+cut_left now (input.Message from message) outs a b known p =
+    by_known now (input.Message from message) outs a b (told_no_apply from (heard message)) known p
+cut_left now (input.Ask peer client number cred call) outs a b known p =
+    inl (left_of_old a.disk p.amid b.disk.now (p.part no_size []) p.left)
+cut_left now (input.Apply most) outs a b known p = inl (known p.gone)
+cut_left now input.Flush outs a b known p = by_known now input.Flush outs a b tt known p
+cut_left now input.List outs a b known p =
+    inl (left_of_old a.disk p.amid b.disk.now (p.part no_size []) p.left)
+
+-- ---- behind the last call
+
+same_moments : (h k : Moments) → Some h ≡ Some k → h ≡ k
+same_moments h k e = cc
+
+marked_end : (ms : List (Move Entry)) (mark : MarkFields) (old amid whole : Moments) (left : Disk)
+    → MayLeave ms mark (Some old) (Some amid) → Some whole ≡ disk_after ms mark (Some old)
+    → IsLeftOf amid.now left
+    → IsLeftOf old.now left ⊎ ((amid ≡ whole) × (write_mark ms ≡ true))
+marked_end ms mark old amid whole left (inl e) made h = inl (left_of_old old amid left e h)
+marked_end ms mark old amid whole left (inr w) made h = inr (
+  same_moments amid whole (w.1 ∙ sym (made
+      ∙ if_is (write_mark ms) (after_step (with_mark mark) (Some old)) (Some old) w.0)),
+  w.0,
+)
+
+flushed_end : (mark : MarkFields) (old amid whole : Moments) (left : Disk)
+    → FlushesInPart mark (Some old) (Some amid) → Some whole ≡ flushed mark (Some old)
+    → IsLeftOf amid.now left → IsLeftOf old.now left ⊎ (amid ≡ whole)
+flushed_end mark old amid whole left (inl e) made h = inl (left_of_old old amid left e h)
+flushed_end mark old amid whole left (inr (inl e)) made h =
+    let at = subst (λ (d : Disk). IsLeftOf d left)
+    (now_at amid (then_disk (synced_whole old.now) old) e) h in
+    inl (left_of_whole old.now left at at.image.mark)
+flushed_end mark old amid whole left (inr (inr e)) made h =
+    inr (same_moments amid whole (e ∙ sym made))
+
+flush_end : (n : NodeValue) (old amid whole : Moments) (left : Disk)
+    → LeavesFlush n (Some old) (Some amid) → Some whole ≡ disk_flushed n (Some old)
+    → IsLeftOf amid.now left → IsLeftOf old.now left ⊎ (amid ≡ whole)
+flush_end n old amid whole left (inl e) made h = inl (left_of_old old amid left e h)
+flush_end n old amid whole left (inr f) made h =
+    let mark = lower n.plain.ap n.mark in
+    flushed_end mark old amid whole left f.1
+    (made ∙ if_is (flushes n) (flushed mark (Some old)) (Some old) f.0) h
+
+-- what is given may be cut behind a call that changes the disk; a message's step writes the mark then
+abbrev pub IsCutBehind : List (Move Entry) → Option Begins → Type 0
+IsCutBehind ms None = ⊥
+IsCutBehind ms (Some (Does (Ask client number cred call))) = ⊥
+IsCutBehind ms (Some (Does ListTree)) = ⊥
+IsCutBehind ms (Some (Comes from m)) = write_mark ms ≡ true
+IsCutBehind ms (Some i) = ⊤
+
+marks_so : {L E M : Type 0} → L ⊎ (E × M) → L ⊎ (E × ⊤)
+marks_so (inl l) = inl l
+marks_so (inr e) = inr (e.0, tt)
+
+whole_so : {L E : Type 0} → L ⊎ E → L ⊎ (E × ⊤)
+whole_so (inl l) = inl l
+whole_so (inr e) = inr (e, tt)
+
+-- A STEP THAT IS CUT leaves what a crash before it may, or its disk is that of the whole step
+pub to_end : (n : NodeValue) (ms : List (Move Entry)) (o : Option Begins)
+    (old amid whole : Moments) (left : Disk) → IsNoApply o
+    → LeavesBy n ms o (Some old) (Some amid) → Some whole ≡ disk_by n ms o (Some old)
+    → IsLeftOf amid.now left
+    → IsLeftOf old.now left ⊎ ((amid ≡ whole) × IsCutBehind ms o)
+to_end n ms None old amid whole left no e made h = inl (left_of_old old amid left e h)
+to_end n ms (Some (Does (Ask client number cred call))) old amid whole left no e made h =
+    inl (left_of_old old amid left e h)
+to_end n ms (Some (Does (Apply most))) old amid whole left no part made h = absurd no
+to_end n ms (Some (Does Flush)) old amid whole left no part made h =
+    whole_so (flush_end n old amid whole left part made h)
+to_end n ms (Some (Does ListTree)) old amid whole left no e made h =
+    inl (left_of_old old amid left e h)
+to_end n ms (Some (Does Tick)) old amid whole left no part made h =
+    marks_so (marked_end ms (marked_by n.mark ms) old amid whole left part made h)
+to_end n ms (Some (Does Suspect)) old amid whole left no part made h =
+    marks_so (marked_end ms (marked_by n.mark ms) old amid whole left part made h)
+to_end n ms (Some (Does Power)) old amid whole left no part made h =
+    marks_so (marked_end ms (marked_by n.mark ms) old amid whole left part made h)
+to_end n ms (Some (Does Crash)) old amid whole left no part made h =
+    marks_so (marked_end ms (marked_by n.mark ms) old amid whole left part made h)
+to_end n ms (Some (Comes from m)) old amid whole left no part made h =
+    marked_end ms (marked_by n.mark ms) old amid whole left part made h

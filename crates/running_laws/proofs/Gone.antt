@@ -6,7 +6,6 @@ use Rattle.std.proofs.lemmas.List.Elements.{Contains-append_right}
 use Rattle.harp_store.specs.Disk.{Moments}
 use Rattle.harp_types.specs.Trio.{value_of, with_value}
 use Rattle.harp_types.specs.declared.server.ServerId.{ServerId}
-use Rattle.harp_types.specs.declared.server.ServerId.TheVariants as server
 use Rattle.harp_types.specs.declared.trio.Trio.{Trio}
 use Rattle.node.specs.Boot.{after_boot}
 use Rattle.node.specs.declared.input.Input.{Input}
@@ -27,12 +26,6 @@ use Rattle.running_laws.proofs.Given.{IsGivenAs, IsWorkOf, Works, nothing_given,
 use Rattle.running_laws.proofs.Living.{AreFree, did_boot, unlinked}
 use Rattle.running_laws.proofs.Parts.{did_nothing, did_then, happens_so}
 use Rattle.running_laws.proofs.Told.{stepped_tells}
-
-pub twice_set : {T : Type 0} (t : Trio T) (p : ServerId) (x y : T)
-    → with_value (with_value t p x) p y ≡ with_value t p y
-twice_set t server.Zero x y = refl
-twice_set t server.One x y = refl
-twice_set t server.Two x y = refl
 
 same_moments : (h k : Moments) → Some h ≡ Some k → h ≡ k
 same_moments h k e = cc

@@ -29,7 +29,8 @@ use Rattle.running_laws.specs.Parts.{AreReadIn, Did, DidInPart, LinkDid, taken_i
 use Rattle.running_laws.proofs.Given.{sent_none}
 use Rattle.running_laws.proofs.Living.{AreFree, did_boots, did_turn, due_own, last_reading, linked, rounds_in, spot_did, told_on, unlinked}
 use Rattle.running_laws.proofs.Parts.{did_nothing, nothing_linked}
-use Rattle.running_laws.proofs.Gone.{FitsAs, IsAtPlace, gone_amid, gone_behind, gone_unstarted, own_breaks, same_link, then_gone, twice_set}
+use Rattle.running_laws.proofs.Gone.{FitsAs, IsAtPlace, gone_amid, gone_behind, gone_unstarted, own_breaks, same_link, then_gone}
+use Rattle.running_laws.proofs.Left.{twice_set}
 
 -- the spot amid a turn
 spot_amid : Spot → AtWork → Option Traffic → Option (List Reading) → Spot

@@ -13,6 +13,7 @@ use Rattle.node.specs.Node.{IsServer, NodeValue}
 use Rattle.node.specs.declared.input.Input.{Input}
 use Rattle.node_loop.specs.Outgoing.{datagrams}
 use Rattle.node_outputs.specs.declared.outputs.Answered.{Answered}
+use Rattle.node_outputs.specs.declared.outputs.Outputs.{Outputs}
 use Rattle.world.proofs.Tables.{each_value}
 use Rattle.world.proofs.Turns.{with_host}
 use Rattle.world.specs.Turns.{TurnBegins}
@@ -20,23 +21,22 @@ use Rattle.world.specs.World.{WorldValue}
 use Rattle.world_host.proofs.Shown.{its_node}
 use Rattle.world_lines.specs.Book.{BookValue}
 use Rattle.world_lines.specs.Given.{answered_lines, book_given, packets_of}
-use Rattle.world_lines.specs.Posted.{delivered_at}
+use Rattle.world_lines.specs.Posted.{Posted}
 use Rattle.world_rules.specs.Host.{HostValue}
 use Rattle.world_rules.specs.Steps.{peers_by}
 use Rattle.running_laws.specs.Books.{IsOfBook, answers_in}
 use Rattle.running_laws.specs.Events.{Event, Site, all_sent, put_out, sent_by}
-use Rattle.running_laws.specs.Follows.{Follows, HasAskers, HappensKnown, IsNew, IsPlace, IsSite}
+use Rattle.running_laws.specs.Follows.{Follows, HasAskers, HasStore, HappensKnown, IsNew, IsPlace, IsSite}
 use Rattle.running_laws.specs.Histories.{IsInTime}
 use Rattle.running_laws.specs.Lives.{WholeStep}
 use Rattle.running_laws.proofs.Askers.{has_more}
 use Rattle.running_laws.proofs.Clocks.{reads_now, set_last}
 use Rattle.running_laws.proofs.Moving.{IsAt, LedTo, led_nowhere}
 use Rattle.running_laws.proofs.Owed.{AnswersTo}
-use Rattle.running_laws.proofs.Posts.{keeps_delivered, keeps_more, outs_posted, posted_still}
+use Rattle.running_laws.proofs.Posts.{Keeps, keeps_more, outs_posted, posted_still}
 use Rattle.running_laws.proofs.Replying.{answered_so, grows_so}
 use Rattle.running_laws.proofs.Takings.{IsTurn, host_left, world_left}
 use Rattle.running_laws.proofs.Waiting.{waits_then}
-use Rattle.running_laws.proofs.Wholes.{counted}
 use Rattle.running_laws.proofs.Left.{IsNext, IsLeft, Leaves, each_none, each_pair, none_some, same_some}
 
 module _ (before : List Event) (e : Event) (a c : Trio Site) (w : DiskScene) (x : WorldValue)
@@ -100,7 +100,7 @@ module _ (before : List Event) (e : Event) (a c : Trio Site) (w : DiskScene) (x 
       → HasAskers es n.plain n.peers
   gone_askers gone n is = absurd (none_some n (sym gone ∙ is))
 
-  none_said : e.outs ≡ None → (r : Answered) → Contains (answers_in e.outs) r → ⊥
+  pub none_said : e.outs ≡ None → (r : Answered) → Contains (answers_in e.outs) r → ⊥
   none_said silent r = subst (λ outs. Contains (answers_in outs) r → ⊥) (sym silent)
       (λ none. omega (arith, none.1))
 
@@ -151,16 +151,18 @@ module _ (before : List Event) (e : Event) (a c : Trio Site) (w : DiskScene) (x 
       ((site_here n is).node ∙ is) in
       runs.me ∙ own.me
 
-  pub turn_of : (given : Input) → WholeStep e.now given e.outs here there
-      → IsTurn set e.place e.now given e.outs here there
-  turn_of given s = record {
+  -- a whole step of the node that lives there, whatever place it leaves
+  pub turn_to : (given : Input) (outs : Option Outputs) (b : Site)
+      → WholeStep e.now given outs here b → HasStore b
+      → IsTurn set e.place e.now given outs here b
+  turn_to given outs b s has = record {
     site = site_here s.old s.was;
     me = (f.stands.servers e.place).me;
     own_me = own_me;
     no_stop = f.no_stop e.place;
     clock = reads_now before e x.clocks f.clocks in_time;
     step = s;
-    has_store = h.has_store;
+    has_store = has;
   }
 
   pub turn_left : (given : Input) (t : IsTurn set e.place e.now given e.outs here there)
@@ -196,21 +198,22 @@ module _ (before : List Event) (e : Event) (a c : Trio Site) (w : DiskScene) (x 
             (same_some t.step.new n (sym t.step.is ∙ is)) waits);
       }
 
-  pub counted_left : (y : WorldValue) (n : ℕ) → IsLeft before e c set y
-      → IsLeft before e c set (counted y n)
-  counted_left y n l = record {
+  -- whichever packets count as delivered
+  pub packed_left : (y : WorldValue) (packets : List Posted) → Keeps y.packets packets
+      → IsLeft before e c set y → IsLeft before e c set (record y { packets = packets })
+  packed_left y packets keeps l = record {
     sites_are = l.sites_are;
     no_stop = l.no_stop;
-    posted = λ d has. posted_still y.packets (delivered_at y.packets n) d
-        (keeps_delivered y.packets n) (l.posted d has);
+    posted = λ d has. posted_still y.packets packets d keeps (l.posted d has);
     clocks = l.clocks;
     askers = l.askers;
   }
 
-  -- who is answered by a whole step, and who waits behind it
-  pub was_asked : (given : Input) (t : IsTurn set e.place e.now given e.outs here there)
+  -- who waits at who takes a whole step
+  pub was_asked : (given : Input) (outs : Option Outputs) (b : Site)
+      (t : IsTurn set e.place e.now given outs here b)
       → HasAskers es t.step.old.plain t.step.old.peers
-  was_asked given t = has_more before (e ∷ []) t.step.old.plain t.step.old.peers
+  was_asked given outs b t = has_more before (e ∷ []) t.step.old.plain t.step.old.peers
       (f.askers e.place t.step.old t.step.was)
 
   -- WHAT A WHOLE STEP LEAVES, of which all is there but who waits and who is answered
@@ -232,7 +235,7 @@ module _ (before : List Event) (e : Event) (a c : Trio Site) (w : DiskScene) (x 
         led = subst (λ outs. LedTo es v y (answered_lines e.place (answers_in outs)))
             (sym t.step.outs_are) led;
         left = left (waits_then es v set e.place e.now given e.outs here there t i begins
-            (was_asked given t) to);
+            (was_asked given e.outs there t) to);
         more = grows.0;
         grows = book_is ∙ grows.1;
         answers = λ r has. subst (λ (new : List Entry). IsOfBook x.book.entries new es r)

@@ -8,16 +8,16 @@ use Rattle.node_link.specs.declared.link.Datagram.{Datagram}
 use Rattle.node_loop.specs.Arriving.{Arrives}
 use Rattle.world.specs.World.{WorldValue}
 use Rattle.running_laws.specs.Events.{Boots, Does, Ends, Event, Site, Takes, What}
-use Rattle.running_laws.specs.Follows.{Follows, HappensKnown, IsCutSo, IsCutStep, KeepsMark, LastsLong}
+use Rattle.running_laws.specs.Follows.{Follows, HappensKnown, IsCutSo, IsCutStep, LastsLong}
 use Rattle.running_laws.specs.Histories.{IsInTime, IsNotForged}
-use Rattle.running_laws.specs.Lives.{HappensBy, PartOfStep, Steps}
-use Rattle.running_laws.proofs.Cuts.{cut_left, known_so}
+use Rattle.running_laws.specs.Lives.{HappensBy, Steps}
+use Rattle.running_laws.proofs.Broken.{cut_step}
 use Rattle.running_laws.proofs.Moving.{IsAt}
 use Rattle.running_laws.proofs.Steps.{own_deed}
 use Rattle.running_laws.proofs.Left.{IsNext, Leaves}
 use Rattle.running_laws.proofs.Happened.{nothing_arrives, set_world}
 use Rattle.running_laws.proofs.Resting.{boot_happens, cut_boot, end_happens}
-use Rattle.running_laws.proofs.Stepping.{arrives, deed_happens}
+use Rattle.running_laws.proofs.Stepping.{arrives, arrives_led, deed_happens, deed_is_led}
 
 module _ (before : List Event) (e : Event) (a c : Trio Site) (w : DiskScene) (x : WorldValue)
     (k : IsNext before e a c w x) where
@@ -42,34 +42,31 @@ module _ (before : List Event) (e : Event) (a c : Trio Site) (w : DiskScene) (x 
   abbrev there : Site
   there = value_of c e.place
 
-  -- ---- steps that are cut
-
-  cut_step : (v : DiskScene) → IsAt es v set → (given : Input)
-      → PartOfStep e.now given e.outs here there → IsCutStep given here there
-      → Leaves before e c v set
-  cut_step v at given p known = end_happens before e a c w x k v at (record {
-    old = p.old;
-    was = p.was;
-    gone = p.gone;
-    left = cut_left e.now given e.outs here there known p;
-  }) p.silent
+  -- ---- events that are cut
 
   cut_arrives : (v : DiskScene) → IsAt es v set → (d : Datagram) (given : Option Input)
-      → Arrives d given → Steps true e.now given e.outs here there → KeepsMark here there
-      → Leaves before e c v set
-  cut_arrives v at d None come step keeps =
+      → e.what ≡ Takes d → Arrives d given → Steps true e.now given e.outs here there
+      → ((i : Input) → Arrives d (Some i) → IsCutStep e.now i here there)
+      → IsNotForged before e.place (Takes d) → Leaves before e c v set
+  cut_arrives v at d None what_is come step known network =
       nothing_arrives before e a c w x k v at step.0 step.1
-  cut_arrives v at d (Some given) come step keeps =
-      cut_step v at given step (known_so d given here there come keeps)
+  cut_arrives v at d (Some given) what_is come step known network =
+      cut_step before e a c w x k v at given step (known given come)
+      (arrives_led before e a c w x k v at d given what_is come network)
 
-  event_cut : (v : DiskScene) → IsAt es v set → (what : What)
+  event_cut : (v : DiskScene) → IsAt es v set → (what : What) → e.what ≡ what
       → HappensBy e.place e.now what true e.outs here there → LastsLong what here
-      → IsCutSo what true here there → Leaves before e c v set
-  event_cut v at (Boots delta) by long known =
+      → IsCutSo e.now what true here there → IsNotForged before e.place what
+      → Leaves before e c v set
+  event_cut v at (Boots delta) what_is by long known network =
       cut_boot before e a c w x k v at delta by.0 by.0.part long by.1
-  event_cut v at (Does given) by long known = cut_step v at given by.1 known
-  event_cut v at (Takes d) by long known = cut_arrives v at d by.0 by.1 by.2 known
-  event_cut v at Ends by long known = end_happens before e a c w x k v at by.0 by.1
+  event_cut v at (Does given) what_is by long known network =
+      cut_step before e a c w x k v at given by.1 known
+      (deed_is_led before e a c w x k v at given (own_deed es e.place given by.0))
+  event_cut v at (Takes d) what_is by long known network =
+      cut_arrives v at d by.0 what_is by.1 by.2 known network
+  event_cut v at Ends what_is by long known network =
+      end_happens before e a c w x k v at by.0 by.1
 
   event_leaves : (v : DiskScene) → IsAt es v set → (what : What) → e.what ≡ what
       → HappensBy e.place e.now what false e.outs here there → IsNotForged before e.place what
@@ -85,7 +82,8 @@ module _ (before : List Event) (e : Event) (a c : Trio Site) (w : DiskScene) (x 
 
   pub cut_or_whole : (v : DiskScene) → IsAt es v set → (cut : Bool)
       → HappensBy e.place e.now e.what cut e.outs here there
-      → IsCutSo e.what cut here there → IsNotForged before e.place e.what
+      → IsCutSo e.now e.what cut here there → IsNotForged before e.place e.what
       → Leaves before e c v set
   cut_or_whole v at false by known network = event_leaves v at e.what refl by network h.long
-  cut_or_whole v at true by known network = event_cut v at e.what by h.long known
+  cut_or_whole v at true by known network =
+      event_cut v at e.what refl by h.long known network

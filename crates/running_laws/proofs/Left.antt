@@ -56,6 +56,12 @@ none_some x e = cc
 pub same_some : (n m : NodeValue) → Some n ≡ Some m → n ≡ m
 same_some n m e = cc
 
+pub twice_set : {T : Type 0} (t : Trio T) (p : ServerId) (x y : T)
+    → with_value (with_value t p x) p y ≡ with_value t p y
+twice_set t server.Zero x y = refl
+twice_set t server.One x y = refl
+twice_set t server.Two x y = refl
+
 -- two hosts of a place, one after the other
 pub twice_hosted : (x : WorldValue) (s : ServerId) (h k : HostValue)
     → with_host (with_host x s h) s k ≡ with_host x s k

@@ -23,9 +23,11 @@ mod Endings
 mod Standing
 mod Left
 mod Cuts
+mod Muted
 mod Happened
 mod Stepping
 mod Resting
+mod Broken
 mod Happening
 pub mod Following
 pub mod First

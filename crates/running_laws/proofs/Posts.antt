@@ -32,6 +32,9 @@ abbrev pub Keeps : List Posted → List Posted → Type 0
 Keeps ps qs = (n : ℕ) (p : Posted) → slice_get ps n ≡ Some p
     → (q : Posted) × (slice_get qs n ≡ Some q) × (q.packet ≡ p.packet)
 
+pub keeps_same : (ps : List Posted) → Keeps ps ps
+keeps_same ps n p e = (p, e, refl)
+
 pub keeps_more : (ps more : List Posted) → Keeps ps (ps ++ more)
 keeps_more ps more n p e = (p, stays_there ps more n p e, refl)
 

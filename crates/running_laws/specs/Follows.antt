@@ -23,9 +23,10 @@ use Rattle.node.specs.Node.{IsServer, NodeValue}
 use Rattle.node.specs.declared.input.Input.{Input}
 use Rattle.node.specs.declared.input.Input.TheVariants as input
 use Rattle.node_link.specs.declared.link.SentDatagram.{SentDatagram}
-use Rattle.node_loop.specs.Arriving.{IsMessage}
+use Rattle.node_loop.specs.Arriving.{Arrives, IsMessage}
 use Rattle.node_loop.specs.Chain.{Chain}
 use Rattle.node_outputs.specs.Messages.{heard}
+use Rattle.node_outputs.specs.declared.outputs.Outputs.{Outputs}
 use Rattle.schedule_play.specs.Stage.{IsReached}
 use Rattle.trace_types.specs.declared.step.Step.{Step}
 use Rattle.trace_types.specs.declared.step.Step.TheVariants as step
@@ -38,7 +39,7 @@ use Rattle.world_rules.specs.Spellings.{spellings}
 use Rattle.running_laws.specs.Books.{AddTo, WasAsked}
 use Rattle.running_laws.specs.Events.{Boots, Does, EachAfter, Ends, Event, IsNewSite, Site, Takes, What, all_sent, new_sites}
 use Rattle.running_laws.specs.Histories.{IsInTime, IsNear, IsRisen, IsSentBefore}
-use Rattle.running_laws.specs.Lives.{Happens}
+use Rattle.running_laws.specs.Lives.{Happens, WholeStep}
 use Rattle.running_laws.specs.Statement.{IsRunOfGroup, Stands, answer_lines, is_answer}
 
 -- ---- a scene that follows a history
@@ -154,23 +155,33 @@ LastsLong Ends s = ⊤
 abbrev pub KeepsMark : (a b : Site) → Type 0
 KeepsMark a b = b.node ≡ None → b.disk.now.mark ≡ a.disk.now.mark
 
+-- or it could have been whole, over a disk that a store in memory has
+pub record CouldBeWhole (now : ℕ) (given : Input) (a : Site) : Type 0 where
+  pub outs : Option Outputs
+  pub site : Site
+  pub step : WholeStep now given outs a site
+  pub has_store : HasStore site
+
 -- an apply that is cut leaves no more than a crash before it may
-abbrev pub IsCutStep : Input → (a b : Site) → Type 0
-IsCutStep (input.Apply most) a b = b.node ≡ None → IsLeftOf a.disk.now b.disk.now
-IsCutStep given a b = KeepsMark a b
+abbrev pub IsCutStep : (now : ℕ) → Input → (a b : Site) → Type 0
+IsCutStep now (input.Apply most) a b = b.node ≡ None → IsLeftOf a.disk.now b.disk.now
+IsCutStep now (input.Ask peer client number cred call) a b = ⊤
+IsCutStep now input.List a b = ⊤
+IsCutStep now given a b = KeepsMark a b ⊎ CouldBeWhole now given a
 
 -- what is known of an event amid which the process is gone
-abbrev pub IsCutSo : What → (cut : Bool) → (a b : Site) → Type 0
-IsCutSo what false a b = ⊤
-IsCutSo (Boots delta) true a b = ⊤
-IsCutSo (Does given) true a b = IsCutStep given a b
-IsCutSo (Takes d) true a b = KeepsMark a b
-IsCutSo Ends true a b = ⊤
+abbrev pub IsCutSo : (now : ℕ) → What → (cut : Bool) → (a b : Site) → Type 0
+IsCutSo now what false a b = ⊤
+IsCutSo now (Boots delta) true a b = ⊤
+IsCutSo now (Does given) true a b = IsCutStep now given a b
+IsCutSo now (Takes d) true a b =
+    (given : Input) → Arrives d (Some given) → IsCutStep now given a b
+IsCutSo now Ends true a b = ⊤
 
 -- WHAT HAPPENS, and what contracts don't say of it yet
 pub record HappensKnown (e : Event) (a c : Trio Site) : Type 0 where
   pub happens : Happens e a c
-  pub cut : IsCutSo e.what e.cut (value_of a e.place) (value_of c e.place)
+  pub cut : IsCutSo e.now e.what e.cut (value_of a e.place) (value_of c e.place)
   pub has_store : HasStore (value_of c e.place)
   pub long : LastsLong e.what (value_of a e.place)
 
