@@ -18,19 +18,9 @@ use Rattle.harp_store.specs.Mark.{MarkFields}
 use Rattle.harp_store.specs.declared.layers.Unsynced.{Unsynced}
 use Rattle.harp_types.specs.declared.server.ServerId.{ServerId}
 use Rattle.node.specs.Disk.{MayLeave, disk_after, marked_by, write_mark}
-use Rattle.node.specs.Input.{input_of}
 use Rattle.node.specs.Node.{NodeValue}
 use Rattle.node.specs.Stored.{LeavesBy, LeavesFlush, disk_by, disk_flushed, flushes}
-use Rattle.node.specs.Taking.{input_in, stepped}
-use Rattle.node.specs.declared.input.Input.{Input}
-use Rattle.node.specs.declared.input.Input.TheVariants as input
-use Rattle.node_outputs.specs.Messages.{heard}
-use Rattle.node_outputs.specs.declared.outputs.Outputs.{Outputs}
-use Rattle.wire.specs.declared.message.Message.{Message}
 use Rattle.world_host.proofs.Stops.{now_at}
-use Rattle.running_laws.specs.Events.{Site}
-use Rattle.running_laws.specs.Follows.{CouldBeWhole, IsCutStep, KeepsMark}
-use Rattle.running_laws.specs.Lives.{PartOfStep}
 
 -- ---- a disk that is synced holds what it reads as
 
@@ -72,127 +62,25 @@ left_of_whole d left h mark = record {
 
 -- ---- what is left amid a step
 
-left_of_old : (old amid : Moments) (left : Disk) → Some amid ≡ Some old → IsLeftOf amid.now left
+pub left_of_old : (old amid : Moments) (left : Disk) → Some amid ≡ Some old → IsLeftOf amid.now left
     → IsLeftOf old.now left
 left_of_old old amid left e h =
     subst (λ (d : Disk). IsLeftOf d left) (now_at amid old e) h
 
-left_of_marked : (d left : Disk) (mark : MarkFields) → IsLeftOf (with_mark mark d) left
-    → left.mark ≡ d.mark → IsLeftOf d left
-left_of_marked d left mark h same = record {
-  image = record { cells = h.image.cells; mark = same };
-  synced = h.synced;
-}
-
-part_marked : (ms : List (Move Entry)) (mark : MarkFields) (old amid : Moments) (left : Disk)
-    → MayLeave ms mark (Some old) (Some amid) → IsLeftOf amid.now left
-    → left.mark ≡ old.now.mark → IsLeftOf old.now left
-part_marked ms mark old amid left (inl e) h same = left_of_old old amid left e h
-part_marked ms mark old amid left (inr w) h same = left_of_marked old.now left mark
-    (subst (λ (d : Disk). IsLeftOf d left)
-    (now_at amid (then_disk (with_mark mark old.now) old) w.1) h) same
-
-part_flushed : (mark : MarkFields) (old amid : Moments) (left : Disk)
-    → FlushesInPart mark (Some old) (Some amid) → IsLeftOf amid.now left
-    → left.mark ≡ old.now.mark → IsLeftOf old.now left
-part_flushed mark old amid left (inl e) h same = left_of_old old amid left e h
-part_flushed mark old amid left (inr (inl e)) h same = left_of_whole old.now left
-    (subst (λ (d : Disk). IsLeftOf d left)
-    (now_at amid (then_disk (synced_whole old.now) old) e) h) same
-part_flushed mark old amid left (inr (inr e)) h same = left_of_whole old.now left
-    (left_of_marked (synced_whole old.now) left mark
-    (subst (λ (d : Disk). IsLeftOf d left)
-    (now_at amid (then_disk (with_mark mark (synced_whole old.now))
-    (then_disk (synced_whole old.now) old)) e) h) same) same
-
-flush_left : (n : NodeValue) (old amid : Moments) (left : Disk)
-    → LeavesFlush n (Some old) (Some amid) → IsLeftOf amid.now left
-    → left.mark ≡ old.now.mark → IsLeftOf old.now left
-flush_left n old amid left (inl e) h same = left_of_old old amid left e h
-flush_left n old amid left (inr f) h same =
-    part_flushed (lower n.plain.ap n.mark) old amid left f.1 h same
-
-no_size : List Entry → Entry → ℕ
-no_size list e = 0
-
-part_told : (now : ℕ) (from : ServerId) (m : Message) (old amid : Moments) (left : Disk)
-    (n : NodeValue)
-    → LeavesBy n (stepped no_size n.me now [] n.plain (input_in from m)) (input_in from m)
-    (Some old) (Some amid)
-    → IsLeftOf amid.now left → left.mark ≡ old.now.mark → IsLeftOf old.now left
-part_told now from m old amid left n = by (heard m)
-  where
-    by : (o : Option (Told Entry))
-        → LeavesBy n (stepped no_size n.me now [] n.plain (option_map (Comes (place_of from)) o))
-        (option_map (Comes (place_of from)) o) (Some old) (Some amid)
-        → IsLeftOf amid.now left → left.mark ≡ old.now.mark → IsLeftOf old.now left
-    by None e h same = left_of_old old amid left e h
-    by (Some told) part h same =
-        let ms = stepped no_size n.me now [] n.plain (Some (Comes (place_of from) told)) in
-        part_marked ms (marked_by n.mark ms) old amid left part h same
+-- ---- behind the last call
 
 -- what is given is no apply
 abbrev pub IsNoApply : Option Begins → Type 0
 IsNoApply (Some (Does (Apply most))) = ⊥
 IsNoApply o = ⊤
 
--- what is left amid a step that wrote no other mark, and applied nothing
-kept_left : (now : ℕ) (given : Input) (outs : Option Outputs) (a b : Site) → KeepsMark a b
-    → IsNoApply (input_of given) → (p : PartOfStep now given outs a b)
-    → IsLeftOf a.disk.now b.disk.now
-kept_left now input.Tick outs a b keeps no p =
-    let ms = stepped no_size p.old.me now [] p.old.plain (Some (Does Tick)) in
-    part_marked ms (marked_by p.old.mark ms) a.disk p.amid b.disk.now (p.part no_size []) p.left
-    (keeps p.gone)
-kept_left now input.Suspect outs a b keeps no p =
-    let ms = stepped no_size p.old.me now [] p.old.plain (Some (Does Suspect)) in
-    part_marked ms (marked_by p.old.mark ms) a.disk p.amid b.disk.now (p.part no_size []) p.left
-    (keeps p.gone)
-kept_left now (input.Message from message) outs a b keeps no p =
-    part_told now from message a.disk p.amid b.disk.now p.old (p.part no_size []) p.left
-    (keeps p.gone)
-kept_left now (input.Ask peer client number cred call) outs a b keeps no p =
-    left_of_old a.disk p.amid b.disk.now (p.part no_size []) p.left
-kept_left now (input.Apply most) outs a b keeps no p = absurd no
-kept_left now input.Flush outs a b keeps no p =
-    flush_left p.old a.disk p.amid b.disk.now (p.part no_size []) p.left (keeps p.gone)
-kept_left now input.List outs a b keeps no p =
-    left_of_old a.disk p.amid b.disk.now (p.part no_size []) p.left
-
--- a message is no apply
-told_no_apply : (from : ServerId) (o : Option (Told Entry))
+-- a message is none
+pub told_no_apply : (from : ServerId) (o : Option (Told Entry))
     → IsNoApply (option_map (Comes (place_of from)) o)
 told_no_apply from None = tt
 told_no_apply from (Some m) = tt
 
--- it is what a crash before the step may leave, or the step could have been whole
-abbrev pub LeftOrWhole : (now : ℕ) → Input → (a b : Site) → Type 0
-LeftOrWhole now given a b = IsLeftOf a.disk.now b.disk.now
-    ⊎ (CouldBeWhole now given a × IsNoApply (input_of given))
-
-by_known : (now : ℕ) (given : Input) (outs : Option Outputs) (a b : Site)
-    → IsNoApply (input_of given) → KeepsMark a b ⊎ CouldBeWhole now given a
-    → PartOfStep now given outs a b → LeftOrWhole now given a b
-by_known now given outs a b no (inl keeps) p = inl (kept_left now given outs a b keeps no p)
-by_known now given outs a b no (inr could) p = inr (could, no)
-
--- WHAT IS LEFT amid a step
-pub cut_left : (now : ℕ) (given : Input) (outs : Option Outputs) (a b : Site)
-    → IsCutStep now given a b → PartOfStep now given outs a b → LeftOrWhole now given a b
-cut_left now input.Tick outs a b known p = by_known now input.Tick outs a b tt known p
-cut_left now input.Suspect outs a b known p = by_known now input.Suspect outs a b tt known p
-cut_left now (input.Message from message) outs a b known p =
-    by_known now (input.Message from message) outs a b (told_no_apply from (heard message)) known p
-cut_left now (input.Ask peer client number cred call) outs a b known p =
-    inl (left_of_old a.disk p.amid b.disk.now (p.part no_size []) p.left)
-cut_left now (input.Apply most) outs a b known p = inl (known p.gone)
-cut_left now input.Flush outs a b known p = by_known now input.Flush outs a b tt known p
-cut_left now input.List outs a b known p =
-    inl (left_of_old a.disk p.amid b.disk.now (p.part no_size []) p.left)
-
--- ---- behind the last call
-
-same_moments : (h k : Moments) → Some h ≡ Some k → h ≡ k
+pub same_moments : (h k : Moments) → Some h ≡ Some k → h ≡ k
 same_moments h k e = cc
 
 marked_end : (ms : List (Move Entry)) (mark : MarkFields) (old amid whole : Moments) (left : Disk)
@@ -226,7 +114,7 @@ flush_end n old amid whole left (inr f) made h =
     flushed_end mark old amid whole left f.1
     (made ∙ if_is (flushes n) (flushed mark (Some old)) (Some old) f.0) h
 
--- what is given may be cut behind a call that changes the disk; a message's step writes the mark then
+-- what is given may be cut behind a call that changes the disk; by a message it wrote the mark
 abbrev pub IsCutBehind : List (Move Entry) → Option Begins → Type 0
 IsCutBehind ms None = ⊥
 IsCutBehind ms (Some (Does (Ask client number cred call))) = ⊥

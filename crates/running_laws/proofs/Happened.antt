@@ -143,7 +143,7 @@ module _ (before : List Event) (e : Event) (a c : Trio Site) (w : DiskScene) (x 
   site_here n is = ⊎_elim (λ s. s) (λ (k : IsNew e.place (value_of x.hosts e.place) here).
       absurd (none_some n (sym k.new.gone ∙ is))) (f.sites_are e.place)
 
-  own_me : (n : NodeValue) → here.node ≡ Some n → n.me ≡ place_of e.place
+  pub own_me : (n : NodeValue) → here.node ≡ Some n → n.me ≡ place_of e.place
   own_me n is =
       let own = f.stands.servers e.place in
       let runs = its_node (w.scene.group.server (place_of e.place)) own.stock own.saved

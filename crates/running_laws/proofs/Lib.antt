@@ -24,6 +24,7 @@ mod Standing
 mod Left
 mod Cuts
 mod Muted
+mod Stopped
 mod Happened
 mod Stepping
 mod Resting

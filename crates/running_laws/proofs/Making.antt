@@ -1,5 +1,5 @@
--- The node that a boot makes of a disk with a mark: by the rules alone. So a boot that is cut behind
--- its write was about to make one.
+-- The node that a boot makes of a disk with a mark, by the rules alone. So a boot that is cut
+-- behind its write was about to make one.
 use Rattle.std.proofs.Common.{◌≡◌, ℕ, ◌+◌, Bool, true, false, List, [], ◌∷◌, length, map, Option, None, Some, refl, sym, ap, subst, ◌∙◌, arith, if◌then◌else◌}
 use Rattle.std.specs.Prelude.{IfSome, option_map, ◌&&◌}
 use Rattle.std.proofs.lemmas.List.{length-map}

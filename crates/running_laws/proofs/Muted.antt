@@ -2,7 +2,7 @@
 use Rattle.std.proofs.Common.{◌≡◌, ℕ, ◌+◌, true, false, List, [], ◌∷◌, ◌++◌, map, Option, Some, refl, sym, ap, ◌∙◌, subst, true≢false}
 use Rattle.event_record.specs.Record.{entry_of}
 use Rattle.file_tree.specs.Book.{Entry}
-use Rattle.group_rules.specs.Moves.{Accepting, Basing, Choosing, Collecting, Committing, Heeding, Move, Noting, Opening, Reading, Saying, Sending}
+use Rattle.group_rules.specs.Moves.{Basing, Choosing, Collecting, Committing, Move, Noting, Opening, Reading, Saying, Sending}
 use Rattle.group_rules.specs.Names.{place_of}
 use Rattle.group_rules.specs.Places.{Place}
 use Rattle.group_rules.specs.Replicate.{answers}
@@ -24,7 +24,7 @@ use Rattle.trace_laws.proofs.Answering.{AreSilent, IsSilent, milds_silent}
 use Rattle.trace_laws.proofs.MoveKinds.{AreFront, AreTail, IsFront, Kind, Plain, accepts, appends, commits, each-append, heeds, mild, notes, plain, reads, repeats, tails_mild}
 use Rattle.world.specs.Turns.{TurnBegins}
 use Rattle.world.specs.World.{IsServer, WorldValue}
-use Rattle.world_host.proofs.NodeCalls.{is_of, plain_moves}
+use Rattle.world_host.proofs.NodeCalls.{is_of}
 use Rattle.world_host.proofs.Rules.{any_marks_are}
 use Rattle.world_host.proofs.Shown.{its_node}
 use Rattle.world_rules.specs.Spellings.{spellings}

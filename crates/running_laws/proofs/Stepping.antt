@@ -13,7 +13,7 @@ use Rattle.node.specs.declared.input.Input.{Input}
 use Rattle.node.specs.declared.input.Input.TheVariants as input
 use Rattle.node_link.specs.declared.link.Datagram.{Datagram}
 use Rattle.node_link.specs.declared.link.SentDatagram.{SentDatagram}
-use Rattle.node_loop.specs.Arriving.{Arrives, IsMessage, input_of}
+use Rattle.node_loop.specs.Arriving.{Arrives, IsMessage}
 use Rattle.node_outputs.specs.declared.outputs.Outputs.{Outputs}
 use Rattle.wire.specs.declared.message.Message.{Message}
 use Rattle.world.proofs.Arrivals.{is_packet}

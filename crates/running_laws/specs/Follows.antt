@@ -7,7 +7,7 @@ use Rattle.group_rules.specs.State.{Mode, Open, Server as Machine, Waits}
 use Rattle.group_trace.specs.DiskCalls.{measures_of}
 use Rattle.group_trace.specs.DiskRun.{DiskScene, disk_run}
 use Rattle.group_trace.specs.Run.{CanFollow, run_lines}
-use Rattle.harp_store.specs.Disk.{Disk as ToldDisk, IsLeftOf, IsSynced, Moments, with_mark}
+use Rattle.harp_store.specs.Disk.{Disk as ToldDisk, IsLeftOf, IsSynced, with_mark}
 use Rattle.harp_store.specs.Mark.{first_mark}
 use Rattle.harp_store.specs.Memory.{nothing_stored}
 use Rattle.harp_store.specs.Values.{stored}
@@ -151,23 +151,19 @@ LastsLong (Does given) s = ⊤
 LastsLong (Takes d) s = ⊤
 LastsLong Ends s = ⊤
 
--- a step that is cut wrote no other mark
-abbrev pub KeepsMark : (a b : Site) → Type 0
-KeepsMark a b = b.node ≡ None → b.disk.now.mark ≡ a.disk.now.mark
-
--- or it could have been whole, over a disk that a store in memory has
+-- a step could have been whole, over a disk that a store in memory has
 pub record CouldBeWhole (now : ℕ) (given : Input) (a : Site) : Type 0 where
   pub outs : Option Outputs
   pub site : Site
   pub step : WholeStep now given outs a site
   pub has_store : HasStore site
 
--- an apply that is cut leaves no more than a crash before it may
+-- a step that is cut leaves what a crash before it may, or it could have been whole; an ask changes
+-- no disk
 abbrev pub IsCutStep : (now : ℕ) → Input → (a b : Site) → Type 0
-IsCutStep now (input.Apply most) a b = b.node ≡ None → IsLeftOf a.disk.now b.disk.now
 IsCutStep now (input.Ask peer client number cred call) a b = ⊤
 IsCutStep now input.List a b = ⊤
-IsCutStep now given a b = KeepsMark a b ⊎ CouldBeWhole now given a
+IsCutStep now given a b = IsLeftOf a.disk.now b.disk.now ⊎ CouldBeWhole now given a
 
 -- what is known of an event amid which the process is gone
 abbrev pub IsCutSo : (now : ℕ) → What → (cut : Bool) → (a b : Site) → Type 0
