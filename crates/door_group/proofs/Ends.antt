@@ -3,7 +3,7 @@ use Rattle.std.proofs.Common.{◌≡◌, ℕ, List, Option, None, Some, Result, 
 use Rattle.harp_types.specs.declared.server.ServerId.{ServerId}
 use Rattle.harp_types.specs.declared.server.ServerId.TheVariants.{Zero}
 use Rattle.door_group.specs.Rule.{Before}
-use Rattle.group_client.specs.First.{first_number}
+use Rattle.client_calls.specs.First.{first_number}
 use Rattle.door_group.specs.Local.{HasFailed}
 use Rattle.node_link.specs.Readings.{MayTell}
 use Rattle.node_loop.specs.Scene.{Scene}

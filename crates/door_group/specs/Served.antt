@@ -5,7 +5,7 @@ use Rattle.harp_types.specs.declared.call.Call.{Call}
 use Rattle.harp_types.specs.declared.cred.Cred.{Cred}
 use Rattle.harp_types.specs.declared.server.ServerId.TheVariants.{Zero}
 use Rattle.door_group.specs.Rule.{AreMade, Before, GivesUp, IsMade, Outcome}
-use Rattle.group_client.specs.First.{first_number}
+use Rattle.client_calls.specs.First.{first_number}
 use Rattle.door_group.specs.Local.{AskBreaks, AskedAt, TurnBreaks, Turned}
 use Rattle.node_link.specs.Readings.{MayTell}
 use Rattle.node_loop.specs.Chain.{Chain}

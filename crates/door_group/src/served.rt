@@ -10,7 +10,7 @@ ghost use Rattle.door_group.specs.Served.{DoorServed, EndsAfter, IsServed};
 use crate::asker::Asker;
 use crate::fault::{ServedFault, by_door, by_loop};
 use crate::local::LocalServers;
-use group_client::first_number;
+use client_calls::first_number;
 use harp_store::Store;
 use harp_types::{Cred, ServerId, Sink, Source, Trio};
 use node_link::{Clock, Link};

@@ -16,7 +16,8 @@ use Rattle.nfs_door.specs.Steps.{LeadsTo, after, begun}
 use Rattle.nfs_door.specs.declared.step.Errand.{Errand}
 use Rattle.nfs_door.specs.declared.step.Step.{Step}
 use Rattle.nfs_door.specs.declared.step.Step.TheVariants as step
-use Rattle.group_client.specs.Rule.{AnswersRightly, Asked, is_of, news, news_from, said, server_of}
+use Rattle.client_calls.specs.Servers.{server_of}
+use Rattle.group_client.specs.Rule.{AnswersRightly, Asked, is_of, news, news_from, said}
 use Rattle.group_client.specs.declared.news.News.{News}
 use Rattle.group_client.specs.declared.news.News.TheVariants.{Nothing, Refused, Answered}
 use Rattle.group_client.specs.declared.news.Replied.{Replied}

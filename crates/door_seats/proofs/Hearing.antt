@@ -3,10 +3,11 @@ use Rattle.std.proofs.Common.{◌≡◌, ℕ, Bool, true, false, cond, List, [],
 use Rattle.node_link.specs.declared.link.Datagram.{Datagram}
 use Rattle.nfs_door.specs.Steps.{after}
 use Rattle.nfs_door.specs.declared.step.Step.TheVariants as step
-use Rattle.group_client.specs.Rule.{Asked, asked_again, hinted, news}
+use Rattle.client_calls.specs.Waits.{asked_again, hinted}
+use Rattle.group_client.specs.Rule.{Asked, news}
 use Rattle.group_client.specs.declared.news.News.{News}
 use Rattle.group_client.specs.declared.news.News.TheVariants.{Nothing, Refused, Answered}
-use Rattle.group_client.specs.declared.wait.Wait.{Wait}
+use Rattle.client_calls.specs.declared.wait.Wait.{Wait}
 use Rattle.door_seats.specs.Answers.{Asks, IsAskedIn, IsExchange, came, went}
 use Rattle.door_seats.specs.Events.{Event, Hears, Reminds}
 use Rattle.door_seats.specs.Kept.{Kept}

@@ -7,7 +7,7 @@ use Rattle.harp_types.specs.declared.server.ServerId.TheVariants.{Zero}
 use Rattle.node_link.specs.Readings.{MayTell}
 use Rattle.node_link.specs.declared.link.LinkFault.{LinkFault}
 use Rattle.node_link.specs.declared.link.LinkFault.TheVariants.{Failed, NoMemory}
-use Rattle.group_client.specs.First.{first_number}
+use Rattle.client_calls.specs.First.{first_number}
 use Rattle.door_seats.specs.Doors.{EndsAt, Goes, GoesBy, IsNew, Serves, Tells, first_scene, outer_of, scene_of, with_clock}
 use Rattle.door_seats.specs.Events.{AllHappen, Event, Outer, Scene}
 use Rattle.door_seats.specs.declared.door.Door.{Door}

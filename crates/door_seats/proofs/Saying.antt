@@ -2,7 +2,7 @@
 use Rattle.std.proofs.Common.{◌≡◌, Option, Some, None, Ok, inl, refl, slice_index_or, slice_set, List, subst, sym, ℕ}
 use Rattle.harp_types.specs.declared.server.ServerId.{ServerId}
 use Rattle.node_link.specs.declared.link.Datagram.{Datagram}
-use Rattle.group_client.specs.Rule.{server_of}
+use Rattle.client_calls.specs.Servers.{server_of}
 use Rattle.wire.specs.Messages.{decoded}
 use Rattle.wire.specs.declared.message.Message.{Message}
 use Rattle.door_seats.specs.Doors.{Heard}

@@ -9,7 +9,7 @@ use Rattle.node_link.specs.declared.link.Datagram.{Datagram}
 use Rattle.node_link.specs.declared.link.LinkFault.{LinkFault}
 use Rattle.node_link.specs.declared.link.LinkFault.TheVariants.{Failed}
 use Rattle.node_link.specs.declared.link.SentDatagram.{SentDatagram}
-use Rattle.group_client.specs.First.{first_number}
+use Rattle.client_calls.specs.First.{first_number}
 use Rattle.door_seats.specs.Answers.{AreRight}
 use Rattle.door_seats.specs.Connections.{Signs}
 use Rattle.door_seats.specs.Events.{AllHappen, Does, Event, Hears, IsAt, IsCut, Outer, Passes, Scene, Seating, first_seating}

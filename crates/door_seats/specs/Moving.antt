@@ -1,6 +1,7 @@
 -- What a seat asks, as a datagram.
 use Rattle.std.specs.Prelude.{◌≡◌, ◌<◌, ◌≤◌, ◌^◌, Option, option_map}
-use Rattle.group_client.specs.Rule.{ask_message, peer_of}
+use Rattle.client_calls.specs.Servers.{peer_of}
+use Rattle.group_client.specs.Rule.{ask_message}
 use Rattle.node_link.specs.Traffic.{last_port}
 use Rattle.wire.specs.Messages.{message_bytes}
 use Rattle.door_seats.specs.Kept.{Kept}

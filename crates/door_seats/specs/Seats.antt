@@ -12,10 +12,11 @@ use Rattle.nfs_door.specs.declared.step.Errand.{Errand}
 use Rattle.nfs_door.specs.declared.step.Step.{Step}
 use Rattle.nfs_door.specs.declared.step.Step.TheVariants as step
 use Rattle.nfs_door.specs.Steps.{after, begun}
-use Rattle.group_client.specs.Rule.{Asked, asked_again, first_wait, hinted, news, said}
+use Rattle.client_calls.specs.Waits.{asked_again, first_wait, hinted}
+use Rattle.group_client.specs.Rule.{Asked, news, said}
 use Rattle.group_client.specs.declared.news.News.{News}
 use Rattle.group_client.specs.declared.news.News.TheVariants.{Nothing, Refused, Answered}
-use Rattle.group_client.specs.declared.wait.Wait.{Wait}
+use Rattle.client_calls.specs.declared.wait.Wait.{Wait}
 use Rattle.wire.specs.declared.message.Message.{Message}
 use Rattle.door_seats.specs.declared.rule.Moment.{Moment}
 use Rattle.door_seats.specs.declared.seat.Line.{Line}

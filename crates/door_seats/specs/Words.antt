@@ -2,7 +2,8 @@
 use Rattle.std.specs.Prelude.{◌≡◌, ◌<◌, ℕ, Option, Some, None, Ok}
 use Rattle.harp_types.specs.declared.server.ServerId.{ServerId}
 use Rattle.node_link.specs.declared.link.Datagram.{Datagram}
-use Rattle.group_client.specs.Rule.{Asked, said, server_of}
+use Rattle.client_calls.specs.Servers.{server_of}
+use Rattle.group_client.specs.Rule.{Asked, said}
 use Rattle.group_client.specs.declared.news.News.TheVariants.{Nothing}
 use Rattle.wire.specs.Messages.{decoded}
 use Rattle.wire.specs.declared.message.Message.{Message}

@@ -19,7 +19,7 @@ pub enum Taken {
 }
 
 /// What came of handing bytes to a connection.
-#[derive(Clone, Copy, PartialEq, Eq)]
+#[derive(Clone, Copy)]
 pub enum Given {
     /// So many were taken, the first ones.
     Some(usize),

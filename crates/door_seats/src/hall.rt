@@ -14,7 +14,7 @@ use crate::framing::{Front, front_of};
 use crate::kept::KeptAnswers;
 use crate::rule::Moment;
 use crate::seat::{Ask, Line, Seat};
-use group_client::server_of;
+use client_calls::server_of;
 use harp_types::ServerId;
 use node_link::Datagram;
 use std::alloc::{AllocError, Global};

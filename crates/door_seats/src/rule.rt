@@ -3,7 +3,7 @@
 use harp_types::Cred;
 
 /// By what records are answered, and of which servers their calls are asked.
-#[derive(Clone, Copy, PartialEq, Eq)]
+#[derive(Clone, Copy)]
 pub struct Rule {
     /// As whom all calls are made; where it is none, each as its credential says.
     pub everyone: Option<Cred>,
@@ -12,7 +12,7 @@ pub struct Rule {
 }
 
 /// A moment at which they are.
-#[derive(Clone, Copy, PartialEq, Eq)]
+#[derive(Clone, Copy)]
 pub struct Moment {
     pub rule: Rule,
     /// In milliseconds of the clock.

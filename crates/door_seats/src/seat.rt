@@ -15,10 +15,11 @@ use crate::byte_queue::ByteQueue;
 use crate::kept::KeptAnswers;
 use crate::request::Request;
 use crate::rule::Moment;
-use group_client::{News, Ticket, Wait, peer_of, said};
-use harp_base::fields::put_u32;
+use client_calls::{Ticket, Wait, peer_of};
+use group_client::{News, said};
 use harp_types::{Bytes, Peer, ServerId, Time};
 use nfs_door::{Errand, Step, begin, go_on};
+use rpc_door::put_sent;
 use std::alloc::{AllocError, Global};
 use wire::{Message, encode};
 
@@ -74,9 +75,6 @@ pub struct Seat {
 /// No more bytes of a connection are taken while so many aren't read.
 const MOST_UNREAD: usize = 65_536;
 
-/// The mark of a record of one fragment, but for its length.
-const LAST: u32 = 1 << 31;
-
 /// A moment in milliseconds, as NFS tells it.
 fn time_at(now: u64) -> Time
     ensures { result ≡ time_at now }
@@ -87,17 +85,12 @@ fn time_at(now: u64) -> Time
     }
 }
 
-/// An answer as it is sent, a record of one fragment. One of 2^31 bytes, which there is none of,
-/// counts as want of memory.
+/// An answer as it is sent.
 fn sent(alloc: Global, answer: &[u8]) -> Result<Vec<u8>, AllocError>
     ensures { IfOk result (λ v. v.items ≡ sent answer.now) }
 {
-    if answer.len() >= LAST as usize {
-        return Err(AllocError);
-    }
     let mut out = Vec::new(alloc);
-    put_u32(&mut out, LAST + answer.len() as u32)?;
-    out.extend_from_slice(answer)?;
+    put_sent(&mut out, answer)?;
     Ok(out)
 }
 

@@ -9,7 +9,7 @@ use crate::door::{Door, Outside};
 use crate::hall::{Hall, SEATS};
 use crate::rule::{Moment, Rule};
 use crate::seat::Ask;
-use group_client::first_number;
+use client_calls::first_number;
 use harp_types::ServerId;
 use node_link::{Clock, Link, LinkFault};
 use std::alloc::{AllocError, Global};

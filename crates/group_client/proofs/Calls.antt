@@ -3,10 +3,10 @@ use Rattle.std.proofs.Common.{◌≡◌, ℕ, zero, suc, ◌-◌, ◌<◌, List,
 use Rattle.rpc_door.specs.declared.group.Exchange.{Exchange}
 use Rattle.rpc_door.specs.declared.group.GroupFault.{GroupFault}
 use Rattle.rpc_door.specs.declared.group.GroupFault.TheVariants as group
+use Rattle.client_calls.specs.declared.wait.Wait.{Wait}
 use Rattle.group_client.specs.declared.news.Replied.{Replied}
-use Rattle.group_client.specs.declared.wait.Next.{Next}
-use Rattle.group_client.specs.declared.wait.Next.TheVariants.{Ends, Waits}
-use Rattle.group_client.specs.declared.wait.Wait.{Wait}
+use Rattle.group_client.specs.declared.making.Next.{Next}
+use Rattle.group_client.specs.declared.making.Next.TheVariants.{Ends, Waits}
 use Rattle.group_client.specs.Rule.{AreMade, Asked, Before, Caller, Goes, IsCut, IsStep, Outcome, Scene, outcome_of}
 use Rattle.group_client.specs.Rule.Outcome.{Broken, Done, Spent}
 

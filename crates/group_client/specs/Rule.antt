@@ -1,17 +1,12 @@
 -- HOW A CALL IS ASKED of three servers elsewhere, over a link, until one of them answers it.
-use Rattle.std.specs.Prelude.{◌≡◌, ◌⊎◌, ℕ, zero, suc, ◌+◌, ◌*◌, ◌<◌, ◌≤◌, ◌==◌, ◌&&◌, min, List, [], ◌∷◌, Bool, true, Option, Some, None, Result, Ok, Err, ⊤, if◌then◌else◌}
+use Rattle.std.specs.Prelude.{◌≡◌, ◌⊎◌, ℕ, zero, suc, ◌<◌, ◌≤◌, ◌==◌, ◌&&◌, List, [], ◌∷◌, Bool, true, Option, Some, None, Result, Ok, Err, ⊤, if◌then◌else◌}
 use Rattle.harp_types.specs.Memory.{raised}
-use Rattle.harp_types.specs.Server.{number_of, same_server}
 use Rattle.harp_types.specs.declared.call.Call.{Call}
 use Rattle.harp_types.specs.declared.cause.Cause.{Cause}
-use Rattle.harp_types.specs.declared.cause.Cause.TheVariants as cause
 use Rattle.harp_types.specs.declared.cred.Cred.{Cred}
-use Rattle.harp_types.specs.declared.peer.Peer.{Peer}
-use Rattle.harp_types.specs.declared.peer.Peer.TheVariants.{Local, Server, Other}
 use Rattle.harp_types.specs.declared.reply.Reply.{Reply}
 use Rattle.harp_types.specs.declared.server.ServerId.{ServerId}
-use Rattle.harp_types.specs.declared.server.ServerId.TheVariants.{Zero, One, Two}
-use Rattle.node_link.specs.Peers.{localhost}
+use Rattle.harp_types.specs.declared.server.ServerId.TheVariants.{Zero}
 use Rattle.node_link.specs.Readings.{MayTell}
 use Rattle.node_link.specs.Traffic.{TakesNext, Traffic, with_sent_told}
 use Rattle.node_link.specs.declared.clock.Reading.{Reading}
@@ -25,33 +20,17 @@ use Rattle.wire.specs.Messages.{decoded, message_bytes}
 use Rattle.wire.specs.declared.decoding.DecodeFault.{DecodeFault}
 use Rattle.wire.specs.declared.message.Message.{Message}
 use Rattle.wire.specs.declared.message.Message.TheVariants as message
+use Rattle.client_calls.specs.Servers.{peer_of, server_of}
+use Rattle.client_calls.specs.Waits.{asked_again, first_wait, hinted, longest_pause}
+use Rattle.client_calls.specs.declared.ticket.Ticket.{Ticket}
+use Rattle.client_calls.specs.declared.wait.Wait.{Wait}
 use Rattle.group_client.specs.declared.news.News.{News}
 use Rattle.group_client.specs.declared.news.News.TheVariants.{Nothing, Refused, Answered}
 use Rattle.group_client.specs.declared.news.Replied.{Replied}
-use Rattle.group_client.specs.declared.news.Ticket.{Ticket}
-use Rattle.group_client.specs.declared.wait.Next.{Next}
-use Rattle.group_client.specs.declared.wait.Next.TheVariants.{Ends, Waits}
-use Rattle.group_client.specs.declared.wait.Wait.{Wait}
+use Rattle.group_client.specs.declared.making.Next.{Next}
+use Rattle.group_client.specs.declared.making.Next.TheVariants.{Ends, Waits}
 
--- ---- servers, and messages
-
--- a server as a peer, where server 0 has this port
-abbrev pub peer_of : ℕ → ServerId → Peer
-peer_of port s = Other localhost (port + number_of s)
-
--- the server that has an address and a port
-abbrev pub server_at : ℕ → ℕ → ℕ → Option ServerId
-server_at port address from =
-    if address == localhost
-    then (if from == port then Some Zero
-    else if from == port + 1 then Some One
-    else if from == port + 2 then Some Two else None) else None
-
--- the server that a peer is
-abbrev pub server_of : ℕ → Peer → Option ServerId
-server_of port Local = None
-server_of port (Server s) = None
-server_of port (Other address from) = server_at port address from
+-- ---- messages
 
 -- a call, of which servers it is asked, by the port of the first, for which client, and under which
 -- number
@@ -126,43 +105,6 @@ news_from q bytes (Some s) = said_if s q (decoded bytes)
 -- WHAT A DATAGRAM SAYS OF A CALL: only what comes from a server counts
 abbrev pub news : Asked → Datagram → News
 news q d = news_from q d.bytes (server_of q.port d.from)
-
--- ---- when, and where
-
-abbrev pub longest_pause : ℕ
-longest_pause = 2000
-
-abbrev pub next_round : ServerId → ServerId
-next_round Zero = One
-next_round One = Two
-next_round Two = Zero
-
--- where a call is asked next that this server can't serve; one that names itself may wait for long
-abbrev pub place_after : ServerId → Cause → ServerId
-place_after place (cause.NotLeader (Some hint)) =
-    if same_server hint place then next_round place else hint
-place_after place (cause.NotLeader None) = next_round place
-place_after place cause.BadClient = place
-place_after place cause.NotYetOpen = place
-place_after place cause.NoPromise = place
-place_after place cause.LogFull = place
-place_after place cause.Old = place
-
--- a call was asked for the first time, at this moment: after 200 ms it is asked again, of the next
--- server
-abbrev pub first_wait : ServerId → ℕ → Wait
-first_wait place now = record { place = next_round place; due = now + 200; pause = 200 }
-
-abbrev pub wait_of : ServerId → ℕ → ℕ → Wait
-wait_of place now pause = record { place = next_round place; due = now + pause; pause = pause }
-
--- it was asked again: the next pause is twice as long, up to 2 s
-abbrev pub asked_again : ℕ → Wait → Wait
-asked_again now w = wait_of w.place now (min (2 * w.pause) longest_pause)
-
--- a server can't serve it
-abbrev pub hinted : ServerId → Cause → Wait → Wait
-hinted by cause w = record w { place = place_after by cause }
 
 -- what becomes of one that waits so by what is heard
 abbrev pub next_by : Wait → News → Next

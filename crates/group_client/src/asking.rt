@@ -4,7 +4,7 @@ ghost use Rattle.std.specs.Prelude.{◌≡◌, ◌≤◌};
 ghost use Rattle.wire.specs.Messages.{message_bytes};
 ghost use Rattle.group_client.specs.Rule.{ask_message, asked};
 
-use crate::news::Ticket;
+use client_calls::Ticket;
 use harp_types::{Bytes, Call};
 
 /// A call that is asked, and the bytes of its ask.

@@ -4,7 +4,7 @@ ghost use Rattle.std.specs.Prelude.{◌≤◌};
 
 use crate::asking::Outside;
 use crate::making::make_call;
-use crate::news::Ticket;
+use client_calls::Ticket;
 use harp_types::{Call, Cred, Reply, ServerId};
 use node_link::{Clock, Link};
 use rpc_door::{Group, GroupFault};

@@ -9,19 +9,16 @@
 //!   this number, and of a form that the call can get.
 //! - A call that isn't answered is asked again after 200 ms, and then after a pause that is twice
 //!   as long each time, up to 2 s: at the other server that the last refusal hints at, and where it
-//!   hints at none, or none came, at the next one round (`Wait`).
+//!   hints at none, or none came, at the next one round (`Wait` of `client_calls`).
 //! - Where a call was given up, what was taken and sent for it is a front of what the rule makes
 //!   (`GivesUp`).
 #![tactic(auto)]
 
 mod asking;
 mod client;
-mod first;
 mod making;
 mod news;
-mod wait;
 
 pub use client::GroupClient;
-pub use first::first_number;
-pub use news::{News, Replied, Ticket, peer_of, said, server_of};
-pub use wait::{Next, Wait};
+pub use making::Next;
+pub use news::{News, Replied, said};

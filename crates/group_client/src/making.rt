@@ -6,17 +6,27 @@ ghost use Rattle.node_link.specs.Traffic.{TakesNext, last_port, with_sent_told};
 ghost use Rattle.rpc_door.specs.Results.{is_reply_to};
 ghost use Rattle.rpc_door.specs.declared.group.GroupFault.TheVariants as group;
 ghost use Rattle.group_client.specs.Calling.{IsCounted, asking_of, scene_of};
+ghost use Rattle.client_calls.specs.Waits.{longest_pause};
 ghost use Rattle.group_client.specs.Rule.{EndsRightly, Goes, IsCut, IsMade, IsStep, ask_datagram};
-ghost use Rattle.group_client.specs.Rule.{asked, longest_pause, next_after, outcome_of};
+ghost use Rattle.group_client.specs.Rule.{asked, next_after, next_by, outcome_of};
 
 use crate::asking::{Asking, Outside};
-use crate::news::{Replied, Ticket, heard_in, peer_of};
-use crate::wait::{LONGEST_PAUSE, Next, Wait};
+use crate::news::{News, Replied, heard_in};
+use client_calls::{LONGEST_PAUSE, Ticket, Wait, peer_of};
 use harp_types::{Call, ServerId};
 use node_link::{Clock, Datagram, Link, LinkFault};
 use rpc_door::GroupFault;
 use std::alloc::{AllocError, Global};
 use wire::{Message, encode};
+
+/// Where a step of a call leads to.
+#[derive(Drop)]
+pub enum Next {
+    /// It waits on.
+    Waits(Wait),
+    /// It is answered.
+    Ends(Replied),
+}
 
 /// The fault of a group that a fault of its link is.
 fn of_link(fault: LinkFault) -> GroupFault
@@ -80,6 +90,17 @@ fn hear<L: Link>(alloc: Global, link: &mut L, wait_ms: u32) -> Result<Option<Dat
     }
 }
 
+/// What becomes of a call that waits so, by what is heard.
+fn next_by(wait: Wait, news: News) -> Next
+    ensures { result ≡ next_by wait news }
+{
+    match news {
+        News::Nothing => Next::Waits(wait),
+        News::Refused { by, cause } => Next::Waits(wait.hinted(by, cause)),
+        News::Answered(replied) => Next::Ends(replied),
+    }
+}
+
 /// What becomes of a call that waits so, by what came.
 fn next_after(
     alloc: Global,
@@ -96,7 +117,7 @@ fn next_after(
         return Ok(Next::Waits(wait));
     };
     match heard_in(alloc, asking.ticket, asking.call, &datagram) {
-        Ok(news) => Ok(wait.next(news)),
+        Ok(news) => Ok(next_by(wait, news)),
         Err(_) => Err(GroupFault::NoMemory),
     }
 }

@@ -1,37 +1,16 @@
 //! What datagrams say of a call.
 
-ghost use Rattle.std.specs.Prelude.{◌≡◌, ◌≤◌, ◌==◌, ◌&&◌, IfOk};
+ghost use Rattle.std.specs.Prelude.{◌≡◌, ◌≤◌, IfOk};
 ghost use Rattle.node_link.specs.Traffic.{last_port};
-ghost use Rattle.group_client.specs.Rule.{AnswersRightly, answer_said, asked, news, peer_of};
-ghost use Rattle.group_client.specs.Rule.{refusal_said, said, server_of};
+ghost use Rattle.group_client.specs.Rule.{AnswersRightly, answer_said, asked, news, refusal_said};
+ghost use Rattle.group_client.specs.Rule.{said};
 
-use harp_types::{Call, Cause, Cred, Peer, Reply, ServerId};
+use client_calls::{Ticket, server_of};
+use harp_types::{Call, Cause, Reply, ServerId};
 use node_link::Datagram;
 use rpc_door::is_reply_to;
 use std::alloc::{AllocError, Global};
 use wire::{DecodeFault, Message, decode};
-
-/// 127.0.0.1, where the servers of a group are.
-const LOCALHOST: u32 = 0x7f00_0001;
-
-/// Of which servers a call is asked, by the port of the first, for which client, and under which
-/// number.
-#[derive(Clone, Copy, PartialEq, Eq)]
-pub struct Ticket {
-    pub port: u16,
-    pub client: u32,
-    pub number: u64,
-    pub cred: Cred,
-}
-
-impl Ticket {
-    /// Whether it is this client's, and has this number.
-    fn is_of(self, client: u32, number: u64) -> bool
-        ensures { result ≡ ((client == self.client) && (number == self.number)) }
-    {
-        client == self.client && number == self.number
-    }
-}
 
 /// A reply, and the server that it is from.
 #[derive(Drop)]
@@ -48,43 +27,6 @@ pub enum News {
     Refused { by: ServerId, cause: Cause },
     /// A server answers it.
     Answered(Replied),
-}
-
-/// A server as a peer, where server 0 has this port.
-pub fn peer_of(port: u16, server: ServerId) -> Peer
-    requires { port ≤ last_port }
-    ensures { result ≡ peer_of port server }
-{
-    Peer::Other {
-        address: LOCALHOST,
-        port: port + u16::from(server.number()),
-    }
-}
-
-/// The server that a peer is, where server 0 has this port.
-pub fn server_of(port: u16, peer: Peer) -> Option<ServerId>
-    requires { port ≤ last_port }
-    ensures { result ≡ server_of port peer }
-{
-    let Peer::Other {
-        address,
-        port: from,
-    } = peer
-    else {
-        return None;
-    };
-    if address != LOCALHOST {
-        return None;
-    }
-    if from == port {
-        Some(ServerId::Zero)
-    } else if from == port + 1 {
-        Some(ServerId::One)
-    } else if from == port + 2 {
-        Some(ServerId::Two)
-    } else {
-        None
-    }
 }
 
 /// What an answer of a server says of a call: nothing where it is of another one, or no reply to

@@ -1,7 +1,7 @@
 //! What was done to folders.
 
 /// What is done to a folder.
-#[derive(Clone, Copy, PartialEq, Eq)]
+#[derive(Clone, Copy)]
 pub enum Deed {
     /// It is made for a server that never ran.
     Made,

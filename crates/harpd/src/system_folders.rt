@@ -15,7 +15,7 @@ use std::rt::Files;
 use std::{fs, io};
 
 /// Why a call failed.
-#[derive(Clone, Copy, PartialEq, Eq)]
+#[derive(Clone, Copy)]
 pub enum Refusal {
     /// The folder has no mark, and wasn't made for a server.
     NotMade,

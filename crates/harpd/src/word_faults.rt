@@ -9,7 +9,7 @@ use node_link::LAST_PORT;
 use std::fmt;
 
 /// What stands at a place behind the name of a form.
-#[derive(Clone, Copy, PartialEq, Eq)]
+#[derive(Clone, Copy)]
 pub enum Wanted {
     Server,
     Port,
@@ -22,7 +22,7 @@ pub enum Wanted {
 }
 
 /// What is wrong with words that are no form. Places count from 1.
-#[derive(Clone, Copy, PartialEq, Eq)]
+#[derive(Clone, Copy)]
 pub enum WordFault {
     /// There are none.
     NoWords,
@@ -88,7 +88,7 @@ impl Wanted {
 
     // Whether it may be left out, with all behind it.
     fn may_lack(self) -> bool {
-        self == Wanted::Delta || self == Wanted::User
+        matches!(self, Wanted::Delta | Wanted::User)
     }
 }
 

@@ -21,7 +21,7 @@ pub const FIRST_PORT: u16 = 1024;
 pub const LAST_CLIENT: u32 = 4080;
 
 /// How a server is run: place s has this port plus s, and promises last so long, where it is told.
-#[derive(Clone, Copy, PartialEq, Eq)]
+#[derive(Clone, Copy)]
 pub struct Loop {
     pub port: u16,
     pub delta: Option<Delta>,
@@ -29,7 +29,7 @@ pub struct Loop {
 
 /// How connections are served: by the servers from this port on, at the port of the door, as
 /// sixteen clients from this one on, and as this user and group alone, where they are told.
-#[derive(Clone, Copy, PartialEq, Eq)]
+#[derive(Clone, Copy)]
 pub struct Serving {
     pub port: u16,
     pub door: u16,
@@ -38,7 +38,7 @@ pub struct Serving {
 }
 
 /// What the words ask for.
-#[derive(Clone, Copy, PartialEq, Eq)]
+#[derive(Clone, Copy)]
 pub enum Command {
     /// A server that stays up.
     Server { place: ServerId, runs: Loop },

@@ -23,7 +23,7 @@ const ROOT: u32 = 1;
 const SLASH_WORD: u32 = 0x2f00_0000;
 
 /// A procedure of MOUNT (RFC 1094, section A.5).
-#[derive(Clone, Copy, PartialEq, Eq)]
+#[derive(Clone, Copy)]
 pub enum MountProcedure {
     /// Does nothing.
     Null,

@@ -8,7 +8,7 @@ use harp_types::SinkFault;
 use std::alloc::AllocError;
 
 /// Why a record wasn't read.
-#[derive(Clone, Copy, PartialEq, Eq)]
+#[derive(Clone, Copy)]
 pub enum ReadFault {
     Failed,
     NoMemory,
@@ -25,7 +25,7 @@ impl From<AllocError> for ReadFault {
 }
 
 /// Why a door was shut before the end of its input.
-#[derive(Clone, Copy, PartialEq, Eq)]
+#[derive(Clone, Copy)]
 pub enum DoorFault {
     /// The source failed.
     ReadFault,

@@ -12,7 +12,7 @@ use harp_base::fields::u32_at;
 const LONGEST_AUTH: u32 = 400;
 
 /// The first three words of a record: its number, 0 for a call, and the version of RPC.
-#[derive(Clone, Copy, PartialEq, Eq)]
+#[derive(Clone, Copy)]
 pub struct Opening {
     pub xid: u32,
     pub kind: u32,
@@ -20,7 +20,7 @@ pub struct Opening {
 }
 
 /// Who is called: a program, its version, and a procedure of it.
-#[derive(Clone, Copy, PartialEq, Eq)]
+#[derive(Clone, Copy)]
 pub struct Header {
     pub program: u32,
     pub version: u32,

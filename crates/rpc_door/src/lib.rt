@@ -12,7 +12,7 @@
 //!   call just where it is one in the words of the RFCs (`sent_calls`). What a client reads of a
 //!   result is the reply (`read_results`).
 //! - The readers and writers of RFC 1014 (`opaque_at`, `put_words` and the others) give and append
-//!   what `Xdr` says, for the crates above.
+//!   what `Xdr` says, for the crates above, and `put_sent` an answer as it is sent.
 #![tactic(auto)]
 
 mod arguments;
@@ -32,5 +32,5 @@ pub use group::{Exchange, Group, GroupFault};
 pub use laws::{marked_records, read_results, sent_calls};
 pub use meaning::{RpcIn, read_rpc};
 pub use results::{is_reply_to, put_answer, write_rpc};
-pub use serving::serve_rpc;
+pub use serving::{put_sent, serve_rpc};
 pub use xdr::{opaque_at, past_opaque, put_handle, put_words};

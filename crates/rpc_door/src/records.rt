@@ -25,7 +25,7 @@ const LAST: u32 = 1 << 31;
 const MARK: usize = 4;
 
 /// What came of a fragment.
-#[derive(Clone, Copy, PartialEq, Eq)]
+#[derive(Clone, Copy)]
 enum Piece {
     /// It is its record's last one.
     Last,
@@ -38,7 +38,7 @@ enum Piece {
 }
 
 /// What came of a record.
-#[derive(Clone, Copy, PartialEq, Eq)]
+#[derive(Clone, Copy)]
 enum Found {
     Record,
     /// The source ended within it.
@@ -48,7 +48,7 @@ enum Found {
 }
 
 /// What stands at the front of the bytes of a source.
-#[derive(Clone, Copy, PartialEq, Eq)]
+#[derive(Clone, Copy)]
 pub enum Next {
     /// A record.
     Record,

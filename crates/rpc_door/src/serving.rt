@@ -51,7 +51,7 @@ impl Desk {
 }
 
 /// What a record led to.
-#[derive(Clone, Copy, PartialEq, Eq)]
+#[derive(Clone, Copy)]
 enum Turn {
     /// It was answered.
     GoesOn,
@@ -62,7 +62,7 @@ enum Turn {
 /// Appends an answer as a record of one fragment. One of 2^31 bytes, which there is none of, would
 /// count as want of memory.
 #[tactic(auto, unfolding(crate::specs::Serving::sent))]
-fn put_sent(out: &mut Vec<u8>, answer: &[u8]) -> Result<(), AllocError>
+pub fn put_sent(out: &mut Vec<u8>, answer: &[u8]) -> Result<(), AllocError>
     ensures { OnOk result (out.new.items ≡ out.old.items ++ sent answer.now) }
 {
     if answer.len() >= LAST as usize {

@@ -1,7 +1,8 @@
 -- the call waits, and what comes of it from here on comes of it from the start
 use Rattle.std.proofs.Common.{◌≤◌}
 use Rattle.group_client.specs.Calling.{asking_of, scene_of}
-use Rattle.group_client.specs.Rule.{Goes, Outcome, longest_pause}
+use Rattle.client_calls.specs.Waits.{longest_pause}
+use Rattle.group_client.specs.Rule.{Goes, Outcome}
 use Rattle.group_client.proofs.making.wait_for.Given as goal
 
 abbrev pub invariant-loop-left : goal.invariant-loop-left

@@ -1,7 +1,7 @@
 //! Where a client begins to number its calls.
 
 ghost use Rattle.std.specs.Prelude.{◌≡◌, ◌≤◌, ◌<◌, ◌^◌};
-ghost use Rattle.group_client.specs.First.{first_number};
+ghost use Rattle.client_calls.specs.First.{first_number};
 
 /// The number of a client's first call, by a reading of the clock in milliseconds: a reading leaves
 /// room for 2^20 calls before the numbers of the next one begin, and only its low 43 bits count.

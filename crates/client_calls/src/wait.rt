@@ -1,10 +1,8 @@
 //! When and where a call is asked again.
 
-ghost use Rattle.std.specs.Prelude.{◌≡◌, ◌≤◌, ◌<◌, ◌^◌, ◌*◌};
-ghost use Rattle.group_client.specs.Rule.{asked_again, first_wait, hinted, longest_pause, next_by};
-ghost use Rattle.group_client.specs.Rule.{next_round, place_after};
+ghost use Rattle.std.specs.Prelude.{◌≡◌, ◌<◌, ◌^◌};
+ghost use Rattle.client_calls.specs.Waits.{asked_again, first_wait, hinted, next_round, place_after};
 
-use crate::news::{News, Replied};
 use harp_types::{Cause, ServerId};
 
 /// The first pause, in milliseconds.
@@ -51,15 +49,6 @@ fn place_after(place: ServerId, cause: Cause) -> ServerId
     }
 }
 
-/// Where a step of a call leads to.
-#[derive(Drop)]
-pub enum Next {
-    /// It waits on.
-    Waits(Wait),
-    /// It is answered.
-    Ends(Replied),
-}
-
 impl Wait {
     /// That of a call that was asked for the first time, at a server, at this moment.
     pub fn first(place: ServerId, now: u64) -> Wait
@@ -93,17 +82,6 @@ impl Wait {
         Wait {
             place: place_after(by, cause),
             ..self
-        }
-    }
-
-    /// What becomes of one that waits so, by what is heard.
-    pub fn next(self, news: News) -> Next
-        ensures { result ≡ next_by self news }
-    {
-        match news {
-            News::Nothing => Next::Waits(self),
-            News::Refused { by, cause } => Next::Waits(self.hinted(by, cause)),
-            News::Answered(replied) => Next::Ends(replied),
         }
     }
 }
