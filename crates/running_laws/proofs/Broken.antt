@@ -93,7 +93,7 @@ module _ (before : List Event) (e : Event) (a c : Trio Site) (w : DiskScene) (x 
       } in
       let fell = host_fallen y e.place b there ending in
       let z = world_fallen y e.place b there ending in
-      let grows = grows_so es v set e.place e.now given outs here b t l.begin l.begins in
+      let grows = grows_so es v set e.place e.now given outs here b t l.taken_as l.begins in
       let all = all_silent before e a c w x k silent in
       record {
         world = z;
@@ -160,7 +160,7 @@ module _ (before : List Event) (e : Event) (a c : Trio Site) (w : DiskScene) (x 
       (λ (left : IsLeftOf here.disk.now there.disk.now). crashed v at given p left)
       (λ (whole : (p.amid ≡ b.disk) × IsCutBehind ms (input_of given)).
       ended v given outs b t l
-      (none_put v set e.place e.now given outs here b t l.begin l.begins whole.1)
+      (none_put v set e.place e.now given outs here b t l.taken_as l.begins whole.1)
       (record {
         old = s.new;
         was = s.is;
@@ -232,7 +232,7 @@ module _ (before : List Event) (e : Event) (a c : Trio Site) (w : DiskScene) (x 
       ∙ ap (λ (n : NodeValue). after_changes (changes_made most n) (Some here.disk)) same
       ∙ sym (s.step.written size list)) in
       ended v given could.outs could.site t l
-      (none_put v set e.place e.now given could.outs here could.site t l.begin l.begins tt)
+      (none_put v set e.place e.now given could.outs here could.site t l.taken_as l.begins tt)
       (record {
         old = s.new;
         was = s.is;

@@ -2,7 +2,8 @@
 use Rattle.std.proofs.Common.{◌≡◌, ℕ, ◌+◌, true, false, List, [], ◌∷◌, ◌++◌, map, Option, Some, refl, sym, ap, ◌∙◌, subst, true≢false}
 use Rattle.event_record.specs.Record.{entry_of}
 use Rattle.file_tree.specs.Book.{Entry}
-use Rattle.group_rules.specs.Moves.{Basing, Choosing, Collecting, Committing, Move, Noting, Opening, Reading, Saying, Sending}
+use Rattle.group_rules.specs.Form.{role_of}
+use Rattle.group_rules.specs.Moves.{Accepting, Basing, Choosing, Collecting, Committing, Move, Noting, Opening, Reading, Saying, Sending}
 use Rattle.group_rules.specs.Names.{place_of}
 use Rattle.group_rules.specs.Places.{Place}
 use Rattle.group_rules.specs.Replicate.{answers}
@@ -50,7 +51,8 @@ fronts_silent (m ∷ ms) h = (front_silent m h.0, fronts_silent ms h.1)
 plain_silent : (q : Place) (ms : List (Move Entry)) → Plain q ms → AreSilent ms
 plain_silent q _ (mild ms m) = milds_silent ms m
 plain_silent q _ (accepts plan n before after f t) =
-    each-append IsSilent before _ (fronts_silent before f)
+    each-append IsSilent before (Accepting plan (role_of plan.storers q) n ∷ after)
+    (fronts_silent before f)
     (tt, milds_silent after (tails_mild after t))
 plain_silent q _ (heeds items cp base after t) = (tt, milds_silent after (tails_mild after t))
 

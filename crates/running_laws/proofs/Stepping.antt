@@ -43,10 +43,10 @@ use Rattle.running_laws.proofs.Happened.{nothing_arrives, packed_left, set_world
 pub record IsLed (es : List Event) (v : DiskScene) (x : WorldValue) (place : ServerId) (now : ℕ)
     (given : Input) (outs : Option Outputs) (a b : Site)
     (t : IsTurn x place now given outs a b) : Type 0 where
-  pub begin : Begins
-  pub begins : TurnBegins v x (place_of place) given begin
+  pub taken_as : Begins
+  pub begins : TurnBegins v x (place_of place) given taken_as
   pub to : AnswersTo es (peers_by (begins.stands.servers place).stock given)
-      (v.scene.group.server (place_of place)) begin
+      (v.scene.group.server (place_of place)) taken_as
   pub packets : List Posted
   pub keeps : Keeps (world_left x place now given outs a b t).packets packets
   pub led : LedTo es v
@@ -86,7 +86,7 @@ module _ (before : List Event) (e : Event) (a c : Trio Site) (w : DiskScene) (x 
       (old_up set e.place e.now given outs here b t v at.stands) d.begins d.goes in
       let y = world_left set e.place e.now given outs here b t in
       record {
-        begin = Begun d.deed;
+        taken_as = Begun d.deed;
         begins = begins;
         to = d.to (begins.stands.servers e.place).stock (v.scene.group.server (place_of e.place));
         packets = y.packets;
@@ -119,7 +119,7 @@ module _ (before : List Event) (e : Event) (a c : Trio Site) (w : DiskScene) (x 
       } in
       let y = world_left set e.place e.now given outs here b t in
       record {
-        begin = Comes (place_of s) come.body;
+        taken_as = Comes (place_of s) come.body;
         begins = begins;
         to = waits_there es v set e.place e.now given outs here b t
             (Comes (place_of s) come.body) begins (was_asked before e a c w x k given outs b t);
@@ -139,7 +139,7 @@ module _ (before : List Event) (e : Event) (a c : Trio Site) (w : DiskScene) (x 
       ⊎_elim
       (λ (p : IsPacket x.packets told.server e.place d.bytes).
       subst (λ (i : Input). (u : IsTurn set e.place e.now i outs here b)
-          → IsLed es v set e.place e.now i outs here b u) (sym told.is)
+      → IsLed es v set e.place e.now i outs here b u) (sym told.is)
       (message_is_led v at d m spelled told.server p outs b) t)
       (λ (k : AreForClients d.bytes). absurd (told.heard_is
       (unheard_by_bytes m k.message (sym spelled.0 ∙ k.spells) k.unheard)))
@@ -181,7 +181,7 @@ module _ (before : List Event) (e : Event) (a c : Trio Site) (w : DiskScene) (x 
   whole_leaves v given step l =
       let t = turn_to before e a c w x k given e.outs there step h.has_store in
       let y = world_left set e.place e.now given e.outs here there t in
-      turn_leaves before e a c w x k v given t l.begin l.begins l.to
+      turn_leaves before e a c w x k v given t l.taken_as l.begins l.to
       (record y { packets = l.packets }) l.led refl
       (λ waits. packed_left before e a c w x k y l.packets l.keeps
       (turn_left before e a c w x k given t waits))
