@@ -11,9 +11,10 @@ use Rattle.node.specs.Boot.{after_boot}
 use Rattle.node.specs.declared.input.Input.{Input}
 use Rattle.node_link.specs.Traffic.{Traffic}
 use Rattle.node_loop.specs.Chain.{Stops}
-use Rattle.node_loop.specs.Cut.{BootsAtInPart, FailsAt, IsGivenInPart, IsUnstarted, SendsAFront, SendsInPart, WorkLeft}
+use Rattle.node_loop.specs.Cut.{BootsAtInPart, FailsAt, IsGivenInPart, IsUnstartedWith, SendsAFront, SendsInPart, WorkLeft}
 use Rattle.node_loop.specs.Outgoing.{datagrams}
-use Rattle.node_loop.specs.Run.{BootsAt, IsGiven}
+use Rattle.node_loop.specs.Run.{BootsWith, IsGiven}
+use Rattle.node_loop.specs.declared.habit.Habit.{Habit}
 use Rattle.node_loop.specs.Scene.{Around, AtWork, Scene}
 use Rattle.node_loop.specs.Step.{FailsStep, IsStep}
 use Rattle.node_loop.specs.declared.running.Running.{Running}
@@ -86,32 +87,33 @@ gone_boot places delta p a left length has none boots =
       }));
     }
 
-gone_boots : (places ps : List ServerId) (delta : ℕ) (a : Scene) (left : Around)
+gone_boots : (places ps : List ServerId) (habit : Habit) (delta : ℕ) (a : Scene) (left : Around)
     → IsDelta delta → ((p : ServerId) → Contains ps p → Contains places p)
-    → AreFree ps a.servers → Stops (BootsAt delta) (BootsAtInPart delta) ps a left
+    → AreFree ps a.servers → Stops (BootsWith habit delta) (BootsAtInPart delta) ps a left
     → DidInPart places a left
-gone_boots places [] delta a left length within free stops = absurd stops
-gone_boots places (p ∷ ps) delta a left length within free (inl part) =
+gone_boots places [] habit delta a left length within free stops = absurd stops
+gone_boots places (p ∷ ps) habit delta a left length within free (inl part) =
     gone_boot places delta p a left length (within p (0, omega arith, refl)) free.0 part
-gone_boots places (p ∷ ps) delta a left length within free (inr on) =
+gone_boots places (p ∷ ps) habit delta a left length within free (inr on) =
     let boots = on.1 in
     let rest_free = subst (λ (z : Scene). AreFree ps z.servers) (sym boots.is)
     (free.1 boots.server) in
     then_gone places a on.0 left
-    (did_boot places delta p a on.0 length (within p (0, omega arith, refl)) free.0 boots)
-    (gone_boots places ps delta on.0 left length
+    (did_boot places habit delta p a on.0 length (within p (0, omega arith, refl)) free.0 boots)
+    (gone_boots places ps habit delta on.0 left length
     (λ q has. within q (Contains-append_right (p ∷ []) ps q has)) rest_free on.2)
 
-pub gone_unstarted : (places : List ServerId) (delta : ℕ) (a : Scene) (left : Around)
-    → IsDelta delta → AreFree places a.servers → IsUnstarted delta places a left
+pub gone_unstarted : (places : List ServerId) (habit : Habit) (delta : ℕ) (a : Scene)
+    (left : Around) → IsDelta delta → AreFree places a.servers
+    → IsUnstartedWith habit delta places a left
     → DidInPart places a left
-gone_unstarted places delta a left length free (inl same) = record {
+gone_unstarted places habit delta a left length free (inl same) = record {
   mid = a;
   did = did_nothing places a;
   gone = inl (ap (λ (z : Around). z.disks) same);
 }
-gone_unstarted places delta a left length free (inr stops) =
-    gone_boots places places delta a left length (λ p has. has) free stops
+gone_unstarted places habit delta a left length free (inr stops) =
+    gone_boots places places habit delta a left length (λ p has. has) free stops
 
 -- ---- inputs
 

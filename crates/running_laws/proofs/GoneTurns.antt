@@ -11,7 +11,8 @@ use Rattle.node_link.specs.declared.clock.Reading.{Reading}
 use Rattle.node_link.specs.declared.link.Datagram.{Datagram}
 use Rattle.node_loop.specs.Arriving.{Arrives}
 use Rattle.node_loop.specs.Chain.{Stops}
-use Rattle.node_loop.specs.Cut.{IsCutOff, IsGivenInPart, IsTurnInPart, SendsInPart, SpotLeft, TurnsAtInPart, with_left, work_left}
+use Rattle.node_loop.specs.Cut.{IsCutOffWith, IsGivenInPart, IsTurnInPart, SendsInPart, SpotLeft, TurnsAtInPart, with_left, work_left}
+use Rattle.node_loop.specs.declared.habit.Habit.{Habit}
 use Rattle.node_loop.specs.Looks.{look_of}
 use Rattle.node_loop.specs.Outgoing.{datagrams}
 use Rattle.node_loop.specs.Run.{IsGiven, TurnsAt, rounds}
@@ -223,7 +224,7 @@ gone_turn places place a left has turns = by turns.turns
         p front.pace front.before (is_due look front.turned.began p) front.turn front.link
         front.clock front.given
 
-gone_turns : (places ps : List ServerId) (a : Scene) (left : Around)
+pub gone_turns : (places ps : List ServerId) (a : Scene) (left : Around)
     → ((p : ServerId) → Contains ps p → Contains places p)
     → Stops TurnsAt TurnsAtInPart ps a left → DidInPart places a left
 gone_turns places [] a left within stops = absurd stops
@@ -235,12 +236,13 @@ gone_turns places (p ∷ ps) a left within (inr on) = then_gone places a on.0 le
     (λ q has. within q (Contains-append_right (p ∷ []) ps q has)) on.2)
 
 -- A CALL THAT IS CUT OFF
-pub gone_call : (places : List ServerId) (delta turns : ℕ) (a : Scene) (left : Around)
-    → IsDelta delta → AreFree places a.servers → IsCutOff delta places turns a left
+pub gone_call : (places : List ServerId) (habit : Habit) (delta turns : ℕ) (a : Scene)
+    (left : Around) → IsDelta delta → AreFree places a.servers
+    → IsCutOffWith habit delta places turns a left
     → DidInPart places a left
-gone_call places delta turns a left length free (inl unstarted) =
-    gone_unstarted places delta a left length free unstarted
-gone_call places delta turns a left length free (inr on) = then_gone places a on.0 left
-    (did_boots places places delta a on.0 length (λ p has. has) free on.1)
+gone_call places habit delta turns a left length free (inl unstarted) =
+    gone_unstarted places habit delta a left length free unstarted
+gone_call places habit delta turns a left length free (inr on) = then_gone places a on.0 left
+    (did_boots places places habit delta a on.0 length (λ p has. has) free on.1)
     (gone_turns places (rounds turns places) on.0 left
     (λ p has. rounds_in turns places p has) on.2)

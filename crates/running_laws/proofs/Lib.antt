@@ -38,4 +38,5 @@ mod Given
 mod Living
 mod Gone
 mod GoneTurns
+mod Stays
 pub mod Called

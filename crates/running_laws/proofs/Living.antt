@@ -18,7 +18,8 @@ use Rattle.node_link.specs.declared.link.Datagram.{Datagram}
 use Rattle.node_loop.specs.Arriving.{Arrives}
 use Rattle.node_loop.specs.Chain.{Chain}
 use Rattle.node_loop.specs.Looks.{look_of}
-use Rattle.node_loop.specs.Run.{BootsAt, IsGiven, TurnsAt, rounds}
+use Rattle.node_loop.specs.Run.{BootsWith, IsGiven, TurnsAt, rounds}
+use Rattle.node_loop.specs.declared.habit.Habit.{Habit}
 use Rattle.node_loop.specs.Scene.{AtWork, Scene, Spot, at_work, with_all_sent, with_spot}
 use Rattle.node_loop.specs.Step.{IsBoot}
 use Rattle.node_loop.specs.Turn.{IsReceive, IsTurnBy, LinkTurnsBy, MayTellAll, inputs_of, readings_of, second_of}
@@ -100,9 +101,10 @@ boot_read e old None h = tt
 boot_read e None (Some new) h = absurd h
 boot_read e (Some old) (Some new) h = (reading_of e ∷ [], h, ([], [], refl, tt))
 
-pub did_boot : (places : List ServerId) (delta : ℕ) (p : ServerId) (a c : Scene) → IsDelta delta
-    → Contains places p → value_of a.servers p ≡ None → BootsAt delta p a c → Did places a c
-did_boot places delta p a c length has none boots =
+pub did_boot : (places : List ServerId) (habit : Habit) (delta : ℕ) (p : ServerId) (a c : Scene)
+    → IsDelta delta → Contains places p → value_of a.servers p ≡ None
+    → BootsWith habit delta p a c → Did places a c
+did_boot places habit delta p a c length has none boots =
     let booted = boots.boots in
     let e : Event = record {
       place = p;
@@ -149,19 +151,19 @@ AreFree [] servers = ⊤
 AreFree (p ∷ ps) servers = (value_of servers p ≡ None)
     × ((r : Running) → AreFree ps (with_value servers p (Some r)))
 
-pub did_boots : (places ps : List ServerId) (delta : ℕ) (a c : Scene) → IsDelta delta
-    → ((p : ServerId) → Contains ps p → Contains places p) → AreFree ps a.servers
-    → Chain (BootsAt delta) ps a c → Did places a c
-did_boots places [] delta a c length within free chain =
+pub did_boots : (places ps : List ServerId) (habit : Habit) (delta : ℕ) (a c : Scene)
+    → IsDelta delta → ((p : ServerId) → Contains ps p → Contains places p) → AreFree ps a.servers
+    → Chain (BootsWith habit delta) ps a c → Did places a c
+did_boots places [] habit delta a c length within free chain =
     subst (Did places a) (sym chain) (did_nothing places a)
-did_boots places (p ∷ ps) delta a c length within free chain =
+did_boots places (p ∷ ps) habit delta a c length within free chain =
     let boots = chain.1 in
-    let first = did_boot places delta p a chain.0 length (within p (0, omega arith, refl)) free.0
-    boots in
+    let first = did_boot places habit delta p a chain.0 length (within p (0, omega arith, refl))
+    free.0 boots in
     let rest_free = subst (λ (z : Scene). AreFree ps z.servers) (sym boots.is)
     (free.1 boots.server) in
     did_then places a chain.0 c first
-    (did_boots places ps delta chain.0 c length
+    (did_boots places ps habit delta chain.0 c length
     (λ q has. within q (Contains-append_right (p ∷ []) ps q has)) rest_free chain.2)
 
 -- ---- what a turn gives

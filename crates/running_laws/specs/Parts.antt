@@ -11,6 +11,7 @@ use Rattle.node_loop.specs.Chain.{Chain}
 use Rattle.node_loop.specs.Cut.{IsCutOff, SendsInPart}
 use Rattle.node_loop.specs.Run.{IsRun}
 use Rattle.node_loop.specs.Scene.{Around, Scene, all_places, start}
+use Rattle.node_loop.specs.Stay.{HasRun, IsTurnCut, Outer, WasUnstarted, around_on, start_on}
 use Rattle.node_loop.specs.declared.counts.Served.{Served}
 use Rattle.node_loop.specs.declared.running.Running.{Running}
 use Rattle.node_outputs.specs.declared.outputs.Outputs.{Outputs}
@@ -147,7 +148,20 @@ pub record LiveInHistories (places : List ServerId) : Type 0 where
       → IsCutOff delta places turns (start disks link clock) left
       → DidInPart places (start disks link clock) left
 
--- of three servers in one process, and of one that runs alone
+-- and of a server that stays up, up to its save, or to where it was cut off before
+pub record StaysInHistories (place : ServerId) : Type 0 where
+  pub ran : (delta most turns dropped : ℕ) (old new : Outer) (ran : Scene) → IsDelta delta
+      → HasRun delta place most turns dropped old new ran
+      → Did (place ∷ []) (start_on place old) ran
+  pub unstarted : (delta : ℕ) (old new : Outer) → IsDelta delta
+      → WasUnstarted delta place old new
+      → DidInPart (place ∷ []) (start_on place old) (around_on place new)
+  pub cut : (delta most : ℕ) (old new : Outer) → IsDelta delta
+      → IsTurnCut delta place most old new
+      → DidInPart (place ∷ []) (start_on place old) (around_on place new)
+
+-- of three servers in one process, of one that runs alone, and of one that stays up
 abbrev pub LivesArePartsOfHistories : Type 0
 LivesArePartsOfHistories =
     LiveInHistories all_places × ((place : ServerId) → LiveInHistories (place ∷ []))
+    × ((place : ServerId) → StaysInHistories place)

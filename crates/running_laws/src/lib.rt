@@ -25,7 +25,8 @@
 //! - `lives`: what the servers of one call do, from their boots on, are events of a history at
 //!   their places (`lives`): from the disks before, where they tell, to those after; with what the
 //!   link told that they took and sent, at readings that the clock told. Where the call was cut off,
-//!   its last event is one amid which the process is gone, or of which a front was sent.
+//!   its last event is one amid which the process is gone, or of which a front was sent. So it is
+//!   with a server that stays up, until it saves its log.
 //!
 //! What isn't proved yet is a premise of the first two, each with a name: a place's disk is that of
 //! a store in memory (`HasStore`); a boot of a new disk makes promises at least as long as the
