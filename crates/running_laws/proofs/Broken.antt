@@ -143,7 +143,7 @@ module _ (before : List Event) (e : Event) (a c : Trio Site) (w : DiskScene) (x 
       → ((outs : Option Outputs) (b : Site) (t : IsTurn set e.place e.now given outs here b)
       → IsLed es v set e.place e.now given outs here b t)
       → Leaves before e c v set
-  broken v at given p could no led =
+  broken v at given p could other led =
       let b = could.site in
       let outs = could.outs in
       let t = turn_to before e a c w x k given outs b could.step could.has_store in
@@ -167,7 +167,7 @@ module _ (before : List Event) (e : Event) (a c : Trio Site) (w : DiskScene) (x 
         gone = p.gone;
         left = subst (λ (m : Moments). IsLeftOf m.now there.disk.now) whole.0 p.left;
       }) p.silent)
-      (to_end s.old ms (input_of given) here.disk p.amid b.disk there.disk.now no part
+      (to_end s.old ms (input_of given) here.disk p.amid b.disk there.disk.now other part
       (s.step.written size list) p.left)
 
   -- ---- an apply
@@ -252,8 +252,8 @@ module _ (before : List Event) (e : Event) (a c : Trio Site) (w : DiskScene) (x 
       → ((outs : Option Outputs) (b : Site) (t : IsTurn set e.place e.now given outs here b)
       → IsLed es v set e.place e.now given outs here b t)
       → Leaves before e c v set
-  by_known v at given p no (inl left) led = crashed v at given p left
-  by_known v at given p no (inr could) led = broken v at given p could no led
+  by_known v at given p other (inl left) led = crashed v at given p left
+  by_known v at given p other (inr could) led = broken v at given p could other led
 
   -- A STEP THAT IS CUT leads on
   pub cut_step : (v : DiskScene) → IsAt es v set → (given : Input)

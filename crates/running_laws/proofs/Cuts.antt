@@ -136,21 +136,21 @@ pub to_end : (n : NodeValue) (ms : List (Move Entry)) (o : Option Begins)
     → LeavesBy n ms o (Some old) (Some amid) → Some whole ≡ disk_by n ms o (Some old)
     → IsLeftOf amid.now left
     → IsLeftOf old.now left ⊎ ((amid ≡ whole) × IsCutBehind ms o)
-to_end n ms None old amid whole left no e made h = inl (left_of_old old amid left e h)
-to_end n ms (Some (Does (Ask client number cred call))) old amid whole left no e made h =
+to_end n ms None old amid whole left other e made h = inl (left_of_old old amid left e h)
+to_end n ms (Some (Does (Ask client number cred call))) old amid whole left other e made h =
     inl (left_of_old old amid left e h)
-to_end n ms (Some (Does (Apply most))) old amid whole left no part made h = absurd no
-to_end n ms (Some (Does Flush)) old amid whole left no part made h =
+to_end n ms (Some (Does (Apply most))) old amid whole left other part made h = absurd other
+to_end n ms (Some (Does Flush)) old amid whole left other part made h =
     whole_so (flush_end n old amid whole left part made h)
-to_end n ms (Some (Does ListTree)) old amid whole left no e made h =
+to_end n ms (Some (Does ListTree)) old amid whole left other e made h =
     inl (left_of_old old amid left e h)
-to_end n ms (Some (Does Tick)) old amid whole left no part made h =
+to_end n ms (Some (Does Tick)) old amid whole left other part made h =
     marks_so (marked_end ms (marked_by n.mark ms) old amid whole left part made h)
-to_end n ms (Some (Does Suspect)) old amid whole left no part made h =
+to_end n ms (Some (Does Suspect)) old amid whole left other part made h =
     marks_so (marked_end ms (marked_by n.mark ms) old amid whole left part made h)
-to_end n ms (Some (Does Power)) old amid whole left no part made h =
+to_end n ms (Some (Does Power)) old amid whole left other part made h =
     marks_so (marked_end ms (marked_by n.mark ms) old amid whole left part made h)
-to_end n ms (Some (Does Crash)) old amid whole left no part made h =
+to_end n ms (Some (Does Crash)) old amid whole left other part made h =
     marks_so (marked_end ms (marked_by n.mark ms) old amid whole left part made h)
-to_end n ms (Some (Comes from m)) old amid whole left no part made h =
+to_end n ms (Some (Comes from m)) old amid whole left other part made h =
     marked_end ms (marked_by n.mark ms) old amid whole left part made h

@@ -113,7 +113,7 @@ module _ (h : HostValue) (place : ServerId) (now delta : ℕ) (a b : Site) (k : 
 
     -- ---- what is written
 
-    left_by : Bool → Moments
+    pub left_by : Bool → Moments
     left_by true = from
     left_by false = then_disk (booted_disk place delta from.now) from
 

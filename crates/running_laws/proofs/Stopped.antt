@@ -155,7 +155,7 @@ module _ (x : WorldValue) (place : ServerId) (now most : ℕ) (a b : Site)
   abbrev old : HostValue
   old = value_of x.hosts place
 
-  picked : (by : Pick) × (b.disk.now ≡ crashed_by by t.amid.now)
+  pub picked : (by : Pick) × (b.disk.now ≡ crashed_by by t.amid.now)
   picked = pick_of_left t.amid.now b.disk.now t.left
 
   abbrev pub the_stop : Stop

@@ -1,6 +1,6 @@
 -- What happens at servers that run is a run of the group: a scene that follows a history, and where
 -- it leads, by what is known of each event.
-use Rattle.std.specs.Prelude.{◌≡◌, ◌⊎◌, ℕ, ◌+◌, ◌-◌, ◌≤◌, Bool, true, false, List, [], ◌∷◌, ◌++◌, Contains, drop, filter, None, Some, ⊤}
+use Rattle.std.specs.Prelude.{◌≡◌, ◌⊎◌, ℕ, ◌+◌, ◌-◌, ◌≤◌, Bool, true, false, List, [], ◌∷◌, ◌++◌, Contains, drop, filter, Option, None, Some, ⊤}
 use Rattle.std.specs.List.{AllByRecursion, slice_get}
 use Rattle.file_tree.specs.Book.{Entry}
 use Rattle.group_rules.specs.State.{Mode, Open, Server as Machine, Waits}
