@@ -152,7 +152,7 @@ module _ (before : List Event) (e : Event) (a c : Trio Site) (w : DiskScene) (x 
       runs.me ∙ own.me
 
   -- a whole step of the node that lives there, whatever place it leaves
-  pub turn_to : (given : Input) (outs : Option Outputs) (b : Site)
+  abbrev pub turn_to : (given : Input) (outs : Option Outputs) (b : Site)
       → WholeStep e.now given outs here b → HasStore b
       → IsTurn set e.place e.now given outs here b
   turn_to given outs b s has = record {
