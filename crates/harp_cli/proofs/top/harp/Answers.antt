@@ -127,6 +127,33 @@ returns-in-Some-Group-clause-group g c = λ runs is.
       refl,
     )
 
+-- ---- words that serve leave nothing apart
+
+pub returns-in-Some-Node-clause-apart : goal.returns-in-Some-Node-clause-apart
+returns-in-Some-Node-clause-apart g c = λ serves audits.
+    let words = c.args.words.now in
+    let place = c.in-Some-Node.place in
+    let runs = c.in-Some-Node.runs in
+    let asked : AsksFor words (command.Node place runs) =
+    subst (AsksFor words) c.in-Some-Node.field-0-is c.in-Some-Node.ensures in
+    absurd (serves (inl (place, runs, asked)))
+
+pub returns-in-Some-Group-clause-apart : goal.returns-in-Some-Group-clause-apart
+returns-in-Some-Group-clause-apart g c = λ serves audits.
+    let words = c.args.words.now in
+    let runs = c.in-Some-Group.runs in
+    let asked : AsksFor words (command.Group runs) =
+    subst (AsksFor words) c.in-Some-Group.field-0-is c.in-Some-Group.ensures in
+    absurd (serves (inr (inl (runs, asked))))
+
+pub returns-in-Some-Door-clause-apart : goal.returns-in-Some-Door-clause-apart
+returns-in-Some-Door-clause-apart g c = λ serves audits.
+    let words = c.args.words.now in
+    let door = c.in-Some-Door.door in
+    let asked : AsksFor words (command.Door door) =
+    subst (AsksFor words) c.in-Some-Door.field-0-is c.in-Some-Door.ensures in
+    absurd (serves (inr (inr (door, asked))))
+
 pub returns-in-None-clause-play : goal.returns-in-None-clause-play
 returns-in-None-clause-play g c = λ is. absurd (c.in-None.ensures (command.Play, is))
 
