@@ -73,16 +73,14 @@ pub once_done : {A : Type 0} (x : A) (faults risen : ℕ) → faults ≤ risen
     → FailsOnce (Ok x) faults risen
 once_done x faults risen count = record {
   running = λ is. cc;
-  rose = λ is. cc;
-  count = count;
+  counts = record { rose = λ is. cc; count = count };
 }
 
 pub once_memory : {A : Type 0} (r : Result A NodeFault) (faults risen : ℕ)
     → IsErrAnd r (λ why. why ≡ NoMemory) → faults ≤ risen → FailsOnce r faults risen
 once_memory r faults risen none count = record {
   running = not_halted r none;
-  rose = not_stored _ r none;
-  count = count;
+  counts = record { rose = not_stored _ r none; count = count };
 }
 
 pub once_stored : {A B : Type 0} (r : Result A NodeFault) (given : StoreFault)
@@ -91,8 +89,7 @@ pub once_stored : {A B : Type 0} (r : Result A NodeFault) (given : StoreFault)
     → FailsOnce r faults risen
 once_stored r given call faults risen why was rose count = record {
   running = store_halted r given why;
-  rose = store_rose _ r given call why was rose;
-  count = count;
+  counts = record { rose = store_rose _ r given call why was rose; count = count };
 }
 
 pub once_read : {A B : Type 0} (r : Result A NodeFault) (given : CellFault)
@@ -101,8 +98,7 @@ pub once_read : {A B : Type 0} (r : Result A NodeFault) (given : CellFault)
     → FailsOnce r faults risen
 once_read r given call faults risen why was rose count = record {
   running = read_halted r given why;
-  rose = read_rose _ r given call why was rose;
-  count = count;
+  counts = record { rose = read_rose _ r given call why was rose; count = count };
 }
 
 pub once_as : {A B : Type 0} (r : Result A NodeFault) (given : NodeFault)
@@ -110,8 +106,10 @@ pub once_as : {A B : Type 0} (r : Result A NodeFault) (given : NodeFault)
     → call ≡ Err given → FailsOnce call faults risen → FailsOnce r faults risen
 once_as r given call faults risen why was once = record {
   running = same_halted r given call why was once.running;
-  rose = same_rose _ r given call why was once.rose;
-  count = once.count;
+  counts = record {
+    rose = same_rose _ r given call why was once.counts.rose;
+    count = once.counts.count;
+  };
 }
 
 -- after a call that went well
@@ -119,8 +117,10 @@ pub once_later : {A : Type 0} (r : Result A NodeFault) (first faults risen : ℕ
     → FailsOnce r faults risen → FailsOnce r first risen
 once_later r first faults risen before once = record {
   running = once.running;
-  rose = λ is. rose_earlier first faults risen before (once.rose is);
-  count = omega (arith, before, once.count);
+  counts = record {
+    rose = λ is. rose_earlier first faults risen before (once.counts.rose is);
+    count = omega (arith, before, once.counts.count);
+  };
 }
   where
     rose_earlier : (first faults risen : ℕ) → first ≤ faults → Rose faults risen

@@ -1,11 +1,10 @@
 -- What stands of a server, its disk and its store behind a call, whether it went well or failed.
-use Rattle.std.specs.Prelude.{◌≡◌, ◌↔◌, ◌≤◌, ℕ, true, false, Err, List, [], OnErr, OnOk, Option, Result, Some}
+use Rattle.std.specs.Prelude.{◌≡◌, ◌↔◌, ℕ, true, false, Err, List, [], OnErr, OnOk, Option, Result, Some}
 use Rattle.cell_cache.specs.Entries.{AreOf}
 use Rattle.file_tree.specs.Book.{Entry}
 use Rattle.group_rules.specs.Moves.{Move}
 use Rattle.group_rules.specs.Step.{Input}
 use Rattle.harp_store.specs.Disk.{AfterPart, Moments, after_changes, cells_told}
-use Rattle.harp_types.specs.Streams.{Rose}
 use Rattle.node.specs.Cached.{IsCachedAs}
 use Rattle.node.specs.Node.{NodeValue}
 use Rattle.node.specs.State.{cached_in}
@@ -17,6 +16,7 @@ use Rattle.node_outputs.specs.Records.{records_sent}
 use Rattle.node_outputs.specs.declared.outputs.Outputs.{Outputs}
 use Rattle.replica.specs.Listing.{listing_at}
 use Rattle.tree_log.specs.Reading.{HoldsTree}
+use Rattle.tree_log.specs.Storing.{CountsFaults}
 use Rattle.volatile_log.specs.Log.{lowered_to}
 
 -- ---- why a call failed
@@ -26,8 +26,7 @@ use Rattle.volatile_log.specs.Log.{lowered_to}
 pub record FailsOnce {A : Type 0} (result : Result A NodeFault)
     (faults risen : ℕ) : Type 0 where
   pub running : result ≡ Err Halted → ⊥
-  pub rose : result ≡ Err StoreFailed → Rose faults risen
-  pub count : faults ≤ risen
+  pub counts : CountsFaults (result ≡ Err StoreFailed) faults risen
 
 -- ---- whether the server goes on
 

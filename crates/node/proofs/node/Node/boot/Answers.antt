@@ -53,10 +53,10 @@ returns-clause-fresh g c = c.resting.ensures.fresh
 
 pub returns-clause-faults : goal.returns-clause-faults
 returns-clause-faults g c = once_done _ _ _
-    (omega (arith, c.first_write.ensures.faults.count, c.found.ensures.faults.count))
+    (omega (arith, c.first_write.ensures.faults.counts.count, c.found.ensures.faults.counts.count))
 
 pub returns-in_err-kept-clause-faults : goal.returns-in_err-kept-clause-faults
-returns-in_err-kept-clause-faults g c = once_later _ _ _ _ c.first_write.ensures.faults.count
+returns-in_err-kept-clause-faults g c = once_later _ _ _ _ c.first_write.ensures.faults.counts.count
     (once_as c.from_residual-in_err-kept.result c.in_err-kept.field-0.0 c.found.result _ _
     c.from_residual-in_err-kept.ensures.1 c.in_err-kept.was c.found.ensures.faults)
 

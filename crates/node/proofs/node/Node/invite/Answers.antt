@@ -29,10 +29,10 @@ returns-in_err-join-clause-handles g c clock =
     (fails_then clock (joins v NoDuty) (tells from v) now c.join.new.self disk left faults risen why
     (joined_fails c.join.result c.args.view NoDuty now c.join.new.self disk left faults risen why
     c.in_err-join.was c.join.ensures.stays.me c.in_err-join.ensures.part
-    c.join.ensures.faults.running c.join.ensures.faults.rose) (tells_quiet from v)))
+    c.join.ensures.faults.running c.join.ensures.faults.counts.rose) (tells_quiet from v)))
 
 pub returns-in_err-join-clause-count : goal.returns-in_err-join-clause-count
-returns-in_err-join-clause-count g c = c.join.ensures.faults.count
+returns-in_err-join-clause-count g c = c.join.ensures.faults.counts.count
 
 pub returns-in_err-send-clause-handles : goal.returns-in_err-send-clause-handles
 returns-in_err-send-clause-handles g c clock =
@@ -53,7 +53,7 @@ returns-in_err-send-clause-handles g c clock =
     c.in_ok-join.ensures.written) (tells_quiet from v)))
 
 pub returns-in_err-send-clause-count : goal.returns-in_err-send-clause-count
-returns-in_err-send-clause-count g c = c.join.ensures.faults.count
+returns-in_err-send-clause-count g c = c.join.ensures.faults.counts.count
 
 pub returns-then-is_new-clause-handles : goal.returns-then-is_new-clause-handles
 returns-then-is_new-clause-handles g c clock =
@@ -80,7 +80,7 @@ returns-then-is_new-clause-handles g c clock =
     c.in_ok-send.ensures.said) (tells_quiet from v))
 
 pub returns-then-is_new-clause-count : goal.returns-then-is_new-clause-count
-returns-then-is_new-clause-count g c = c.join.ensures.faults.count
+returns-then-is_new-clause-count g c = c.join.ensures.faults.counts.count
 
 pub returns-in_err-send-in-Some-clause-handles : goal.returns-in_err-send-in-Some-clause-handles
 returns-in_err-send-in-Some-clause-handles g c clock =

@@ -39,7 +39,4 @@ returns-in-Some-clause-moments g c up saves =
     }
 
 pub returns-in-Some-clause-faults : goal.returns-in-Some-clause-faults
-returns-in-Some-clause-faults g c = record {
-  rose = c.save_log.ensures.faults.rose;
-  count = c.save_log.ensures.faults.count;
-}
+returns-in-Some-clause-faults g c = c.save_log.ensures.faults.counts

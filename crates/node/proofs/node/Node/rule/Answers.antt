@@ -363,9 +363,11 @@ pub returns-in-Message-clause-faults : goal.returns-in-Message-clause-faults
 returns-in-Message-clause-faults g c = record {
   running = runs_on _ c.take_message.result
       (c.take_message.ensures.handles (λ before e. 0) []) (λ why h. h.running);
-  rose = rose_of _ c.take_message.result
-      (c.take_message.ensures.handles (λ before e. 0) []) (λ why h. h.rose);
-  count = c.take_message.ensures.count;
+  counts = record {
+    rose = rose_of _ c.take_message.result
+        (c.take_message.ensures.handles (λ before e. 0) []) (λ why h. h.rose);
+    count = c.take_message.ensures.count;
+  };
 }
 
 pub returns-in-Ask-clause-brings : goal.returns-in-Ask-clause-brings

@@ -177,13 +177,10 @@ pub returns-then-not-is_heeded-clause-faults : goal.returns-then-not-is_heeded-c
 returns-then-not-is_heeded-clause-faults g c = record { rose = λ is. cc; count = le_refl _ }
 
 pub returns-in-Err-clause-faults : goal.returns-in-Err-clause-faults
-returns-in-Err-clause-faults g c = record {
-  rose = c.in-Err.ensures.faults.rose;
-  count = c.rule.ensures.faults.count;
-}
+returns-in-Err-clause-faults g c = c.in-Err.ensures.faults.counts
 
 pub returns-clause-faults : goal.returns-clause-faults
 returns-clause-faults g c = record {
   rose = λ is. cc;
-  count = c.rule.ensures.faults.count;
+  count = c.rule.ensures.faults.counts.count;
 }

@@ -88,7 +88,7 @@ returns-in_err-send-clause-stays g c = record {
 
 pub returns-in_err-send-clause-faults : goal.returns-in_err-send-clause-faults
 returns-in_err-send-clause-faults g c = once_memory _ _ _
-    c.from_residual-in_err-send.ensures.1 c.join.ensures.faults.count
+    c.from_residual-in_err-send.ensures.1 c.join.ensures.faults.counts.count
 
 pub returns-in_err-send-2-clause-stays : goal.returns-in_err-send-2-clause-stays
 returns-in_err-send-2-clause-stays g c = record {
@@ -100,7 +100,7 @@ returns-in_err-send-2-clause-stays g c = record {
 
 pub returns-in_err-send-2-clause-faults : goal.returns-in_err-send-2-clause-faults
 returns-in_err-send-2-clause-faults g c = once_memory _ _ _
-    c.from_residual-in_err-send-2.ensures.1 c.join.ensures.faults.count
+    c.from_residual-in_err-send-2.ensures.1 c.join.ensures.faults.counts.count
 
 pub returns-clause-stays : goal.returns-clause-stays
 returns-clause-stays g c = record {
@@ -110,4 +110,4 @@ returns-clause-stays g c = record {
 }
 
 pub returns-clause-faults : goal.returns-clause-faults
-returns-clause-faults g c = once_done _ _ _ c.join.ensures.faults.count
+returns-clause-faults g c = once_done _ _ _ c.join.ensures.faults.counts.count
