@@ -72,18 +72,18 @@ impl Node {
             (D.told store.old) (D.told store.new)) }
         ensures faults { FailsOnce result (D.faults store.old) (D.faults store.new) }
     {
-        let told = self.report();
+        let joins = first_joining(self.report());
         let mark = promised_mark(self.mark, view);
         store.write_mark(alloc, &mark)?;
         self.mark = mark;
         self.duty = duty;
         // What a server keeps that has joined before stays where it is.
         if let State::Joined(_, joining) = &mut self.state {
-            *joining = first_joining(told);
+            *joining = joins;
             return Ok(());
         }
         let kept = mem::replace(&mut self.state, State::Gone).into_kept();
-        self.state = State::Joined(kept, first_joining(told));
+        self.state = State::Joined(kept, joins);
         Ok(())
     }
 

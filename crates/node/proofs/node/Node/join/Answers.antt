@@ -37,7 +37,7 @@ invariant_of-self-2 g c = (
         (subst (λ (s : State). Fits (place_of c.self.inside.me) c.self.inside.mark s)
         (sym c.replace.ensures.value) c.self.invariant.1)),
     ap (λ (j : Joining). get (heard_of j.formed) (place_of c.self.inside.me))
-        c.first_joining-2.ensures ∙ heard_none (place_of c.self.inside.me),
+        c.first_joining-joins.ensures ∙ heard_none (place_of c.self.inside.me),
   ),
 )
 
@@ -96,7 +96,7 @@ invariant_of-self g c =
             c.promised_mark-mark.ensures
             (subst (λ (s : State). Fits (place_of n.me) n.mark s) c.in-Joined.is
             c.self.invariant.1).0,
-        ap (λ (j : Joining). get (heard_of j.formed) (place_of n.me)) c.first_joining.ensures
+        ap (λ (j : Joining). get (heard_of j.formed) (place_of n.me)) c.first_joining-joins.ensures
             ∙ heard_none (place_of n.me),
       ),
     )
