@@ -1,5 +1,5 @@
 -- WHAT A DOOR HAS DONE in the group that is played: which calls were answered there, and how.
-use Rattle.std.specs.Prelude.{◌≡◌, ℕ, List, [], ◌∷◌, ◌++◌, map, Option, None, Some}
+use Rattle.std.specs.Prelude.{◌≡◌, List, map, None, Some}
 use Rattle.harp_types.specs.declared.call.Call.{Call}
 use Rattle.harp_types.specs.declared.cred.Cred.{Cred}
 use Rattle.trace_types.specs.declared.line.LineFault.TheVariants as fault

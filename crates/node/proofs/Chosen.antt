@@ -1,5 +1,5 @@
 -- A join at a coordinator: it is kept, or the view is chosen.
-use Rattle.std.proofs.Common.{◌≡◌, ℕ, ◌==◌, true, List, [], ◌∷◌, Option, Some, None, ap, sym, subst, ◌∙◌}
+use Rattle.std.proofs.Common.{◌≡◌, ℕ, ◌==◌, true, List, [], ◌∷◌, Option, None, ap, sym, subst, ◌∙◌}
 use Rattle.file_tree.specs.Book.{Entry}
 use Rattle.group_rules.specs.Joining.{on_join}
 use Rattle.group_rules.specs.Moves.{Collecting, Move}
@@ -24,7 +24,6 @@ use Rattle.node_outputs.specs.declared.outputs.Outputs.{Outputs}
 use Rattle.promise.specs.Promise.{HorizonValue}
 use Rattle.view_form.specs.Choice.{Collected, chosen_at, collected, report, reports}
 use Rattle.view_form.specs.declared.join.JoinInfo.{JoinInfo}
-use Rattle.view_form.specs.declared.plan.Plan.{Plan as Told}
 
 -- the server of a node, with its saved log or without it
 pub record IsOf (at : NodeValue → Server Entry) : Type 0 where

@@ -4,8 +4,7 @@ use Rattle.std.specs.Prelude.{None, Some, Result, option_map, ⊤}
 use Rattle.event_record.specs.declared.record.RecordFields.{RecordFields}
 use Rattle.file_tree.specs.Book.{Entry}
 use Rattle.group_rules.specs.Misfits.{misfits}
-use Rattle.group_rules.specs.Moves.{Move, acts}
-use Rattle.group_rules.specs.Open.{try_open}
+use Rattle.group_rules.specs.Moves.{acts}
 use Rattle.group_rules.specs.Names.{place_of}
 use Rattle.group_rules.specs.Places.{Place}
 use Rattle.group_rules.specs.State.{Message, Server}

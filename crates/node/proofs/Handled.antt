@@ -22,13 +22,12 @@ use Rattle.node.proofs.Marks.{IsAlike, alike_then, disk_as, mark_as, marks_none,
 use Rattle.node.proofs.Saying.{unsaid}
 use Rattle.node.proofs.Sent.{AreSent, sent_silent}
 use Rattle.node.proofs.Stocks.{AreIdle, idle_sent, idle_stock, stocks_idle, stocks_on, stocks_so, stocks_then}
-use Rattle.node.specs.Cached.{IsCachedAs}
 use Rattle.node.specs.Disk.{MayLeave, disk_after, fault_of, marked_by, write_mark}
 use Rattle.node.specs.Forming.{joined_node, pulling_node}
 use Rattle.node.specs.Handles.{Acts, Fails, Handles, Moves}
 use Rattle.node.specs.Node.{NodeValue, server, value}
 use Rattle.node.specs.State.{IsKept}
-use Rattle.node.specs.Stock.{Stocks, stock}
+use Rattle.node.specs.Stock.{stock}
 use Rattle.node.specs.declared.fault.NodeFault.{NodeFault}
 use Rattle.node.specs.declared.pull.Pull.{Pull}
 use Rattle.node.specs.declared.state.Joining.{Joining}

@@ -14,10 +14,10 @@ use Rattle.harp_store.specs.Mark.{MarkFields}
 use Rattle.harp_types.specs.Streams.{Rose}
 use Rattle.harp_types.specs.View.{View}
 use Rattle.node.proofs.Accepts.{may_leave}
-use Rattle.node.proofs.Handled.{AreSame, IsQuiet, acts_sent, acts_so, acts_then, fails_so, fails_then, part_then_more, sent_quiet, then_moves}
-use Rattle.node.proofs.Saying.{part_so, unsaid}
+use Rattle.node.proofs.Handled.{AreSame, IsQuiet, acts_sent, sent_quiet, then_moves}
+use Rattle.node.proofs.Saying.{unsaid}
 use Rattle.node.proofs.Sent.{sent_made}
-use Rattle.node.specs.Disk.{MayLeave, marked_by, promising}
+use Rattle.node.specs.Disk.{marked_by, promising}
 use Rattle.node.specs.Handles.{Acts, Fails, Moves}
 use Rattle.node.specs.Node.{NodeValue, server}
 use Rattle.node.specs.Stock.{stock}

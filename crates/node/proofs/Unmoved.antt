@@ -4,7 +4,7 @@ use Rattle.std.specs.Prelude.{Option}
 use Rattle.event_record.specs.declared.record.RecordFields.{RecordFields}
 use Rattle.file_tree.specs.Book.{Entry}
 use Rattle.group_rules.proofs.Tests.{if_not}
-use Rattle.group_rules.specs.Form.{fits, form_moves, on_form, on_give, pull_tests}
+use Rattle.group_rules.specs.Form.{fits, form_moves, on_form, on_give}
 use Rattle.group_rules.specs.Limits.{is_joins, is_pulls}
 use Rattle.group_rules.specs.Moves.{Move}
 use Rattle.group_rules.specs.Places.{Place, all_of}

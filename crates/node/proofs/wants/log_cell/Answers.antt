@@ -1,4 +1,4 @@
-use Rattle.std.proofs.Common.{◌≡◌, Some, subst, sym}
+use Rattle.std.proofs.Common.{subst}
 use Rattle.cell_cache.specs.Entries.{AreOf}
 use Rattle.harp_store.specs.Disk.{cells_told}
 use Rattle.node.specs.State.{cached_in}

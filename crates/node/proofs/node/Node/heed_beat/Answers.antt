@@ -1,4 +1,4 @@
-use Rattle.std.proofs.Common.{◌≡◌, ◌≤◌, ◌==◌, [], true, false, ℕ, sym, subst, ap, refl, ◌∙◌}
+use Rattle.std.proofs.Common.{◌≡◌, ◌≤◌, ◌==◌, [], true, false, ℕ, sym, subst, refl, ◌∙◌}
 use Rattle.std.proofs.lemmas.Bool.{eqb-true}
 use Rattle.group_rules.specs.Names.{number_of_view, place_of}
 use Rattle.group_rules.specs.Places.{Place, leader}
@@ -15,7 +15,7 @@ use Rattle.node_outputs.specs.Makes.{Makes}
 use Rattle.replica.specs.Following.{followed, place_followed}
 use Rattle.node.proofs.Stocked.{beat_stock}
 use Rattle.node.proofs.Stocks.{stocks_so}
-use Rattle.node.specs.Stock.{stock, stock_in}
+use Rattle.node.specs.Stock.{stock}
 use Rattle.node.proofs.node.Node.heed_beat.Goals as goal
 use Rattle.node.proofs.node.Node.heed_beat.Goals.{After-beat}
 

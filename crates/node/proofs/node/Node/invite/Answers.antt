@@ -1,11 +1,10 @@
 use Rattle.std.proofs.Common.{Option, [], inl, le_refl, refl, sym, ◌∙◌, ap}
 use Rattle.std.specs.Prelude.{option_map, ⊤}
 use Rattle.group_rules.specs.Names.{number_of_view, place_of}
-use Rattle.group_rules.specs.State.{NoDuty, Report, Server}
+use Rattle.group_rules.specs.State.{NoDuty, Server}
 use Rattle.view_form.specs.Choice.{report}
 use Rattle.view_form.specs.declared.join.JoinInfo.{JoinInfo}
 use Rattle.file_tree.specs.Book.{Entry}
-use Rattle.node.specs.Node.{server}
 use Rattle.node.proofs.Handled.{acts_idle, acts_so, acts_then, fails_as, fails_memory, fails_so, fails_then, part_then_more, then_moves}
 use Rattle.node.proofs.Joined.{invited, invited_again, invites, joined_acts, joined_fails, joins, telling_acts, tells, tells_quiet, told_again, uninvited}
 use Rattle.node.proofs.Saying.{part_so}

@@ -1,4 +1,4 @@
-use Rattle.std.proofs.Common.{◌≡◌, Some, refl, subst, sym, ◌∙◌, ap}
+use Rattle.std.proofs.Common.{refl, subst, sym, ◌∙◌, ap}
 use Rattle.harp_cells.specs.Effect.{Reads}
 use Rattle.harp_store.specs.Disk.{cells_told}
 use Rattle.node.proofs.Asks.{cached_at}

@@ -1,4 +1,4 @@
-use Rattle.std.proofs.Common.{[], le_refl, sym, ◌∙◌}
+use Rattle.std.proofs.Common.{le_refl, sym, ◌∙◌}
 use Rattle.file_tree.specs.Book.{Entry}
 use Rattle.group_rules.specs.Names.{number_of_view, place_of}
 use Rattle.group_rules.specs.State.{Message}
