@@ -146,6 +146,10 @@ none_come b [] none = ap (λ xs. record { entries = xs; updates = b.updates })
     ∙ ap (λ n. record { entries = b.entries ++ []; updates = n }) (omega arith)
 none_come b (e ∷ es) none = absurd (omega (arith, none))
 
+pub nothing : {X : Type 0} (xs : List X) → length xs ≡ 0 → xs ≡ []
+nothing [] none = refl
+nothing (x ∷ xs) none = absurd (omega (arith, none))
+
 pub none_shown : (lines : List Line) (start n : ℕ) (es : List BookEntry) → length es ≡ 0
     → lines ≡ lines ++ entered_lines start (new_updates n (map entered es))
 none_shown lines start n [] none = no_lines lines start n

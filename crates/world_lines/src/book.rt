@@ -67,6 +67,7 @@ impl Book {
         ensures lines { OnOk result (lines.new.items ≡ lines.old.items
             ++ entered_lines (length self.old.entries)
             (new_updates self.old.updates (map entered updates.old.items))) }
+        ensures left { OnOk result (updates.new.items ≡ []) }
     {
         if updates.is_empty() {
             return Ok(());
@@ -86,6 +87,7 @@ impl Book {
         ensures lines { OnOk result (lines.new.items ≡ lines.old.items
             ++ entered_lines (length self.old.entries)
             (new_updates self.old.updates (map entered updates.old.items))) }
+        ensures left { OnOk result (updates.new.items ≡ []) }
     {
         let _ = &self.updates;
         for update in updates.drain(..) {

@@ -1,6 +1,7 @@
 //! The lines that a server's step gives, and what it puts into the book and among the packets.
 
-ghost use Rattle.std.specs.Prelude.{◌≡◌, ◌++◌, ◌∷◌, [], length, IfOk, OnOk};
+ghost use Rattle.std.specs.Prelude.{◌≡◌, ◌++◌, ◌∷◌, [], length, None, IfOk, OnOk};
+ghost use Rattle.node_outputs.specs.Said.{said};
 ghost use Rattle.world_lines.specs.Given.{answered_line, answered_lines, book_given, lines_given, packet_of, packets_of, refused_line, refused_lines, sent_line, sent_lines};
 
 use crate::book::Book;
@@ -33,8 +34,9 @@ fn show_answers(
     answers: &mut Vec<Answered>,
     lines: &mut Vec<Line>,
 ) -> Result<(), AllocError>
-    ensures { OnOk result (lines.new.items ≡ lines.old.items
+    ensures lines { OnOk result (lines.new.items ≡ lines.old.items
         ++ answered_lines server answers.old.items) }
+    ensures left { OnOk result (answers.new.items ≡ []) }
 {
     for answer in answers.drain(..) {
         show_answer(server, answer, lines)?;
@@ -103,6 +105,7 @@ fn post_all(
     ensures packets { OnOk result (packets.new ≡ packets.old ++ packets_of from sends.old.items) }
     ensures lines { OnOk result (lines.new.items ≡ lines.old.items
         ++ sent_lines from (length packets.old) sends.old.items) }
+    ensures left { OnOk result (sends.new.items ≡ []) }
 {
     for send in sends.drain(..) {
         post(from, send, packets, lines)?;
@@ -126,6 +129,13 @@ pub fn give(
     ensures lines { OnOk result (lines.new.items ≡ lines.old.items
         ++ lines_given server book.old (length packets.old) outs.old) }
     ensures listed { IfOk result (λ listing. listing ≡ outs.old.listing) }
+    // Of the outputs the refusals are left, and the views.
+    ensures left { OnOk result (said outs.new ≡ record (said outs.old) {
+      committed = [];
+      answers = [];
+      sends = [];
+      listed = None;
+    }) }
 {
     book.enter_updates(alloc, &mut outs.committed, lines)?;
     book.enter_reads(alloc, outs.answers.as_slice(), lines)?;

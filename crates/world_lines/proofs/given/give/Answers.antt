@@ -26,7 +26,7 @@ returns-clause-lines c =
     c.in_ok-enter_updates.ensures.lines
     (c.in_ok-enter_reads.ensures.lines ∙ ap (λ xs. c.enter_updates.new.lines.items
     ++ entered_lines m (reads_in xs)) c.as_slice.ensures.value)
-    c.in_ok-show_answers.ensures
+    c.in_ok-show_answers.ensures.lines
     (c.in_ok-show_refusals.ensures ∙ ap (λ xs. c.show_answers.new.lines.items
     ++ refused_lines c.args.server xs) c.as_slice-2.ensures.value)
     c.in_ok-post_all.ensures.lines

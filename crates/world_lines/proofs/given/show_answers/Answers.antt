@@ -19,8 +19,8 @@ loop-answer-preserved c =
     0 0 c.loop-answer.yielded c.in-Some.answer c.loop-answer.invariant
     (sym (uncounted m (λ n x. refl) 0 c.loop-answer.yielded))
 
-pub returns : goal.returns
-returns c =
+pub returns-clause-lines : goal.returns-clause-lines
+returns-clause-lines c =
     let l = c.loop-answer in
     let all = YieldsList-end (drained {s = c.into_iter-answer-iterator.result}
     c.args.answers.now.items (search (rules, whole_range)))
