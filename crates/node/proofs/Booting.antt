@@ -9,6 +9,7 @@ use Rattle.group_rules.specs.Limits.{can_have, is_log, is_outside}
 use Rattle.group_rules.specs.Names.{place_of}
 use Rattle.group_rules.specs.Places.{Place, all_of, is_p2}
 use Rattle.group_rules.specs.State.{Empty, Held, Log, Lost, Mark, Saved, Server, longest_of}
+use Rattle.harp_types.specs.Limits.{first_promise}
 use Rattle.harp_types.specs.declared.server.ServerId.{ServerId}
 use Rattle.harp_types.specs.declared.server.ServerId.TheVariants as id
 use Rattle.harp_types.specs.declared.state.Role.{Role as Part}
@@ -221,20 +222,21 @@ rests_from items mark low horizon clock delta longest k lowers until long =
 -- ---- from the mark that the disk has
 
 -- the first mark is the machine's
-first_is : (me : ServerId) (delta : ℕ) (items : List Entry) → items ≡ [] → max delta delta ≡ delta
-    → mark_with items (first_mark me delta)
-    ≡ lengthened delta (first_mark_of Entry delta (place_of me))
-first_is id.Zero delta items none same =
-    ap (λ (x : List Entry). mark_with x (first_mark id.Zero delta)) none
-    ∙ ap (λ (n : ℕ). record (mark_with [] (first_mark id.Zero delta)) { longest = Some n })
+first_is : (me : ServerId) (delta longest : ℕ) (items : List Entry) → items ≡ []
+    → max delta longest ≡ longest
+    → mark_with items (first_mark me longest)
+    ≡ lengthened delta (first_mark_of Entry longest (place_of me))
+first_is id.Zero delta longest items none same =
+    ap (λ (x : List Entry). mark_with x (first_mark id.Zero longest)) none
+    ∙ ap (λ (n : ℕ). record (mark_with [] (first_mark id.Zero longest)) { longest = Some n })
     (sym same)
-first_is id.One delta items none same =
-    ap (λ (x : List Entry). mark_with x (first_mark id.One delta)) none
-    ∙ ap (λ (n : ℕ). record (mark_with [] (first_mark id.One delta)) { longest = Some n })
+first_is id.One delta longest items none same =
+    ap (λ (x : List Entry). mark_with x (first_mark id.One longest)) none
+    ∙ ap (λ (n : ℕ). record (mark_with [] (first_mark id.One longest)) { longest = Some n })
     (sym same)
-first_is id.Two delta items none same =
-    ap (λ (x : List Entry). mark_with x (first_mark id.Two delta)) none
-    ∙ ap (λ (n : ℕ). record (mark_with [] (first_mark id.Two delta)) { longest = Some n })
+first_is id.Two delta longest items none same =
+    ap (λ (x : List Entry). mark_with x (first_mark id.Two longest)) none
+    ∙ ap (λ (n : ℕ). record (mark_with [] (first_mark id.Two longest)) { longest = Some n })
     (sym same)
 
 none_left : (items : List Entry) (a b : SavedNumbers) → Some a ≡ Some b → a.top ≡ 0
@@ -244,9 +246,9 @@ none_left (x ∷ xs) a b e low high =
     let same : a ≡ b = cc in
     absurd (omega (arith, ap (λ (s : SavedNumbers). s.top) same, low, high))
 
-no_items : (me : ServerId) (delta : ℕ) (cells : Cells) (items : List Entry)
-    → HoldSaved cells (first_mark me delta) items → items ≡ []
-no_items me delta cells items h = none_left items _ _ h.numbers refl (omega arith)
+no_items : (me : ServerId) (longest : ℕ) (cells : Cells) (items : List Entry)
+    → HoldSaved cells (first_mark me longest) items → items ≡ []
+no_items me longest cells items h = none_left items _ _ h.numbers refl (omega arith)
 
 pub boots_from : (me : ServerId) (clock delta : ℕ) (cells : Cells) (items : List Entry)
     (old : Option MarkFields) → HoldSaved cells (boot_mark me delta old) items
@@ -254,7 +256,8 @@ pub boots_from : (me : ServerId) (clock delta : ℕ) (cells : Cells) (items : Li
     ≡ booted (place_of me) clock delta (mark_before me delta items old)
 boots_from me clock delta cells items None h =
     ap (λ (m : Mark Entry). rested (place_of me) clock delta m)
-    (first_is me delta items (no_items me delta cells items h) (omega arith))
+    (first_is me delta (max delta first_promise) items
+    (no_items me (max delta first_promise) cells items h) (omega arith))
 boots_from me clock delta cells items (Some mark) h = refl
 
 pub boots_as : (me : ServerId) (clock delta : ℕ) (cells : Cells) (items : List Entry)
@@ -270,10 +273,10 @@ boots_as me clock delta cells items old mark k is held found =
     ∙ boots_from me clock delta cells items old held
 
 -- the first mark's saved log is whole
-first_whole : (me : ServerId) (delta : ℕ) (cells : Cells) → IsNotSaved cells (first_mark me delta)
-    → ⊥
-first_whole me delta cells (inl e) = absurd (true≢false e)
-first_whole me delta cells (inr (index, above, below, lacks)) = omega (arith, above, below)
+first_whole : (me : ServerId) (longest : ℕ) (cells : Cells)
+    → IsNotSaved cells (first_mark me longest) → ⊥
+first_whole me longest cells (inl e) = absurd (true≢false e)
+first_whole me longest cells (inr (index, above, below, lacks)) = omega (arith, above, below)
 
 pub lost_as : (me : ServerId) (clock delta : ℕ) (cells : Cells) (items : List Entry)
     (old : Option MarkFields) (mark : MarkFields) (k : Kept) → mark ≡ boot_mark me delta old
@@ -284,7 +287,7 @@ pub lost_as : (me : ServerId) (clock delta : ℕ) (cells : Cells) (items : List 
     → rests clock delta (mark_with items mark) k
     ≡ booted_without (place_of me) clock delta (mark_before me delta items old)
 lost_as me clock delta cells items None mark k is lacks found =
-    absurd (first_whole me delta cells lacks)
+    absurd (first_whole me (max delta first_promise) cells lacks)
 lost_as me clock delta cells items (Some before) mark k is lacks found =
     ap (λ (s : Server Entry). record s { saved = (mark_with items mark).saved })
     (sym (found (subst (IsNotSaved cells) (sym is) lacks)))

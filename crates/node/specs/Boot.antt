@@ -7,6 +7,7 @@ use Rattle.group_rules.specs.Limits.{is_log}
 use Rattle.group_rules.specs.Names.{place_of}
 use Rattle.group_rules.specs.Places.{Place, is_p2}
 use Rattle.group_rules.specs.State.{Mark, Server, longest_of}
+use Rattle.harp_types.specs.Limits.{first_promise}
 use Rattle.harp_types.specs.declared.server.ServerId.{ServerId}
 use Rattle.harp_cells.specs.Effect.{Cells}
 use Rattle.harp_store.specs.Disk.{AtEachMoment, Disk, Moments, after_step, with_mark}
@@ -19,10 +20,11 @@ use Rattle.node.specs.declared.fault.NodeFault.{NodeFault}
 use Rattle.power_save.specs.Entries.{HoldEntries}
 use Rattle.power_save.specs.Saved.{HoldRecords}
 
--- the mark that a boot goes on from, by the mark that the disk has: the first one where it has
--- none, else the same with the longest promise that its disk ever saw
+-- the mark that a boot goes on from, by the mark that the disk has: the same with the longest
+-- promise that its disk ever saw, or the first one where it has none. A run of the group begins
+-- with promises of 2000, so a new disk counts as one that saw them, and its first rest is as long
 abbrev pub boot_mark : ServerId → (delta : ℕ) → Option MarkFields → MarkFields
-boot_mark me delta None = first_mark me delta
+boot_mark me delta None = first_mark me (max delta first_promise)
 boot_mark me delta (Some mark) =
     record mark { longest = Some (max delta (longest_of mark.longest)) }
 
@@ -52,7 +54,7 @@ after_boot me delta (Some h) = if has_boot_mark delta h.now.mark then Some h
 
 -- the machine's mark of a disk, the saved log having these records
 abbrev pub mark_before : ServerId → (delta : ℕ) → List Entry → Option MarkFields → Mark Entry
-mark_before me delta items None = first_mark_of Entry delta (place_of me)
+mark_before me delta items None = first_mark_of Entry (max delta first_promise) (place_of me)
 mark_before me delta items (Some mark) = mark_with items mark
 
 -- cells hold the saved log of a mark, where it has one, as records of these entries

@@ -29,11 +29,12 @@ use std::alloc::Global;
 impl Node {
     /// Boots a server from its disk, at this reading of its clock, which is below 2^62, with
     /// promises that last for `delta`. First the mark is written, where it changes: the first one
-    /// of a new disk, or the one that is there, with the longest promise that its disk ever saw.
-    /// Then the server rests. It holds its saved log where a choice can give it its role and the
-    /// disk has that log whole; else it holds nothing, as server 2 that stands outside, or its log
-    /// is lost. Records that an earlier boot read are shared. After an error the disk has the mark
-    /// as it was or the one written first. It is never Halted.
+    /// of a new disk, or the one that is there, with the longest promise that its disk ever saw,
+    /// which is of 2000 at least for a new disk. Then the server rests for so long. It holds its
+    /// saved log where a choice can give it its role and the disk has that log whole; else it holds
+    /// nothing, as server 2 that stands outside, or its log is lost. Records that an earlier boot
+    /// read are shared. After an error the disk has the mark as it was or the one written first. It
+    /// is never Halted.
     pub fn boot<D: Store>(
         alloc: Global,
         me: ServerId,
@@ -113,7 +114,8 @@ fn is_within(delta: Delta, longest: Option<u32>) -> bool
     }
 }
 
-/// The mark that a boot goes on from, by the one that the disk has.
+/// The mark that a boot goes on from, by the one that the disk has. A new disk takes it that it saw
+/// the promise with which a group begins, however short `delta` is.
 fn boot_mark(me: ServerId, delta: Delta, old: &Option<Mark>) -> Mark
     ensures mark { result ≡ boot_mark me delta old.now }
     ensures longest { delta ≤ longest_of result.longest }
@@ -121,7 +123,7 @@ fn boot_mark(me: ServerId, delta: Delta, old: &Option<Mark>) -> Mark
     let _ = delta.get();
     match old {
         Some(mark) => mark.with_longest(delta.longer(longest_of(mark)).get()),
-        None => Mark::first(me, delta.get()),
+        None => Mark::first(me, delta.longer(Delta::first()).get()),
     }
 }
 
