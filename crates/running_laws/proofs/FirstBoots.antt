@@ -1,5 +1,5 @@
 -- The first boot at a place whose disk is new: that a run booted there before makes no difference.
-use Rattle.std.proofs.Common.{◌≡◌, ℕ, ◌≤◌, max, Bool, true, false, List, [], ◌∷◌, length, Option, None, Some, refl, sym, ap, ◌∙◌, subst, arith, if◌then◌else◌}
+use Rattle.std.proofs.Common.{◌≡◌, ℕ, max, Bool, true, false, List, [], ◌∷◌, length, Option, None, Some, refl, sym, ap, ◌∙◌, subst, arith, if◌then◌else◌}
 use Rattle.event_record.specs.declared.record.RecordFields.{RecordFields}
 use Rattle.file_tree.specs.Book.{Entry}
 use Rattle.group_rules.proofs.Tests.{if_not, is_le}
@@ -34,20 +34,20 @@ none_held : (cells : _) (place : ServerId) (longest : ℕ) (items : List Entry)
 none_held cells place longest items h =
     let long = same_top _ _ h.numbers in none_long items (omega (arith, long))
 
--- the longest promise that counts is this boot's
-same_booted : (place : ServerId) (now delta : ℕ) → max delta first_promise ≡ max delta delta
+-- two first marks boot alike where both have the same longest promise afterwards
+same_booted : (place : ServerId) (now delta longest : ℕ)
+    → max delta first_promise ≡ max delta longest
     → booted (place_of place) now delta (mark_with [] (first_mark place first_promise))
-    ≡ booted (place_of place) now delta (first_mark_of Entry delta (place_of place))
-same_booted server.Zero now delta e = ap (λ (n : ℕ). rested (place_of server.Zero) now delta
-    (record (first_mark_of Entry delta (place_of server.Zero)) { longest = Some n })) e
-same_booted server.One now delta e = ap (λ (n : ℕ). rested (place_of server.One) now delta
-    (record (first_mark_of Entry delta (place_of server.One)) { longest = Some n })) e
-same_booted server.Two now delta e = ap (λ (n : ℕ). rested (place_of server.Two) now delta
-    (record (first_mark_of Entry delta (place_of server.Two)) { longest = Some n })) e
+    ≡ booted (place_of place) now delta (first_mark_of Entry longest (place_of place))
+same_booted server.Zero now delta longest e = ap (λ (n : ℕ). rested (place_of server.Zero) now delta
+    (record (first_mark_of Entry longest (place_of server.Zero)) { longest = Some n })) e
+same_booted server.One now delta longest e = ap (λ (n : ℕ). rested (place_of server.One) now delta
+    (record (first_mark_of Entry longest (place_of server.One)) { longest = Some n })) e
+same_booted server.Two now delta longest e = ap (λ (n : ℕ). rested (place_of server.Two) now delta
+    (record (first_mark_of Entry longest (place_of server.Two)) { longest = Some n })) e
 
 module _ (h : HostValue) (place : ServerId) (now delta : ℕ) (a b : Site) (k : IsNew place h a)
-    (written : Some b.disk ≡ after_boot place delta (Some a.disk)) (long : first_promise ≤ delta)
-  where
+    (written : Some b.disk ≡ after_boot place delta (Some a.disk)) where
     abbrev q : Place
     q = place_of place
 
@@ -59,12 +59,6 @@ module _ (h : HostValue) (place : ServerId) (now delta : ℕ) (a b : Site) (k : 
     abbrev marked_disk : ℕ → ToldDisk
     marked_disk n = with_mark (first_mark place n) nothing_stored.now
 
-    is_max : max delta first_promise ≡ delta
-    is_max = omega (arith, long)
-
-    both_max : max delta first_promise ≡ max delta delta
-    both_max = omega (arith, long)
-
     no_mark : a.disk.now.mark ≡ None
     no_mark = ap (λ (d : ToldDisk). d.mark) k.new.empty
 
@@ -75,9 +69,7 @@ module _ (h : HostValue) (place : ServerId) (now delta : ℕ) (a b : Site) (k : 
         → HoldSaved (reads a.disk.now) (boot_mark place delta a.disk.now.mark) items
     unfolding reads
     held_there items held = subst (λ (d : ToldDisk).
-        HoldSaved (reads d) (boot_mark place delta d.mark) items) (sym k.new.empty)
-        (subst (λ (n : ℕ). HoldSaved (reads nothing_stored.now) (first_mark place n) items) is_max
-        held)
+        HoldSaved (reads d) (boot_mark place delta d.mark) items) (sym k.new.empty) held
 
     whole_there : (saved : List RecordFields)
         → HoldWhole (reads from.now) (boot_mark place delta from.now.mark) saved
@@ -93,7 +85,7 @@ module _ (h : HostValue) (place : ServerId) (now delta : ℕ) (a b : Site) (k : 
         subst (λ (o : Option MarkFields). server w.node []
         ≡ booted q now delta (mark_before place delta [] o)) no_mark
         (w.boot.boots a.disk [] refl (held_there [] held))
-        ∙ sym (same_booted place now delta both_max)
+        ∙ sym (same_booted place now delta (max delta first_promise) (omega arith))
 
     boots_from : (w : WholeBoot place now delta a b) (items : List Entry)
         → HoldSaved (reads from.now) (boot_mark place delta from.now.mark) items
@@ -109,7 +101,6 @@ module _ (h : HostValue) (place : ServerId) (now delta : ℕ) (a b : Site) (k : 
         → w.node.mark ≡ boot_mark place delta from.now.mark
     mark_is w = subst (λ (o : Option MarkFields). HasBase q (boot_mark place delta o)
         → w.node.mark ≡ boot_mark place delta o) no_mark (w.boot.mark a.disk refl) (λ two. refl)
-        ∙ ap (first_mark place) (sym is_max)
 
     -- ---- what is written
 
@@ -124,15 +115,15 @@ module _ (h : HostValue) (place : ServerId) (now delta : ℕ) (a b : Site) (k : 
     written_by false = refl
 
     left_now : (b : Bool) → has_boot_mark delta from.now.mark ≡ b
-        → (left_by b).now ≡ marked_disk delta
+        → (left_by b).now ≡ marked_disk (max delta first_promise)
     unfolding left_by
     left_now true e =
         let le = is_le delta first_promise e in
-        let same : first_promise ≡ delta = omega (arith, le, long) in
+        let same : first_promise ≡ max delta first_promise = omega (arith, le) in
         ap marked_disk same
-    left_now false e = ap marked_disk is_max
+    left_now false e = refl
 
-    disk_there : b.disk.now ≡ marked_disk delta
+    disk_there : b.disk.now ≡ marked_disk (max delta first_promise)
     disk_there = now_at b.disk (then_disk (booted_disk place delta a.disk.now) a.disk)
         (written ∙ if_not (has_boot_mark delta a.disk.now.mark) (Some a.disk)
         (after_step (booted_disk place delta) (Some a.disk)) (ap (has_boot_mark delta) no_mark))

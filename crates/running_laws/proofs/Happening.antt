@@ -8,7 +8,7 @@ use Rattle.node_link.specs.declared.link.Datagram.{Datagram}
 use Rattle.node_loop.specs.Arriving.{Arrives}
 use Rattle.world.specs.World.{WorldValue}
 use Rattle.running_laws.specs.Events.{Boots, Does, Ends, Event, Site, Takes, What}
-use Rattle.running_laws.specs.Follows.{Follows, HappensKnown, IsCutSo, IsCutStep, LastsLong}
+use Rattle.running_laws.specs.Follows.{Follows, HappensKnown, IsCutSo, IsCutStep}
 use Rattle.running_laws.specs.Histories.{IsInTime, IsNotForged}
 use Rattle.running_laws.specs.Lives.{HappensBy, Steps}
 use Rattle.running_laws.proofs.Broken.{cut_step}
@@ -55,35 +55,34 @@ module _ (before : List Event) (e : Event) (a c : Trio Site) (w : DiskScene) (x 
       (arrives_led before e a c w x k v at d given what_is come network)
 
   event_cut : (v : DiskScene) → IsAt es v set → (what : What) → e.what ≡ what
-      → HappensBy e.place e.now what true e.outs here there → LastsLong what here
+      → HappensBy e.place e.now what true e.outs here there
       → IsCutSo e.now what true here there → IsNotForged before e.place what
       → Leaves before e c v set
-  event_cut v at (Boots delta) what_is by long known network =
-      cut_boot before e a c w x k v at delta by.0 by.0.part long by.1
-  event_cut v at (Does given) what_is by long known network =
+  event_cut v at (Boots delta) what_is by known network =
+      cut_boot before e a c w x k v at delta by.0 by.0.part by.1
+  event_cut v at (Does given) what_is by known network =
       cut_step before e a c w x k v at given by.1 known
       (deed_is_led before e a c w x k v at given (own_deed es e.place given by.0))
-  event_cut v at (Takes d) what_is by long known network =
+  event_cut v at (Takes d) what_is by known network =
       cut_arrives v at d by.0 what_is by.1 by.2 known network
-  event_cut v at Ends what_is by long known network =
+  event_cut v at Ends what_is by known network =
       end_happens before e a c w x k v at by.0 by.1
 
   event_leaves : (v : DiskScene) → IsAt es v set → (what : What) → e.what ≡ what
       → HappensBy e.place e.now what false e.outs here there → IsNotForged before e.place what
-      → LastsLong what here → Leaves before e c v set
-  event_leaves v at (Boots delta) what_is by network long =
-      boot_happens before e a c w x k v at delta by.0 long by.1
-  event_leaves v at (Does given) what_is by network long =
+      → Leaves before e c v set
+  event_leaves v at (Boots delta) what_is by network =
+      boot_happens before e a c w x k v at delta by.0 by.1
+  event_leaves v at (Does given) what_is by network =
       deed_happens before e a c w x k v at given (own_deed es e.place given by.0) by.1
-  event_leaves v at (Takes d) what_is by network long =
+  event_leaves v at (Takes d) what_is by network =
       arrives before e a c w x k v at d by.0 what_is by.1 network by.2
-  event_leaves v at Ends what_is by network long =
+  event_leaves v at Ends what_is by network =
       end_happens before e a c w x k v at by.0 by.1
 
   pub cut_or_whole : (v : DiskScene) → IsAt es v set → (cut : Bool)
       → HappensBy e.place e.now e.what cut e.outs here there
       → IsCutSo e.now e.what cut here there → IsNotForged before e.place e.what
       → Leaves before e c v set
-  cut_or_whole v at false by known network = event_leaves v at e.what refl by network h.long
-  cut_or_whole v at true by known network =
-      event_cut v at e.what refl by h.long known network
+  cut_or_whole v at false by known network = event_leaves v at e.what refl by network
+  cut_or_whole v at true by known network = event_cut v at e.what refl by known network

@@ -13,8 +13,8 @@ use Rattle.world.proofs.Tables.{each_value, value_there}
 use Rattle.world.specs.Clocks.{delta_after}
 use Rattle.world.specs.World.{WorldValue}
 use Rattle.world_rules.specs.Host.{HostValue}
-use Rattle.running_laws.specs.Events.{Boots, Event, Site}
-use Rattle.running_laws.specs.Follows.{Follows, HappensKnown, HasStore, IsNew, IsPlace, IsSite, LastsLong}
+use Rattle.running_laws.specs.Events.{Event, Site}
+use Rattle.running_laws.specs.Follows.{Follows, HappensKnown, HasStore, IsNew, IsPlace, IsSite}
 use Rattle.running_laws.specs.Histories.{IsInTime}
 use Rattle.running_laws.specs.Lives.{EndBetween, PartOfBoot, WholeBoot}
 use Rattle.running_laws.proofs.Bootings.{IsBootAt, IsBooting, boot_led, boot_there, delta_is, delta_led, host_booted, world_booted}
@@ -52,12 +52,12 @@ module _ (before : List Event) (e : Event) (a c : Trio Site) (w : DiskScene) (x 
   there = value_of c e.place
 
   boot_at : (delta : ℕ) (b : Site) → WholeBoot e.place e.now delta here b
-      → LastsLong (Boots delta) here → IsBootAt (value_of x.hosts e.place) e.place e.now delta b
-  boot_at delta b boot long = ⊎_elim
+      → IsBootAt (value_of x.hosts e.place) e.place e.now delta b
+  boot_at delta b boot = ⊎_elim
       (λ (s : IsSite (value_of x.hosts e.place) here). boot_there _ e.place e.now delta here b s
       boot)
       (λ (k : IsNew e.place (value_of x.hosts e.place) here). first_boot _ e.place e.now delta here
-      b k boot.boot.written (long k.new) boot)
+      b k boot.boot.written boot)
       (f.sites_are e.place)
 
   booted_happens : (v : DiskScene) → IsAt es v set → (delta : ℕ) → IsDelta delta
@@ -93,10 +93,9 @@ module _ (before : List Event) (e : Event) (a c : Trio Site) (w : DiskScene) (x 
       refl silent
 
   pub boot_happens : (v : DiskScene) → IsAt es v set → (delta : ℕ)
-      → WholeBoot e.place e.now delta here there → LastsLong (Boots delta) here → e.outs ≡ None
-      → Leaves before e c v set
-  boot_happens v at delta boot long silent =
-      booted_happens v at delta boot.length (boot_at delta there boot long)
+      → WholeBoot e.place e.now delta here there → e.outs ≡ None → Leaves before e c v set
+  boot_happens v at delta boot silent =
+      booted_happens v at delta boot.length (boot_at delta there boot)
       (λ n is. subst (λ (k : NodeValue). k.peers ≡ [])
       (same_some boot.node n (sym boot.is ∙ is)) boot.boot.peers) silent
 
@@ -207,11 +206,11 @@ module _ (before : List Event) (e : Event) (a c : Trio Site) (w : DiskScene) (x 
       })) silent (gone_askers before e a c w x k end.gone))) refl silent
 
   -- the node that it was about to make
-  made_at : (delta : ℕ) (amid : Moments) → here.node ≡ None → LastsLong (Boots delta) here
+  made_at : (delta : ℕ) (amid : Moments) → here.node ≡ None
       → Some amid ≡ after_boot e.place delta (Some here.disk)
       → (n : NodeValue) × IsBootAt (value_of x.hosts e.place) e.place e.now delta
       (record { node = Some n; disk = amid })
-  made_at delta amid none long written =
+  made_at delta amid none written =
       let q = place_of e.place in
       let own = f.stands.servers e.place in
       let host = value_of x.hosts e.place in
@@ -222,23 +221,23 @@ module _ (before : List Event) (e : Event) (a c : Trio Site) (w : DiskScene) (x 
       s.disk written refl)
       (λ (k : IsNew e.place host here). made_boot (w.scene.group.server q) own.stock own.saved
       (w.disks q) host own.host e.place e.now delta own.me k.node
-      (from host e.place e.now delta here b k written (long k.new))
-      (new_left host e.place e.now delta here b k written (long k.new)) amid k.disk
-      (new_written host e.place e.now delta here b k written (long k.new))
-      (new_there host e.place e.now delta here b k written (long k.new)))
+      (from host e.place e.now delta here b k written)
+      (new_left host e.place e.now delta here b k written) amid k.disk
+      (new_written host e.place e.now delta here b k written)
+      (new_there host e.place e.now delta here b k written))
       (f.sites_are e.place)
 
   pub cut_boot : (v : DiskScene) → IsAt es v set → (delta : ℕ)
       → (p : PartOfBoot e.place delta here there)
       → (p.amid ≡ here.disk) ⊎ (Some p.amid ≡ after_boot e.place delta (Some here.disk))
-      → LastsLong (Boots delta) here → e.outs ≡ None → Leaves before e c v set
-  cut_boot v at delta p (inl old) long silent =
+      → e.outs ≡ None → Leaves before e c v set
+  cut_boot v at delta p (inl old) silent =
       let left = subst (λ (m : Moments). IsLeftOf m.now there.disk.now) old p.left in
       unwritten_boot v at p.none p.still
       (left_of_synced here.disk.now there.disk.now (none_here (f.sites_are e.place) p.none) left)
       silent
-  cut_boot v at delta p (inr written) long silent =
-      let made = made_at delta p.amid p.none long written in
+  cut_boot v at delta p (inr written) silent =
+      let made = made_at delta p.amid p.none written in
       let b : Site = record { node = Some made.0; disk = p.amid } in
       let synced : IsSynced p.amid.now = marked_synced e.place delta here.disk p.amid
       (has_boot_mark delta here.disk.now.mark) written

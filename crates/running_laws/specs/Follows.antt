@@ -144,13 +144,6 @@ pub record HasStore (s : Site) : Type 0 where
   pub store : SoundStore
   pub holds : (stored store).now ≡ s.disk.now
 
--- a boot of a new disk makes promises at least as long as the first ones of a run
-abbrev pub LastsLong : What → Site → Type 0
-LastsLong (Boots delta) s = IsNewSite s → first_promise ≤ delta
-LastsLong (Does given) s = ⊤
-LastsLong (Takes d) s = ⊤
-LastsLong Ends s = ⊤
-
 -- a step could have been whole, over a disk that a store in memory has
 pub record CouldBeWhole (now : ℕ) (given : Input) (a : Site) : Type 0 where
   pub outs : Option Outputs
@@ -179,7 +172,6 @@ pub record HappensKnown (e : Event) (a c : Trio Site) : Type 0 where
   pub happens : Happens e a c
   pub cut : IsCutSo e.now e.what e.cut (value_of a e.place) (value_of c e.place)
   pub has_store : HasStore (value_of c e.place)
-  pub long : LastsLong e.what (value_of a e.place)
 
 -- ---- where they lead
 
