@@ -29,9 +29,8 @@
 //!   with a server that stays up, until it saves its log.
 //!
 //! What isn't proved yet is a premise of the first two, each with a name: a place's disk is that of
-//! a store in memory (`HasStore`); a boot of a new disk makes promises at least as long as the
-//! first ones of a run (`LastsLong`); and a step that is cut, but for asks, leaves what a crash
-//! before it may, or it could have been whole (`IsCutStep`).
+//! a store in memory (`HasStore`); and a step that is cut, but for asks, leaves what a crash before
+//! it may, or it could have been whole (`IsCutStep`).
 #![tactic(auto)]
 
 ghost use Rattle.running_laws.specs.Follows.{EventsFollow, HistoriesAreRuns};
