@@ -12,7 +12,7 @@ ghost use Rattle.group_trace.specs.Shown.{shown_of};
 ghost use Rattle.harp_store.specs.Memory.{crashed_by};
 ghost use Rattle.node.specs.Stock.{Stock};
 ghost use Rattle.node_outputs.specs.Said.{nothing, said};
-ghost use Rattle.world_rules.specs.Host.{IsHost, IsRunning, disk_of, no_stock, with_node, without_node};
+ghost use Rattle.world_rules.specs.Host.{IsHost, IsRunning, disk_of, listed, no_stock, with_node, without_node};
 ghost use Rattle.world_rules.specs.Steps.{HostBoots, HostFails, HostFalls, HostTakes};
 ghost use Rattle.world_host.specs.Starts.{HostStarts};
 ghost use Rattle.harp_store.specs.Values.{stands, stored};
@@ -46,7 +46,7 @@ pub struct Host {
 }
 
 impl Model for Host {
-    ghost use Rattle.world_rules.specs.Host.{HostValue, IsRunning};
+    ghost use Rattle.world_rules.specs.Host.{HostValue, IsRunning, listed};
     ghost use Rattle.world_host.specs.Shows.{IsShown};
     ghost use Rattle.group_rules.specs.Names.{place_of};
     ghost use Rattle.std.specs.Prelude.{◌≡◌, [], IfSome, option_map};
@@ -57,7 +57,7 @@ impl Model for Host {
     ghost view = { λ h. record {
       me = place_of h.me;
       node = option_map (λ b. b.value) h.node;
-      store = h.disk;
+      disk = listed h.disk;
     } };
 
     // No earlier moment of its disk is told any more, and its node can go on, and is shown so.
@@ -213,7 +213,7 @@ impl Host {
     fn put_disk(&mut self, disk: SoundStore)
         requires down { self.old.node ≡ None }
         requires past { (stored disk).past ≡ [] }
-        ensures { self.new ≡ record self.old { store = disk } }
+        ensures { self.new ≡ record self.old { disk = listed disk } }
     {
         self.disk = disk;
     }

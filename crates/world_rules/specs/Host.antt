@@ -1,5 +1,5 @@
 -- A server of a played group: its node over its disk.
-use Rattle.std.specs.Prelude.{◌≡◌, ◌+◌, false, List, [], length, map, Option, None, Some, IfSome}
+use Rattle.std.specs.Prelude.{◌≡◌, ◌+◌, false, List, [], drop, length, map, take, Option, None, Some, IfSome}
 use Rattle.cell_cache.specs.Entries.{AreOf}
 use Rattle.event_record.specs.Record.{entry_of}
 use Rattle.event_record.specs.declared.record.RecordFields.{RecordFields}
@@ -8,25 +8,51 @@ use Rattle.fuzzy_cells.specs.Disk.{Disk}
 use Rattle.group_rules.specs.Effects.{down}
 use Rattle.group_rules.specs.Places.{Place}
 use Rattle.group_rules.specs.State.{Server, mark_of}
-use Rattle.harp_store.specs.Disk.{Disk as ToldDisk, IsSynced, Moments, reads}
+use Rattle.harp_store.specs.Disk.{Disk as ToldDisk, IsSynced, Moments, reads, set_by}
 use Rattle.harp_store.specs.Mark.{MarkFields, SavedNumbers}
+use Rattle.harp_store.specs.Table.{Entries, base_in}
+use Rattle.harp_store.specs.declared.layers.Unsynced.{Unsynced}
+use Rattle.harp_store.specs.declared.stores.SoundStore.{SoundStore}
 use Rattle.node.specs.Boot.{HasBase}
 use Rattle.node.specs.Node.{IsServer, NodeValue, mark_with, server}
 use Rattle.node.specs.Stock.{Stock, stock}
 use Rattle.power_save.specs.Saved.{HoldRecords}
-use Rattle.harp_store.specs.Values.{stored}
-use Rattle.harp_store.specs.declared.stores.SoundStore.{SoundStore}
 use Rattle.store_laws.specs.Told.{IsDiskOf}
 
--- A server: its place, its node where it is up, and its store
+-- A DISK THAT IS LISTED: a table of cells, what was put and erased over it and is synced, what was
+-- since, and the mark. So it is data, where a disk may be any map of cells
+pub record ListedDisk : Type 0 where
+  pub entries : Entries
+  pub settled : List Unsynced
+  pub unsynced : List Unsynced
+  pub mark : Option MarkFields
+
+-- the disk itself
+abbrev pub disk_listed : ListedDisk → ToldDisk
+disk_listed l = record {
+  synced = λ c. set_by c l.settled (base_in l.entries c);
+  unsynced = l.unsynced;
+  mark = l.mark;
+}
+
+-- what a store in memory holds now, listed
+abbrev pub listed : SoundStore → ListedDisk
+listed s = record {
+  entries = s.store.layers.table;
+  settled = take s.store.layers.synced s.store.layers.changes.items;
+  unsynced = drop s.store.layers.synced s.store.layers.changes.items;
+  mark = s.store.layers.mark;
+}
+
+-- A server: its place, its node where it is up, and its disk
 pub record HostValue : Type 0 where
   pub me : Place
   pub node : Option NodeValue
-  pub store : SoundStore
+  pub disk : ListedDisk
 
 -- its disk now
 abbrev pub disk_of : HostValue → ToldDisk
-disk_of h = (stored h.store).now
+disk_of h = disk_listed h.disk
 
 -- the server with this node
 abbrev pub with_node : HostValue → NodeValue → HostValue

@@ -4,7 +4,7 @@ use Rattle.world_host.proofs.host.Host.crash.Goals as goal
 use Rattle.group_rules.specs.Names.{place_of}
 use Rattle.harp_store.specs.Disk.{Moments}
 use Rattle.harp_store.specs.Memory.{crashed_by}
-use Rattle.world_rules.specs.Host.{HostValue, disk_of}
+use Rattle.world_rules.specs.Host.{HostValue, disk_of, listed}
 use Rattle.std.specs.Prelude.{option_map}
 
 pub returns-clause-falls : goal.returns-clause-falls
@@ -14,7 +14,7 @@ returns-clause-falls c =
     let new : HostValue = record {
       me = place_of c.self.inside.me;
       node = option_map (λ b. b.value) c.self.inside.node;
-      store = c.crash.new.self;
+      disk = listed c.crash.new.self;
     } in
     crash_falls c.args.self.now new pick (record {
       me = ap (λ (h : HostValue). h.me) same;

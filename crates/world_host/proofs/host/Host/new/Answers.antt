@@ -4,14 +4,14 @@ use Rattle.world_host.proofs.host.Host.new.Goals as goal
 use Rattle.world_host.specs.Starts.{HostStarts}
 use Rattle.group_rules.specs.Names.{place_of}
 use Rattle.harp_store.specs.Disk.{Moments}
-use Rattle.world_rules.specs.Host.{HostValue}
+use Rattle.world_rules.specs.Host.{HostValue, listed}
 
 pub returns-clause-first : goal.returns-clause-first
 returns-clause-first c =
     let old : HostValue = record {
       me = place_of c.args.me;
       node = None;
-      store = c.new.result;
+      disk = listed c.new.result;
     } in
     let new = c.start.new.self in
     first_host (place_of c.args.me) old new (record {

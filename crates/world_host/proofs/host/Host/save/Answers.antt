@@ -4,7 +4,7 @@ use Rattle.world_host.proofs.host.Host.save.Goals as goal
 use Rattle.world_host.proofs.host.Host.save.Goals.{in-Ok, in-Err-NoMemory}
 use Rattle.group_rules.specs.Names.{place_of}
 use Rattle.harp_store.specs.Disk.{Moments}
-use Rattle.world_rules.specs.Host.{HostValue, disk_of, with_node}
+use Rattle.world_rules.specs.Host.{HostValue, disk_of, listed, with_node}
 use Rattle.world_rules.specs.Steps.{HostFails}
 use Rattle.std.specs.Prelude.{OnOk, Some, option_map}
 use Rattle.std.specs.declared.alloc.AllocError.{AllocError}
@@ -19,7 +19,7 @@ returns-clause-fails c =
     let new : HostValue = record {
       me = place_of c.self.inside.me;
       node = option_map (λ b. b.value) c.self.inside.node;
-      store = c.settle.new.self;
+      disk = listed c.settle.new.self;
     } in
     let fails : PoweredWell n (Some before) (Some left) → HostFails old new None =
     λ p g most pick k saved r h. save_fails old new n before left (record {
