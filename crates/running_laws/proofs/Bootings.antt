@@ -7,7 +7,7 @@ use Rattle.group_rules.specs.Places.{all_of}
 use Rattle.group_trace.specs.DiskRun.{DiskScene}
 use Rattle.group_trace.specs.Lines.{state_lines}
 use Rattle.group_trace.specs.Shown.{shown_of}
-use Rattle.harp_store.specs.Disk.{Moments}
+use Rattle.harp_store.specs.Disk.{Disk as ToldDisk, Moments}
 use Rattle.harp_types.specs.Trio.{value_of}
 use Rattle.harp_types.specs.declared.server.ServerId.{ServerId}
 use Rattle.node.specs.Node.{NodeValue}
@@ -28,9 +28,10 @@ use Rattle.world_host.specs.Starts.{HostStarts}
 use Rattle.world_rules.specs.Host.{HostValue, IsNodeOf, disk_of}
 use Rattle.world_rules.specs.Steps.{HostBoots}
 use Rattle.running_laws.specs.Events.{Event, Site}
-use Rattle.running_laws.specs.Follows.{HasStore, IsSite}
+use Rattle.running_laws.specs.Follows.{IsSite}
 use Rattle.running_laws.specs.Lives.{WholeBoot}
 use Rattle.running_laws.proofs.Answering.{none_shown}
+use Rattle.running_laws.proofs.Listed.{IsListed, boot_listed, host_listed}
 use Rattle.running_laws.proofs.Moving.{IsAt, LedTo, take_one}
 use Rattle.running_laws.proofs.Takings.{shown_so, state_shown}
 
@@ -106,19 +107,24 @@ pub record IsBooting (x : WorldValue) (place : ServerId) (now delta : ℕ) (b : 
   pub clock : value_of x.clocks place ≡ now
   pub length : x.delta ≡ delta
   pub boot : IsBootAt (value_of x.hosts place) place now delta b
-  pub has_store : HasStore b
 
 module _ (x : WorldValue) (place : ServerId) (now delta : ℕ) (b : Site)
     (t : IsBooting x place now delta b) where
   abbrev old : HostValue
   old = value_of x.hosts place
 
-  -- the host with the node that booted, and its store
+  -- the disk that the boot leaves
+  pub disk_booted : IsListed b.disk.now
+  disk_booted = subst (λ (d : ToldDisk). IsListed d) t.boot.there
+      (boot_listed place delta t.boot.old t.boot.left t.boot.boots.written
+      (host_listed old t.boot.old.now t.boot.disk))
+
+  -- the host with the node that booted, and its disk
   abbrev pub host_booted : HostValue
   host_booted = record {
     me = place_of place;
     node = Some t.boot.node;
-    store = t.has_store.store;
+    disk = disk_booted.list;
   }
 
   abbrev pub world_booted : WorldValue
@@ -129,7 +135,7 @@ module _ (x : WorldValue) (place : ServerId) (now delta : ℕ) (b : Site)
 
   starts : HostStarts old host_booted now delta
   starts = start_at place now delta t.boot.node t.boot.old t.boot.left old host_booted t.me
-      t.boot.disk refl (t.has_store.holds ∙ sym t.boot.there) t.boot.boots
+      t.boot.disk refl (disk_booted.is ∙ sym t.boot.there) t.boot.boots
 
   booting : HostBoots old host_booted (value_of x.clocks place) x.delta
   booting = subst (λ (d : ℕ). HostBoots old host_booted (value_of x.clocks place) d) (sym t.length)

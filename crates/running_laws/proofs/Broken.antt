@@ -33,7 +33,7 @@ use Rattle.running_laws.specs.Follows.{CouldBeWhole, Follows, HappensKnown, IsCu
 use Rattle.running_laws.specs.Lives.{EndBetween, PartOfStep}
 use Rattle.running_laws.proofs.Clocks.{reads_now}
 use Rattle.running_laws.proofs.Cuts.{IsCutBehind, IsNoApply, left_of_old, same_moments, to_end, told_no_apply}
-use Rattle.running_laws.proofs.Endings.{IsEnding, end_led, host_fallen, world_fallen}
+use Rattle.running_laws.proofs.Endings.{IsEnding, disk_fallen, end_led, host_fallen, world_fallen}
 use Rattle.running_laws.proofs.Happened.{all_silent, askers_left, gone_askers, none_said, own_me, set_world, silent_left, silently, site_here, turn_to}
 use Rattle.running_laws.proofs.Left.{IsLeft, IsNext, Leaves, each_none, each_pair, none_some, same_some, twice_set}
 use Rattle.running_laws.proofs.Moving.{IsAt, LedTo, led_on}
@@ -43,8 +43,8 @@ use Rattle.running_laws.proofs.Replying.{grows_so}
 use Rattle.running_laws.proofs.Resting.{end_happens}
 use Rattle.running_laws.proofs.Stepping.{IsLed, deed_is_led}
 use Rattle.running_laws.proofs.Steps.{own_deed}
-use Rattle.running_laws.proofs.Stopped.{IsStopped, host_stopped, stopped_led, the_stop, world_stopped}
-use Rattle.running_laws.proofs.Takings.{IsTurn, host_left, world_left}
+use Rattle.running_laws.proofs.Stopped.{IsStopped, disk_stopped, host_stopped, stopped_led, the_stop, world_stopped}
+use Rattle.running_laws.proofs.Takings.{IsTurn, disk_left, host_left, world_left}
 
 module _ (before : List Event) (e : Event) (a c : Trio Site) (w : DiskScene) (x : WorldValue)
     (k : IsNext before e a c w x) where
@@ -82,14 +82,13 @@ module _ (before : List Event) (e : Event) (a c : Trio Site) (w : DiskScene) (x 
       let ending : IsEnding y e.place b there = record {
         site = subst (λ (k : HostValue). IsSite k b) (sym there_is) (record {
           node = sym t.step.is;
-          disk = t.has_store.holds;
+          disk = (disk_left set e.place e.now given outs here b t).is;
           served = λ n is. subst IsServer (same_some t.step.new n (sym t.step.is ∙ is))
               t.step.step.is_server;
           synced = λ none. absurd (none_some t.step.new (sym none ∙ t.step.is));
         });
         me = ap (λ (k : HostValue). k.me) there_is;
         ending = end;
-        has_store = h.has_store;
       } in
       let fell = host_fallen y e.place b there ending in
       let z = world_fallen y e.place b there ending in
@@ -110,7 +109,7 @@ module _ (before : List Event) (e : Event) (a c : Trio Site) (w : DiskScene) (x 
               (value_of z place)) (sym h.happens.is)
               (each_pair IsPlace x.hosts a e.place fell there f.sites_are (inl (record {
                 node = sym end.gone;
-                disk = h.has_store.holds;
+                disk = (disk_fallen y e.place b there ending).is;
                 served = λ n is. absurd (none_some n (sym end.gone ∙ is));
                 synced = λ none. end.left.synced;
               }))));
@@ -146,7 +145,7 @@ module _ (before : List Event) (e : Event) (a c : Trio Site) (w : DiskScene) (x 
   broken v at given p could other led =
       let b = could.site in
       let outs = could.outs in
-      let t = turn_to before e a c w x k given outs b could.step could.has_store in
+      let t = turn_to before e a c w x k given outs b could.step in
       let l = led outs b t in
       let s = could.step in
       let size = (measures_of spellings).size in
@@ -190,7 +189,6 @@ module _ (before : List Event) (e : Event) (a c : Trio Site) (w : DiskScene) (x 
         less = less;
         made = made;
         left = p.left;
-        has_store = h.has_store;
       } in
       let host = host_stopped set e.place e.now most here there t in
       let stop = the_stop set e.place e.now most here there t in
@@ -202,7 +200,7 @@ module _ (before : List Event) (e : Event) (a c : Trio Site) (w : DiskScene) (x 
       (sym (twice_set x.stops e.place (Some stop) None))
       (silent_left before e a c w x k host set.delta (inl (record {
         node = sym p.gone;
-        disk = h.has_store.holds;
+        disk = (disk_stopped set e.place e.now most here there t).is;
         served = λ n is. absurd (none_some n (sym p.gone ∙ is));
         synced = λ none. p.left.synced;
       })) p.silent (gone_askers before e a c w x k p.gone))) refl p.silent
@@ -213,7 +211,7 @@ module _ (before : List Event) (e : Event) (a c : Trio Site) (w : DiskScene) (x 
       → CouldBeWhole e.now (input.Apply most) here → Leaves before e c v set
   applied v at most p could =
       let given = input.Apply most in
-      let t = turn_to before e a c w x k given could.outs could.site could.step could.has_store in
+      let t = turn_to before e a c w x k given could.outs could.site could.step in
       let l = deed_is_led before e a c w x k v at given (own_deed es e.place given tt) could.outs
       could.site t in
       let s = could.step in

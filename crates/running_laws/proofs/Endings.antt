@@ -21,10 +21,11 @@ use Rattle.world_host.proofs.Falls.{crash_falls}
 use Rattle.world_rules.specs.Host.{HostValue}
 use Rattle.world_rules.specs.Steps.{HostFalls}
 use Rattle.running_laws.specs.Events.{Event, Site}
-use Rattle.running_laws.specs.Follows.{HasStore, IsSite}
+use Rattle.running_laws.specs.Follows.{IsSite}
 use Rattle.running_laws.specs.Lives.{EndBetween}
 use Rattle.running_laws.proofs.Answering.{none_shown}
 use Rattle.running_laws.proofs.Bootings.{none_shown_so}
+use Rattle.running_laws.proofs.Listed.{IsListed, host_listed, left_listed}
 use Rattle.running_laws.proofs.Moving.{IsAt, LedTo, take_one}
 use Rattle.running_laws.proofs.Picks.{pick_of_left}
 use Rattle.running_laws.proofs.Takings.{shown_so, state_shown, up_so}
@@ -34,15 +35,19 @@ pub record IsEnding (x : WorldValue) (place : ServerId) (a b : Site) : Type 0 wh
   pub site : IsSite (value_of x.hosts place) a
   pub me : (value_of x.hosts place).me ≡ place_of place
   pub ending : EndBetween a b
-  pub has_store : HasStore b
 
 module _ (x : WorldValue) (place : ServerId) (a b : Site) (t : IsEnding x place a b) where
   abbrev old : HostValue
   old = value_of x.hosts place
 
-  -- the host without a node, with the store that is left
+  -- the disk that is left
+  pub disk_fallen : IsListed b.disk.now
+  disk_fallen = left_listed a.disk.now b.disk.now t.ending.left
+      (host_listed old a.disk.now t.site.disk)
+
+  -- the host without a node, with that disk
   abbrev pub host_fallen : HostValue
-  host_fallen = record { me = place_of place; node = None; store = t.has_store.store }
+  host_fallen = record { me = place_of place; node = None; disk = disk_fallen.list }
 
   abbrev pub world_fallen : WorldValue
   world_fallen = with_host x place host_fallen
@@ -57,7 +62,7 @@ module _ (x : WorldValue) (place : ServerId) (a b : Site) (t : IsEnding x place 
   falls = crash_falls old host_fallen picked.0 (record {
     me = sym t.me;
     node = refl;
-    disk = t.has_store.holds ∙ picked.1 ∙ ap (crashed_by picked.0) (sym t.site.disk);
+    disk = disk_fallen.is ∙ picked.1 ∙ ap (crashed_by picked.0) (sym t.site.disk);
   })
 
   old_is : old.node ≡ Some t.ending.old

@@ -22,11 +22,12 @@ use Rattle.world_rules.specs.Host.{HasMark, HostValue, IsHost, IsHostAt, disk_of
 use Rattle.world_rules.specs.Spellings.{spellings}
 use Rattle.running_laws.specs.Books.{HasBook}
 use Rattle.running_laws.specs.Events.{Site, new_sites}
-use Rattle.running_laws.specs.Follows.{ClocksFollow, Follows, HasAskers, HasStore, IsPlace, HistoriesAreRuns, first_disk, first_site}
+use Rattle.running_laws.specs.Follows.{ClocksFollow, Follows, HasAskers, IsPlace, HistoriesAreRuns, first_disk}
 use Rattle.running_laws.specs.Statement.{Stands}
-use Rattle.running_laws.proofs.Endings.{IsEnding, end_led, world_fallen}
+use Rattle.running_laws.proofs.Endings.{IsEnding, disk_fallen, end_led, world_fallen}
 use Rattle.running_laws.proofs.Following.{events_follow}
 use Rattle.running_laws.proofs.Left.{none_some, same_some}
+use Rattle.running_laws.proofs.Listed.{first_listed}
 use Rattle.running_laws.proofs.Moving.{IsAt, LedTo, answers_of, answers_on, leads_on, led_on}
 
 -- ---- the servers that booted on new disks
@@ -115,149 +116,156 @@ first_clocks = record {
     all_zero : (place : ServerId) → value_of (record { zero = 0; one = 0; two = 0 }) place ≤ 0
     all_zero place = all_below place 0
 
--- the place, before its server fell
+-- the place of a server that booted on a new disk, and fell
+abbrev first_site : ServerId → Site
+first_site place = record {
+  node = None;
+  disk = record { past = []; now = first_disk place };
+}
+
+-- before it fell
 up_site : ServerId → Site
 up_site place = record {
   node = Some (node_first place);
   disk = record { past = []; now = first_disk place };
 }
 
-module _ (stores : (place : ServerId) → HasStore (first_site place)) where
-  abbrev host_first : ServerId → HostValue
-  host_first place = record {
-    me = place_of place;
-    node = Some (node_first place);
-    store = (stores place).store;
-  }
+abbrev host_first : ServerId → HostValue
+host_first place = record {
+  me = place_of place;
+  node = Some (node_first place);
+  disk = (first_listed place).list;
+}
 
-  first_host : (place : ServerId) → IsHost (first_group.server (place_of place)) no_stock []
-      (empty_stores (place_of place)) (host_first place)
-  first_host place = subst (λ (d : ToldDisk). IsHostAt (first_group.server (place_of place))
-      no_stock [] (empty_stores (place_of place)) (place_of place) (Some (node_first place)) d)
-      (sym (stores place).holds) (first_host_at place)
+first_host : (place : ServerId) → IsHost (first_group.server (place_of place)) no_stock []
+    (empty_stores (place_of place)) (host_first place)
+first_host place = subst (λ (d : ToldDisk). IsHostAt (first_group.server (place_of place))
+    no_stock [] (empty_stores (place_of place)) (place_of place) (Some (node_first place)) d)
+    (sym (first_listed place).is) (first_host_at place)
 
-  abbrev world_first : WorldValue
-  world_first =
-      first_world (host_first server.Zero) (host_first server.One) (host_first server.Two)
+abbrev world_first : WorldValue
+world_first =
+    first_world (host_first server.Zero) (host_first server.One) (host_first server.Two)
 
-  at_first : IsAt [] first_disk_scene world_first
-  unfolding disk_run
-  at_first = record {
-    reached = record { steps = []; taken = tt; leads = refl };
-    asks = tt;
-    stands = first_stands (host_first server.Zero) (host_first server.One)
-        (host_first server.Two) refl refl refl (first_host server.Zero) (first_host server.One)
-        (first_host server.Two);
-  }
+at_first : IsAt [] first_disk_scene world_first
+unfolding disk_run
+at_first = record {
+  reached = record { steps = []; taken = tt; leads = refl };
+  asks = tt;
+  stands = first_stands (host_first server.Zero) (host_first server.One)
+      (host_first server.Two) refl refl refl (first_host server.Zero) (first_host server.One)
+      (first_host server.Two);
+}
 
-  -- ---- each falls
+-- ---- each falls
 
-  ending : (x : WorldValue) (place : ServerId) → value_of x.hosts place ≡ host_first place
-      → IsEnding x place (up_site place) (first_site place)
-  unfolding up_site
-  ending x place is = record {
-    site = record {
-      node = ap (λ (h : HostValue). h.node) is;
-      disk = ap disk_of is ∙ (stores place).holds;
-      served = λ n e. subst IsServer (same_some (node_first place) n e) (first_served place);
-      synced = λ none. absurd (none_some (node_first place) (sym none));
-    };
-    me = ap (λ (h : HostValue). h.me) is;
-    ending = record { old = node_first place; was = refl; gone = refl; left = first_left place };
-    has_store = stores place;
-  }
+ending : (x : WorldValue) (place : ServerId) → value_of x.hosts place ≡ host_first place
+    → IsEnding x place (up_site place) (first_site place)
+unfolding up_site
+ending x place is = record {
+  site = record {
+    node = ap (λ (h : HostValue). h.node) is;
+    disk = ap disk_of is ∙ (first_listed place).is;
+    served = λ n e. subst IsServer (same_some (node_first place) n e) (first_served place);
+    synced = λ none. absurd (none_some (node_first place) (sym none));
+  };
+  me = ap (λ (h : HostValue). h.me) is;
+  ending = record { old = node_first place; was = refl; gone = refl; left = first_left place };
+}
 
-  end_zero : IsEnding world_first server.Zero (up_site server.Zero) (first_site server.Zero)
-  end_zero = ending world_first server.Zero refl
+end_zero : IsEnding world_first server.Zero (up_site server.Zero) (first_site server.Zero)
+end_zero = ending world_first server.Zero refl
 
-  abbrev world_one : WorldValue
-  world_one =
-      world_fallen world_first server.Zero (up_site server.Zero) (first_site server.Zero) end_zero
+abbrev world_one : WorldValue
+world_one =
+    world_fallen world_first server.Zero (up_site server.Zero) (first_site server.Zero) end_zero
 
-  end_one : IsEnding world_one server.One (up_site server.One) (first_site server.One)
-  end_one = ending world_one server.One refl
+end_one : IsEnding world_one server.One (up_site server.One) (first_site server.One)
+end_one = ending world_one server.One refl
 
-  abbrev world_two : WorldValue
-  world_two =
-      world_fallen world_one server.One (up_site server.One) (first_site server.One) end_one
+abbrev world_two : WorldValue
+world_two =
+    world_fallen world_one server.One (up_site server.One) (first_site server.One) end_one
 
-  end_two : IsEnding world_two server.Two (up_site server.Two) (first_site server.Two)
-  end_two = ending world_two server.Two refl
+end_two : IsEnding world_two server.Two (up_site server.Two) (first_site server.Two)
+end_two = ending world_two server.Two refl
 
-  abbrev world_down : WorldValue
-  world_down =
-      world_fallen world_two server.Two (up_site server.Two) (first_site server.Two) end_two
+abbrev world_down : WorldValue
+world_down =
+    world_fallen world_two server.Two (up_site server.Two) (first_site server.Two) end_two
 
-  down_led : LedTo [] first_disk_scene world_down []
-  down_led = led_on [] first_disk_scene world_two world_down [] []
-      (led_on [] first_disk_scene world_one world_two [] []
-      (end_led world_first server.Zero (up_site server.Zero) (first_site server.Zero) end_zero []
-      first_disk_scene at_first)
-      (λ v at. end_led world_one server.One (up_site server.One) (first_site server.One) end_one []
-      v at))
-      (λ v at. end_led world_two server.Two (up_site server.Two) (first_site server.Two) end_two []
-      v at)
+down_led : LedTo [] first_disk_scene world_down []
+down_led = led_on [] first_disk_scene world_two world_down [] []
+    (led_on [] first_disk_scene world_one world_two [] []
+    (end_led world_first server.Zero (up_site server.Zero) (first_site server.Zero) end_zero []
+    first_disk_scene at_first)
+    (λ v at. end_led world_one server.One (up_site server.One) (first_site server.One) end_one []
+    v at))
+    (λ v at. end_led world_two server.Two (up_site server.Two) (first_site server.Two) end_two []
+    v at)
 
-  -- ---- new places follow
+-- ---- new places follow
 
-  places_new : (place : ServerId)
-      → IsPlace place (value_of world_down.hosts place) (value_of new_sites place)
-  unfolding end_zero ending end_one end_two
-  places_new server.Zero = inr (record {
-    new = record { gone = refl; empty = refl };
-    node = refl;
-    disk = (stores server.Zero).holds;
-  })
-  places_new server.One = inr (record {
-    new = record { gone = refl; empty = refl };
-    node = refl;
-    disk = (stores server.One).holds;
-  })
-  places_new server.Two = inr (record {
-    new = record { gone = refl; empty = refl };
-    node = refl;
-    disk = (stores server.Two).holds;
-  })
+places_new : (place : ServerId)
+    → IsPlace place (value_of world_down.hosts place) (value_of new_sites place)
+unfolding end_zero ending end_one end_two
+places_new server.Zero = inr (record {
+  new = record { gone = refl; empty = refl };
+  node = refl;
+  disk = (disk_fallen world_first server.Zero (up_site server.Zero) (first_site server.Zero)
+      end_zero).is;
+})
+places_new server.One = inr (record {
+  new = record { gone = refl; empty = refl };
+  node = refl;
+  disk = (disk_fallen world_one server.One (up_site server.One) (first_site server.One)
+      end_one).is;
+})
+places_new server.Two = inr (record {
+  new = record { gone = refl; empty = refl };
+  node = refl;
+  disk = (disk_fallen world_two server.Two (up_site server.Two) (first_site server.Two)
+      end_two).is;
+})
 
-  no_stops : (place : ServerId) → value_of world_down.stops place ≡ None
-  no_stops server.Zero = refl
-  no_stops server.One = refl
-  no_stops server.Two = refl
+no_stops : (place : ServerId) → value_of world_down.stops place ≡ None
+no_stops server.Zero = refl
+no_stops server.One = refl
+no_stops server.Two = refl
 
-  nobody_lives : (place : ServerId) (n : NodeValue) → (value_of new_sites place).node ≡ Some n
-      → HasAskers [] n.plain n.peers
-  nobody_lives server.Zero n is = absurd (none_some n is)
-  nobody_lives server.One n is = absurd (none_some n is)
-  nobody_lives server.Two n is = absurd (none_some n is)
+nobody_lives : (place : ServerId) (n : NodeValue) → (value_of new_sites place).node ≡ Some n
+    → HasAskers [] n.plain n.peers
+nobody_lives server.Zero n is = absurd (none_some n is)
+nobody_lives server.One n is = absurd (none_some n is)
+nobody_lives server.Two n is = absurd (none_some n is)
 
-  -- THE START follows
-  start_follows : Follows [] new_sites down_led.scene world_down
-  start_follows = record {
-    reached = down_led.there.reached;
-    asks = down_led.there.asks;
-    stands = down_led.there.stands;
-    sites_are = places_new;
-    no_stop = no_stops;
-    posted = λ d has. let none = has.1 in absurd (omega (arith, none));
-    clocks = first_clocks;
-    askers = nobody_lives;
-  }
+-- THE START follows
+start_follows : Follows [] new_sites down_led.scene world_down
+start_follows = record {
+  reached = down_led.there.reached;
+  asks = down_led.there.asks;
+  stands = down_led.there.stands;
+  sites_are = places_new;
+  no_stop = no_stops;
+  posted = λ d has. let none = has.1 in absurd (omega (arith, none));
+  clocks = first_clocks;
+  askers = nobody_lives;
+}
 
 -- HISTORIES OF WHOLE EVENTS are runs
 pub histories_are_runs : HistoriesAreRuns
-histories_are_runs stores events left lives network clocks =
-    let start = down_led stores in
-    let on = events_follow [] events new_sites left start.scene (world_down stores)
-    (start_follows stores) lives network clocks in
-    let led = leads_on first_disk_scene start.scene on.scene start.led on.led in
+histories_are_runs events left lives network clocks =
+    let on = events_follow [] events new_sites left down_led.scene world_down start_follows lives
+    network clocks in
+    let led = leads_on first_disk_scene down_led.scene on.scene down_led.led on.led in
     record {
       steps = led.steps;
       taken = led.taken;
       right = disk_runs_right spellings led.steps led.taken;
       stands = λ place. subst (λ (w : DiskScene). Stands w place (value_of left place))
           (sym led.leads) (on.places place);
-      answers = answers_on first_disk_scene start.scene on.scene start.led on.led
-          ∙ ap (λ ls. ls ++ answers_of start.scene on.led.steps) start.says ∙ on.answers;
+      answers = answers_on first_disk_scene down_led.scene on.scene down_led.led on.led
+          ∙ ap (λ ls. ls ++ answers_of down_led.scene on.led.steps) down_led.says ∙ on.answers;
       book = subst (HasBook events) (on.follows.stands.book.entries
           ∙ ap (λ (w : DiskScene). w.scene.group.book) (sym led.leads)) on.book;
     }

@@ -26,7 +26,7 @@ use Rattle.world_rules.specs.Host.{HostValue}
 use Rattle.world_rules.specs.Steps.{peers_by}
 use Rattle.running_laws.specs.Books.{IsOfBook, answers_in}
 use Rattle.running_laws.specs.Events.{Event, Site, all_sent, put_out, sent_by}
-use Rattle.running_laws.specs.Follows.{Follows, HasAskers, HasStore, HappensKnown, IsNew, IsPlace, IsSite}
+use Rattle.running_laws.specs.Follows.{Follows, HasAskers, HappensKnown, IsNew, IsPlace, IsSite}
 use Rattle.running_laws.specs.Histories.{IsInTime}
 use Rattle.running_laws.specs.Lives.{WholeStep}
 use Rattle.running_laws.proofs.Askers.{has_more}
@@ -35,7 +35,7 @@ use Rattle.running_laws.proofs.Moving.{IsAt, LedTo, led_nowhere}
 use Rattle.running_laws.proofs.Owed.{AnswersTo}
 use Rattle.running_laws.proofs.Posts.{Keeps, keeps_more, outs_posted, posted_still}
 use Rattle.running_laws.proofs.Replying.{answered_so, grows_so}
-use Rattle.running_laws.proofs.Takings.{IsTurn, host_left, world_left}
+use Rattle.running_laws.proofs.Takings.{IsTurn, disk_left, host_left, world_left}
 use Rattle.running_laws.proofs.Waiting.{waits_then}
 use Rattle.running_laws.proofs.Left.{IsNext, IsLeft, Leaves, each_none, each_pair, none_some, same_some}
 
@@ -153,16 +153,15 @@ module _ (before : List Event) (e : Event) (a c : Trio Site) (w : DiskScene) (x 
 
   -- a whole step of the node that lives there, whatever place it leaves
   abbrev pub turn_to : (given : Input) (outs : Option Outputs) (b : Site)
-      → WholeStep e.now given outs here b → HasStore b
+      → WholeStep e.now given outs here b
       → IsTurn set e.place e.now given outs here b
-  turn_to given outs b s has = record {
+  turn_to given outs b s = record {
     site = site_here s.old s.was;
     me = (f.stands.servers e.place).me;
     own_me = own_me;
     no_stop = f.no_stop e.place;
     clock = reads_now before e x.clocks f.clocks in_time;
     step = s;
-    has_store = has;
   }
 
   pub turn_left : (given : Input) (t : IsTurn set e.place e.now given e.outs here there)
@@ -181,7 +180,7 @@ module _ (before : List Event) (e : Event) (a c : Trio Site) (w : DiskScene) (x 
             (sym h.happens.is)
             (each_pair IsPlace x.hosts a e.place host there f.sites_are (inl (record {
               node = sym t.step.is;
-              disk = t.has_store.holds;
+              disk = (disk_left set e.place e.now given e.outs here there t).is;
               served = λ n is. subst IsServer (same_some t.step.new n (sym t.step.is ∙ is))
                   t.step.step.is_server;
               synced = λ none. absurd (none_some t.step.new (sym none ∙ t.step.is));

@@ -1,6 +1,7 @@
 mod Lists
 mod Reaching
 mod Picks
+mod Listed
 mod Spelled
 mod Posts
 mod Moving

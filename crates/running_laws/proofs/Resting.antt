@@ -14,14 +14,14 @@ use Rattle.world.specs.Clocks.{delta_after}
 use Rattle.world.specs.World.{WorldValue}
 use Rattle.world_rules.specs.Host.{HostValue}
 use Rattle.running_laws.specs.Events.{Event, Site}
-use Rattle.running_laws.specs.Follows.{Follows, HappensKnown, HasStore, IsNew, IsPlace, IsSite}
+use Rattle.running_laws.specs.Follows.{Follows, HappensKnown, IsNew, IsPlace, IsSite}
 use Rattle.running_laws.specs.Histories.{IsInTime}
 use Rattle.running_laws.specs.Lives.{EndBetween, PartOfBoot, WholeBoot}
-use Rattle.running_laws.proofs.Bootings.{IsBootAt, IsBooting, boot_led, boot_there, delta_is, delta_led, host_booted, world_booted}
+use Rattle.running_laws.proofs.Bootings.{IsBootAt, IsBooting, boot_led, boot_there, delta_is, delta_led, disk_booted, host_booted, world_booted}
 use Rattle.running_laws.proofs.FirstBoots.{first_boot, from, new_left, new_there, new_written}
 use Rattle.running_laws.proofs.Making.{made_boot}
 use Rattle.running_laws.proofs.Clocks.{reads_now}
-use Rattle.running_laws.proofs.Endings.{IsEnding, end_led, host_fallen, world_fallen}
+use Rattle.running_laws.proofs.Endings.{IsEnding, disk_fallen, end_led, host_fallen, world_fallen}
 use Rattle.running_laws.proofs.Moving.{IsAt, LedTo, led_nowhere, led_on}
 use Rattle.running_laws.proofs.Picks.{left_of_synced}
 use Rattle.running_laws.proofs.Waiting.{none_waits}
@@ -72,7 +72,6 @@ module _ (before : List Event) (e : Event) (a c : Trio Site) (w : DiskScene) (x 
         clock = reads_now before e x.clocks f.clocks in_time;
         length = delta_is set.delta delta length;
         boot = boot;
-        has_store = h.has_store;
       } in
       let y = world_booted ready e.place e.now delta there t in
       let led : LedTo es v y [] = led_on es v ready y [] [] (delta_led es v set delta at)
@@ -83,7 +82,7 @@ module _ (before : List Event) (e : Event) (a c : Trio Site) (w : DiskScene) (x 
       (silent_left before e a c w x k (host_booted ready e.place e.now delta there t) longer
       (inl (record {
         node = sym boot.is;
-        disk = h.has_store.holds;
+        disk = (disk_booted ready e.place e.now delta there t).is;
         served = λ n is. subst IsServer (same_some boot.node n (sym boot.is ∙ is))
             boot.boots.served;
         synced = λ none. absurd (none_some boot.node (sym none ∙ boot.is));
@@ -106,14 +105,13 @@ module _ (before : List Event) (e : Event) (a c : Trio Site) (w : DiskScene) (x 
         site = site_here before e a c w x k ending.old ending.was;
         me = (f.stands.servers e.place).me;
         ending = ending;
-        has_store = h.has_store;
       } in
       let y = world_fallen set e.place here there t in
       silently before e a c w x k v y (end_led set e.place here there t es v at)
       (silent_left before e a c w x k (host_fallen set e.place here there t) set.delta
       (inl (record {
         node = sym ending.gone;
-        disk = h.has_store.holds;
+        disk = (disk_fallen set e.place here there t).is;
         served = λ n is. absurd (none_some n (sym ending.gone ∙ is));
         synced = λ none. ending.left.synced;
       })) silent (gone_askers before e a c w x k ending.gone)) refl silent
@@ -164,16 +162,11 @@ module _ (before : List Event) (e : Event) (a c : Trio Site) (w : DiskScene) (x 
   written_boot v at delta b length boot end same silent =
       let longer = delta_after set.delta delta in
       let ready = record set { delta = longer } in
-      let has : HasStore b = record {
-        store = h.has_store.store;
-        holds = h.has_store.holds ∙ same;
-      } in
       let t : IsBooting ready e.place e.now delta b = record {
         me = (f.stands.servers e.place).me;
         clock = reads_now before e x.clocks f.clocks in_time;
         length = delta_is set.delta delta length;
         boot = boot;
-        has_store = has;
       } in
       let host = host_booted ready e.place e.now delta b t in
       let y = world_booted ready e.place e.now delta b t in
@@ -181,14 +174,13 @@ module _ (before : List Event) (e : Event) (a c : Trio Site) (w : DiskScene) (x 
       let ending : IsEnding y e.place b there = record {
         site = subst (λ (k : HostValue). IsSite k b) (sym there_is) (record {
           node = sym t.boot.is;
-          disk = has.holds;
+          disk = (disk_booted ready e.place e.now delta b t).is;
           served = λ n is. subst IsServer (same_some t.boot.node n (sym t.boot.is ∙ is))
               t.boot.boots.served;
           synced = λ none. absurd (none_some t.boot.node (sym none ∙ t.boot.is));
         });
         me = ap (λ (k : HostValue). k.me) there_is;
         ending = end;
-        has_store = h.has_store;
       } in
       let fell = host_fallen y e.place b there ending in
       let z = world_fallen y e.place b there ending in
@@ -200,7 +192,7 @@ module _ (before : List Event) (e : Event) (a c : Trio Site) (w : DiskScene) (x 
       (subst (IsLeft before e c set) (sym (twice_hosted ready e.place host fell))
       (silent_left before e a c w x k fell longer (inl (record {
         node = sym end.gone;
-        disk = h.has_store.holds;
+        disk = (disk_fallen y e.place b there ending).is;
         served = λ n is. absurd (none_some n (sym end.gone ∙ is));
         synced = λ none. end.left.synced;
       })) silent (gone_askers before e a c w x k end.gone))) refl silent

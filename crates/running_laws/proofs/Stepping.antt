@@ -25,7 +25,7 @@ use Rattle.world_lines.specs.Posted.{Posted, delivered_at}
 use Rattle.world_rules.specs.Steps.{peers_by}
 use Rattle.running_laws.specs.Books.{WasAsked}
 use Rattle.running_laws.specs.Events.{Event, Site, Takes}
-use Rattle.running_laws.specs.Follows.{AreForClients, Follows, HappensKnown, IsPacket}
+use Rattle.running_laws.specs.Follows.{AreForClients, Follows, IsPacket}
 use Rattle.running_laws.specs.Histories.{IsInTime, IsNotForged}
 use Rattle.running_laws.specs.Lives.{Steps, WholeStep}
 use Rattle.running_laws.proofs.Moving.{IsAt, LedTo}
@@ -57,9 +57,6 @@ module _ (before : List Event) (e : Event) (a c : Trio Site) (w : DiskScene) (x 
     (k : IsNext before e a c w x) where
   abbrev f : Follows before a w x
   f = k.follows
-
-  abbrev h : HappensKnown e a c
-  h = k.happens
 
   abbrev in_time : IsInTime before e
   in_time = k.in_time
@@ -176,10 +173,10 @@ module _ (before : List Event) (e : Event) (a c : Trio Site) (w : DiskScene) (x 
 
   whole_leaves : (v : DiskScene) (given : Input) (step : WholeStep e.now given e.outs here there)
       → IsLed es v set e.place e.now given e.outs here there
-      (turn_to before e a c w x k given e.outs there step h.has_store)
+      (turn_to before e a c w x k given e.outs there step)
       → Leaves before e c v set
   whole_leaves v given step l =
-      let t = turn_to before e a c w x k given e.outs there step h.has_store in
+      let t = turn_to before e a c w x k given e.outs there step in
       let y = world_left set e.place e.now given e.outs here there t in
       turn_leaves before e a c w x k v given t l.taken_as l.begins l.to
       (record y { packets = l.packets }) l.led refl
@@ -189,7 +186,7 @@ module _ (before : List Event) (e : Event) (a c : Trio Site) (w : DiskScene) (x 
   pub deed_happens : (v : DiskScene) → IsAt es v set → (given : Input) → IsDeed es e.place given
       → WholeStep e.now given e.outs here there → Leaves before e c v set
   deed_happens v at given d step = whole_leaves v given step (deed_is_led v at given d e.outs
-      there (turn_to before e a c w x k given e.outs there step h.has_store))
+      there (turn_to before e a c w x k given e.outs there step))
 
   pub arrives : (v : DiskScene) → IsAt es v set → (d : Datagram) (given : Option Input)
       → e.what ≡ Takes d → Arrives d given → IsNotForged before e.place (Takes d)
@@ -198,4 +195,4 @@ module _ (before : List Event) (e : Event) (a c : Trio Site) (w : DiskScene) (x 
       nothing_arrives before e a c w x k v at step.0 step.1
   arrives v at d (Some given) what_is come network step = whole_leaves v given step
       (arrives_led v at d given what_is come network e.outs there
-      (turn_to before e a c w x k given e.outs there step h.has_store))
+      (turn_to before e a c w x k given e.outs there step))

@@ -47,9 +47,10 @@ use Rattle.world_rules.specs.Spellings.{spellings}
 use Rattle.world_rules.specs.Steps.{HostTakes, Takes}
 use Rattle.world_rules.specs.declared.stop.Stop.{Stop}
 use Rattle.running_laws.specs.Events.{Event, Site}
-use Rattle.running_laws.specs.Follows.{HasStore, IsSite}
+use Rattle.running_laws.specs.Follows.{IsSite}
 use Rattle.running_laws.proofs.Answering.{none_shown}
 use Rattle.running_laws.proofs.Bootings.{none_shown_so}
+use Rattle.running_laws.proofs.Listed.{IsListed, host_listed, left_listed, part_listed}
 use Rattle.running_laws.proofs.Moving.{IsAt, LedTo, led_on, take_one}
 use Rattle.running_laws.proofs.Picks.{pick_of_left}
 use Rattle.running_laws.proofs.Steps.{IsDeed}
@@ -148,7 +149,6 @@ pub record IsStopped (x : WorldValue) (place : ServerId) (now most : ℕ) (a b :
   pub less : calls < length (changes_made most node)
   pub made : Some amid ≡ after_changes (take calls (changes_made most node)) (Some a.disk)
   pub left : IsLeftOf amid.now b.disk.now
-  pub has_store : HasStore b
 
 module _ (x : WorldValue) (place : ServerId) (now most : ℕ) (a b : Site)
     (t : IsStopped x place now most a b) where
@@ -165,9 +165,15 @@ module _ (x : WorldValue) (place : ServerId) (now most : ℕ) (a b : Site)
   abbrev armed : WorldValue
   armed = record x { stops = with_value x.stops place (Some the_stop) }
 
-  -- the host without a node, with the store that is left
+  -- the disk that is left
+  pub disk_stopped : IsListed b.disk.now
+  disk_stopped = left_listed t.amid.now b.disk.now t.left
+      (part_listed (take t.calls (changes_made most t.node)) a.disk t.amid t.made
+      (host_listed old a.disk.now t.site.disk))
+
+  -- the host without a node, with that disk
   abbrev pub host_stopped : HostValue
-  host_stopped = record { me = place_of place; node = None; store = t.has_store.store }
+  host_stopped = record { me = place_of place; node = None; disk = disk_stopped.list }
 
   abbrev pub world_stopped : WorldValue
   world_stopped = with_host armed place host_stopped
@@ -191,7 +197,7 @@ module _ (x : WorldValue) (place : ServerId) (now most : ℕ) (a b : Site)
         holds = record {
           me = sym t.own_me;
           node = refl;
-          disk = t.has_store.holds ∙ picked.1;
+          disk = disk_stopped.is ∙ picked.1;
         };
       }))
 

@@ -28,8 +28,9 @@ use Rattle.world_rules.specs.Host.{HostValue}
 use Rattle.world_rules.specs.Steps.{HostTakes}
 use Rattle.world_rules.specs.declared.stop.Stop.{Stop}
 use Rattle.running_laws.specs.Events.{Site}
-use Rattle.running_laws.specs.Follows.{HasStore, IsSite}
+use Rattle.running_laws.specs.Follows.{IsSite}
 use Rattle.running_laws.specs.Lives.{WholeStep}
+use Rattle.running_laws.proofs.Listed.{IsListed, host_listed, step_listed}
 
 -- the state that a node shows
 abbrev pub state_shown : NodeValue → Option StateLine
@@ -70,7 +71,7 @@ up_so x place n is served w world =
 -- ---- the turn
 
 -- what a whole step at a place rests on: its host is that of the place, with no stop, and its clock
--- reads as the event says; and what it leaves has a store
+-- reads as the event says
 pub record IsTurn (x : WorldValue) (place : ServerId) (now : ℕ) (given : Input)
     (outs : Option Outputs) (a b : Site) : Type 0 where
   pub site : IsSite (value_of x.hosts place) a
@@ -79,19 +80,22 @@ pub record IsTurn (x : WorldValue) (place : ServerId) (now : ℕ) (given : Input
   pub no_stop : value_of x.stops place ≡ None
   pub clock : value_of x.clocks place ≡ now
   pub step : WholeStep now given outs a b
-  pub has_store : HasStore b
 
 module _ (x : WorldValue) (place : ServerId) (now : ℕ) (given : Input) (outs : Option Outputs)
     (a b : Site) (t : IsTurn x place now given outs a b) where
   abbrev old : HostValue
   old = value_of x.hosts place
 
-  -- the host with the node and the store that the step leaves
+  -- the disk that the step leaves
+  pub disk_left : IsListed b.disk.now
+  disk_left = step_listed now given outs a b t.step (host_listed old a.disk.now t.site.disk)
+
+  -- the host with the node and the disk that it leaves
   abbrev pub host_left : HostValue
   host_left = record {
     me = place_of place;
     node = Some t.step.new;
-    store = t.has_store.store;
+    disk = disk_left.list;
   }
 
   -- and the world with it and the step's outputs
@@ -115,7 +119,7 @@ module _ (x : WorldValue) (place : ServerId) (now : ℕ) (given : Input) (outs :
   had = record { me = t.me ∙ sym old_me; node = old_is; disk = t.site.disk }
 
   has : Holds host_left t.step.old.me (Some t.step.new) b.disk.now
-  has = record { me = sym old_me; node = refl; disk = t.has_store.holds }
+  has = record { me = sym old_me; node = refl; disk = disk_left.is }
 
   pub old_up : (w : DiskScene) → IsWorld w x → (w.scene.group.server (place_of place)).up ≡ true
   old_up = up_so x place t.step.old old_is old_served

@@ -10,8 +10,6 @@ use Rattle.group_trace.specs.Run.{CanFollow, run_lines}
 use Rattle.harp_store.specs.Disk.{Disk as ToldDisk, IsLeftOf, IsSynced, with_mark}
 use Rattle.harp_store.specs.Mark.{first_mark}
 use Rattle.harp_store.specs.Memory.{nothing_stored}
-use Rattle.harp_store.specs.Values.{stored}
-use Rattle.harp_store.specs.declared.stores.SoundStore.{SoundStore}
 use Rattle.harp_types.specs.Limits.{clock_skew, first_promise}
 use Rattle.harp_types.specs.Trio.{value_of}
 use Rattle.harp_types.specs.Update.{is_update}
@@ -139,17 +137,11 @@ pub record Follows (before : List Event) (sites : Trio Site) (w : DiskScene) (x 
 
 -- ---- what is known of events
 
--- a store in memory has the disk of a place; what a host is over is such a store
-pub record HasStore (s : Site) : Type 0 where
-  pub store : SoundStore
-  pub holds : (stored store).now ≡ s.disk.now
-
--- a step could have been whole, over a disk that a store in memory has
+-- a step could have been whole
 pub record CouldBeWhole (now : ℕ) (given : Input) (a : Site) : Type 0 where
   pub outs : Option Outputs
   pub site : Site
   pub step : WholeStep now given outs a site
-  pub has_store : HasStore site
 
 -- a step that is cut leaves what a crash before it may, or it could have been whole; an ask changes
 -- no disk
@@ -171,7 +163,6 @@ IsCutSo now Ends true a b = ⊤
 pub record HappensKnown (e : Event) (a c : Trio Site) : Type 0 where
   pub happens : Happens e a c
   pub cut : IsCutSo e.now e.what e.cut (value_of a e.place) (value_of c e.place)
-  pub has_store : HasStore (value_of c e.place)
 
 -- ---- where they lead
 
@@ -203,13 +194,8 @@ EventsFollow = (before events : List Event) (a c : Trio Site) (w : DiskScene) (x
 
 -- ---- from new disks on
 
--- the place of a server that booted on a new disk, and fell
-abbrev pub first_site : ServerId → Site
-first_site place =
-    record { node = None; disk = record { past = []; now = first_disk place } }
-
 -- HISTORIES ARE RUNS of the group, from new disks on
 abbrev pub HistoriesAreRuns : Type 0
-HistoriesAreRuns = ((place : ServerId) → HasStore (first_site place))
-    → (events : List Event) (left : Trio Site) → Chain HappensKnown events new_sites left
+HistoriesAreRuns = (events : List Event) (left : Trio Site)
+    → Chain HappensKnown events new_sites left
     → EachAfter IsSentBefore [] events → EachAfter IsInTime [] events → IsRunOfGroup events left

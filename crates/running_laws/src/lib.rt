@@ -7,17 +7,18 @@
 //! begin and end, steps of them at readings of their clocks, and datagrams that are taken, of which
 //! those from the port of a server were sent by it before. `RunningServersAreTheGroup` says that
 //! each is a run of the group with disks, whose book is the history's. Of that all is proved but
-//! three premises, which stand below:
+//! a premise, which stands below:
 //!
 //! - `events_follow`: where a scene of a run follows a history (`Follows`), steps of the run lead
 //!   on to a scene that follows the next events too, and their answers are those of the events
 //!   (`follow`). Only a full net may refuse one of these steps: the clocks of the run are set
-//!   before each event, its packets are what was sent, and of what a crash may leave of a disk
-//!   there is a pick that leaves it. A boot that is cut behind its write is a boot and a crash, and
-//!   so is a step that is cut behind its last call, which answers nobody; an apply that is cut amid
-//!   its changes is a stop of the run; and another step that is cut is a crash. Each event adds to
-//!   the book calls that were asked for by then, from peers that are known, and its answers are
-//!   those of the book, to peers that asked under their numbers.
+//!   before each event, its packets are what was sent, each disk is one that can be listed, and of
+//!   what a crash may leave of it there is a pick that leaves it. A boot that is cut behind its
+//!   write is a boot and a crash, and so is a step that is cut behind its last call, which answers
+//!   nobody; an apply that is cut amid its changes is a stop of the run; and another step that is
+//!   cut is a crash. Each event adds to the book calls that were asked for by then, from peers
+//!   that are known, and its answers are those of the book, to peers that asked under their
+//!   numbers.
 //! - `histories_are_runs`: new places follow the scene in which each server fell behind its first
 //!   boot, so from new disks on a history is a run of the group (`runs`): its steps end in these
 //!   servers and disks, its book is the history's (`HasBook`), and all that `disk_laws` says of a
@@ -28,9 +29,8 @@
 //!   its last event is one amid which the process is gone, or of which a front was sent. So it is
 //!   with a server that stays up, until it saves its log.
 //!
-//! What isn't proved yet is a premise of the first two, each with a name: a place's disk is that of
-//! a store in memory (`HasStore`); and a step that is cut, but for asks, leaves what a crash before
-//! it may, or it could have been whole (`IsCutStep`).
+//! What isn't proved yet is a premise of the first two, which has a name: a step that is cut, but for
+//! asks, leaves what a crash before it may, or it could have been whole (`IsCutStep`).
 #![tactic(auto)]
 
 ghost use Rattle.running_laws.specs.Follows.{EventsFollow, HistoriesAreRuns};
