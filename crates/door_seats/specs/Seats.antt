@@ -205,14 +205,6 @@ told m s kept v (Refused by cause) = moved (waiting (hinted by cause v.wait) v s
 told m s kept v (Answered x) =
     followed m v.request (record s { visit = None; place = x.by }) kept (after v.errand x.reply)
 
--- what a message of a server says of a seat's call
-abbrev pub news_if : Moment → ServerId → Message → Seat → Option Visit → News
-news_if m by message s None = Nothing
-news_if m by message s (Some v) = said by (call_of m s v.errand v.number) message
-
-abbrev pub news_of : Moment → ServerId → Message → Seat → News
-news_of m by message s = news_if m by message s s.visit
-
 -- WHAT A SEAT DOES by a message of a server
 abbrev pub hears_of : Moment → ServerId → Message → Seat → Kept → Option Visit → Moved
 hears_of m by message s kept None = moved s kept None

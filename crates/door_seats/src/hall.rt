@@ -269,7 +269,10 @@ impl Hall {
         };
         match self.seat_for(&message) {
             Some(n) => Ok(Some(Word { n, by, message })),
-            None => Ok(None),
+            None => {
+                drop(message);
+                Ok(None)
+            }
         }
     }
 

@@ -1,27 +1,30 @@
 //! A seat: a client number, as which the calls of one connection at a time are made.
 
-ghost use Rattle.std.specs.Prelude.{◌≡◌, drop, true, Some, IfOk, OnErr, OnOk};
+ghost use Rattle.std.specs.Prelude.{◌≡◌, ◌++◌, drop, true, Some, IfOk, OnErr, OnOk};
+ghost use Rattle.rpc_door.specs.Serving.{sent};
+ghost use Rattle.nfs_door.specs.Steps.{after};
+ghost use Rattle.group_client.specs.Rule.{said};
 ghost use Rattle.door_seats.specs.Events.{empty_seat};
-ghost use Rattle.door_seats.specs.Kept.{Kept, answer_of};
+ghost use Rattle.door_seats.specs.Kept.{Kept, answer_of, with_answer};
 ghost use Rattle.door_seats.specs.Moving.{HasMoved, IsUsable, ask_of};
-ghost use Rattle.door_seats.specs.Seats.{arrived, asks_for, begun_by, call_of, come, followed};
-ghost use Rattle.door_seats.specs.Seats.{gone, hears, is_leaving, is_ready, left, lost, news_of, over};
-ghost use Rattle.door_seats.specs.Seats.{refused, reminded, settled, time_at, waiting, with_unread};
+ghost use Rattle.door_seats.specs.Seats.{arrived, asking, asks_for, begun_by, call_of, come};
+ghost use Rattle.door_seats.specs.Seats.{followed, gone, hears, is_leaving, is_ready, left, lost};
+ghost use Rattle.door_seats.specs.Seats.{over, refused, reminded, settled, time_at, waiting};
+ghost use Rattle.door_seats.specs.Seats.{with_unread};
 ghost use Rattle.door_seats.specs.declared.seat.Line.TheVariants as line;
 ghost use Rattle.door_seats.specs.declared.seat.Visit.{Visit as Visited};
-ghost use Rattle.rpc_door.specs.Serving.{sent};
 
 use crate::byte_queue::ByteQueue;
 use crate::kept::KeptAnswers;
 use crate::request::Request;
 use crate::rule::Moment;
 use client_calls::{Ticket, Wait, peer_of};
-use group_client::{News, said};
+use group_client::{News, Replied, ask_bytes, said};
 use harp_types::{Bytes, Peer, ServerId, Time};
 use nfs_door::{Errand, Step, begin, go_on};
 use rpc_door::put_sent;
 use std::alloc::{AllocError, Global};
-use wire::{Message, encode};
+use wire::Message;
 
 /// A record whose call is on its way.
 #[derive(Drop)]
@@ -266,23 +269,60 @@ impl Seat {
         match step {
             Step::Silent => Ok(None),
             Step::Answer(answer) => {
-                let sent = sent(alloc, answer.as_slice())?;
-                self.unsent.extend(sent.as_slice())?;
-                kept.keep(request, Bytes::from_vec(sent))?;
+                self.answer(alloc, request, answer, kept)?;
                 Ok(None)
             }
             Step::Call(errand) => {
-                let ask = self.ask(alloc, moment, &errand, self.next, self.place)?;
-                self.visit = Some(Visit {
-                    request,
-                    errand,
-                    number: self.next,
-                    wait: Wait::first(self.place, moment.now),
-                });
-                self.next = self.next.saturating_add(1);
+                let ask = self.call(alloc, moment, request, errand)?;
                 Ok(Some(ask))
             }
         }
+    }
+
+    /// Answers a record, and keeps the answer.
+    fn answer(
+        &mut self,
+        alloc: Global,
+        request: Request,
+        answer: Bytes,
+        kept: &mut KeptAnswers,
+    ) -> Result<(), AllocError>
+        ensures unsent { OnOk result (self.new
+            ≡ record self.old { unsent = self.old.unsent ++ sent answer }) }
+        ensures keeps { OnOk result (kept.new ≡ with_answer request (sent answer) kept.old) }
+        ensures client { self.new.client ≡ self.old.client }
+    {
+        let sent = sent(alloc, answer.as_slice())?;
+        self.unsent.extend(sent.as_slice())?;
+        kept.keep(request, Bytes::from_vec(sent))?;
+        Ok(())
+    }
+
+    /// Asks a record's call.
+    fn call(
+        &mut self,
+        alloc: Global,
+        moment: Moment,
+        request: Request,
+        errand: Errand,
+    ) -> Result<Ask, AllocError>
+        requires { IsUsable moment }
+        ensures ask { IfOk result (λ ask. ask ≡ ask_of (record {
+          asked = call_of moment self.old errand self.old.next;
+          to = self.old.place;
+        })) }
+        ensures seat { OnOk result (self.new ≡ asking moment.now request errand self.old) }
+        ensures client { self.new.client ≡ self.old.client }
+    {
+        let ask = self.ask(alloc, moment, &errand, self.next, self.place)?;
+        self.visit = Some(Visit {
+            request,
+            errand,
+            number: self.next,
+            wait: Wait::first(self.place, moment.now),
+        });
+        self.next = self.next.saturating_add(1);
+        Ok(ask)
     }
 
     /// The datagram that asks a call of a server.
@@ -298,15 +338,15 @@ impl Seat {
         ensures { IfOk result (λ ask. ask ≡ ask_of
             (record { asked = call_of moment self.now errand.now number; to = to })) }
     {
-        let message = Message::Ask {
+        let ticket = Ticket {
+            port: moment.rule.port,
             client: self.client,
             number,
             cred: errand.cred,
-            call: errand.call.copy(alloc)?,
         };
         Ok(Ask {
             to: peer_of(moment.rule.port, to),
-            bytes: encode(alloc, &message)?,
+            bytes: ask_bytes(alloc, ticket, &errand.call)?,
         })
     }
 
@@ -338,22 +378,38 @@ impl Seat {
         Ok(Some(ask))
     }
 
-    /// What a message of a server says of its call.
-    fn news(&self, moment: Moment, by: ServerId, message: Message) -> News
-        ensures { result ≡ news_of moment by message self.now }
+    /// What a message of a server says of a call of its.
+    fn news(&self, moment: Moment, by: ServerId, visit: &Visit, message: Message) -> News
+        ensures { result
+            ≡ said by (call_of moment self.now visit.now.errand visit.now.number) message }
     {
-        match &self.visit {
-            Some(visit) => {
-                let ticket = Ticket {
-                    port: moment.rule.port,
-                    client: self.client,
-                    number: visit.number,
-                    cred: visit.errand.cred,
-                };
-                said(by, ticket, &visit.errand.call, message)
-            }
-            None => News::Nothing,
-        }
+        let ticket = Ticket {
+            port: moment.rule.port,
+            client: self.client,
+            number: visit.number,
+            cred: visit.errand.cred,
+        };
+        said(by, ticket, &visit.errand.call, message)
+    }
+
+    /// Goes on with a record whose call is replied to.
+    fn resume(
+        &mut self,
+        alloc: Global,
+        moment: Moment,
+        visit: Visit,
+        replied: Replied,
+        kept: &mut KeptAnswers,
+    ) -> Result<Option<Ask>, AllocError>
+        requires { IsUsable moment }
+        ensures moves { IfOk result (λ ask. HasMoved ask self.new kept.new (followed moment
+            visit.request (record self.old { place = replied.by }) kept.old
+            (after visit.errand replied.reply))) }
+        ensures client { self.new.client ≡ self.old.client }
+    {
+        self.place = replied.by;
+        let step = go_on(alloc, &visit.errand, &replied.reply)?;
+        self.follow(alloc, moment, visit.request, step, kept)
     }
 
     /// Takes what a message of a server says of its call.
@@ -370,11 +426,11 @@ impl Seat {
             (hears moment by message self.old kept.old)) }
         ensures client { self.new.client ≡ self.old.client }
     {
-        let news = self.news(moment, by, message);
         let Some(visit) = self.visit.take() else {
+            drop(message);
             return Ok(None);
         };
-        match news {
+        match self.news(moment, by, &visit, message) {
             News::Nothing => {
                 self.visit = Some(visit);
                 Ok(None)
@@ -384,11 +440,7 @@ impl Seat {
                 self.visit = Some(Visit { wait, ..visit });
                 Ok(None)
             }
-            News::Answered(replied) => {
-                self.place = replied.by;
-                let step = go_on(alloc, &visit.errand, &replied.reply)?;
-                self.follow(alloc, moment, visit.request, step, kept)
-            }
+            News::Answered(replied) => self.resume(alloc, moment, visit, replied, kept),
         }
     }
 }

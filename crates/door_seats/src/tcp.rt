@@ -97,23 +97,38 @@ fn next_of(listener: &TcpListener) -> Option<TcpStream> {
     Some(stream)
 }
 
+/// A listener at a port, none of whose calls waits.
+fn listening<R: Net<Listener = TcpListener, Stream = TcpStream>>(
+    rt: &R,
+    port: u16,
+) -> io::Result<TcpListener> {
+    let at = SocketAddr::V4(SocketAddrV4::new(Ipv4Addr::LOCALHOST, port));
+    let listener = TcpListener::bind(rt, at)?;
+    listener.set_nonblocking(true)?;
+    Ok(listener)
+}
+
+/// Seats at which nobody sits.
+fn free_seats(alloc: Global) -> Result<Vec<Option<Seated>>, AllocError> {
+    let mut seated = Vec::new(alloc);
+    for _ in 0..SEATS {
+        seated.push(None)?;
+    }
+    Ok(seated)
+}
+
 /// A port, opened.
 fn opened<R: Net<Listener = TcpListener, Stream = TcpStream>>(
     rt: &R,
     alloc: Global,
     port: u16,
 ) -> io::Result<OpenPort> {
-    let at = SocketAddr::V4(SocketAddrV4::new(Ipv4Addr::LOCALHOST, port));
-    let listener = TcpListener::bind(rt, at)?;
-    listener.set_nonblocking(true)?;
-    let mut seated = Vec::new(alloc);
-    for _ in 0..SEATS {
-        seated.push(None)?;
-    }
+    let seated = free_seats(alloc)?;
+    let room = vec![in alloc; 0; ROOM]?;
     Ok(OpenPort {
-        listener,
+        listener: listening(rt, port)?,
         seated,
-        room: vec![in alloc; 0; ROOM]?,
+        room,
         waiting: None,
         is_promised: false,
     })

@@ -19,6 +19,7 @@ mod client;
 mod making;
 mod news;
 
+pub use asking::ask_bytes;
 pub use client::GroupClient;
 pub use making::Next;
 pub use news::{News, Replied, said};

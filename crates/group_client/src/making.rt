@@ -10,14 +10,13 @@ ghost use Rattle.client_calls.specs.Waits.{longest_pause};
 ghost use Rattle.group_client.specs.Rule.{EndsRightly, Goes, IsCut, IsMade, IsStep, ask_datagram};
 ghost use Rattle.group_client.specs.Rule.{asked, next_after, next_by, outcome_of};
 
-use crate::asking::{Asking, Outside};
+use crate::asking::{Asking, Outside, ask_bytes};
 use crate::news::{News, Replied, heard_in};
 use client_calls::{LONGEST_PAUSE, Ticket, Wait, peer_of};
 use harp_types::{Call, ServerId};
 use node_link::{Clock, Datagram, Link, LinkFault};
 use rpc_door::GroupFault;
 use std::alloc::{AllocError, Global};
-use wire::{Message, encode};
 
 /// Where a step of a call leads to.
 #[derive(Drop)]
@@ -44,16 +43,10 @@ fn spell<'a>(alloc: Global, ticket: Ticket, call: &'a Call) -> Result<Asking<'a>
     requires { ticket.port ≤ last_port }
     ensures { IfOk result (λ a. asking_of a ≡ asked ticket call.now) }
 {
-    let message = Message::Ask {
-        client: ticket.client,
-        number: ticket.number,
-        cred: ticket.cred,
-        call: call.copy(alloc)?,
-    };
     Ok(Asking {
         ticket,
         call,
-        bytes: encode(alloc, &message)?,
+        bytes: ask_bytes(alloc, ticket, call)?,
     })
 }
 

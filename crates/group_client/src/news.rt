@@ -77,7 +77,10 @@ pub fn said(server: ServerId, ticket: Ticket, call: &Call, message: Message) -> 
             number,
             cause,
         } => refused(server, ticket, client, number, cause),
-        _ => News::Nothing,
+        other => {
+            drop(other);
+            News::Nothing
+        }
     }
 }
 

@@ -5,7 +5,7 @@ ghost use Rattle.nfs_door.specs.Allowances.{group_for, is_denial, lets_in, looke
 ghost use Rattle.nfs_door.specs.Allowances.{made_again, made_as, member, member_if_in, mode_alone};
 ghost use Rattle.nfs_door.specs.Allowances.{replied, replied_to, wrote};
 
-use crate::answers::answered;
+use crate::answers::{answered, refused};
 use crate::claim::{Claim, Denied, is_left};
 use crate::groups::Groups;
 use crate::step::{Errand, Step, Then};
@@ -29,10 +29,7 @@ fn looks_on(alloc: Global, who: Cred, mut denied: Denied) -> Result<Step, AllocE
     ensures { IfOk result (λ s. s ≡ looks_on who denied) }
 {
     let Some(handle) = denied.claim.object else {
-        let refused = Reply::Refused {
-            status: denied.status,
-        };
-        return answered(alloc, denied.xid, &denied.call, &refused);
+        return refused(alloc, denied.xid, &denied.call, denied.status);
     };
     denied.claim.object = denied.claim.other;
     denied.claim.other = None;

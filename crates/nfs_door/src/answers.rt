@@ -1,6 +1,7 @@
 //! Answers as steps.
 
 ghost use Rattle.std.specs.Prelude.{◌≡◌, IfOk};
+ghost use Rattle.harp_types.specs.declared.reply.Reply.TheVariants.{Refused};
 ghost use Rattle.rpc_door.specs.Results.{answer_bytes};
 ghost use Rattle.rpc_door.specs.Xdr.{words};
 ghost use Rattle.nfs_door.specs.declared.step.Step.TheVariants as step;
@@ -8,7 +9,7 @@ ghost use Rattle.nfs_door.specs.Allowances.{answered};
 
 use crate::changes::reply_told;
 use crate::step::Step;
-use harp_types::{Bytes, Call, Reply};
+use harp_types::{Bytes, Call, Reply, Status};
 use rpc_door::{put_answer, put_words};
 use std::alloc::{AllocError, Global};
 
@@ -35,6 +36,22 @@ pub(crate) fn answer_by(
     Ok(Step::Answer(Bytes::from_vec(out)))
 }
 
+/// The answer of a call that is refused.
+pub(crate) fn refused(
+    alloc: Global,
+    xid: u32,
+    call: &Call,
+    status: Status,
+) -> Result<Step, AllocError>
+    ensures { IfOk result
+        (λ s. s ≡ step.Answer (answer_bytes xid call.now (Refused status))) }
+{
+    let refused = Reply::Refused { status };
+    let step = answer_by(alloc, xid, call, &refused);
+    drop(refused);
+    step
+}
+
 /// A call's answer by its reply, as it is told.
 pub(crate) fn answered(
     alloc: Global,
@@ -45,5 +62,7 @@ pub(crate) fn answered(
     ensures { IfOk result (λ s. s ≡ answered xid call.now reply.now) }
 {
     let told = reply_told(alloc, reply)?;
-    answer_by(alloc, xid, call, &told)
+    let step = answer_by(alloc, xid, call, &told);
+    drop(told);
+    step
 }

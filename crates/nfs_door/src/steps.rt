@@ -5,7 +5,7 @@ ghost use Rattle.nfs_door.specs.Steps.{after, asks_for, asks_if_some, begun, cal
 ghost use Rattle.nfs_door.specs.Steps.{caller_for, nfs_called};
 
 use crate::allowances::{looked, made_as, replied};
-use crate::answers::{answer, answer_by};
+use crate::answers::{answer, refused};
 use crate::changes::{call_meant, makes_special};
 use crate::claim::{Claim, claim_of};
 use crate::credential::{Caller, NOBODY, alone, speaks_as};
@@ -30,10 +30,10 @@ fn asks_for(
     ensures { IfOk result (λ s. s ≡ asks_for who xid claim call) }
 {
     if makes_special(&call) {
-        let refused = Reply::Refused {
-            status: Status::Perm,
-        };
-        return answer_by(alloc, xid, &call, &refused);
+        let answer = refused(alloc, xid, &call, Status::Perm);
+        drop(claim);
+        drop(call);
+        return answer;
     }
     Ok(made_as(who, xid, claim, call))
 }
