@@ -26,13 +26,39 @@ use rpc_door::put_sent;
 use std::alloc::{AllocError, Global};
 use wire::Message;
 
-/// A record whose call is on its way.
-#[derive(Drop)]
+/// A record whose call is on its way. Its drop is written out, so that each place where one is
+/// dropped is a call.
 pub struct Visit {
     pub request: Request,
     pub errand: Errand,
     pub number: u64,
     pub wait: Wait,
+}
+
+impl Drop for Visit {
+    fn drop(self) {
+        let Visit {
+            request: _,
+            errand: _,
+            number: _,
+            wait: _,
+        } = self;
+    }
+}
+
+impl Visit {
+    /// Its record; its call is over.
+    fn into_request(self) -> Request
+        ensures { result ≡ self.request }
+    {
+        let Visit {
+            request,
+            errand: _,
+            number: _,
+            wait: _,
+        } = self;
+        request
+    }
 }
 
 /// How it stands with the connection of a seat.
@@ -408,8 +434,10 @@ impl Seat {
         ensures client { self.new.client ≡ self.old.client }
     {
         self.place = replied.by;
-        let step = go_on(alloc, &visit.errand, &replied.reply)?;
-        self.follow(alloc, moment, visit.request, step, kept)
+        let step = go_on(alloc, &visit.errand, &replied.reply);
+        drop(replied);
+        let request = visit.into_request();
+        self.follow(alloc, moment, request, step?, kept)
     }
 
     /// Takes what a message of a server says of its call.
@@ -426,7 +454,7 @@ impl Seat {
             (hears moment by message self.old kept.old)) }
         ensures client { self.new.client ≡ self.old.client }
     {
-        let Some(visit) = self.visit.take() else {
+        let Some(mut visit) = self.visit.take() else {
             drop(message);
             return Ok(None);
         };
@@ -436,8 +464,8 @@ impl Seat {
                 Ok(None)
             }
             News::Refused { by, cause } => {
-                let wait = visit.wait.hinted(by, cause);
-                self.visit = Some(Visit { wait, ..visit });
+                visit.wait = visit.wait.hinted(by, cause);
+                self.visit = Some(visit);
                 Ok(None)
             }
             News::Answered(replied) => self.resume(alloc, moment, visit, replied, kept),

@@ -5,7 +5,7 @@ ghost use Rattle.nfs_door.specs.Allowances.{group_for, is_denial, lets_in, looke
 ghost use Rattle.nfs_door.specs.Allowances.{made_again, made_as, member, member_if_in, mode_alone};
 ghost use Rattle.nfs_door.specs.Allowances.{replied, replied_to, wrote};
 
-use crate::answers::{answered, refused};
+use crate::answers::{answered, answered_attr, refused};
 use crate::claim::{Claim, Denied, is_left};
 use crate::groups::Groups;
 use crate::step::{Errand, Step, Then};
@@ -76,7 +76,7 @@ fn wrote(alloc: Global, xid: u32, call: &Call, attr: &Attr) -> Result<Step, Allo
     match call {
         Call::Write { handle, .. } => {
             if attr.mode / 0o2000 % 4 == 0 {
-                return answered(alloc, xid, call, &Reply::Attr { attr: *attr });
+                return answered_attr(alloc, xid, call, attr);
             }
             let clear = Call::SetAttr {
                 handle: *handle,
@@ -84,7 +84,7 @@ fn wrote(alloc: Global, xid: u32, call: &Call, attr: &Attr) -> Result<Step, Allo
             };
             Ok(made_as(SUPERUSER, xid, None, clear))
         }
-        _ => answered(alloc, xid, call, &Reply::Attr { attr: *attr }),
+        _ => answered_attr(alloc, xid, call, attr),
     }
 }
 
@@ -185,10 +185,10 @@ fn made_again(
     let denied = denied.copy(alloc)?;
     let caller = member_if_in(who, &denied.claim.groups, gid);
     if lets_in(attr, caller, denied.claim.enough) {
-        return Ok(made_as(SUPERUSER, denied.xid, Some(denied.claim), denied.call));
+        return Ok(denied.made_by(SUPERUSER));
     }
     if denied.claim.groups.has(gid) {
-        return Ok(made_as(caller, denied.xid, Some(denied.claim), denied.call));
+        return Ok(denied.made_by(caller));
     }
     looks_on(alloc, who, denied)
 }

@@ -1,7 +1,7 @@
 //! Answers as steps.
 
 ghost use Rattle.std.specs.Prelude.{◌≡◌, IfOk};
-ghost use Rattle.harp_types.specs.declared.reply.Reply.TheVariants.{Refused};
+ghost use Rattle.harp_types.specs.declared.reply.Reply.TheVariants as reply;
 ghost use Rattle.rpc_door.specs.Results.{answer_bytes};
 ghost use Rattle.rpc_door.specs.Xdr.{words};
 ghost use Rattle.nfs_door.specs.declared.step.Step.TheVariants as step;
@@ -9,7 +9,7 @@ ghost use Rattle.nfs_door.specs.Allowances.{answered};
 
 use crate::changes::reply_told;
 use crate::step::Step;
-use harp_types::{Bytes, Call, Reply, Status};
+use harp_types::{Attr, Bytes, Call, Reply, Status};
 use rpc_door::{put_answer, put_words};
 use std::alloc::{AllocError, Global};
 
@@ -44,7 +44,7 @@ pub(crate) fn refused(
     status: Status,
 ) -> Result<Step, AllocError>
     ensures { IfOk result
-        (λ s. s ≡ step.Answer (answer_bytes xid call.now (Refused status))) }
+        (λ s. s ≡ step.Answer (answer_bytes xid call.now (reply.Refused status))) }
 {
     let refused = Reply::Refused { status };
     let step = answer_by(alloc, xid, call, &refused);
@@ -64,5 +64,20 @@ pub(crate) fn answered(
     let told = reply_told(alloc, reply)?;
     let step = answer_by(alloc, xid, call, &told);
     drop(told);
+    step
+}
+
+/// A call's answer by attributes, as they are told.
+pub(crate) fn answered_attr(
+    alloc: Global,
+    xid: u32,
+    call: &Call,
+    attr: &Attr,
+) -> Result<Step, AllocError>
+    ensures { IfOk result (λ s. s ≡ answered xid call.now (reply.Attr attr.now)) }
+{
+    let reply = Reply::Attr { attr: *attr };
+    let step = answered(alloc, xid, call, &reply);
+    drop(reply);
     step
 }

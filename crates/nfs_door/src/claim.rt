@@ -1,14 +1,16 @@
 //! What callers may claim for calls that are refused.
 
-ghost use Rattle.std.specs.Prelude.{◌≡◌, IfOk};
+ghost use Rattle.std.specs.Prelude.{◌≡◌, Some, IfOk};
 ghost use Rattle.nfs_door.specs.Allowances.{claim_of, enough_for, is_left, is_left_or_now};
-ghost use Rattle.nfs_door.specs.Allowances.{object_of, other_of, sets_as_write};
+ghost use Rattle.nfs_door.specs.Allowances.{made_as, object_of, other_of, sets_as_write};
 
+use crate::allowances::made_as;
 use crate::changes::SECOND;
 use crate::credential::Caller;
 use crate::groups::Groups;
+use crate::step::Step;
 use file_tree::{TO_SEARCH, TO_WRITE};
-use harp_types::{Call, FIELD_LEFT, SetAttr, Status, Time};
+use harp_types::{Call, Cred, FIELD_LEFT, SetAttr, Status, Time};
 use std::alloc::{AllocError, Global};
 
 /// What a user may claim for a call that is refused.
@@ -24,13 +26,24 @@ pub struct Claim {
     pub other: Option<u32>,
 }
 
-/// A call that was refused, and what may be claimed for it.
-#[derive(Drop)]
+/// A call that was refused, and what may be claimed for it. Its drop is written out, so that each
+/// place where one is dropped is a call, and isn't proved of all that a call may hold.
 pub struct Denied {
     pub xid: u32,
     pub claim: Claim,
     pub call: Call,
     pub status: Status,
+}
+
+impl Drop for Denied {
+    fn drop(self) {
+        let Denied {
+            xid: _,
+            claim: _,
+            call: _,
+            status: _,
+        } = self;
+    }
 }
 
 impl Claim {
@@ -48,6 +61,19 @@ impl Claim {
 }
 
 impl Denied {
+    /// It is made again by this caller, who may claim as much for it.
+    pub(crate) fn made_by(self, who: Cred) -> Step
+        ensures { result ≡ made_as who self.xid (Some self.claim) self.call }
+    {
+        let Denied {
+            xid,
+            claim,
+            call,
+            status: _,
+        } = self;
+        made_as(who, xid, Some(claim), call)
+    }
+
     /// An equal one.
     pub fn copy(&self, alloc: Global) -> Result<Denied, AllocError>
         ensures { IfOk result (λ copy. copy ≡ self.now) }

@@ -15,12 +15,22 @@ pub enum Step {
     Call(Errand),
 }
 
-/// A call that is made for a record, by whom, and what follows its reply.
-#[derive(Drop)]
+/// A call that is made for a record, by whom, and what follows its reply. Its drop is written out,
+/// so that each place where one is dropped is a call, and isn't proved of all that it may hold.
 pub struct Errand {
     pub cred: Cred,
     pub call: Call,
     pub then: Then,
+}
+
+impl Drop for Errand {
+    fn drop(self) {
+        let Errand {
+            cred: _,
+            call: _,
+            then: _,
+        } = self;
+    }
 }
 
 /// What follows the reply to a call.
