@@ -44,19 +44,21 @@ mod word_faults;
 mod words;
 
 use crate::exit::Exit;
+use crate::folders::Folders;
 use crate::reason::Ended;
 use crate::state_lines::StateLines;
-use crate::system_folders::{StopFile, SystemFolders};
+use crate::system_folders::{Refusal, StopFile, SystemFolders};
 use crate::top::{run, word_at};
-use door_seats::TcpConnections;
-use harp_types::WriterSink;
-use node_link::{UdpLink, WallClock};
-use node_loop::Outside;
-use std::alloc::AllocError;
+use door_seats::{Connections, TcpConnections};
+use harp_store::Store;
+use harp_types::{Sink, WriterSink};
+use node_link::{Clock, Link, UdpLink, WallClock};
+use node_loop::{Orders, Outside, Watcher};
+use std::alloc::{AllocError, Global};
 use std::process::ExitCode;
 use std::rt::Env;
 use std::{env, io};
-use store_folder::{FolderStore, trouble_of};
+use store_folder::{FolderStore, Trouble, trouble_of};
 
 /// The words behind the program's name.
 fn every_word<R: Env + AllocGlobal>(rt: &R) -> io::Result<Vec<String>> {
@@ -77,8 +79,40 @@ fn words_or_none<R: Env + AllocGlobal>(rt: &R) -> Result<Vec<String>, AllocError
     }
 }
 
-/// Does what the words say, over the system's files, sockets and clock.
-fn ended<'w>(rt: &HostRuntime, words: &'w [String]) -> Result<Ended<'w>, AllocError> {
+/// Does what the words say. Nothing else stands here, since what `run` promises is long.
+fn exit_of<K: Sink, F: Folders, L, D, C, O, W, N, M, B>(
+    alloc: Global,
+    words: &[String],
+    sink: &mut K,
+    folders: &mut F,
+    outside: &mut Outside<L, D, C, O, W>,
+    door: &mut door_seats::Outside<N, M, B>,
+) -> Exit
+where
+    L: Link,
+    D: Store,
+    C: Clock,
+    O: Orders,
+    W: Watcher,
+    N: Connections,
+    M: Link,
+    B: Clock,
+{
+    run(alloc, words, sink, folders, outside, door)
+}
+
+/// How a run ended: its exit, why a folder was refused, if one was, and how many lines of a
+/// server's state couldn't be written.
+#[derive(Clone, Copy)]
+struct Outcome {
+    exit: Exit,
+    refusal: Option<Refusal>,
+    lost: u64,
+}
+
+/// Does what the words say, over the system's files, sockets and clock. What it does so by is let
+/// go by calls, each proved apart.
+fn outcome_of(rt: &HostRuntime, words: &[String]) -> Result<Outcome, AllocError> {
     let alloc = rt.alloc();
     let stop = format!(in alloc; "{}/stop", word_at(words, 3))?;
     let mut folders = SystemFolders::new(rt);
@@ -95,7 +129,7 @@ fn ended<'w>(rt: &HostRuntime, words: &'w [String]) -> Result<Ended<'w>, AllocEr
         clock: WallClock::new(rt),
     };
     let mut sink = WriterSink::new(io::writer(rt));
-    let exit = run(
+    let exit = exit_of(
         alloc,
         words,
         &mut sink,
@@ -103,18 +137,35 @@ fn ended<'w>(rt: &HostRuntime, words: &'w [String]) -> Result<Ended<'w>, AllocEr
         &mut outside,
         &mut door,
     );
+    let refusal = folders.refusal();
     let lost = outside.watcher.lost();
-    // The store lets its folder go, so that somebody can look at it.
+    drop(door);
     drop(outside);
+    drop(folders);
+    Ok(Outcome {
+        exit,
+        refusal,
+        lost,
+    })
+}
+
+/// What shows of the folder that the words name, where its disk failed. The store has let it go.
+fn trouble(rt: &HostRuntime, words: &[String], exit: Exit) -> Option<Trouble> {
+    match exit {
+        Exit::DiskFailed => Some(trouble_of(rt, word_at(words, 3))),
+        _ => None,
+    }
+}
+
+/// Does what the words say, and looks at how that ended.
+fn ended<'w>(rt: &HostRuntime, words: &'w [String]) -> Result<Ended<'w>, AllocError> {
+    let outcome = outcome_of(rt, words)?;
     Ok(Ended {
         words,
-        exit,
-        refusal: folders.refusal(),
-        trouble: match exit {
-            Exit::DiskFailed => Some(trouble_of(rt, word_at(words, 3))),
-            _ => None,
-        },
-        lost,
+        exit: outcome.exit,
+        refusal: outcome.refusal,
+        trouble: trouble(rt, words, outcome.exit),
+        lost: outcome.lost,
     })
 }
 

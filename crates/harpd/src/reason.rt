@@ -4,7 +4,7 @@ use crate::exit::Exit;
 use crate::system_folders::Refusal;
 use crate::top::word_at;
 use crate::word_faults::word_fault;
-use std::fmt;
+use std::fmt::{self, Display};
 use store_folder::Trouble;
 
 /// How a run of these words ended: its exit, why a folder was refused, if one was, what shows of it
@@ -19,69 +19,83 @@ pub struct Ended<'a> {
 }
 
 impl<'a> Ended<'a> {
+    // Whether the first word is this one.
+    fn is_for(&self, name: &str) -> bool {
+        word_at(self.words, 0) == name
+    }
+
     // The folder that the words name.
     fn folder(&self) -> &str {
-        if word_at(self.words, 0) == "server" {
+        if self.is_for("server") {
             word_at(self.words, 3)
         } else {
             word_at(self.words, 1)
         }
     }
 
+    // The number that stands at a place, where it can be one of a port.
+    fn number_at(&self, place: usize) -> Option<u16> {
+        word_at(self.words, place).parse::<u16>().ok()
+    }
+
     // The port of the server or of the door that the words name.
     fn port(&self) -> Option<u16> {
-        if word_at(self.words, 0) == "serve" {
-            return word_at(self.words, 2).parse::<u16>().ok();
+        let first = self.number_at(2)?;
+        if self.is_for("serve") {
+            return Some(first);
         }
-        let first = word_at(self.words, 2).parse::<u16>().ok()?;
-        let server = word_at(self.words, 1).parse::<u16>().ok()?;
+        let server = self.number_at(1)?;
         Some(first.saturating_add(server))
     }
 
     fn refused_words<W: fmt::Write>(&self, f: &mut fmt::Formatter<W>) -> fmt::Result {
         match word_fault(self.words) {
-            Some(fault) => write!(f, "{fault}"),
-            None => write!(f, "the words are refused"),
+            Some(fault) => fault.fmt(f),
+            None => f.write_str("the words are refused"),
+        }
+    }
+
+    // What shows behind the folder's name, and where it is named again, behind that.
+    fn trouble_texts(&self) -> (&'static str, Option<&'static str>) {
+        match self.refusal {
+            Some(Refusal::NotMade) => (" is not made: harpd init ", Some(" makes it")),
+            Some(Refusal::Unmarked) => ("/mark is lost: ", Some(" isn't that of a new server")),
+            Some(Refusal::Used) => (" has the files of a server that ran there", None),
+            Some(Refusal::Unmade) => (" can't be made", None),
+            Some(Refusal::Left) => ("/stop can't be taken away", None),
+            None => (self.trouble.unwrap_or(Trouble::Other).text(), None),
         }
     }
 
     fn failed_disk<W: fmt::Write>(&self, f: &mut fmt::Formatter<W>) -> fmt::Result {
         let folder = self.folder();
-        match self.refusal {
-            Some(Refusal::NotMade) => {
-                write!(f, "{folder} is not made: harpd init {folder} makes it")
+        let (text, again) = self.trouble_texts();
+        f.write_str(folder)?;
+        f.write_str(text)?;
+        match again {
+            Some(rest) => {
+                f.write_str(folder)?;
+                f.write_str(rest)
             }
-            Some(Refusal::Unmarked) => {
-                write!(
-                    f,
-                    "{folder}/mark is lost: {folder} isn't that of a new server"
-                )
-            }
-            Some(Refusal::Used) => write!(f, "{folder} has the files of a server that ran there"),
-            Some(Refusal::Unmade) => write!(f, "{folder} can't be made"),
-            Some(Refusal::Left) => write!(f, "{folder}/stop can't be taken away"),
-            None => {
-                let trouble = self.trouble.unwrap_or(Trouble::Other);
-                write!(f, "{folder}{}", trouble.text())
-            }
+            None => Ok(()),
         }
     }
 
     fn failed_link<W: fmt::Write>(&self, f: &mut fmt::Formatter<W>) -> fmt::Result {
         match self.port() {
             Some(port) => write!(f, "port {port} can't be used"),
-            None => write!(f, "a port can't be used"),
+            None => f.write_str("a port can't be used"),
         }
     }
 }
 
-impl<'a> fmt::Display for Ended<'a> {
+impl<'a> Display for Ended<'a> {
     fn fmt<W: fmt::Write>(&self, f: &mut fmt::Formatter<W>) -> fmt::Result {
         match self.exit {
-            Exit::Done => write!(f, "all was done"),
+            Exit::Done => f.write_str("all was done"),
             Exit::RefusedWords => self.refused_words(f),
-            Exit::SinkFailed => write!(f, "standard output can't be written"),
-            Exit::NoMemory => write!(f, "there is no memory"),
+            Exit::SinkFailed => f.write_str("standard output can't be written"),
+            Exit::NoMemory => f.write_str("there is no memory"),
             Exit::DiskFailed => self.failed_disk(f),
             Exit::LinkFailed => self.failed_link(f),
         }

@@ -106,6 +106,12 @@ fn stands<R: Files>(rt: &R, path: &str) -> bool {
     fs::metadata(rt, path).is_ok()
 }
 
+// Whether a folder has a file of this name.
+fn has<R: Files>(rt: &R, alloc: Global, folder: &str, name: &str) -> Result<bool, AllocError> {
+    let path = format!(in alloc; "{folder}/{name}")?;
+    Ok(stands(rt, path.as_str()))
+}
+
 // What was written in a folder is on the disk.
 fn sync_folder<R: Files>(rt: &R, path: &str) -> io::Result<()> {
     File::open(rt, path)?.sync_all()
@@ -150,12 +156,10 @@ fn refusal_of<R: Files + AllocGlobal + Clone + Drop>(
     alloc: Global,
     folder: &str,
 ) -> Result<Option<Refusal>, AllocError> {
-    let mark = format!(in alloc; "{folder}/mark")?;
-    let new = format!(in alloc; "{folder}/new")?;
-    if stands(rt, mark.as_str()) {
+    if has(rt, alloc, folder, "mark")? {
         return Ok(None);
     }
-    if !stands(rt, new.as_str()) {
+    if !has(rt, alloc, folder, "new")? {
         return Ok(Some(Refusal::NotMade));
     }
     match is_used(rt, folder) {
@@ -188,6 +192,34 @@ fn remove_file<R: Files>(rt: &R, folder: &str, path: &str) -> io::Result<()> {
     }
 }
 
+// Makes a folder for a server that never ran, and the file `new` in it. Why it doesn't, if it
+// doesn't.
+fn refusal_to_make<R: Files + AllocGlobal + Clone + Drop>(
+    rt: &R,
+    alloc: Global,
+    folder: &str,
+) -> Result<Option<Refusal>, AllocError> {
+    let new = format!(in alloc; "{folder}/new")?;
+    if make_folder(rt, folder).is_err() {
+        return Ok(Some(Refusal::Unmade));
+    }
+    match is_used(rt, folder) {
+        Ok(false) => {}
+        Ok(true) => return Ok(Some(Refusal::Used)),
+        Err(_) => return Ok(Some(Refusal::Unmade)),
+    }
+    match make_file(rt, folder, new.as_str()) {
+        Ok(()) => Ok(None),
+        Err(_) => Ok(Some(Refusal::Unmade)),
+    }
+}
+
+// Takes away what told the server of a folder to stop. Whether it could.
+fn takes_stop<R: Files>(rt: &R, alloc: Global, folder: &str) -> Result<bool, AllocError> {
+    let stop = format!(in alloc; "{folder}/stop")?;
+    Ok(remove_file(rt, folder, stop.as_str()).is_ok())
+}
+
 impl<R: Files<File = File> + AllocGlobal + Clone + Drop> Folders for SystemFolders<R> {
     ghost done = { λ f. done_by f.done.items };
 
@@ -214,17 +246,8 @@ impl<R: Files<File = File> + AllocGlobal + Clone + Drop> Folders for SystemFolde
 
     fn make(&mut self, alloc: Global, folder: &str) -> Result<(), StoreFault> {
         let deed = self.plan(alloc, Deed::Made, folder)?;
-        let new = format!(in alloc; "{folder}/new")?;
-        if make_folder(&self.rt, folder).is_err() {
-            return Err(self.refuse(Refusal::Unmade));
-        }
-        match is_used(&self.rt, folder) {
-            Ok(false) => {}
-            Ok(true) => return Err(self.refuse(Refusal::Used)),
-            Err(_) => return Err(self.refuse(Refusal::Unmade)),
-        }
-        if make_file(&self.rt, folder, new.as_str()).is_err() {
-            return Err(self.refuse(Refusal::Unmade));
+        if let Some(refusal) = refusal_to_make(&self.rt, alloc, folder)? {
+            return Err(self.refuse(refusal));
         }
         self.keep(deed);
         Ok(())
@@ -232,8 +255,7 @@ impl<R: Files<File = File> + AllocGlobal + Clone + Drop> Folders for SystemFolde
 
     fn leave(&mut self, alloc: Global, folder: &str) -> Result<(), StoreFault> {
         let deed = self.plan(alloc, Deed::Left, folder)?;
-        let stop = format!(in alloc; "{folder}/stop")?;
-        if remove_file(&self.rt, folder, stop.as_str()).is_err() {
+        if !takes_stop(&self.rt, alloc, folder)? {
             return Err(self.refuse(Refusal::Left));
         }
         self.keep(deed);

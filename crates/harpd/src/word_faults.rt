@@ -107,17 +107,25 @@ fn behind(name: &str) -> Option<&'static [Wanted]> {
     }
 }
 
+// What is wrong at a place where this is wanted and no word stands, where it may not be left out.
+fn missing(place: usize, wanted: Wanted) -> Option<WordFault> {
+    if wanted.may_lack() {
+        None
+    } else {
+        Some(WordFault::Missing { place, wanted })
+    }
+}
+
 // The first place behind the name where a word is wrong or missing, or there is one too many.
 fn misplaced(wanted: &[Wanted], rest: &[String]) -> Option<WordFault> {
-    for (before, wanted) in wanted.iter().copied().enumerate() {
+    for before in 0..wanted.len() {
         let place = before + 2;
-        match rest.get(before) {
-            Some(word) if !wanted.takes(word.as_str()) => {
-                return Some(WordFault::Wrong { place, wanted });
-            }
-            Some(_) => {}
-            None if wanted.may_lack() => return None,
-            None => return Some(WordFault::Missing { place, wanted }),
+        let wanted = wanted[before];
+        let Some(word) = rest.get(before) else {
+            return missing(place, wanted);
+        };
+        if !wanted.takes(word.as_str()) {
+            return Some(WordFault::Wrong { place, wanted });
         }
     }
     if rest.len() > wanted.len() {
@@ -157,7 +165,7 @@ impl fmt::Display for Wanted {
     fn fmt<W: fmt::Write>(&self, f: &mut fmt::Formatter<W>) -> fmt::Result {
         match self.range() {
             Some((least, most)) => write!(f, "{} ({least} to {most})", self.name()),
-            None => write!(f, "{}", self.name()),
+            None => f.write_str(self.name()),
         }
     }
 }
@@ -165,8 +173,8 @@ impl fmt::Display for Wanted {
 impl fmt::Display for WordFault {
     fn fmt<W: fmt::Write>(&self, f: &mut fmt::Formatter<W>) -> fmt::Result {
         match self {
-            WordFault::NoWords => write!(f, "no word names a form"),
-            WordFault::NoForm => write!(f, "word 1 names no form"),
+            WordFault::NoWords => f.write_str("no word names a form"),
+            WordFault::NoForm => f.write_str("word 1 names no form"),
             WordFault::Wrong { place, wanted } => write!(f, "word {place} is no {wanted}"),
             WordFault::Missing { place, wanted } => write!(f, "word {place} is missing, {wanted}"),
             WordFault::Extra { place } => write!(f, "word {place} is one too many"),
