@@ -3,8 +3,9 @@
 use crate::digits::bytes_of;
 use crate::door::words::put_bytes;
 use door_seats::{Connections, Given, Taken, TcpConnections};
+use harp_types::Bytes;
 use std::alloc::{AllocError, Global};
-use std::io::{self, ErrorKind, Read, Write};
+use std::io::{self, Read, Write};
 use std::net::{Ipv4Addr, Net, SocketAddr, TcpListener, TcpStream};
 use std::time::{Clock, Duration};
 
@@ -13,6 +14,9 @@ const RESTS: u32 = 2000;
 
 /// A client waits so many seconds for bytes.
 const PATIENCE: u64 = 2;
+
+/// It receives so many at once at most.
+const ROOM: usize = 64;
 
 /// Connections to a port, and clients of it.
 #[derive(Drop)]
@@ -30,6 +34,14 @@ struct Doing<'a> {
     digits: &'a str,
 }
 
+/// What came of a step: a line, a count behind a word, or bytes.
+#[derive(Drop)]
+enum Came {
+    Line(&'static str),
+    Count(&'static str, usize),
+    Bytes(Bytes),
+}
+
 fn doing_of(step: &str) -> Doing<'_> {
     let (word, rest) = step.split_once(':').unwrap_or((step, "0"));
     let (number, digits) = rest.split_once(':').unwrap_or((rest, "-"));
@@ -41,31 +53,83 @@ fn doing_of(step: &str) -> Doing<'_> {
     }
 }
 
-/// Connections to a port that was free.
+/// An address whose port was free.
+fn free_address<N: Net<Listener = TcpListener, Stream = TcpStream>>(
+    net: &N,
+) -> io::Result<SocketAddr> {
+    let any = SocketAddr::from((Ipv4Addr::LOCALHOST, 0));
+    let listener = TcpListener::bind(net, any)?;
+    listener.local_addr()
+}
+
+/// Connections to a port that was free. None where it can't be opened.
 fn opened<R: Net<Listener = TcpListener, Stream = TcpStream> + Clock + Copy>(
     rt: R,
     alloc: Global,
-) -> io::Result<Played<R>> {
-    let any = SocketAddr::from((Ipv4Addr::LOCALHOST, 0));
-    let at = TcpListener::bind(&rt, any)?.local_addr()?;
-    let mut connections = TcpConnections::new(rt);
-    if connections.open(alloc, at.port()).is_err() {
-        return Err(io::Error::from(ErrorKind::AddrInUse));
-    }
-    Ok(Played {
-        connections,
+) -> Option<Played<R>> {
+    let at = free_address(&rt).ok()?;
+    let mut played = Played {
+        connections: TcpConnections::new(rt),
         at,
         clients: Vec::new(alloc),
-    })
+    };
+    if played.connections.open(alloc, at.port()).is_ok() {
+        return Some(played);
+    }
+    drop(played);
+    None
 }
 
-/// What a client receives: as many bytes as these, or none where its connection ended.
-fn received(alloc: Global, client: &mut TcpStream, count: usize) -> io::Result<Vec<u8>> {
-    let mut bytes = vec![in alloc; 0; count]?;
+/// What a client sends.
+fn sent(alloc: Global, client: &mut TcpStream, digits: &str) -> Came {
+    let bytes = bytes_of(alloc, digits).unwrap_or(Vec::new(alloc));
+    match client.write(bytes.as_slice()) {
+        Ok(count) => Came::Count("sent", count),
+        Err(_) => Came::Line("failed\n"),
+    }
+}
+
+/// The bytes that a client receives, none where its connection ended.
+fn next_bytes(alloc: Global, client: &mut TcpStream) -> io::Result<Bytes> {
+    let mut bytes = vec![in alloc; 0; ROOM]?;
     client.set_read_timeout(Some(Duration::from_secs(PATIENCE)))?;
     let count = client.read(bytes.as_mut_slice())?;
     bytes.truncate(count);
-    Ok(bytes)
+    Ok(Bytes::from_vec(bytes))
+}
+
+/// What a client receives.
+fn received(alloc: Global, client: &mut TcpStream) -> Came {
+    match next_bytes(alloc, client) {
+        Ok(bytes) => Came::Bytes(bytes),
+        Err(_) => Came::Line("failed\n"),
+    }
+}
+
+/// What was taken at a seat.
+fn of_taken(taken: Taken) -> Came {
+    match taken {
+        Taken::Bytes(bytes) => Came::Bytes(bytes),
+        Taken::Nothing => Came::Line("nothing\n"),
+        Taken::Over => Came::Line("over\n"),
+    }
+}
+
+/// What was given there.
+fn of_given(given: Given) -> Came {
+    match given {
+        Given::Some(count) => Came::Count("gave", count),
+        Given::Over => Came::Line("over\n"),
+    }
+}
+
+/// Whether it is so.
+fn so(holds: bool, line: &'static str) -> Came {
+    if holds {
+        Came::Line(line)
+    } else {
+        Came::Line("not so\n")
+    }
 }
 
 impl<R: Net<Listener = TcpListener, Stream = TcpStream> + Clock> Played<R> {
@@ -91,95 +155,98 @@ impl<R: Net<Listener = TcpListener, Stream = TcpStream> + Clock> Played<R> {
         Ok(Taken::Nothing)
     }
 
-    /// What a client did.
-    fn put_client(
-        &mut self,
-        alloc: Global,
-        out: &mut String,
-        doing: &Doing<'_>,
-    ) -> Result<(), AllocError> {
-        let bytes = bytes_of(alloc, doing.digits).unwrap_or(Vec::new(alloc));
+    /// A client more.
+    fn dial(&mut self, net: &R) -> Result<Came, AllocError> {
+        match TcpStream::connect(net, self.at) {
+            Ok(client) => {
+                self.clients.push(Some(client))?;
+                Ok(Came::Line("dialed\n"))
+            }
+            Err(_) => Ok(Came::Line("failed\n")),
+        }
+    }
+
+    /// A client less.
+    fn leave(&mut self, number: usize) -> Came {
+        if let Some(client) = self.clients.get_mut(number) {
+            *client = None;
+        }
+        Came::Line("left\n")
+    }
+
+    /// What a client does.
+    fn at_client(&mut self, alloc: Global, doing: Doing<'_>) -> Came {
         let Some(Some(client)) = self.clients.get_mut(doing.number) else {
-            return out.push_str("no client\n");
+            return Came::Line("no client\n");
         };
         if doing.word == "send" {
-            return match client.write(bytes.as_slice()) {
-                Ok(count) => out.push_str(format!(in alloc; "sent {count}\n")?.as_str()),
-                Err(_) => out.push_str("failed\n"),
-            };
-        }
-        match received(alloc, client, 64) {
-            Ok(bytes) => put_bytes(alloc, out, bytes.as_slice()),
-            Err(_) => out.push_str("failed\n"),
+            sent(alloc, client, doing.digits)
+        } else {
+            received(alloc, client)
         }
     }
 
-    /// What became of a seat.
-    fn put_seat(
-        &mut self,
-        alloc: Global,
-        out: &mut String,
-        doing: &Doing<'_>,
-    ) -> Result<(), AllocError> {
+    /// What a seat's connection is given.
+    fn give(&mut self, alloc: Global, seat: usize, digits: &str) -> Came {
+        let bytes = bytes_of(alloc, digits).unwrap_or(Vec::new(alloc));
+        of_given(self.connections.give(seat, bytes.as_slice()))
+    }
+
+    /// What is done at a seat.
+    fn at_seat(&mut self, alloc: Global, doing: Doing<'_>) -> Result<Came, AllocError> {
         let seat = doing.number;
         match doing.word {
-            "seat" if self.seat(seat) => out.push_str("seated\n"),
-            "nobody" if !self.connections.accept(seat) => out.push_str("nobody\n"),
-            "take" => put_taken(alloc, out, self.take(alloc, seat)?),
-            "look" => put_taken(alloc, out, self.connections.take(alloc, seat)?),
-            "give" => {
-                let bytes = bytes_of(alloc, doing.digits).unwrap_or(Vec::new(alloc));
-                put_given(alloc, out, self.connections.give(seat, bytes.as_slice()))
-            }
+            "seat" => Ok(so(self.seat(seat), "seated\n")),
+            "nobody" => Ok(so(!self.connections.accept(seat), "nobody\n")),
+            "take" => Ok(of_taken(self.take(alloc, seat)?)),
+            "look" => Ok(of_taken(self.connections.take(alloc, seat)?)),
+            "give" => Ok(self.give(alloc, seat, doing.digits)),
             "close" => {
                 self.connections.close(seat);
-                out.push_str("closed\n")
+                Ok(Came::Line("closed\n"))
             }
-            _ => out.push_str("not so\n"),
+            _ => Ok(Came::Line("not so\n")),
         }
     }
 
-    /// A step, and what came of it.
-    fn put_step(
+    /// What came of a step.
+    fn came_of(&mut self, net: &R, alloc: Global, step: &str) -> Result<Came, AllocError> {
+        let doing = doing_of(step);
+        match doing.word {
+            "dial" => self.dial(net),
+            "send" => Ok(self.at_client(alloc, doing)),
+            "receive" => Ok(self.at_client(alloc, doing)),
+            "leave" => Ok(self.leave(doing.number)),
+            _ => self.at_seat(alloc, doing),
+        }
+    }
+
+    /// Steps, and what came of each.
+    fn put_steps(
         &mut self,
         net: &R,
         alloc: Global,
         out: &mut String,
-        step: &str,
+        steps: &str,
     ) -> Result<(), AllocError> {
-        let doing = doing_of(step);
-        match doing.word {
-            "dial" => match TcpStream::connect(net, self.at) {
-                Ok(client) => {
-                    self.clients.push(Some(client))?;
-                    out.push_str("dialed\n")
-                }
-                Err(_) => out.push_str("failed\n"),
-            },
-            "send" | "receive" => self.put_client(alloc, out, &doing),
-            "leave" => {
-                if let Some(client) = self.clients.get_mut(doing.number) {
-                    *client = None;
-                }
-                out.push_str("left\n")
-            }
-            _ => self.put_seat(alloc, out, &doing),
+        for step in steps.split(' ') {
+            out.push_str(step)?;
+            out.push_str(": ")?;
+            let came = self.came_of(net, alloc, step)?;
+            put_came(alloc, out, came)?;
         }
+        Ok(())
     }
 }
 
-fn put_taken(alloc: Global, out: &mut String, taken: Taken) -> Result<(), AllocError> {
-    match taken {
-        Taken::Bytes(bytes) => put_bytes(alloc, out, bytes.as_slice()),
-        Taken::Nothing => out.push_str("nothing\n"),
-        Taken::Over => out.push_str("over\n"),
-    }
-}
-
-fn put_given(alloc: Global, out: &mut String, given: Given) -> Result<(), AllocError> {
-    match given {
-        Given::Some(count) => out.push_str(format!(in alloc; "gave {count}\n")?.as_str()),
-        Given::Over => out.push_str("over\n"),
+/// What came of a step, behind it.
+fn put_came(alloc: Global, out: &mut String, came: Came) -> Result<(), AllocError> {
+    match came {
+        Came::Line(line) => out.push_str(line),
+        Came::Count(word, count) => {
+            out.push_str(format!(in alloc; "{word} {count}\n")?.as_str())
+        }
+        Came::Bytes(bytes) => put_bytes(alloc, out, bytes.as_slice()),
     }
 }
 
@@ -190,13 +257,10 @@ pub(crate) fn put_tcp<R: Net<Listener = TcpListener, Stream = TcpStream> + Clock
     out: &mut String,
     steps: &str,
 ) -> Result<(), AllocError> {
-    let Ok(mut played) = opened(rt, alloc) else {
+    let Some(mut played) = opened(rt, alloc) else {
         return out.push_str("no port\n");
     };
-    for step in steps.split(' ') {
-        out.push_str(step)?;
-        out.push_str(": ")?;
-        played.put_step(&rt, alloc, out, step)?;
-    }
-    Ok(())
+    let done = played.put_steps(&rt, alloc, out, steps);
+    drop(played);
+    done
 }
