@@ -1,7 +1,8 @@
 //! The steps from a record to its answer.
 
 ghost use Rattle.std.specs.Prelude.{◌≡◌, ◌≤◌, length, IfOk};
-ghost use Rattle.nfs_door.specs.Steps.{after, asks_for, asks_if_some, begun, called_by};
+ghost use Rattle.nfs_door.specs.Credentials.{speaks_as};
+ghost use Rattle.nfs_door.specs.Steps.{after, asks_for, asks_if_some, begun, called_as, called_by};
 ghost use Rattle.nfs_door.specs.Steps.{caller_for, nfs_called};
 
 use crate::allowances::{looked, made_as, replied};
@@ -97,6 +98,28 @@ fn caller_for(alloc: Global, everyone: Option<Cred>, own: Caller) -> Caller
     }
 }
 
+/// The first step for a call of RPC version 2 with this front.
+fn called_as(
+    alloc: Global,
+    everyone: Option<Cred>,
+    now: Time,
+    record: &[u8],
+    front: &Front,
+    at: usize,
+) -> Result<Step, AllocError>
+    requires { at ≤ length record.now }
+    ensures { IfOk result (λ s. s ≡ called_as everyone now record.now front.now at
+        (speaks_as front.now.credential)) }
+{
+    match speaks_as(alloc, &front.credential)? {
+        Some(own) => {
+            let who = caller_for(alloc, everyone, own);
+            called_by(alloc, who, now, record, front, at)
+        }
+        None => answer(alloc, &[front.xid, 1, 1, 1, 1]),
+    }
+}
+
 /// The first step for a record. With `everyone` all calls are made as by it, and otherwise each as
 /// its credential says. `now` is the time that a client's sign for it stands for.
 pub fn begin(
@@ -108,15 +131,10 @@ pub fn begin(
     ensures { IfOk result (λ s. s ≡ begun everyone now record.now) }
 {
     let Some((front, at)) = front_of(alloc, record)? else {
-        return nfs_called(alloc, alone(alloc, NOBODY), now, read_rpc(alloc, record)?);
+        let means = read_rpc(alloc, record)?;
+        return nfs_called(alloc, alone(alloc, NOBODY), now, means);
     };
-    match speaks_as(alloc, &front.credential)? {
-        Some(own) => {
-            let who = caller_for(alloc, everyone, own);
-            called_by(alloc, who, now, record, &front, at)
-        }
-        None => answer(alloc, &[front.xid, 1, 1, 1, 1]),
-    }
+    called_as(alloc, everyone, now, record, &front, at)
 }
 
 /// The step after a call with this reply.
