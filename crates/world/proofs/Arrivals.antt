@@ -6,13 +6,15 @@ use Rattle.std.proofs.lemmas.List.Sums.{sum_by-cons}
 use Rattle.std.proofs.lemmas.Option.{slice_get-get_or}
 use Rattle.file_tree.specs.Book.{Entry}
 use Rattle.group_trace.specs.DiskCalls.{measures_of}
-use Rattle.group_trace.specs.DiskRun.{DiskScene, Stores, disk_next, disks_after_at, disks_came, disks_next}
+use Rattle.group_trace.specs.DiskRun.{DiskScene, Stores, disks_after_at, disks_came, disks_next}
 use Rattle.group_rules.proofs.Tests.{if_is, if_not, is_lt, lt_is}
 use Rattle.group_rules.specs.Names.{place_of}
 use Rattle.group_rules.specs.Places.{Place, at}
 use Rattle.group_rules.specs.Said.{sends_said}
 use Rattle.group_rules.specs.State.{Group, Message, Packet, Page}
 use Rattle.group_rules.specs.Step.{Comes, Input as Begins, numbered}
+use Rattle.group_trace.specs.Refusals.{own_refusal}
+use Rattle.schedule_play.specs.Stage.{IsReached}
 use Rattle.group_trace.specs.Run.{Turn, bytes_where, delivery, disarmed, lines_where, moved_where, turn}
 use Rattle.harp_types.specs.Trio.{value_of}
 use Rattle.world_rules.specs.Spellings.{spellings}
@@ -30,8 +32,8 @@ use Rattle.trace_types.specs.declared.line.LineFault.TheVariants as fault
 use Rattle.trace_types.specs.declared.step.Step.TheVariants as step
 use Rattle.tree_listing.specs.declared.listing.Listing.{Listing}
 use Rattle.world.specs.Deliveries.{ArrivalLeaves, Arrives, after_arrival}
-use Rattle.world.specs.Steps.{Takes}
-use Rattle.world.specs.Turns.{Turns, turn_moves}
+use Rattle.world.specs.Steps.{Leads, Takes}
+use Rattle.world.specs.Turns.{TurnBegins, TurnLeaves, Turns, turn_moves}
 use Rattle.world.specs.World.{AreCarried, IsWorld, WorldValue}
 use Rattle.world.proofs.Moved.{packets_said, sent_onto}
 use Rattle.world.proofs.Servers.{server_kept}
@@ -161,6 +163,38 @@ arrives_lost x p ls is_down w n reached world opened =
 
 -- ---- a server that is up
 
+-- in one scene it leaves what its server's turn leaves
+pub arrival_leaves : (w : DiskScene) (x new : WorldValue) (n : ℕ) (p : Opened) (is : IsPacket w n p)
+    (ls ls' : List Line) (listing : Option Listing)
+    → TurnBegins w x (place_of p.to) (input.Message p.from p.message)
+    (Comes (place_of p.from) is.body)
+    → TurnLeaves w (place_of p.to) (input.Message p.from p.message)
+    (Comes (place_of p.from) is.body) new ls ls' listing
+    → ArrivalLeaves w n new ls ls'
+arrival_leaves w x new n p is ls ls' listing b t =
+    let q = place_of p.to in
+    let i : Begins = Comes (place_of p.from) is.body in
+    leaves_by w n new ls ls' (Some (q, turn_moves w (w.scene.armed q) q i))
+    (disks_after_at spellings w (w.scene.armed q) (w.picks q) q i)
+    (ap (delivery (measures_of spellings) w.scene) is.there
+    ∙ if_is (w.scene.group.server q).up _ None b.up)
+    (ap (disks_came spellings w) is.there ∙ if_is (w.scene.group.server q).up _ w.disks b.up)
+    t.left t.lines
+
+-- and begins that turn
+abbrev pub arrival_begins : (w : DiskScene) (x : WorldValue) (n : ℕ) (p : Opened)
+    → IsReached spellings w → IsWorld w x → (w.scene.group.server (place_of p.to)).up ≡ true
+    → (is : IsPacket w n p)
+    → TurnBegins w x (place_of p.to) (input.Message p.from p.message)
+    (Comes (place_of p.from) is.body)
+arrival_begins w x n p reached world up is = record {
+  reached = reached;
+  stands = world;
+  up = up;
+  begins = ap (option_map (Comes (place_of p.from))) is.hears;
+  rightly = (n, is.there, is.carries);
+}
+
 pub arrives_taken : (old new : WorldValue) (p : Opened) (ls ls' : List Line)
     (listing : Option Listing)
     → ((w : DiskScene) → IsWorld w old → (w.scene.group.server (place_of p.to)).up ≡ true)
@@ -168,22 +202,8 @@ pub arrives_taken : (old new : WorldValue) (p : Opened) (ls ls' : List Line)
     → Arrives old new p ls ls'
 arrives_taken old new p ls ls' listing is_up turns w n reached world opened =
     let is = is_packet w old world n p opened in
-    let up = is_up w world in
-    let q = place_of p.to in
-    let i : Begins = Comes (place_of p.from) is.body in
-    let t = turns w i (record {
-      reached = reached;
-      stands = world;
-      up = up;
-      begins = ap (option_map (Comes (place_of p.from))) is.hears;
-      rightly = (n, is.there, is.carries);
-    }) in
-    leaves_by w n new ls ls' (Some (q, turn_moves w (w.scene.armed q) q i))
-    (disks_after_at spellings w (w.scene.armed q) (w.picks q) q i)
-    (ap (delivery (measures_of spellings) w.scene) is.there
-    ∙ if_is (w.scene.group.server q).up _ None up)
-    (ap (disks_came spellings w) is.there ∙ if_is (w.scene.group.server q).up _ w.disks up)
-    t.left t.lines
+    let b = arrival_begins w old n p reached world (is_up w world) is in
+    arrival_leaves w old new n p is ls ls' listing b (turns w (Comes (place_of p.from) is.body) b)
 
 -- ---- it counts as delivered
 
@@ -248,7 +268,21 @@ is_sent : (b : Bool) → (if b then None else Some fault.NoPacket) ≡ None → 
 is_sent true e = refl
 is_sent false e = absurd cc
 
--- A DELIVERY is taken: its packet arrives, and then it counts as delivered
+-- A DELIVERY leads on from one scene: its packet arrives, and then it counts as delivered
+pub delivery_leads : (w : DiskScene) (mid : WorldValue) (n : ℕ) (lines : List Line)
+    → ArrivalLeaves w n mid [] lines
+    → own_refusal (measures_of spellings) w.scene.group (step.Deliver n) ≡ None
+    → Leads w (step.Deliver n) lines (record mid { packets = delivered_at mid.packets n })
+delivery_leads w mid n lines leaves none =
+    let less : n < length w.scene.group.packets =
+    is_lt n (length w.scene.group.packets) (is_sent _ none) in
+    record {
+      lines_are = ap (λ ls. line.Event (step.Deliver n) ∷ ls) leaves.lines;
+      left = counted_stands (after_arrival w n) mid n leaves.left
+          (turn_more w.scene.group (turn (measures_of spellings) w.scene (step.Deliver n)) n less);
+    }
+
+-- and is taken in each
 pub delivery_taken : (old mid new : WorldValue) (n : ℕ) (p : Opened) (before lines : List Line)
     → before ≡ []
     → option_map (λ (p : Posted). p.packet) (slice_get old.packets n) ≡ Some p
@@ -256,15 +290,6 @@ pub delivery_taken : (old mid new : WorldValue) (n : ℕ) (p : Opened) (before l
     → new ≡ record mid { packets = delivered_at mid.packets n }
     → Takes old new (step.Deliver n) lines
 delivery_taken old mid new n p before lines first opened arrives is w reached world none =
-    let s = step.Deliver n in
-    let t = turn (measures_of spellings) w.scene s in
-    let leaves = arrives w n reached world opened in
-    let less : n < length w.scene.group.packets =
-    is_lt n (length w.scene.group.packets) (is_sent _ none) in
-    record {
-      lines_are = ap (λ ls. line.Event s ∷ ls)
-          (leaves.lines ∙ ap (λ b. b ++ lines_where w.scene.group t []) first);
-      left = subst (λ x. IsWorld (disk_next spellings w s) x) (sym is)
-          (counted_stands (after_arrival w n) mid n leaves.left
-          (turn_more w.scene.group t n less));
-    }
+    subst (λ x. Leads w (step.Deliver n) lines x) (sym is)
+    (delivery_leads w mid n lines
+    (subst (λ ls. ArrivalLeaves w n mid ls lines) first (arrives w n reached world opened)) none)

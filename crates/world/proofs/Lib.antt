@@ -8,6 +8,7 @@ pub mod Servers
 pub mod Packets
 pub mod Begun
 pub mod Scenes
+pub mod Turned
 pub mod Whole
 pub mod Silent
 pub mod Falls

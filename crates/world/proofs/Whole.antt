@@ -1,49 +1,39 @@
 -- A whole turn of a server: what its host gives in the world is what the scene after it has.
-use Rattle.std.proofs.Common.{◌≡◌, ℕ, ◌+◌, List, [], ◌++◌, append-nil, drop, length, refl, sym, ap, ◌∙◌, subst, append_assoc, true≢false}
-use Rattle.std.proofs.lemmas.List.Sums.{sum_by-append}
+use Rattle.std.proofs.Common.{◌≡◌, ◌+◌, List, [], ◌++◌, append-nil, drop, length, sym, ap, ◌∙◌, append_assoc}
 use Rattle.file_tree.specs.Book.{Entry}
 use Rattle.fuzzy_cells.specs.Disk.{Disk}
 use Rattle.world_lines.specs.Given.{answered_lines as answered_lines_of, book_given, lines_given, packets_of, reads_in, refused_lines as refused_lines_of, sent_lines as sent_lines_of, updates_in}
 use Rattle.group_trace.specs.DiskCalls.{measures_of}
 use Rattle.group_trace.specs.DiskRun.{DiskScene, Stores}
-use Rattle.group_rules.specs.Moves.{Move, Sending, acts, moved_by}
+use Rattle.group_rules.specs.Moves.{Move, moved_by}
 use Rattle.group_rules.specs.Names.{place_of}
 use Rattle.group_rules.specs.Places.{Place}
 use Rattle.group_rules.specs.Said.{committed_of, reads_said, sends_said}
-use Rattle.group_rules.specs.State.{Group, Message, Server}
+use Rattle.group_rules.specs.State.{Group}
 use Rattle.group_rules.specs.Step.{Input as Begins, list_of}
-use Rattle.group_safety.specs.Words.{In}
 use Rattle.group_trace.specs.Lines.{answered_lines, entered_lines, refused_lines, state_lines}
-use Rattle.group_trace.specs.Run.{bytes_of}
 use Rattle.group_trace.specs.Shown.{shown_of}
 use Rattle.harp_types.specs.Trio.{value_of}
 use Rattle.harp_types.specs.declared.server.ServerId.{ServerId}
-use Rattle.world_laws.specs.Waits.{HasWaits, StepWaits}
-use Rattle.world_rules.specs.Host.{HostValue, IsHost}
+use Rattle.world_laws.specs.Waits.{StepWaits}
+use Rattle.world_rules.specs.Host.{HostValue}
 use Rattle.world_rules.specs.Spellings.{spellings}
 use Rattle.world_rules.specs.Steps.{TakesWhole, moves_at, peers_by}
-use Rattle.node.specs.Input.{came}
-use Rattle.node.specs.Stock.{stock_after}
 use Rattle.node.specs.declared.input.Input.{Input}
 use Rattle.node_outputs.specs.Said.{Said}
 use Rattle.node_outputs.specs.declared.outputs.Outputs.{Outputs}
-use Rattle.world_lines.specs.Machine.{StandFor}
-use Rattle.world_lines.specs.Posted.{bytes_of as bytes_of_posted, bytes_sent}
 use Rattle.world_lines.proofs.Machine.{as_many_stand}
-use Rattle.world_laws.specs.Sent.{at_hand}
-use Rattle.trace_laws.proofs.After.{moved_server}
 use Rattle.trace_types.specs.declared.line.Line.{Line}
 use Rattle.world.specs.Turns.{TurnBegins}
-use Rattle.world.specs.World.{HasPackets, IsServer, IsWorld, WorldValue}
-use Rattle.world.proofs.Begun.{Begun, begun}
+use Rattle.world.specs.World.{IsServer, IsWorld, WorldValue}
+use Rattle.world.proofs.Begun.{Begun}
 use Rattle.world.proofs.Books.{Brings, book_brought, book_lines}
 use Rattle.world.proofs.Laws.{Laws}
-use Rattle.world.proofs.Moved.{bytes_said, packets_said, said_in}
-use Rattle.world.proofs.Packets.{carried_still}
 use Rattle.world.proofs.Says.{answers_are, reads_are, refusals_are}
-use Rattle.world.proofs.Scenes.{lines_after, scene_after, scene_turns}
-use Rattle.world.proofs.Sends.{AreSent, are_sent, carried_both, sends_carry, sends_count, sends_lines, sends_stand}
-use Rattle.world.proofs.Servers.{turned_to, world_turned}
+use Rattle.world.proofs.Scenes.{lines_after, scene_after}
+use Rattle.world.proofs.Sends.{sends_lines}
+use Rattle.world.proofs.Servers.{turned_to}
+use Rattle.world.proofs.Turned.{Turned, sent_all, turn_begun, turn_waits, turned_stands}
 
 regroup : (e a r s t : List Line) → (e ++ (a ++ (r ++ s))) ++ t
     ≡ e ++ (a ++ (r ++ (s ++ (t ++ []))))
@@ -79,72 +69,21 @@ module _ (l : Laws) (w : DiskScene) (x : WorldValue) (server : ServerId) (given 
   abbrev own : IsServer w server (value_of x.hosts server)
   own = t.begins.stands.servers server
 
+  -- the same of its messages alone
+  abbrev turned : Turned w x server given i left h outs.sends.items
+  turned = record {
+    begins = t.begins;
+    me = t.me;
+    host = t.takes.host;
+    said = ap (λ (s : Said). s.sends) t.takes.said;
+    sent = t.takes.sent;
+  }
+
   begins : Begun (measures_of spellings).size g q given i
-  begins = begun l (measures_of spellings).size g (l.whole w t.begins.reached) q t.begins.up given i
-      t.begins.begins t.begins.rightly
+  begins = turn_begun l w x server given i left h outs.sends.items turned
 
   waits : StepWaits g q own.stock given i
-  waits = l.wait g (l.whole w t.begins.reached) q t.begins.up own.stock own.waits given i
-      t.begins.begins begins.may
-
-  server_is : after.server q ≡ acts q (g.clock q) (g.server q) ms
-  server_is = moved_server ms g q (g.server q) refl
-
-  -- ---- the server
-
-  own_after : (disks : Stores) → disks q ≡ left → IsServer (scene_after w q ms disks) server h
-  own_after disks is =
-      let stock = stock_after q (g.clock q) (list_of g q) (came given) (peers_by own.stock given)
-      (g.server q) ms own.stock in
-      record {
-        me = t.me;
-        stock = stock;
-        saved = own.saved;
-        host = subst (λ (s : Server Entry). IsHost s stock own.saved (disks q) h) (sym server_is)
-            (subst (λ (d : Disk). IsHost (acts q (g.clock q) (g.server q) ms) stock own.saved d h)
-            (sym is) t.takes.host);
-        has_stock = begins.keeps.stock (peers_by own.stock given) own.stock own.has_stock;
-        are_saved = begins.keeps.saved own.saved own.are_saved;
-        waits = subst (λ (s : Server Entry). HasWaits s stock) (sym server_is) waits.after;
-        rests = λ down. absurd (true≢false (sym begins.up
-            ∙ sym (ap (λ (s : Server Entry). s.up) server_is) ∙ down));
-      }
-
-  -- ---- packets
-
-  abbrev bytes : Message Entry → ℕ
-  bytes = (measures_of spellings).bytes (list_of after q)
-
-  sent_all : AreSent after.page bytes outs.sends.items (sends_said ms)
-  sent_all = are_sent after.page bytes (at_hand (measures_of spellings).size g q i own.stock)
-      (λ y. In ms (Sending y.0 y.1))
-      (λ y m sends hears stand.
-      let carries = begins.sends own.stock own.has_stock y.0 y.1 sends m hears stand in (
-        carries,
-        l.sized g (l.whole w t.begins.reached) q t.begins.up i begins.may y.0 y.1 sends m hears
-            carries,
-      ))
-      outs.sends.items (sends_said ms) (ap (λ (s : Said). s.sends) t.takes.said) (said_in ms)
-      t.takes.sent
-
-  packets_after : (disks : Stores)
-      → HasPackets (scene_after w q ms disks) (x.packets ++ packets_of server outs.sends.items)
-  packets_after disks =
-      let old = t.begins.stands.packets in
-      record {
-        packets = subst (λ ps. StandFor (x.packets ++ packets_of server outs.sends.items) ps
-            w.scene.delivered) (sym (packets_said ms g q (g.server q)))
-            (sends_stand after.page bytes server outs.sends.items (sends_said ms) sent_all x.packets
-            g.packets w.scene.delivered old.packets);
-        records = carried_both after.page x.packets (packets_of server outs.sends.items)
-            (carried_still g after x.packets w.scene.delivered begins.stays old.packets old.records)
-            (sends_carry after.page bytes server outs.sends.items (sends_said ms) sent_all);
-        bytes = ap (λ n. n + bytes_of (measures_of spellings) (list_of after q) ms) old.bytes
-            ∙ ap (λ n. bytes_sent x.packets + n)
-            (bytes_said (measures_of spellings) (list_of after q) ms
-            ∙ sym (sends_count after.page bytes server outs.sends.items (sends_said ms) sent_all))
-            ∙ sym (sum_by-append bytes_of_posted x.packets (packets_of server outs.sends.items));
-      }
+  waits = turn_waits l w x server given i left h outs.sends.items turned
 
   -- ---- the book
 
@@ -168,9 +107,8 @@ module _ (l : Laws) (w : DiskScene) (x : WorldValue) (server : ServerId) (given 
       → IsWorld (scene_after w q ms disks)
       (turned_to x server h (x.packets ++ packets_of server outs.sends.items)
       (book_given x.book outs))
-  whole_stands disks is others = world_turned w (scene_after w q ms disks) x server h
-      (x.packets ++ packets_of server outs.sends.items) (book_given x.book outs) t.begins.stands
-      (scene_turns w q ms disks begins.stays others) (own_after disks is) (packets_after disks)
+  whole_stands disks is others = turned_stands l w x server given i left h outs.sends.items turned
+      disks is others (book_given x.book outs)
       (book_brought g after outs x.book brings t.begins.stands.book)
 
   pub whole_lines : lines_given server x.book (length x.packets) outs
@@ -197,5 +135,6 @@ module _ (l : Laws) (w : DiskScene) (x : WorldValue) (server : ServerId) (given 
       ∙ ap (λ y. e' ++ (a' ++ (r' ++ (y ++ (now ++ [])))))
       (ap (λ n. sent_lines_of server n outs.sends.items)
       (as_many_stand x.packets g.packets w.scene.delivered t.begins.stands.packets.packets)
-      ∙ sends_lines after.page bytes server (length g.packets) outs.sends.items (sends_said ms)
-      sent_all)
+      ∙ sends_lines after.page ((measures_of spellings).bytes (list_of after q)) server
+      (length g.packets) outs.sends.items (sends_said ms)
+      (sent_all l w x server given i left h outs.sends.items turned))
