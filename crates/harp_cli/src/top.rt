@@ -25,7 +25,7 @@ ghost use Rattle.observe_laws.specs.Reading.{observed_reading};
 ghost use Rattle.observed_text.specs.Grammar.{ExplainsObserved};
 ghost use Rattle.observed_text.specs.Reading.{observed_meaning};
 ghost use Rattle.node_loop.specs.Scene.{OneRose, all_places, around, each, only, start};
-ghost use Rattle.running_laws.specs.Follows.{HistoriesAreRuns};
+ghost use Rattle.running_laws.specs.Statement.{RunningServersAreTheGroup};
 ghost use Rattle.running_laws.specs.Parts.{LivesArePartsOfHistories};
 ghost use Rattle.schedule_text.specs.Grammar.{Explains};
 ghost use Rattle.schedule_text.specs.Reading.{meaning_of};
@@ -265,7 +265,7 @@ pub fn harp<R: Threads + Sync, S: Source, K: Sink, L: Link, D: Store, C: Clock>(
     ensures observed { (text : List ℕ) → IsObservedRightly sizes text }
     // What histories of servers that run as processes are, over a network and disks that fail: runs
     // of the group, each with one book; and what the servers of one call do is a part of one.
-    ensures running { HistoriesAreRuns }
+    ensures running { RunningServersAreTheGroup }
     ensures lives { LivesArePartsOfHistories }
 {
     every_text();

@@ -1,12 +1,14 @@
 -- The answers among the lines of a step are those of its outputs.
-use Rattle.std.proofs.Common.{◌≡◌, ℕ, ◌+◌, Bool, true, false, List, [], ◌∷◌, ◌++◌, append-nil, length, filter, Option, None, Some, refl, ap, ◌∙◌, if◌then◌else◌}
+use Rattle.std.proofs.Common.{◌≡◌, ℕ, ◌+◌, Bool, true, false, List, [], ◌∷◌, ◌++◌, append-nil, drop, length, filter, map, Option, None, Some, refl, ap, ◌∙◌, if◌then◌else◌}
 use Rattle.std.proofs.lemmas.List.Elements.{filter-append}
 use Rattle.file_tree.specs.Book.{Entry}
 use Rattle.group_rules.specs.Names.{place_of}
+use Rattle.group_rules.specs.Moves.{Move}
 use Rattle.group_rules.specs.Places.{Place}
-use Rattle.group_rules.specs.State.{Message as Told}
-use Rattle.group_trace.specs.Lines.{entered_lines, state_line, state_lines}
-use Rattle.group_trace.specs.Shown.{message_shown, same_shown}
+use Rattle.group_rules.specs.Said.{Answer, Refusal, answers_said, refusals_said, sends_said}
+use Rattle.group_rules.specs.State.{Group, Message as Told}
+use Rattle.group_trace.specs.Lines.{answered_line, entered_lines, lines_of_moves, packet_lines, refused_line, state_line, state_lines}
+use Rattle.group_trace.specs.Shown.{message_shown, same_shown, shown_of}
 use Rattle.harp_types.specs.declared.server.ServerId.{ServerId}
 use Rattle.harp_types.specs.declared.state.StateLine.{StateLine}
 use Rattle.node.specs.declared.input.Input.{Input}
@@ -15,6 +17,7 @@ use Rattle.node_outputs.specs.declared.outputs.Answered.{Answered}
 use Rattle.node_outputs.specs.declared.outputs.Outputs.{Outputs}
 use Rattle.node_outputs.specs.declared.outputs.Refused.{Refused}
 use Rattle.node_outputs.specs.declared.outputs.Sent.{Sent}
+use Rattle.trace_types.specs.declared.line.Line.{Line}
 use Rattle.trace_types.specs.declared.line.Line.TheVariants as line
 use Rattle.world.specs.World.{WorldValue}
 use Rattle.world_lines.specs.Given.{answered_lines, packet_of, reads_in, refused_lines, sent_line, sent_lines, updates_in}
@@ -95,3 +98,35 @@ answers_left x place now given outs a b t =
     ∙ ap (λ ls. ls ++ all sent) (none_refused place puts.refusals.items)
     ∙ none_sent place (length x.packets) puts.sends.items)
     ∙ append-nil answered
+
+-- ---- of moves
+
+none_then : (xs ys : List Line) → filter is_answer xs ≡ [] → filter is_answer ys ≡ []
+    → filter is_answer (xs ++ ys) ≡ []
+none_then xs ys h k = filter-append is_answer xs ys
+    ∙ ap (λ ls. ls ++ filter is_answer ys) h ∙ k
+
+refused_none : (q : Place) (rs : List Refusal) → filter is_answer (map (refused_line q) rs) ≡ []
+refused_none q [] = refl
+refused_none q (r ∷ rs) = refused_none q rs
+
+packets_none : (n : ℕ) (q : Place) (xs : List (Place × Told Entry))
+    → filter is_answer (packet_lines n q xs) ≡ []
+unfolding packet_lines
+packets_none n q [] = refl
+packets_none n q (x ∷ xs) = packets_none (n + 1) q xs
+
+-- of moves that answer nobody there are none among the lines
+pub none_in_moves : (g after : Group Entry) (q : Place) (ms : List (Move Entry))
+    → answers_said ms ≡ [] → filter is_answer (lines_of_moves g after q ms []) ≡ []
+none_in_moves g after q ms none =
+    let entered = entered_lines (length g.book) (drop (length g.book) after.book) in
+    let shown = state_lines q (shown_of (g.server q)) (shown_of (after.server q)) in
+    let sent = packet_lines (length g.packets) q (sends_said ms) in
+    let refused = map (refused_line q) (refusals_said ms) in
+    none_then entered _ (none_entered (length g.book) (drop (length g.book) after.book))
+    (none_then (map (answered_line q) (answers_said ms)) _
+    (ap (λ (xs : List Answer). filter is_answer (map (answered_line q) xs)) none)
+    (none_then refused _ (refused_none q (refusals_said ms))
+    (none_then sent _ (packets_none (length g.packets) q (sends_said ms))
+    (none_then shown [] (none_shown q (shown_of (g.server q)) (shown_of (after.server q))) refl))))

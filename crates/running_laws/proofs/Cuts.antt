@@ -1,26 +1,30 @@
--- What is left of a disk amid a step: what a crash before it may leave, where it wrote no other
--- mark; else that of the whole step.
-use Rattle.std.proofs.Common.{◌≡◌, ℕ, zero, suc, ◌<◌, Bool, true, false, List, [], ◌∷◌, length, Option, None, Some, inl, inr, refl, sym, ◌∙◌, subst, arith, slice_index_or, if◌then◌else◌}
-use Rattle.std.specs.Prelude.{Any, ◌⊎◌, ⊤}
-use Rattle.std.specs.Option.{option_map}
+-- What is left of a disk amid a step: what a crash before it may leave, what some changes of an
+-- apply leave, or what the whole step does.
+use Rattle.std.proofs.Common.{◌≡◌, ℕ, zero, suc, ◌<◌, Bool, true, false, List, [], ◌∷◌, length, take, nat_lt, Option, Some, inl, inr, refl, sym, ap, ◌∙◌, subst, arith, slice_index_or, true≢false, ⊎_elim, if◌then◌else◌}
+use Rattle.std.specs.Prelude.{Any}
+use Rattle.std.proofs.lemmas.Bool.{cases_Bool}
+use Rattle.std.proofs.lemmas.List.{take_all}
 use Rattle.applier.specs.Applied.{FlushesInPart, flushed, lower}
 use Rattle.file_tree.specs.Book.{Entry}
-use Rattle.group_rules.proofs.Tests.{if_is}
+use Rattle.group_rules.proofs.Tests.{if_is, is_lt, not_lt}
 use Rattle.group_rules.specs.Moves.{Move}
-use Rattle.group_rules.specs.Names.{place_of}
-use Rattle.group_rules.specs.State.{Message as Told}
-use Rattle.group_rules.specs.Step.{Apply, Ask, Comes, Crash, Does, Flush, Input as Begins, ListTree, Power, Suspect, Tick}
+use Rattle.group_rules.specs.Places.{Place}
+use Rattle.group_rules.specs.State.{Ack, Beat, Demote, Event, Fetch, Form, Formed, Give, Invite, Join, Message}
+use Rattle.group_rules.specs.Step.{Apply, Ask, Comes, Crash, Does, Flush, Input as Begins, ListTree, Power, Suspect, Tick, rule, step}
 use Rattle.harp_cells.specs.Effect.{is_cell}
 use Rattle.harp_cells.specs.declared.cell.Cell.{Cell}
+use Rattle.harp_cells.specs.declared.change.Change.{Change}
 use Rattle.harp_cells.specs.declared.value.Value.{Value}
-use Rattle.harp_store.specs.Disk.{Disk, IsLeftOf, MayHold, Moments, after_step, reads, set_by, synced_whole, then_disk, values_of, with_mark}
-use Rattle.harp_store.specs.Mark.{MarkFields}
+use Rattle.harp_store.specs.Disk.{AfterPart, Disk, IsLeftOf, MayHold, Moments, after_changes, after_step, reads, set_by, synced_whole, then_disk, values_of, with_mark}
 use Rattle.harp_store.specs.declared.layers.Unsynced.{Unsynced}
-use Rattle.harp_types.specs.declared.server.ServerId.{ServerId}
+use Rattle.node.proofs.Mute.{KeepsMark, rule_unmarked}
+use Rattle.node.proofs.Stepped.{step_alike, tick_unmarked}
 use Rattle.node.specs.Disk.{MayLeave, disk_after, marked_by, write_mark}
 use Rattle.node.specs.Node.{NodeValue}
-use Rattle.node.specs.Stored.{LeavesBy, LeavesFlush, disk_by, disk_flushed, flushes}
+use Rattle.node.specs.Stored.{LeavesBy, LeavesFlush, changes_made, disk_by, flushes}
+use Rattle.world_host.proofs.NodeCalls.{IsGiven}
 use Rattle.world_host.proofs.Stops.{now_at}
+use Rattle.running_laws.proofs.Bare.{MayWrite}
 
 -- ---- a disk that is synced holds what it reads as
 
@@ -67,90 +71,112 @@ pub left_of_old : (old amid : Moments) (left : Disk) → Some amid ≡ Some old 
 left_of_old old amid left e h =
     subst (λ (d : Disk). IsLeftOf d left) (now_at amid old e) h
 
--- ---- behind the last call
+-- ---- how it ends
 
--- what is given is no apply
-abbrev pub IsNoApply : Option Begins → Type 0
-IsNoApply (Some (Does (Apply most))) = ⊥
-IsNoApply o = ⊤
+-- a step that is cut ends with no more left than a crash before it may leave, amid the changes of
+-- an apply, or behind its last call that changes the disk
+pub data Ends (n : NodeValue) (ms : List (Move Entry)) (i : Begins) (old amid : Moments)
+    (left : Disk) : Type 0 where
+  earlier : IsLeftOf old.now left → Ends n ms i old amid left
+  within : (most calls : ℕ) → calls < length (changes_made most n)
+      → Some amid ≡ after_changes (take calls (changes_made most n)) (Some old)
+      → Ends n ms i old amid left
+  behind : MayWrite i → Some amid ≡ disk_by n ms (Some i) (Some old) → Ends n ms i old amid left
 
--- a message is none
-pub told_no_apply : (from : ServerId) (o : Option (Told Entry))
-    → IsNoApply (option_map (Comes (place_of from)) o)
-told_no_apply from None = tt
-told_no_apply from (Some m) = tt
+module _ (n : NodeValue) (ms : List (Move Entry)) (i : Begins) (old amid : Moments) (left : Disk)
+    (h : IsLeftOf amid.now left) where
+  unmarked : write_mark ms ≡ false → MayLeave ms (marked_by n.mark ms) (Some old) (Some amid)
+      → Ends n ms i old amid left
+  unmarked none (inl e) = earlier (left_of_old old amid left e h)
+  unmarked none (inr w) = absurd (true≢false (sym w.0 ∙ none))
 
-pub same_moments : (h k : Moments) → Some h ≡ Some k → h ≡ k
-same_moments h k e = cc
+  by_mark : MayWrite i → disk_by n ms (Some i) (Some old)
+      ≡ disk_after ms (marked_by n.mark ms) (Some old)
+      → MayLeave ms (marked_by n.mark ms) (Some old) (Some amid) → Ends n ms i old amid left
+  by_mark may same (inl e) = earlier (left_of_old old amid left e h)
+  by_mark may same (inr w) = behind may (w.1
+      ∙ sym (if_is (write_mark ms) (after_step (with_mark (marked_by n.mark ms)) (Some old))
+      (Some old) w.0) ∙ sym same)
 
-marked_end : (ms : List (Move Entry)) (mark : MarkFields) (old amid whole : Moments) (left : Disk)
-    → MayLeave ms mark (Some old) (Some amid) → Some whole ≡ disk_after ms mark (Some old)
-    → IsLeftOf amid.now left
-    → IsLeftOf old.now left ⊎ ((amid ≡ whole) × (write_mark ms ≡ true))
-marked_end ms mark old amid whole left (inl e) made h = inl (left_of_old old amid left e h)
-marked_end ms mark old amid whole left (inr w) made h = inr (
-  same_moments amid whole (w.1 ∙ sym (made
-      ∙ if_is (write_mark ms) (after_step (with_mark mark) (Some old)) (Some old) w.0)),
-  w.0,
-)
+flush_ends : (n : NodeValue) (ms : List (Move Entry)) (old amid : Moments) (left : Disk)
+    → IsLeftOf amid.now left → LeavesFlush n (Some old) (Some amid)
+    → Ends n ms (Does Flush) old amid left
+flush_ends n ms old amid left h (inl e) = earlier (left_of_old old amid left e h)
+flush_ends n ms old amid left h (inr f) = by f.1
+  where
+    by : FlushesInPart (lower n.plain.ap n.mark) (Some old) (Some amid)
+        → Ends n ms (Does Flush) old amid left
+    by (inl e) = earlier (left_of_old old amid left e h)
+    by (inr (inl e)) =
+        let at = subst (λ (d : Disk). IsLeftOf d left)
+        (now_at amid (then_disk (synced_whole old.now) old) e) h in
+        earlier (left_of_whole old.now left at at.image.mark)
+    by (inr (inr e)) = behind tt (e
+        ∙ sym (if_is (flushes n) (flushed (lower n.plain.ap n.mark) (Some old)) (Some old) f.0))
 
-flushed_end : (mark : MarkFields) (old amid whole : Moments) (left : Disk)
-    → FlushesInPart mark (Some old) (Some amid) → Some whole ≡ flushed mark (Some old)
-    → IsLeftOf amid.now left → IsLeftOf old.now left ⊎ (amid ≡ whole)
-flushed_end mark old amid whole left (inl e) made h = inl (left_of_old old amid left e h)
-flushed_end mark old amid whole left (inr (inl e)) made h =
-    let at = subst (λ (d : Disk). IsLeftOf d left)
-    (now_at amid (then_disk (synced_whole old.now) old) e) h in
-    inl (left_of_whole old.now left at at.image.mark)
-flushed_end mark old amid whole left (inr (inr e)) made h =
-    inr (same_moments amid whole (e ∙ sym made))
+apply_ends : (n : NodeValue) (ms : List (Move Entry)) (most : ℕ) (old amid : Moments)
+    (left : Disk) → AfterPart (changes_made most n) (Some old) (Some amid)
+    → Ends n ms (Does (Apply most)) old amid left
+apply_ends n ms most old amid left part =
+    let changes = changes_made most n in
+    ⊎_elim
+    (λ (less : nat_lt part.0 (length changes) ≡ true).
+    within most part.0 (is_lt part.0 (length changes) less) part.1)
+    (λ (more : nat_lt part.0 (length changes) ≡ false).
+    behind tt (part.1 ∙ ap (λ (xs : List Change). after_changes xs (Some old))
+    (take_all part.0 changes (not_lt part.0 (length changes) more))))
+    (cases_Bool (nat_lt part.0 (length changes)))
 
-flush_end : (n : NodeValue) (old amid whole : Moments) (left : Disk)
-    → LeavesFlush n (Some old) (Some amid) → Some whole ≡ disk_flushed n (Some old)
-    → IsLeftOf amid.now left → IsLeftOf old.now left ⊎ (amid ≡ whole)
-flush_end n old amid whole left (inl e) made h = inl (left_of_old old amid left e h)
-flush_end n old amid whole left (inr f) made h =
-    let mark = lower n.plain.ap n.mark in
-    flushed_end mark old amid whole left f.1
-    (made ∙ if_is (flushes n) (flushed mark (Some old)) (Some old) f.0) h
+-- ---- what begins it
 
--- what is given may be cut behind a call that changes the disk; by a message it wrote the mark
-abbrev pub IsCutBehind : List (Move Entry) → Option Begins → Type 0
-IsCutBehind ms None = ⊥
-IsCutBehind ms (Some (Does (Ask client number cred call))) = ⊥
-IsCutBehind ms (Some (Does ListTree)) = ⊥
-IsCutBehind ms (Some (Comes from m)) = write_mark ms ≡ true
-IsCutBehind ms (Some i) = ⊤
+module _ (size : List Entry → Entry → ℕ) (clock : ℕ) (list : List Entry) (n : NodeValue)
+    (old amid : Moments) (left : Disk) (h : IsLeftOf amid.now left) where
+  -- its moves
+  abbrev moves : Begins → List (Move Entry)
+  moves i = step size n.me clock list n.plain i
 
-marks_so : {L E M : Type 0} → L ⊎ (E × M) → L ⊎ (E × ⊤)
-marks_so (inl l) = inl l
-marks_so (inr e) = inr (e.0, tt)
+  -- a tick and a message of a running view write no mark
+  kept : (i : Begins) → write_mark (rule size n.me clock list n.plain i) ≡ false
+      → MayLeave (moves i) (marked_by n.mark (moves i)) (Some old) (Some amid)
+      → Ends n (moves i) i old amid left
+  kept i none part = unmarked n (moves i) i old amid left h
+      ((step_alike size n.me clock list n.plain (Some i)).writes ∙ none) part
 
-whole_so : {L E : Type 0} → L ⊎ E → L ⊎ (E × ⊤)
-whole_so (inl l) = inl l
-whole_so (inr e) = inr (e, tt)
+  told : (from : Place) (m : Message Entry) → KeepsMark m
+      → MayLeave (moves (Comes from m)) (marked_by n.mark (moves (Comes from m))) (Some old)
+      (Some amid)
+      → Ends n (moves (Comes from m)) (Comes from m) old amid left
+  told from m keeps part =
+      kept (Comes from m) (rule_unmarked size n.me clock list n.plain from m keeps) part
 
--- A STEP THAT IS CUT leaves what a crash before it may, or its disk is that of the whole step
-pub to_end : (n : NodeValue) (ms : List (Move Entry)) (o : Option Begins)
-    (old amid whole : Moments) (left : Disk) → IsNoApply o
-    → LeavesBy n ms o (Some old) (Some amid) → Some whole ≡ disk_by n ms o (Some old)
-    → IsLeftOf amid.now left
-    → IsLeftOf old.now left ⊎ ((amid ≡ whole) × IsCutBehind ms o)
-to_end n ms None old amid whole left other e made h = inl (left_of_old old amid left e h)
-to_end n ms (Some (Does (Ask client number cred call))) old amid whole left other e made h =
-    inl (left_of_old old amid left e h)
-to_end n ms (Some (Does (Apply most))) old amid whole left other part made h = absurd other
-to_end n ms (Some (Does Flush)) old amid whole left other part made h =
-    whole_so (flush_end n old amid whole left part made h)
-to_end n ms (Some (Does ListTree)) old amid whole left other e made h =
-    inl (left_of_old old amid left e h)
-to_end n ms (Some (Does Tick)) old amid whole left other part made h =
-    marks_so (marked_end ms (marked_by n.mark ms) old amid whole left part made h)
-to_end n ms (Some (Does Suspect)) old amid whole left other part made h =
-    marks_so (marked_end ms (marked_by n.mark ms) old amid whole left part made h)
-to_end n ms (Some (Does Power)) old amid whole left other part made h =
-    marks_so (marked_end ms (marked_by n.mark ms) old amid whole left part made h)
-to_end n ms (Some (Does Crash)) old amid whole left other part made h =
-    marks_so (marked_end ms (marked_by n.mark ms) old amid whole left part made h)
-to_end n ms (Some (Comes from m)) old amid whole left other part made h =
-    marked_end ms (marked_by n.mark ms) old amid whole left part made h
+  -- A STEP THAT IS CUT ends so
+  pub cut_ends : (i : Begins) → IsGiven i → LeavesBy n (moves i) (Some i) (Some old) (Some amid)
+      → Ends n (moves i) i old amid left
+  cut_ends (Does Tick) is part = kept (Does Tick) (tick_unmarked n.me clock n.plain) part
+  cut_ends (Does Suspect) is part =
+      by_mark n (moves (Does Suspect)) (Does Suspect) old amid left h tt refl part
+  cut_ends (Does (Ask client number cred call)) is same =
+      earlier (left_of_old old amid left same h)
+  cut_ends (Does (Apply most)) is part =
+      apply_ends n (moves (Does (Apply most))) most old amid left part
+  cut_ends (Does Flush) is part = flush_ends n (moves (Does Flush)) old amid left h part
+  cut_ends (Does ListTree) is same = earlier (left_of_old old amid left same h)
+  cut_ends (Does Power) is part = absurd is
+  cut_ends (Does Crash) is part = absurd is
+  cut_ends (Comes from (Invite v)) is part = by_mark n (moves (Comes from (Invite v)))
+      (Comes from (Invite v)) old amid left h tt refl part
+  cut_ends (Comes from (Join v t)) is part = by_mark n (moves (Comes from (Join v t)))
+      (Comes from (Join v t)) old amid left h tt refl part
+  cut_ends (Comes from (Form v plan)) is part = by_mark n (moves (Comes from (Form v plan)))
+      (Comes from (Form v plan)) old amid left h tt refl part
+  cut_ends (Comes from (Fetch v index)) is part = told from (Fetch v index) tt part
+  cut_ends (Comes from (Give v index items)) is part =
+      by_mark n (moves (Comes from (Give v index items))) (Comes from (Give v index items)) old
+      amid left h tt refl part
+  cut_ends (Comes from (Formed v lb)) is part = told from (Formed v lb) tt part
+  cut_ends (Comes from (Event v index cp base e)) is part =
+      told from (Event v index cp base e) tt part
+  cut_ends (Comes from (Beat v cp base)) is part = told from (Beat v cp base) tt part
+  cut_ends (Comes from (Ack v top lb until)) is part = told from (Ack v top lb until) tt part
+  cut_ends (Comes from (Demote v)) is part = by_mark n (moves (Comes from (Demote v)))
+      (Comes from (Demote v)) old amid left h tt refl part

@@ -22,8 +22,8 @@ use Rattle.world_rules.specs.Host.{HasMark, HostValue, IsHost, IsHostAt, disk_of
 use Rattle.world_rules.specs.Spellings.{spellings}
 use Rattle.running_laws.specs.Books.{HasBook}
 use Rattle.running_laws.specs.Events.{Site, new_sites}
-use Rattle.running_laws.specs.Follows.{ClocksFollow, Follows, HasAskers, IsPlace, HistoriesAreRuns, first_disk}
-use Rattle.running_laws.specs.Statement.{Stands}
+use Rattle.running_laws.specs.Follows.{ClocksFollow, Follows, HasAskers, IsPlace, first_disk}
+use Rattle.running_laws.specs.Statement.{RunningServersAreTheGroup, Stands}
 use Rattle.running_laws.proofs.Endings.{IsEnding, disk_fallen, end_led, world_fallen}
 use Rattle.running_laws.proofs.Following.{events_follow}
 use Rattle.running_laws.proofs.Left.{none_some, same_some}
@@ -252,11 +252,11 @@ start_follows = record {
   askers = nobody_lives;
 }
 
--- HISTORIES OF WHOLE EVENTS are runs
-pub histories_are_runs : HistoriesAreRuns
-histories_are_runs events left lives network clocks =
-    let on = events_follow [] events new_sites left down_led.scene world_down start_follows lives
-    network clocks in
+-- HISTORIES are runs
+pub histories_are_runs : RunningServersAreTheGroup
+histories_are_runs events left is =
+    let on = events_follow [] events new_sites left down_led.scene world_down start_follows
+    is.lives is.network is.clocks in
     let led = leads_on first_disk_scene down_led.scene on.scene down_led.led on.led in
     record {
       steps = led.steps;

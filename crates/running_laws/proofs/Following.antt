@@ -6,8 +6,9 @@ use Rattle.world.specs.World.{WorldValue}
 use Rattle.world_lines.specs.Given.{answered_lines}
 use Rattle.running_laws.specs.Books.{AddTo, AddsTo, answers_in}
 use Rattle.running_laws.specs.Events.{EachAfter, Event, Site}
-use Rattle.running_laws.specs.Follows.{ClocksFollow, Follows, FollowsOn, HappensKnown, EventsFollow}
+use Rattle.running_laws.specs.Follows.{ClocksFollow, Follows, FollowsOn, EventsFollow}
 use Rattle.running_laws.specs.Histories.{IsInTime, IsSentBefore}
+use Rattle.running_laws.specs.Lives.{Happens}
 use Rattle.running_laws.specs.Statement.{answer_lines}
 use Rattle.running_laws.proofs.Askers.{steps_more}
 use Rattle.running_laws.proofs.Clocks.{clocks_follow, clocks_led}
@@ -20,7 +21,7 @@ use Rattle.running_laws.proofs.Happening.{cut_or_whole}
 
 -- ONE EVENT follows
 event_follows : (before : List Event) (e : Event) (a c : Trio Site) (w : DiskScene)
-    (x : WorldValue) → Follows before a w x → HappensKnown e a c → IsInTime before e
+    (x : WorldValue) → Follows before a w x → Happens e a c → IsInTime before e
     → IsSentBefore before e → FollowsOn before (e ∷ []) c w x
 unfolding AddTo
 event_follows before e a c w x f h in_time network =
@@ -35,7 +36,7 @@ event_follows before e a c w x f h in_time network =
       stands = f.stands;
     }) in
     let last = cut_or_whole before e a c w x next first.scene first.there e.cut
-    h.happens.here h.cut network in
+    h.here network in
     let y = last.world in
     let led = leads_on w first.scene last.led.scene first.led last.led.led in
     let follows : Follows (before ++ e ∷ []) c last.led.scene y = record {

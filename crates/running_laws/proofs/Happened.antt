@@ -1,5 +1,5 @@
 -- What an event leaves of the world once the clocks are set, by what its place becomes.
-use Rattle.std.proofs.Common.{◌≡◌, ℕ, List, [], ◌∷◌, ◌++◌, append-nil, Contains, Option, None, Some, inl, refl, sym, ap, ◌∙◌, subst, arith, ⊎_elim}
+use Rattle.std.proofs.Common.{◌≡◌, ℕ, List, [], ◌∷◌, ◌++◌, append-nil, Contains, None, Some, inl, refl, sym, ap, ◌∙◌, subst, arith, ⊎_elim}
 use Rattle.std.proofs.lemmas.List.Elements.{Contains-append_cases, recursion_from_All}
 use Rattle.file_tree.specs.Book.{Entry}
 use Rattle.group_rules.specs.Names.{place_of}
@@ -13,7 +13,6 @@ use Rattle.node.specs.Node.{IsServer, NodeValue}
 use Rattle.node.specs.declared.input.Input.{Input}
 use Rattle.node_loop.specs.Outgoing.{datagrams}
 use Rattle.node_outputs.specs.declared.outputs.Answered.{Answered}
-use Rattle.node_outputs.specs.declared.outputs.Outputs.{Outputs}
 use Rattle.world.proofs.Tables.{each_value}
 use Rattle.world.proofs.Turns.{with_host}
 use Rattle.world.specs.Turns.{TurnBegins}
@@ -26,9 +25,9 @@ use Rattle.world_rules.specs.Host.{HostValue}
 use Rattle.world_rules.specs.Steps.{peers_by}
 use Rattle.running_laws.specs.Books.{IsOfBook, answers_in}
 use Rattle.running_laws.specs.Events.{Event, Site, all_sent, put_out, sent_by}
-use Rattle.running_laws.specs.Follows.{Follows, HasAskers, HappensKnown, IsNew, IsPlace, IsSite}
+use Rattle.running_laws.specs.Follows.{Follows, HasAskers, IsNew, IsPlace, IsSite}
 use Rattle.running_laws.specs.Histories.{IsInTime}
-use Rattle.running_laws.specs.Lives.{WholeStep}
+use Rattle.running_laws.specs.Lives.{Happens, WholeStep}
 use Rattle.running_laws.proofs.Askers.{has_more}
 use Rattle.running_laws.proofs.Clocks.{reads_now, set_last}
 use Rattle.running_laws.proofs.Moving.{IsAt, LedTo, led_nowhere}
@@ -44,7 +43,7 @@ module _ (before : List Event) (e : Event) (a c : Trio Site) (w : DiskScene) (x 
   abbrev f : Follows before a w x
   f = k.follows
 
-  abbrev h : HappensKnown e a c
+  abbrev h : Happens e a c
   h = k.happens
 
   abbrev in_time : IsInTime before e
@@ -73,7 +72,7 @@ module _ (before : List Event) (e : Event) (a c : Trio Site) (w : DiskScene) (x 
   -- ---- nothing arrives
 
   same_sites : there ≡ here → c ≡ a
-  same_sites same = h.happens.is ∙ ap (with_value a e.place) same ∙ whole e.place
+  same_sites same = h.is ∙ ap (with_value a e.place) same ∙ whole e.place
     where
       whole : (p : ServerId) → with_value a p (value_of a p) ≡ a
       whole server.Zero = refl
@@ -91,7 +90,7 @@ module _ (before : List Event) (e : Event) (a c : Trio Site) (w : DiskScene) (x 
       → (place : ServerId) (n : NodeValue) → (value_of c place).node ≡ Some n
       → HasAskers es n.plain n.peers
   askers_left own = subst (λ (z : Trio Site). (place : ServerId) (n : NodeValue)
-      → (value_of z place).node ≡ Some n → HasAskers es n.plain n.peers) (sym h.happens.is)
+      → (value_of z place).node ≡ Some n → HasAskers es n.plain n.peers) (sym h.is)
       (each_value (λ (p : ServerId) (s : Site). (n : NodeValue) → s.node ≡ Some n
       → HasAskers es n.plain n.peers) a e.place there
       (λ p other n is. has_more before (e ∷ []) n.plain n.peers (f.askers p n is)) own)
@@ -151,11 +150,10 @@ module _ (before : List Event) (e : Event) (a c : Trio Site) (w : DiskScene) (x 
       ((site_here n is).node ∙ is) in
       runs.me ∙ own.me
 
-  -- a whole step of the node that lives there, whatever place it leaves
-  abbrev pub turn_to : (given : Input) (outs : Option Outputs) (b : Site)
-      → WholeStep e.now given outs here b
-      → IsTurn set e.place e.now given outs here b
-  turn_to given outs b s = record {
+  -- a whole step of the node that lives there
+  abbrev pub turn_to : (given : Input) → WholeStep e.now given e.outs here there
+      → IsTurn set e.place e.now given e.outs here there
+  turn_to given s = record {
     site = site_here s.old s.was;
     me = (f.stands.servers e.place).me;
     own_me = own_me;
@@ -177,7 +175,7 @@ module _ (before : List Event) (e : Event) (a c : Trio Site) (w : DiskScene) (x 
         sites_are = subst (λ (z : Trio Site). (place : ServerId)
             → IsPlace place (value_of (with_value x.hosts e.place host) place)
             (value_of z place))
-            (sym h.happens.is)
+            (sym h.is)
             (each_pair IsPlace x.hosts a e.place host there f.sites_are (inl (record {
               node = sym t.step.is;
               disk = (disk_left set e.place e.now given e.outs here there t).is;
@@ -208,12 +206,9 @@ module _ (before : List Event) (e : Event) (a c : Trio Site) (w : DiskScene) (x 
     askers = l.askers;
   }
 
-  -- who waits at who takes a whole step
-  pub was_asked : (given : Input) (outs : Option Outputs) (b : Site)
-      (t : IsTurn set e.place e.now given outs here b)
-      → HasAskers es t.step.old.plain t.step.old.peers
-  was_asked given outs b t = has_more before (e ∷ []) t.step.old.plain t.step.old.peers
-      (f.askers e.place t.step.old t.step.was)
+  -- who waits at who lives there asked
+  pub asked_here : (n : NodeValue) → here.node ≡ Some n → HasAskers es n.plain n.peers
+  asked_here n is = has_more before (e ∷ []) n.plain n.peers (f.askers e.place n is)
 
   -- WHAT A WHOLE STEP LEAVES, of which all is there but who waits and who is answered
   pub turn_leaves : (v : DiskScene) (given : Input)
@@ -234,7 +229,7 @@ module _ (before : List Event) (e : Event) (a c : Trio Site) (w : DiskScene) (x 
         led = subst (λ outs. LedTo es v y (answered_lines e.place (answers_in outs)))
             (sym t.step.outs_are) led;
         left = left (waits_then es v set e.place e.now given e.outs here there t i begins
-            (was_asked given e.outs there t) to);
+            (asked_here t.step.old t.step.was) to);
         more = grows.0;
         grows = book_is ∙ grows.1;
         answers = λ r has. subst (λ (new : List Entry). IsOfBook x.book.entries new es r)
@@ -254,7 +249,7 @@ module _ (before : List Event) (e : Event) (a c : Trio Site) (w : DiskScene) (x 
         sites_are = subst (λ (z : Trio Site). (place : ServerId)
             → IsPlace place (value_of (with_value x.hosts e.place host) place)
             (value_of z place))
-            (sym h.happens.is)
+            (sym h.is)
             (each_pair IsPlace x.hosts a e.place host there f.sites_are site);
         no_stop = each_none x.stops e.place f.no_stop;
         posted = λ d has. f.posted d (subst (λ ds. Contains ds d) all has);

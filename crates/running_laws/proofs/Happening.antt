@@ -8,7 +8,7 @@ use Rattle.node_link.specs.declared.link.Datagram.{Datagram}
 use Rattle.node_loop.specs.Arriving.{Arrives}
 use Rattle.world.specs.World.{WorldValue}
 use Rattle.running_laws.specs.Events.{Boots, Does, Ends, Event, Site, Takes, What}
-use Rattle.running_laws.specs.Follows.{Follows, HappensKnown, IsCutSo, IsCutStep}
+use Rattle.running_laws.specs.Follows.{Follows}
 use Rattle.running_laws.specs.Histories.{IsInTime, IsNotForged}
 use Rattle.running_laws.specs.Lives.{HappensBy, Steps}
 use Rattle.running_laws.proofs.Broken.{cut_step}
@@ -17,15 +17,12 @@ use Rattle.running_laws.proofs.Steps.{own_deed}
 use Rattle.running_laws.proofs.Left.{IsNext, Leaves}
 use Rattle.running_laws.proofs.Happened.{nothing_arrives, set_world}
 use Rattle.running_laws.proofs.Resting.{boot_happens, cut_boot, end_happens}
-use Rattle.running_laws.proofs.Stepping.{arrives, arrives_led, deed_happens, deed_is_led}
+use Rattle.running_laws.proofs.Stepping.{arrives, arrives_runs, deed_happens, deed_runs}
 
 module _ (before : List Event) (e : Event) (a c : Trio Site) (w : DiskScene) (x : WorldValue)
     (k : IsNext before e a c w x) where
   abbrev f : Follows before a w x
   f = k.follows
-
-  abbrev h : HappensKnown e a c
-  h = k.happens
 
   abbrev in_time : IsInTime before e
   in_time = k.in_time
@@ -46,26 +43,24 @@ module _ (before : List Event) (e : Event) (a c : Trio Site) (w : DiskScene) (x 
 
   cut_arrives : (v : DiskScene) → IsAt es v set → (d : Datagram) (given : Option Input)
       → e.what ≡ Takes d → Arrives d given → Steps true e.now given e.outs here there
-      → ((i : Input) → Arrives d (Some i) → IsCutStep e.now i here there)
       → IsNotForged before e.place (Takes d) → Leaves before e c v set
-  cut_arrives v at d None what_is come step known network =
+  cut_arrives v at d None what_is come step network =
       nothing_arrives before e a c w x k v at step.0 step.1
-  cut_arrives v at d (Some given) what_is come step known network =
-      cut_step before e a c w x k v at given step (known given come)
-      (arrives_led before e a c w x k v at d given what_is come network)
+  cut_arrives v at d (Some given) what_is come step network =
+      cut_step before e a c w x k v at given step
+      (arrives_runs before e a c w x k v at d given what_is come network step.old step.was)
 
   event_cut : (v : DiskScene) → IsAt es v set → (what : What) → e.what ≡ what
-      → HappensBy e.place e.now what true e.outs here there
-      → IsCutSo e.now what true here there → IsNotForged before e.place what
+      → HappensBy e.place e.now what true e.outs here there → IsNotForged before e.place what
       → Leaves before e c v set
-  event_cut v at (Boots delta) what_is by known network =
+  event_cut v at (Boots delta) what_is by network =
       cut_boot before e a c w x k v at delta by.0 by.0.part by.1
-  event_cut v at (Does given) what_is by known network =
-      cut_step before e a c w x k v at given by.1 known
-      (deed_is_led before e a c w x k v at given (own_deed es e.place given by.0))
-  event_cut v at (Takes d) what_is by known network =
-      cut_arrives v at d by.0 what_is by.1 by.2 known network
-  event_cut v at Ends what_is by known network =
+  event_cut v at (Does given) what_is by network =
+      cut_step before e a c w x k v at given by.1
+      (deed_runs before e a c w x k v at given (own_deed es e.place given by.0) by.1.old by.1.was)
+  event_cut v at (Takes d) what_is by network =
+      cut_arrives v at d by.0 what_is by.1 by.2 network
+  event_cut v at Ends what_is by network =
       end_happens before e a c w x k v at by.0 by.1
 
   event_leaves : (v : DiskScene) → IsAt es v set → (what : What) → e.what ≡ what
@@ -81,8 +76,7 @@ module _ (before : List Event) (e : Event) (a c : Trio Site) (w : DiskScene) (x 
       end_happens before e a c w x k v at by.0 by.1
 
   pub cut_or_whole : (v : DiskScene) → IsAt es v set → (cut : Bool)
-      → HappensBy e.place e.now e.what cut e.outs here there
-      → IsCutSo e.now e.what cut here there → IsNotForged before e.place e.what
+      → HappensBy e.place e.now e.what cut e.outs here there → IsNotForged before e.place e.what
       → Leaves before e c v set
-  cut_or_whole v at false by known network = event_leaves v at e.what refl by network
-  cut_or_whole v at true by known network = event_cut v at e.what refl by known network
+  cut_or_whole v at false by network = event_leaves v at e.what refl by network
+  cut_or_whole v at true by network = event_cut v at e.what refl by network

@@ -19,8 +19,9 @@ use Rattle.world_lines.specs.Given.{answered_lines}
 use Rattle.world_rules.specs.Host.{HostValue}
 use Rattle.running_laws.specs.Books.{IsOfBook, answers_in}
 use Rattle.running_laws.specs.Events.{Event, Site, all_sent, sent_by}
-use Rattle.running_laws.specs.Follows.{Follows, HappensKnown, HasAskers, IsPlace, IsPosted}
+use Rattle.running_laws.specs.Follows.{Follows, HasAskers, IsPlace, IsPosted}
 use Rattle.running_laws.specs.Histories.{IsInTime}
+use Rattle.running_laws.specs.Lives.{Happens}
 use Rattle.running_laws.proofs.Moving.{LedTo}
 
 -- what holds of each server's two values, where both of one change
@@ -90,7 +91,7 @@ sent_more before e = flat_map-append sent_by before (e ∷ [])
 pub record IsNext (before : List Event) (e : Event) (a c : Trio Site) (w : DiskScene)
     (x : WorldValue) : Type 0 where
   pub follows : Follows before a w x
-  pub happens : HappensKnown e a c
+  pub happens : Happens e a c
   pub in_time : IsInTime before e
 
 -- the world follows, but for its clocks

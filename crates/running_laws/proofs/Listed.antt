@@ -198,7 +198,7 @@ either_listed : (b : Bool) (s t : Option Moments) → Now IsListed s → Now IsL
 either_listed true s t one other = one
 either_listed false s t one other = other
 
-told_listed : (told : Option Moments) (m : Moments) → Some m ≡ told → Now IsListed told
+pub told_listed : (told : Option Moments) (m : Moments) → Some m ≡ told → Now IsListed told
     → IsListed m.now
 told_listed told m is h = subst (Now IsListed) (sym is) h
 
@@ -251,7 +251,8 @@ flush_listed n m h =
     either_listed (flushes n) (flushed mark (Some m)) (Some m)
     (marked_listed mark (synced_whole m.now) (synced_listed m.now h)) h
 
-given_listed : (n : NodeValue) (ms : List (Move Entry)) (o : Option Begins) (m : Moments)
+-- WHAT A STEP WRITES
+pub given_listed : (n : NodeValue) (ms : List (Move Entry)) (o : Option Begins) (m : Moments)
     → IsListed m.now → Now IsListed (disk_by n ms o (Some m))
 given_listed n ms None m h = h
 given_listed n ms (Some (Does (Ask client number cred call))) m h = h

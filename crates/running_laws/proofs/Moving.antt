@@ -12,7 +12,7 @@ use Rattle.trace_laws.proofs.MoveKinds.{each-append}
 use Rattle.trace_types.specs.declared.line.Line.{Line}
 use Rattle.trace_types.specs.declared.line.Line.TheVariants as line
 use Rattle.trace_types.specs.declared.step.Step.{Step}
-use Rattle.world.specs.Steps.{Takes}
+use Rattle.world.specs.Steps.{Leads, Takes}
 use Rattle.world.specs.World.{IsWorld, WorldValue}
 use Rattle.world_rules.specs.Spellings.{spellings}
 use Rattle.running_laws.specs.Events.{Event}
@@ -109,25 +109,32 @@ unfolding run_lines
 one_says w s lines is = ap (filter is_answer)
     (append-nil (step_lines (measures_of spellings) w.scene s) ∙ sym is)
 
--- A STEP THAT IS TAKEN leads on, with its answers
-pub take_one : (es : List Event) (w : DiskScene) (x y : WorldValue) (s : Step)
-    (lines : List Line) → IsAt es w x → IsAskedStep es s
-    → Takes x y s lines → own_refusal (measures_of spellings) w.scene.group s ≡ None
+-- A STEP THAT LEADS ON from this scene, with its answers
+pub take_led : (es : List Event) (w : DiskScene) (x y : WorldValue) (s : Step)
+    (lines : List Line) → IsAt es w x → IsAskedStep es s → Leads w s lines y
+    → own_refusal (measures_of spellings) w.scene.group s ≡ None
     → is_elementary s ≡ true → LedTo es w y (filter is_answer lines)
 unfolding one_step reached_on leads_on
-take_one es w x y s lines at asked takes none one =
+take_led es w x y s lines at asked leads none one =
     let led = one_step w s none one in
-    let taken = takes w at.reached at.stands none in
     record {
       scene = disk_next spellings w s;
       led = led;
       there = record {
         reached = reached_on w (disk_next spellings w s) at.reached led;
         asks = each-append (IsAskedStep es) at.reached.steps (s ∷ []) at.asks (asked, tt);
-        stands = taken.left;
+        stands = leads.left;
       };
-      says = one_says w s lines taken.lines_are;
+      says = one_says w s lines leads.lines_are;
     }
+
+-- and one that is taken in each
+pub take_one : (es : List Event) (w : DiskScene) (x y : WorldValue) (s : Step)
+    (lines : List Line) → IsAt es w x → IsAskedStep es s
+    → Takes x y s lines → own_refusal (measures_of spellings) w.scene.group s ≡ None
+    → is_elementary s ≡ true → LedTo es w y (filter is_answer lines)
+take_one es w x y s lines at asked takes none one =
+    take_led es w x y s lines at asked (takes w at.reached at.stands none) none one
 
 pub led_nowhere : (es : List Event) (w : DiskScene) (x : WorldValue) → IsAt es w x
     → LedTo es w x []

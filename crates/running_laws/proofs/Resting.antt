@@ -14,9 +14,9 @@ use Rattle.world.specs.Clocks.{delta_after}
 use Rattle.world.specs.World.{WorldValue}
 use Rattle.world_rules.specs.Host.{HostValue}
 use Rattle.running_laws.specs.Events.{Event, Site}
-use Rattle.running_laws.specs.Follows.{Follows, HappensKnown, IsNew, IsPlace, IsSite}
+use Rattle.running_laws.specs.Follows.{Follows, IsNew, IsPlace, IsSite}
 use Rattle.running_laws.specs.Histories.{IsInTime}
-use Rattle.running_laws.specs.Lives.{EndBetween, PartOfBoot, WholeBoot}
+use Rattle.running_laws.specs.Lives.{EndBetween, Happens, PartOfBoot, WholeBoot}
 use Rattle.running_laws.proofs.Bootings.{IsBootAt, IsBooting, boot_led, boot_there, delta_is, delta_led, disk_booted, host_booted, world_booted}
 use Rattle.running_laws.proofs.FirstBoots.{first_boot, from, new_left, new_there, new_written}
 use Rattle.running_laws.proofs.Making.{made_boot}
@@ -33,7 +33,7 @@ module _ (before : List Event) (e : Event) (a c : Trio Site) (w : DiskScene) (x 
   abbrev f : Follows before a w x
   f = k.follows
 
-  abbrev h : HappensKnown e a c
+  abbrev h : Happens e a c
   h = k.happens
 
   abbrev in_time : IsInTime before e
@@ -145,7 +145,7 @@ module _ (before : List Event) (e : Event) (a c : Trio Site) (w : DiskScene) (x 
       let all = all_silent before e a c w x k silent in
       silently before e a c w x k v set (led_nowhere es v set at) (record {
         sites_are = subst (λ (z : Trio Site). (place : ServerId)
-            → IsPlace place (value_of x.hosts place) (value_of z place)) (sym h.happens.is)
+            → IsPlace place (value_of x.hosts place) (value_of z place)) (sym h.is)
             (each_value (λ (p : ServerId) (s : Site). IsPlace p (value_of x.hosts p) s) a e.place
             there (λ p other. f.sites_are p)
             (place_still (f.sites_are e.place) none gone same));

@@ -1,53 +1,78 @@
--- An event that is a whole step, in the world, once the clocks are set: the run takes a step.
-use Rattle.std.proofs.Common.{◌≡◌, ℕ, zero, suc, ◌<◌, nat_lt, List, [], ◌∷◌, length, Option, None, Some, refl, ap, ◌∙◌, subst, arith, slice_get}
+-- The step of a run that an input is, in the scene at which the world stands once the clocks are
+-- set: wherever its turn leads, the run leads on.
+use Rattle.std.proofs.Common.{◌≡◌, ℕ, zero, suc, ◌<◌, nat_lt, true, List, [], ◌∷◌, length, Option, None, Some, filter, refl, sym, ap, ◌∙◌, subst, arith, slice_get}
 use Rattle.std.specs.Option.{option_map}
 use Rattle.group_rules.proofs.Tests.{if_is, lt_is}
+use Rattle.group_rules.specs.Names.{place_of}
+use Rattle.group_rules.specs.Step.{Comes, Does, Input as Begins}
 use Rattle.group_trace.specs.DiskCalls.{measures_of}
 use Rattle.group_trace.specs.DiskRun.{DiskScene}
 use Rattle.group_trace.specs.Refusals.{own_refusal}
 use Rattle.harp_types.specs.declared.server.ServerId.{ServerId}
 use Rattle.node.specs.declared.input.Input.{Input}
 use Rattle.node.specs.declared.input.Input.TheVariants as input
-use Rattle.node_outputs.specs.declared.outputs.Outputs.{Outputs}
+use Rattle.trace_types.specs.declared.line.Line.{Line}
+use Rattle.trace_types.specs.declared.line.Line.TheVariants as line
 use Rattle.trace_types.specs.declared.line.LineFault.TheVariants as fault
 use Rattle.trace_types.specs.declared.step.Step.TheVariants as step
+use Rattle.tree_listing.specs.declared.listing.Listing.{Listing}
 use Rattle.wire.specs.declared.message.Message.{Message}
-use Rattle.world.proofs.Arrivals.{arrives_taken, delivery_taken}
-use Rattle.world.proofs.Steps.{deed_taken}
+use Rattle.world.proofs.Arrivals.{arrival_begins, arrival_leaves, delivery_leads, is_packet}
+use Rattle.world.proofs.Steps.{deed_begins}
+use Rattle.world.specs.Turns.{TurnBegins, TurnLeaves}
 use Rattle.world.specs.World.{IsWorld, WorldValue}
-use Rattle.world_lines.specs.Given.{answered_lines}
 use Rattle.world_lines.proofs.Machine.{as_many_stand}
 use Rattle.world_lines.specs.Posted.{Posted, delivered_at}
 use Rattle.world_lines.specs.declared.packet.Packet.{Packet}
 use Rattle.world_rules.specs.Spellings.{spellings}
-use Rattle.running_laws.specs.Events.{Event, Site}
-use Rattle.running_laws.specs.Follows.{IsPacket}
-use Rattle.running_laws.proofs.Answering.{answers_left}
-use Rattle.running_laws.proofs.Moving.{IsAt, LedTo, take_one}
+use Rattle.world_rules.specs.Steps.{peers_by}
+use Rattle.running_laws.specs.Events.{Event}
+use Rattle.running_laws.specs.Follows.{HasAskers, IsPacket}
+use Rattle.running_laws.specs.Statement.{is_answer}
+use Rattle.running_laws.proofs.Moving.{IsAt, LedTo, take_led}
+use Rattle.running_laws.proofs.Owed.{AnswersTo}
+use Rattle.running_laws.proofs.Posts.{Keeps, keeps_delivered, keeps_same}
 use Rattle.running_laws.proofs.Steps.{IsDeed}
-use Rattle.running_laws.proofs.Takings.{IsTurn, lines_left, old_up, turns, world_left}
+
+-- THE STEP OF A RUN that this input is: a turn that begins here, and wherever it leads, with these
+-- lines, the run leads on, and some packet may count as delivered then
+pub record StepOfRun (es : List Event) (v : DiskScene) (x : WorldValue) (place : ServerId)
+    (given : Input) : Type 0 where
+  pub taken_as : Begins
+  pub begins : TurnBegins v x (place_of place) given taken_as
+  pub to : AnswersTo es (peers_by (begins.stands.servers place).stock given)
+      (v.scene.group.server (place_of place)) taken_as
+  pub leads : (y : WorldValue) (lines : List Line) (listing : Option Listing)
+      → TurnLeaves v (place_of place) given taken_as y [] lines listing
+      → (packets : List Posted) × Keeps y.packets packets
+      × LedTo es v (record y { packets = packets }) (filter is_answer lines)
 
 -- ---- what a server does by itself, and calls
 
-pub deed_led : (es : List Event) (w : DiskScene) (x : WorldValue) (place : ServerId) (now : ℕ)
-    (given : Input) (outs : Option Outputs) (a b : Site) (t : IsTurn x place now given outs a b)
-    → IsDeed es place given → IsAt es w x
-    → LedTo es w (world_left x place now given outs a b t)
-    (answered_lines place t.step.puts.answers.items)
-deed_led es w x place now given outs a b t d at =
-    let y = world_left x place now given outs a b t in
-    let lines = lines_left x place now given outs a b t in
-    let up = old_up x place now given outs a b t w at.stands in
-    subst (LedTo es w y) (answers_left x place now given outs a b t)
-    (take_one es w x y d.step lines at d.asks
-    (deed_taken d.step place given d.deed x y [] lines t.step.puts.listing refl
-    (turns x place now given outs a b t) d.begins d.goes d.same d.leads d.says)
-    (d.same w ∙ if_is _ None (Some fault.ServerDown) up) d.elementary)
+pub deed_run : (es : List Event) (v : DiskScene) (x : WorldValue) (place : ServerId) (given : Input)
+    → IsDeed es place given → IsAt es v x
+    → (v.scene.group.server (place_of place)).up ≡ true → StepOfRun es v x place given
+deed_run es v x place given d at up =
+    let q = place_of place in
+    let begins = deed_begins v x q given d.deed at.reached at.stands up d.begins d.goes in
+    record {
+      taken_as = Does d.deed;
+      begins = begins;
+      to = d.to (begins.stands.servers place).stock (v.scene.group.server q);
+      leads = λ y lines listing t. (
+        y.packets,
+        keeps_same y.packets,
+        take_led es v x y d.step lines at d.asks (record {
+          lines_are = ap (λ ls. line.Event d.step ∷ ls) t.lines ∙ sym (d.says v);
+          left = subst (λ u. IsWorld u y) (sym (d.leads v)) t.left;
+        }) (d.same v ∙ if_is _ None (Some fault.ServerDown) up) d.elementary,
+      );
+    }
 
 -- ---- messages of other servers
 
 -- the packet, as a whole
-pub the_packet : (ps : List Posted) (from to : ServerId) (m : Message) (bytes : List ℕ)
+the_packet : (ps : List Posted) (from to : ServerId) (m : Message) (bytes : List ℕ)
     (p : IsPacket ps from to bytes) → p.posted.packet.message ≡ m
     → option_map (λ (p : Posted). p.packet) (slice_get ps p.number)
     ≡ Some (record { from = from; to = to; message = m })
@@ -81,26 +106,30 @@ packet_there w x from to bytes world p =
     if_is (nat_lt p.number (length w.scene.group.packets)) None (Some fault.NoPacket)
     (lt_is p.number (length w.scene.group.packets) (omega (arith, many, less)))
 
--- the world in which a packet counts as delivered
-abbrev pub counted : WorldValue → ℕ → WorldValue
-counted x n = record x { packets = delivered_at x.packets n }
-
-pub message_led : (es : List Event) (w : DiskScene) (x : WorldValue) (place from : ServerId)
-    (now : ℕ) (m : Message) (outs : Option Outputs) (a b : Site) (bytes : List ℕ)
-    (t : IsTurn x place now (input.Message from m) outs a b)
-    (p : IsPacket x.packets from place bytes) → p.posted.packet.message ≡ m → IsAt es w x
-    → LedTo es w (counted (world_left x place now (input.Message from m) outs a b t) p.number)
-    (answered_lines place t.step.puts.answers.items)
-message_led es w x place from now m outs a b bytes t p same at =
-    let given = input.Message from m in
-    let y = world_left x place now given outs a b t in
-    let lines = lines_left x place now given outs a b t in
+-- a message of a server is the delivery of its packet
+pub packet_run : (es : List Event) (v : DiskScene) (x : WorldValue) (place from : ServerId)
+    (m : Message) (bytes : List ℕ) (p : IsPacket x.packets from place bytes)
+    → p.posted.packet.message ≡ m → (at : IsAt es v x)
+    → (v.scene.group.server (place_of place)).up ≡ true
+    → HasAskers es (v.scene.group.server (place_of place)) (at.stands.servers place).stock.waits
+    → StepOfRun es v x place (input.Message from m)
+packet_run es v x place from m bytes p same at up waits =
     let packet : Packet = record { from = from; to = place; message = m } in
-    let s = step.Deliver p.number in
-    subst (LedTo es w (counted y p.number)) (answers_left x place now given outs a b t)
-    (take_one es w x (counted y p.number) s lines at tt
-    (delivery_taken x y (counted y p.number) p.number packet [] lines refl
-    (the_packet x.packets from place m bytes p same)
-    (arrives_taken x y packet [] lines t.step.puts.listing
-    (old_up x place now given outs a b t) (turns x place now given outs a b t)) refl)
-    (packet_there w x from place bytes at.stands p) refl)
+    let come = is_packet v x at.stands p.number packet
+    (the_packet x.packets from place m bytes p same) in
+    let begins = arrival_begins v x p.number packet at.reached at.stands up come in
+    let none = packet_there v x from place bytes at.stands p in
+    record {
+      taken_as = Comes (place_of from) come.body;
+      begins = begins;
+      to = waits;
+      leads = λ y lines listing t. (
+        delivered_at y.packets p.number,
+        keeps_delivered y.packets p.number,
+        take_led es v x (record y { packets = delivered_at y.packets p.number })
+            (step.Deliver p.number) lines at tt
+            (delivery_leads v y p.number lines
+            (arrival_leaves v x y p.number packet come [] lines listing begins t) none)
+            none refl,
+      );
+    }

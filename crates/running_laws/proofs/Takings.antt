@@ -121,9 +121,6 @@ module _ (x : WorldValue) (place : ServerId) (now : ℕ) (given : Input) (outs :
   has : Holds host_left t.step.old.me (Some t.step.new) b.disk.now
   has = record { me = sym old_me; node = refl; disk = disk_left.is }
 
-  pub old_up : (w : DiskScene) → IsWorld w x → (w.scene.group.server (place_of place)).up ≡ true
-  old_up = up_so x place t.step.old old_is old_served
-
   pub takes : HostTakes old host_left given (value_of x.clocks place) (value_of x.stops place)
       (Some t.step.puts)
   takes = subst (λ (s : Option Stop). HostTakes old host_left given (value_of x.clocks place) s

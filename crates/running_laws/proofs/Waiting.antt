@@ -26,7 +26,7 @@ use Rattle.trace_laws.proofs.Amid.{goes_later, goes_now}
 use Rattle.trace_laws.proofs.MoveKinds.{AreMild, IsMild, Kind, Plain, accepts, appends, commits, each-append, fronts_mild, heeds, mild, notes, plain, reads, repeats, tails_mild}
 use Rattle.world.proofs.TheLaws.{the_laws}
 use Rattle.world.specs.Turns.{TurnBegins}
-use Rattle.world.specs.World.{WorldValue}
+use Rattle.world.specs.World.{IsServer, WorldValue}
 use Rattle.world_host.proofs.Shown.{its_node}
 use Rattle.world_rules.specs.Steps.{moves_at, peers_by}
 use Rattle.running_laws.specs.Events.{Event, Site}
@@ -110,21 +110,21 @@ module _ (es : List Event) (g : Group Entry) (q : Place) (s : Server Entry) (lis
 
 -- ---- of a node that takes it
 
+-- who waits at the node waits at the server of the scene
+pub waits_at : (es : List Event) (v : DiskScene) (x : WorldValue) (place : ServerId)
+    (own : IsServer v place (value_of x.hosts place)) (n : NodeValue)
+    → (value_of x.hosts place).node ≡ Some n → HasAskers es n.plain n.peers
+    → HasAskers es (v.scene.group.server (place_of place)) own.stock.waits
+waits_at es v x place own n is h =
+    let s = v.scene.group.server (place_of place) in
+    let runs = its_node s own.stock own.saved (v.disks (place_of place)) (value_of x.hosts place) n
+    own.host is in
+    subst (λ (k : Stock). HasAskers es s k.waits) runs.stock
+    (subst (λ (r : Server Entry). HasAskers es r n.peers) runs.server h)
+
 module _ (es : List Event) (v : DiskScene) (x : WorldValue) (place : ServerId) (now : ℕ)
     (given : Input) (outs : Option Outputs) (a b : Site) (t : IsTurn x place now given outs a b)
     (i : Begins) (begins : TurnBegins v x (place_of place) given i) where
-  -- who waits at the server of the scene
-  pub waits_there : HasAskers es t.step.old.plain t.step.old.peers
-      → HasAskers es (v.scene.group.server (place_of place))
-      (begins.stands.servers place).stock.waits
-  waits_there h =
-      let own = begins.stands.servers place in
-      let s = v.scene.group.server (place_of place) in
-      let runs = its_node s own.stock own.saved (v.disks (place_of place))
-      (value_of x.hosts place) t.step.old own.host (old_is x place now given outs a b t) in
-      subst (λ (k : Stock). HasAskers es s k.waits) runs.stock
-      (subst (λ (r : Server Entry). HasAskers es r t.step.old.peers) runs.server h)
-
   pub waits_then : HasAskers es t.step.old.plain t.step.old.peers
       → AnswersTo es (peers_by (begins.stands.servers place).stock given)
       (v.scene.group.server (place_of place)) i
@@ -137,7 +137,8 @@ module _ (es : List Event) (v : DiskScene) (x : WorldValue) (place : ServerId) (
       let kept = kind_keeps es g q (g.server q) (list_of g q) (came given)
       (peers_by own.stock given) own.stock i (moves_at g q i)
       (kind v x place now given outs a b t i begins)
-      (goes v x place now given outs a b t i begins) to (waits_there h) in
+      (goes v x place now given outs a b t i begins) to
+      (waits_at es v x place own t.step.old (old_is x place now given outs a b t) h) in
       let left = acts q (g.clock q) (g.server q) (moves_at g q i) in
       subst (λ (r : Server Entry). HasAskers es r t.step.new.peers) (sym runs.server)
       (subst (λ (k : Stock). HasAskers es left k.waits) (sym runs.stock) kept)

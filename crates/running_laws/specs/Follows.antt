@@ -1,13 +1,13 @@
 -- What happens at servers that run is a run of the group: a scene that follows a history, and where
--- it leads, by what is known of each event.
-use Rattle.std.specs.Prelude.{◌≡◌, ◌⊎◌, ℕ, ◌+◌, ◌-◌, ◌≤◌, Bool, true, false, List, [], ◌∷◌, ◌++◌, Contains, drop, filter, Option, None, Some, ⊤}
+-- it leads.
+use Rattle.std.specs.Prelude.{◌≡◌, ◌⊎◌, ℕ, ◌+◌, ◌-◌, ◌≤◌, true, List, [], ◌∷◌, ◌++◌, Contains, drop, filter, None, Some, ⊤}
 use Rattle.std.specs.List.{AllByRecursion, slice_get}
 use Rattle.file_tree.specs.Book.{Entry}
 use Rattle.group_rules.specs.State.{Mode, Open, Server as Machine, Waits}
 use Rattle.group_trace.specs.DiskCalls.{measures_of}
 use Rattle.group_trace.specs.DiskRun.{DiskScene, disk_run}
 use Rattle.group_trace.specs.Run.{CanFollow, run_lines}
-use Rattle.harp_store.specs.Disk.{Disk as ToldDisk, IsLeftOf, IsSynced, with_mark}
+use Rattle.harp_store.specs.Disk.{Disk as ToldDisk, IsSynced, with_mark}
 use Rattle.harp_store.specs.Mark.{first_mark}
 use Rattle.harp_store.specs.Memory.{nothing_stored}
 use Rattle.harp_types.specs.Limits.{clock_skew, first_promise}
@@ -18,13 +18,10 @@ use Rattle.harp_types.specs.declared.peer.Peer.TheVariants.{Server}
 use Rattle.harp_types.specs.declared.server.ServerId.{ServerId}
 use Rattle.harp_types.specs.declared.trio.Trio.{Trio}
 use Rattle.node.specs.Node.{IsServer, NodeValue}
-use Rattle.node.specs.declared.input.Input.{Input}
-use Rattle.node.specs.declared.input.Input.TheVariants as input
 use Rattle.node_link.specs.declared.link.SentDatagram.{SentDatagram}
-use Rattle.node_loop.specs.Arriving.{Arrives, IsMessage}
+use Rattle.node_loop.specs.Arriving.{IsMessage}
 use Rattle.node_loop.specs.Chain.{Chain}
 use Rattle.node_outputs.specs.Messages.{heard}
-use Rattle.node_outputs.specs.declared.outputs.Outputs.{Outputs}
 use Rattle.schedule_play.specs.Stage.{IsReached}
 use Rattle.trace_types.specs.declared.step.Step.{Step}
 use Rattle.trace_types.specs.declared.step.Step.TheVariants as step
@@ -35,10 +32,10 @@ use Rattle.world_lines.specs.Posted.{Posted}
 use Rattle.world_rules.specs.Host.{HostValue, disk_of}
 use Rattle.world_rules.specs.Spellings.{spellings}
 use Rattle.running_laws.specs.Books.{AddTo, WasAsked}
-use Rattle.running_laws.specs.Events.{Boots, Does, EachAfter, Ends, Event, IsNewSite, Site, Takes, What, all_sent, new_sites}
+use Rattle.running_laws.specs.Events.{EachAfter, Event, IsNewSite, Site, What, all_sent}
 use Rattle.running_laws.specs.Histories.{IsInTime, IsNear, IsRisen, IsSentBefore}
-use Rattle.running_laws.specs.Lives.{Happens, WholeStep}
-use Rattle.running_laws.specs.Statement.{IsRunOfGroup, Stands, answer_lines, is_answer}
+use Rattle.running_laws.specs.Lives.{Happens}
+use Rattle.running_laws.specs.Statement.{Stands, answer_lines, is_answer}
 
 -- ---- a scene that follows a history
 
@@ -135,35 +132,6 @@ pub record Follows (before : List Event) (sites : Trio Site) (w : DiskScene) (x 
   pub askers : (place : ServerId) (n : NodeValue) → (value_of sites place).node ≡ Some n
       → HasAskers before n.plain n.peers
 
--- ---- what is known of events
-
--- a step could have been whole
-pub record CouldBeWhole (now : ℕ) (given : Input) (a : Site) : Type 0 where
-  pub outs : Option Outputs
-  pub site : Site
-  pub step : WholeStep now given outs a site
-
--- a step that is cut leaves what a crash before it may, or it could have been whole; an ask changes
--- no disk
-abbrev pub IsCutStep : (now : ℕ) → Input → (a b : Site) → Type 0
-IsCutStep now (input.Ask peer client number cred call) a b = ⊤
-IsCutStep now input.List a b = ⊤
-IsCutStep now given a b = IsLeftOf a.disk.now b.disk.now ⊎ CouldBeWhole now given a
-
--- what is known of an event amid which the process is gone
-abbrev pub IsCutSo : (now : ℕ) → What → (cut : Bool) → (a b : Site) → Type 0
-IsCutSo now what false a b = ⊤
-IsCutSo now (Boots delta) true a b = ⊤
-IsCutSo now (Does given) true a b = IsCutStep now given a b
-IsCutSo now (Takes d) true a b =
-    (given : Input) → Arrives d (Some given) → IsCutStep now given a b
-IsCutSo now Ends true a b = ⊤
-
--- WHAT HAPPENS, and what contracts don't say of it yet
-pub record HappensKnown (e : Event) (a c : Trio Site) : Type 0 where
-  pub happens : Happens e a c
-  pub cut : IsCutSo e.now e.what e.cut (value_of a e.place) (value_of c e.place)
-
 -- ---- where they lead
 
 -- steps that only a full net may refuse lead from one scene to another
@@ -185,17 +153,9 @@ pub record FollowsOn (before events : List Event) (sites : Trio Site) (w : DiskS
       ≡ answer_lines events
   pub book : AddTo before events x.book.entries world.book.entries
 
--- EVENTS FOLLOW: from each scene that follows a history, where these are known of more events
+-- EVENTS FOLLOW: from each scene that follows a history, where more events happen
 abbrev pub EventsFollow : Type 0
 EventsFollow = (before events : List Event) (a c : Trio Site) (w : DiskScene) (x : WorldValue)
-    → Follows before a w x → Chain HappensKnown events a c
+    → Follows before a w x → Chain Happens events a c
     → EachAfter IsSentBefore before events → EachAfter IsInTime before events
     → FollowsOn before events c w x
-
--- ---- from new disks on
-
--- HISTORIES ARE RUNS of the group, from new disks on
-abbrev pub HistoriesAreRuns : Type 0
-HistoriesAreRuns = (events : List Event) (left : Trio Site)
-    → Chain HappensKnown events new_sites left
-    → EachAfter IsSentBefore [] events → EachAfter IsInTime [] events → IsRunOfGroup events left
