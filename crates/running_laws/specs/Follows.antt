@@ -32,7 +32,7 @@ use Rattle.world_lines.specs.Posted.{Posted}
 use Rattle.world_rules.specs.Host.{HostValue, disk_of}
 use Rattle.world_rules.specs.Spellings.{spellings}
 use Rattle.running_laws.specs.Books.{AddTo, WasAsked}
-use Rattle.running_laws.specs.Events.{EachAfter, Event, IsNewSite, Site, What, all_sent}
+use Rattle.running_laws.specs.Events.{EachAfter, Event, IsNewSite, Site, all_sent}
 use Rattle.running_laws.specs.Histories.{IsInTime, IsNear, IsRisen, IsSentBefore}
 use Rattle.running_laws.specs.Lives.{Happens}
 use Rattle.running_laws.specs.Statement.{Stands, answer_lines, is_answer}
