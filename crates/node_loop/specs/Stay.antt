@@ -38,8 +38,11 @@ pub record Saves (n : NodeValue) (old new : Option Moments) : Type 0 where
   pub at_once : saves_log n ≡ true → SavesAtOnce n old new
   pub kept : saves_log n ≡ false → new ≡ old
 
--- a save in part: at each moment the log stands on the disk whole, or not at all
+-- a save in part, of what the rules say: at each moment the log stands on the disk whole, or not at
+-- all
 pub record FailsSave (n : NodeValue) (old new : Option Moments) : Type 0 where
+  pub rules : (items : List Entry) (clock : ℕ)
+      → mark_left n items ≡ mark_of (act n.me clock (server n items) Saving)
   pub saving : saves_log n ≡ true → SavesAtOnce n old new
   pub kept : saves_log n ≡ false → new ≡ old
 

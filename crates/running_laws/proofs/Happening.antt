@@ -7,7 +7,7 @@ use Rattle.node.specs.declared.input.Input.{Input}
 use Rattle.node_link.specs.declared.link.Datagram.{Datagram}
 use Rattle.node_loop.specs.Arriving.{Arrives}
 use Rattle.world.specs.World.{WorldValue}
-use Rattle.running_laws.specs.Events.{Boots, Does, Ends, Event, Site, Takes, What}
+use Rattle.running_laws.specs.Events.{Boots, Does, Ends, Event, Saves, Site, Takes, What}
 use Rattle.running_laws.specs.Follows.{Follows}
 use Rattle.running_laws.specs.Histories.{IsInTime, IsNotForged}
 use Rattle.running_laws.specs.Lives.{HappensBy, Steps}
@@ -17,6 +17,7 @@ use Rattle.running_laws.proofs.Steps.{own_deed}
 use Rattle.running_laws.proofs.Left.{IsNext, Leaves}
 use Rattle.running_laws.proofs.Happened.{nothing_arrives, set_world}
 use Rattle.running_laws.proofs.Resting.{boot_happens, cut_boot, end_happens}
+use Rattle.running_laws.proofs.Saving.{cut_save, whole_save}
 use Rattle.running_laws.proofs.Stepping.{arrives, arrives_runs, deed_happens, deed_runs}
 
 module _ (before : List Event) (e : Event) (a c : Trio Site) (w : DiskScene) (x : WorldValue)
@@ -60,6 +61,7 @@ module _ (before : List Event) (e : Event) (a c : Trio Site) (w : DiskScene) (x 
       (deed_runs before e a c w x k v at given (own_deed es e.place given by.0) by.1.old by.1.was)
   event_cut v at (Takes d) what_is by network =
       cut_arrives v at d by.0 what_is by.1 by.2 network
+  event_cut v at Saves what_is by network = cut_save before e a c w x k v at by.0 by.1
   event_cut v at Ends what_is by network =
       end_happens before e a c w x k v at by.0 by.1
 
@@ -72,6 +74,7 @@ module _ (before : List Event) (e : Event) (a c : Trio Site) (w : DiskScene) (x 
       deed_happens before e a c w x k v at given (own_deed es e.place given by.0) by.1
   event_leaves v at (Takes d) what_is by network =
       arrives before e a c w x k v at d by.0 what_is by.1 network by.2
+  event_leaves v at Saves what_is by network = whole_save before e a c w x k v at by.0 by.1
   event_leaves v at Ends what_is by network =
       end_happens before e a c w x k v at by.0 by.1
 

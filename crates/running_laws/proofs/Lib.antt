@@ -33,6 +33,8 @@ mod Stopped
 mod Happened
 mod Stepping
 mod Resting
+mod SaveCalls
+mod Saving
 mod Broken
 mod Happening
 pub mod Following

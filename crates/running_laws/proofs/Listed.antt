@@ -78,7 +78,7 @@ unfolding set_by
 both_set c us vs held = fold-append (λ (h : Option Value) (u : Unsynced).
     if is_cell u.cell c then u.value else h) held us vs
 
-synced_listed : (d : Disk) → IsListed d → IsListed (synced_whole d)
+pub synced_listed : (d : Disk) → IsListed d → IsListed (synced_whole d)
 unfolding reads
 synced_listed d h =
     let l = h.list in
@@ -173,7 +173,7 @@ bare_listed object first d h =
           ∙ ap (bare_from object first) h.is;
     }
 
-changed_listed : (x : Change) (d : Disk) → IsListed d → IsListed (changed_by x d)
+pub changed_listed : (x : Change) (d : Disk) → IsListed d → IsListed (changed_by x d)
 changed_listed (change.Put cell value) d h =
     unsynced_listed (record { cell = cell; value = Some value } ∷ []) d h
 changed_listed (change.Erase cell) d h =

@@ -58,7 +58,7 @@ use Rattle.running_laws.proofs.Takings.{shown_so, state_shown, up_so}
 
 -- ---- of a host
 
-one_long : (xs : List StoreCall) (ys : List DiskCall) → OneForOne IsCallOf xs ys
+pub one_long : (xs : List StoreCall) (ys : List DiskCall) → OneForOne IsCallOf xs ys
     → length xs ≡ length ys
 one_long [] [] h = refl
 one_long (x ∷ xs) (y ∷ ys) h =

@@ -12,11 +12,12 @@ use Rattle.node_loop.specs.Outgoing.{datagrams}
 use Rattle.node_outputs.specs.declared.outputs.Outputs.{Outputs}
 
 -- a life begins at a place, with promises of this length; its server does something by itself, or
--- takes a datagram; or the life ends
+-- takes a datagram; or, told to stop, it saves its log and the life ends; or the life ends
 pub data What : Type 0 where
   Boots : (delta : ℕ) → What
   Does : Input → What
   Takes : Datagram → What
+  Saves : What
   Ends : What
 
 -- AN EVENT: where, at which reading of the place's clock, and whether the process is gone amid it;

@@ -5,7 +5,7 @@ use Rattle.harp_types.specs.declared.peer.Peer.TheVariants.{Server}
 use Rattle.harp_types.specs.declared.server.ServerId.{ServerId}
 use Rattle.harp_types.specs.declared.trio.Trio.{Trio}
 use Rattle.node_loop.specs.Chain.{Chain}
-use Rattle.running_laws.specs.Events.{Boots, Does, EachAfter, Ends, Event, Site, Takes, What, all_sent, new_sites}
+use Rattle.running_laws.specs.Events.{Boots, Does, EachAfter, Ends, Event, Saves, Site, Takes, What, all_sent, new_sites}
 use Rattle.running_laws.specs.Lives.{Happens}
 
 -- THE NETWORK may lose, repeat, delay and reorder. But a datagram that is taken from the port of a
@@ -16,6 +16,7 @@ IsNotForged before place (Takes d) = (s : ServerId) → d.from ≡ Server s
     → Contains (all_sent before) (record { place = s; to = Server place; bytes = d.bytes })
 IsNotForged before place (Boots delta) = ⊤
 IsNotForged before place (Does given) = ⊤
+IsNotForged before place Saves = ⊤
 IsNotForged before place Ends = ⊤
 
 abbrev pub IsSentBefore : List Event → Event → Type 0

@@ -14,10 +14,11 @@ use Rattle.node.specs.declared.input.Input.{Input}
 use Rattle.node.specs.declared.input.Input.TheVariants as input
 use Rattle.node_loop.specs.Arriving.{Arrives}
 use Rattle.node_loop.specs.Outgoing.{AreSpelled}
+use Rattle.node_loop.specs.Stay.{FailsSave, Saves as SavesLog}
 use Rattle.node_loop.specs.Step.{IsBoot, IsStep}
 use Rattle.node_outputs.specs.declared.outputs.Outputs.{Outputs}
 use Rattle.promise.specs.Promise.{IsDelta}
-use Rattle.running_laws.specs.Events.{Boots, Does, Ends, Event, Site, Takes, What}
+use Rattle.running_laws.specs.Events.{Boots, Does, Ends, Event, Saves, Site, Takes, What}
 
 -- ---- boots
 
@@ -89,6 +90,25 @@ pub record EndBetween (a b : Site) : Type 0 where
   pub gone : b.node ≡ None
   pub left : IsLeftOf a.disk.now b.disk.now
 
+-- THE SAVE of a server that is told to stop: it saves its log as the rules say of a power failure,
+-- and is gone. Of its disk then a crash leaves the next life's
+pub record WholeSave (a b : Site) : Type 0 where
+  pub old : NodeValue
+  pub was : a.node ≡ Some old
+  pub gone : b.node ≡ None
+  pub amid : Moments
+  pub saves : SavesLog old (Some a.disk) (Some amid)
+  pub left : IsLeftOf amid.now b.disk.now
+
+-- the process is gone amid its save, after some first calls that change the disk, or all of them
+pub record PartOfSave (a b : Site) : Type 0 where
+  pub old : NodeValue
+  pub was : a.node ≡ Some old
+  pub gone : b.node ≡ None
+  pub amid : Moments
+  pub part : FailsSave old (Some a.disk) (Some amid)
+  pub left : IsLeftOf amid.now b.disk.now
+
 -- ---- all of it
 
 abbrev pub HappensBy : ServerId → (now : ℕ) → What → (cut : Bool) → Option Outputs → (a b : Site)
@@ -98,6 +118,8 @@ HappensBy place now (Boots delta) true outs a b = PartOfBoot place delta a b × 
 HappensBy place now (Does given) cut outs a b = IsOwn given × Steps cut now (Some given) outs a b
 HappensBy place now (Takes d) cut outs a b =
     (given : Option Input) × Arrives d given × Steps cut now given outs a b
+HappensBy place now Saves false outs a b = WholeSave a b × (outs ≡ None)
+HappensBy place now Saves true outs a b = PartOfSave a b × (outs ≡ None)
 HappensBy place now Ends cut outs a b = EndBetween a b × (outs ≡ None)
 
 -- WHAT AN EVENT MAKES of its place; the others stay

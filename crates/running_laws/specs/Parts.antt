@@ -16,7 +16,7 @@ use Rattle.node_loop.specs.declared.counts.Served.{Served}
 use Rattle.node_loop.specs.declared.running.Running.{Running}
 use Rattle.node_outputs.specs.declared.outputs.Outputs.{Outputs}
 use Rattle.promise.specs.Promise.{IsDelta}
-use Rattle.running_laws.specs.Events.{Boots, Does, Ends, Event, Site, Takes, What, all_sent, sent_by}
+use Rattle.running_laws.specs.Events.{Boots, Does, Ends, Event, Saves, Site, Takes, What, all_sent, sent_by}
 use Rattle.running_laws.specs.Lives.{Happens}
 
 -- ---- what the link and the clock tell of events
@@ -25,6 +25,7 @@ abbrev pub taken_in : ServerId → What → List TakenDatagram
 taken_in place (Takes d) = record { place = place; datagram = d } ∷ []
 taken_in place (Boots delta) = []
 taken_in place (Does given) = []
+taken_in place Saves = []
 taken_in place Ends = []
 
 abbrev pub taken_by : Event → List TakenDatagram

@@ -16,7 +16,8 @@
 //!   write is a boot and a crash. A step that is cut behind its last call that changes the disk is
 //!   a whole step and a crash: it answers nobody, and the messages that the rules give it carry no
 //!   records, so they are written out, and never delivered. An apply that is cut amid its changes
-//!   is a stop of the run; and another step that is cut is a crash. Each event adds to the book
+//!   is a stop of the run; and another step that is cut is a crash. The save of a server that is told
+//!   to stop is a power failure of the run, which a stop cuts where the save was cut. Each event adds to the book
 //!   calls that were asked for by then, from peers that are known, and its answers are those of the
 //!   book, to peers that asked under their numbers.
 //! - `histories_are_runs`: new places follow the scene in which each server fell behind its first
