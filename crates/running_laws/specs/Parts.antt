@@ -1,5 +1,5 @@
 -- What the servers of one call do is a part of a history: events at their places.
-use Rattle.std.specs.Prelude.{◌≡◌, ◌⊎◌, ℕ, List, [], ◌∷◌, ◌++◌, Contains, Option, None, Some, flat_map, option_map, ⊤}
+use Rattle.std.specs.Prelude.{◌≡◌, ◌⊎◌, ℕ, Bool, true, false, List, [], ◌∷◌, ◌++◌, Contains, Option, None, Some, flat_map, option_map, ⊤}
 use Rattle.harp_store.specs.Disk.{IsLeftOf, Moments}
 use Rattle.harp_types.specs.Trio.{value_of, with_value}
 use Rattle.harp_types.specs.declared.server.ServerId.{ServerId}
@@ -10,9 +10,10 @@ use Rattle.node_link.specs.declared.link.TakenDatagram.{TakenDatagram}
 use Rattle.node_loop.specs.Chain.{Chain}
 use Rattle.node_loop.specs.Cut.{IsCutOff, SendsInPart}
 use Rattle.node_loop.specs.Run.{IsRun}
-use Rattle.node_loop.specs.Scene.{Around, Scene, all_places, start}
-use Rattle.node_loop.specs.Stay.{HasRun, IsTurnCut, Outer, WasUnstarted, around_on, start_on}
+use Rattle.node_loop.specs.Scene.{Around, Scene, all_places, around, start}
+use Rattle.node_loop.specs.Stay.{HasRun, IsSaveCut, IsStay, IsTurnCut, Outer, WasUnstarted, around_on, start_on}
 use Rattle.node_loop.specs.declared.counts.Served.{Served}
+use Rattle.node_loop.specs.declared.counts.Stayed.{Stayed}
 use Rattle.node_loop.specs.declared.running.Running.{Running}
 use Rattle.node_outputs.specs.declared.outputs.Outputs.{Outputs}
 use Rattle.promise.specs.Promise.{IsDelta}
@@ -136,6 +137,31 @@ pub record DidInPart (places : List ServerId) (a : Scene) (left : Around) : Type
   pub did : Did places a mid
   pub gone : IsGone places mid left
 
+-- ---- a server that is told to stop
+
+-- the save of the server of a place, whole or cut, at a reading of its clock
+abbrev pub save_of : ServerId → (cut : Bool) → (now : ℕ) → Event
+save_of place cut now = record {
+  place = place;
+  now = now;
+  what = Saves;
+  cut = cut;
+  outs = None;
+}
+
+-- A SERVER THAT STAYED UP does a part of a history, up to its save and with it, whole or cut:
+-- whatever a crash may leave of the disk that it left is the next life's. The save sends nothing,
+-- and reads no clock
+pub record DidThenSaved (place : ServerId) (cut : Bool) (a : Scene) (left : Around) : Type 0 where
+  pub mid : Scene
+  pub did : Did (place ∷ []) a mid
+  pub saves : (now : ℕ) (h b : Moments) → value_of left.disks place ≡ Some h
+      → IsLeftOf h.now b.now → (old : Trio Site) → AreSitesOf (place ∷ []) mid old
+      → Happens (save_of place cut now) old
+      (with_value old place (record { node = None; disk = b }))
+  pub is : left
+      ≡ around (with_value mid.disks place (value_of left.disks place)) mid.link mid.clock
+
 -- ---- lives
 
 -- LIVES: of the servers of one process at these places, which take all their turns or are cut off
@@ -149,17 +175,24 @@ pub record LiveInHistories (places : List ServerId) : Type 0 where
       → IsCutOff delta places turns (start disks link clock) left
       → DidInPart places (start disks link clock) left
 
--- and of a server that stays up, up to its save, or to where it was cut off before
+-- and of a server that stays up, up to its save and with it, or to where it was cut off before; its
+-- save may be cut too
 pub record StaysInHistories (place : ServerId) : Type 0 where
   pub ran : (delta most turns dropped : ℕ) (old new : Outer) (ran : Scene) → IsDelta delta
       → HasRun delta place most turns dropped old new ran
       → Did (place ∷ []) (start_on place old) ran
+  pub saved : (delta most : ℕ) (old new : Outer) (stayed : Stayed) → IsDelta delta
+      → IsStay delta place most old stayed new
+      → DidThenSaved place false (start_on place old) (around_on place new)
   pub unstarted : (delta : ℕ) (old new : Outer) → IsDelta delta
       → WasUnstarted delta place old new
       → DidInPart (place ∷ []) (start_on place old) (around_on place new)
   pub cut : (delta most : ℕ) (old new : Outer) → IsDelta delta
       → IsTurnCut delta place most old new
       → DidInPart (place ∷ []) (start_on place old) (around_on place new)
+  pub save_cut : (delta most : ℕ) (old new : Outer) → IsDelta delta
+      → IsSaveCut delta place most old new
+      → DidThenSaved place true (start_on place old) (around_on place new)
 
 -- of three servers in one process, of one that runs alone, and of one that stays up
 abbrev pub LivesArePartsOfHistories : Type 0

@@ -28,7 +28,7 @@
 //!   their places (`lives`): from the disks before, where they tell, to those after; with what the
 //!   link told that they took and sent, at readings that the clock told. Where the call was cut off,
 //!   its last event is one amid which the process is gone, or of which a front was sent. So it is
-//!   with a server that stays up, until it saves its log.
+//!   with a server that stays up, whose save is the last event, whole or cut.
 #![tactic(auto)]
 
 ghost use Rattle.running_laws.specs.Follows.{EventsFollow};
